@@ -1,0 +1,6 @@
+use Rattle.std.proofs.Common.{rules, ◌≡◌, ◌<◌, ◌≤◌, ◌^◌, arith}
+use Rattle.events.specs.History.{IsWellFormed}
+use Rattle.events.proofs.recording.look_over.Goals as goal
+
+pub returns-in-Recv : goal.returns-in-Recv
+returns-in-Recv c = rw (c.in-Recv.is, ← c.seen.view_is) c.seen.invariant
