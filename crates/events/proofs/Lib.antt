@@ -1,1 +1,5 @@
 pub mod Padding
+pub mod Streams
+pub mod Lanes
+pub mod Legal
+pub mod Refusals

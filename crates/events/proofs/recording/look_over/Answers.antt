@@ -1,5 +1,3 @@
-use Rattle.std.proofs.Common.{rules, ◌≡◌, ◌<◌, ◌≤◌, ◌^◌, arith}
-use Rattle.events.specs.History.{IsWellFormed}
 use Rattle.events.proofs.recording.look_over.Goals as goal
 
 pub returns-in-Recv : goal.returns-in-Recv
