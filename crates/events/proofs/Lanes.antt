@@ -1,5 +1,5 @@
 -- What is kept of the replicas stays true with one more entry, and tells streams, operations and counts.
-use Rattle.std.proofs.Common.{◌≡◌, ◌≢◌, ◌⊎◌, inl, inr, get_or, set, length-set, ℕ, zero, suc, ◌+◌, ◌-◌, ◌<◌, ◌≤◌, Bool, true, false, cond, Option, Some, None, List, [], ◌∷◌, ◌++◌, length, map, refl, sym, ◌∙◌, ap, subst, arith}
+use Rattle.std.proofs.Common.{◌≡◌, ◌≢◌, ◌⊎◌, inl, inr, get_or, set, length-set, ℕ, zero, suc, ◌+◌, ◌<◌, ◌≤◌, Bool, true, false, cond, Option, Some, None, List, [], ◌∷◌, ◌++◌, length, map, refl, sym, ◌∙◌, ap, subst, arith}
 use Rattle.std.specs.Prelude.{All, filter, slice_get, option_map, option_and_then, option_copied, MatchOption}
 use Rattle.std.specs.Borrow.{Bor}
 use Rattle.std.proofs.lemmas.List.{map_push, length-map}
@@ -7,22 +7,13 @@ use Rattle.std.proofs.lemmas.List.Elements.{filter-append}
 use Rattle.std.proofs.lemmas.List.Sums.{sum_by_push}
 use Rattle.events.specs.declared.TheConstants.{MOST_INSERTS, MOST_PLACES}
 use Rattle.events.specs.History.{History, IsLegal, stream_of, is_operation, is_insert, response_of}
-use Rattle.events.specs.Operations.{nth}
 use Rattle.events.specs.Lanes.{body_at, ArePlacesOf, IsLaneOf, AreLanesOf, IsKept, IsWeightOf, IsSameLane, AddsEntry}
 use Rattle.events.specs.declared.lane.Lane.{Lane}
 use Rattle.events.specs.declared.lane.Weight.{Weight}
 use Rattle.events.specs.declared.recording.Entry.{Entry}
 use Rattle.events.specs.declared.recording.Body.{Body}
+use Rattle.events.proofs.Places.{slice_get-first, slice_get-last, slice_get-none, set-slice_get}
 use Rattle.events.proofs.Streams.{append-nil, stream_of-own, stream_of-other, stream_of-none}
-
-slice_get-first : {X : Type 0} (xs ys : List X) (i : ℕ) (x : X) → slice_get xs i ≡ Some x → slice_get (xs ++ ys) i ≡ Some x
-slice_get-first [] ys i x e = absurd cc
-slice_get-first (y ∷ xs) ys zero x e = e
-slice_get-first (y ∷ xs) ys (suc i) x e = slice_get-first xs ys i x e
-
-slice_get-last : {X : Type 0} (xs : List X) (x : X) → slice_get (xs ++ x ∷ []) (length xs) ≡ Some x
-slice_get-last [] x = refl
-slice_get-last (y ∷ xs) x = slice_get-last xs x
 
 -- a body that stands at a place stays there
 body_at-more : (entries more : List Entry) (i : ℕ) (b : Body) → body_at entries i ≡ Some b → body_at (entries ++ more) i ≡ Some b
@@ -89,19 +80,6 @@ lane-own entries e bodies old new w h weight adds = record {
   places = adds.places ∙ (λ i. h.places i + weight.places i) ∙ sym (sum_by_push (λ b. length (response_of b)) bodies e.body);
 }
 
--- what stands at a place of a list in which one place was written
-set-slice_get : {X : Type 0} (xs : List X) (i : ℕ) (v : X) (r : ℕ) (x : X) → slice_get (set xs i v) r ≡ Some x →
-    ((r ≡ i) × (x ≡ v)) ⊎ ((r ≢ i) × (slice_get xs r ≡ Some x))
-set-slice_get [] i v r x e = absurd cc
-set-slice_get (y ∷ xs) zero v zero x e = inl (refl, cc)
-set-slice_get (y ∷ xs) zero v (suc r) x e = inr ((λ h. omega (arith, h)), e)
-set-slice_get (y ∷ xs) (suc i) v zero x e = inr ((λ h. omega (arith, h)), e)
-set-slice_get {X} (y ∷ xs) (suc i) v (suc r) x e = go (set-slice_get xs i v r x e)
-  where
-    go : ((r ≡ i) × (x ≡ v)) ⊎ ((r ≢ i) × (slice_get xs r ≡ Some x)) → ((suc r ≡ suc i) × (x ≡ v)) ⊎ ((suc r ≢ suc i) × (slice_get (y ∷ xs) (suc r) ≡ Some x))
-    go (inl h) = inl (ap suc h.0, h.1)
-    go (inr h) = inr ((λ q. h.0 (omega (arith, q))), h.1)
-
 lane-same : (entries : List Entry) (bodies : List Body) (old new : Lane) → IsLaneOf entries bodies old → IsSameLane old new → IsLaneOf entries bodies new
 lane-same entries bodies old new h same = record {
   stream = subst (λ (ps : List ℕ). ArePlacesOf entries ps bodies) (sym same.entries) h.stream;
@@ -162,12 +140,6 @@ pub places-length : (entries : List Entry) (places : List ℕ) (bodies : List Bo
 places-length entries places bodies e =
     sym (length-map places (body_at entries)) ∙ ap length e ∙ length-map bodies (λ b. Some b)
 
--- nothing is found past the end alone
-slice_get-none : {X : Type 0} (xs : List X) (i : ℕ) → slice_get xs i ≡ None → length xs ≤ i
-slice_get-none [] i e = omega arith
-slice_get-none (x ∷ xs) zero e = absurd cc
-slice_get-none (x ∷ xs) (suc i) e = let rest : length xs ≤ i = slice_get-none xs i e in omega arith
-
 -- a replica with no lane has no entry
 pub no_lane : (replicas : ℕ) (entries : List Entry) (lanes : List Lane) (r : ℕ) → AreLanesOf replicas entries lanes →
     All (λ (e : Entry). e.replica < replicas) entries → length lanes ≤ r → stream_of r entries ≡ []
@@ -181,18 +153,6 @@ pub lane_found : (h : History) (lanes : List Lane) (r : ℕ) (found : Option (Bo
 lane_found h lanes r None kept e = no_lane h.replicas h.entries lanes r kept.lanes_are kept.legal.replica_known (slice_get-none lanes r (sym e))
 lane_found h lanes r (Some lane) kept e = kept.lanes_are.each r lane.now (sym e)
 
--- the n-th, from 1, is the one at n - 1
-pub nth-behind : {X : Type 0} (xs : List X) (n : ℕ) → 1 ≤ n → nth xs n ≡ slice_get xs (n - 1)
-nth-behind xs zero le = absurd (omega arith)
-nth-behind xs (suc i) le = let same : i ≡ suc i - 1 = omega arith in ap (slice_get xs) same
-
--- what stands in a list with one more element is that one or stood there before
-pub push-slice_get : {X : Type 0} (xs : List X) (x y : X) (r : ℕ) → slice_get (xs ++ x ∷ []) r ≡ Some y → (slice_get xs r ≡ Some y) ⊎ (y ≡ x)
-push-slice_get [] x y zero e = inr cc
-push-slice_get [] x y (suc r) e = absurd cc
-push-slice_get (z ∷ xs) x y zero e = inl e
-push-slice_get (z ∷ xs) x y (suc r) e = push-slice_get xs x y r e
-
 -- a lane of a replica with no entry
 pub empty_lane : (lane : Lane) → lane.entries.items ≡ [] → lane.operations.items ≡ [] → lane.inserts ≡ 0 → lane.places ≡ 0 → IsLaneOf [] [] lane
 empty_lane lane entries operations inserts places = record {
@@ -201,20 +161,6 @@ empty_lane lane entries operations inserts places = record {
   inserts = inserts;
   places = places;
 }
-
--- the element at a place within a list
-pub slice_get-within : {X : Type 0} (xs : List X) (i : ℕ) (x : X) → i < length xs → x ≡ get_or xs i x → slice_get xs i ≡ Some x
-slice_get-within [] i x lt e = absurd (omega arith)
-slice_get-within (y ∷ xs) zero x lt e = ap (λ z. Some z) (sym e)
-slice_get-within (y ∷ xs) (suc i) x lt e = slice_get-within xs i x (omega arith) e
-
--- what stands at the place that was written
-pub set-same : {X : Type 0} (xs : List X) (i : ℕ) (v x : X) → slice_get (set xs i v) i ≡ Some x → x ≡ v
-set-same {X} xs i v x e = go (set-slice_get xs i v i x e)
-  where
-    go : ((i ≡ i) × (x ≡ v)) ⊎ ((i ≢ i) × (slice_get xs i ≡ Some x)) → x ≡ v
-    go (inl h) = h.1
-    go (inr h) = absurd (h.0 refl)
 
 -- the counts of a lane are within the limits
 pub lane_fits : (h : History) (lanes : List Lane) (r : ℕ) (lane : Lane) → IsLegal h → AreLanesOf h.replicas h.entries lanes → slice_get lanes r ≡ Some lane →

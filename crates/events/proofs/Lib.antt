@@ -1,3 +1,4 @@
+pub mod Places
 pub mod Padding
 pub mod Streams
 pub mod Lanes

@@ -2,7 +2,8 @@
 use Rattle.std.proofs.Common.{arith, subst, ap, ◌∙◌, ℕ, [], ◌∷◌, ◌++◌, set}
 use Rattle.std.specs.Prelude.{slice_get}
 use Rattle.events.specs.Lanes.{AddsEntry, AreLanesOf}
-use Rattle.events.proofs.Lanes.{lanes-more, slice_get-within}
+use Rattle.events.proofs.Lanes.{lanes-more}
+use Rattle.events.proofs.Places.{slice_get-within}
 use Rattle.events.proofs.lane.add.Goals as goal
 
 pub returns : goal.returns

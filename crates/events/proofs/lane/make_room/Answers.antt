@@ -2,7 +2,8 @@
 use Rattle.std.proofs.Common.{arith, subst, sym}
 use Rattle.std.proofs.lemmas.Result.{on_ok_weaker}
 use Rattle.events.specs.Lanes.{HasRoom}
-use Rattle.events.proofs.Lanes.{lanes-same, slice_get-within, set-same}
+use Rattle.events.proofs.Lanes.{lanes-same}
+use Rattle.events.proofs.Places.{slice_get-within, set-same}
 use Rattle.events.proofs.lane.make_room.Goals as goal
 
 pub returns-clause-keeps : goal.returns-clause-keeps

@@ -3,7 +3,8 @@ use Rattle.std.proofs.Common.{inl, inr, ◌∙◌, ap, sym, subst, [], arith}
 use Rattle.std.specs.Prelude.{slice_get}
 use Rattle.events.specs.Lanes.{IsLaneOf}
 use Rattle.events.specs.declared.lane.Lane.{Lane}
-use Rattle.events.proofs.Lanes.{push-slice_get, empty_lane}
+use Rattle.events.proofs.Lanes.{empty_lane}
+use Rattle.events.proofs.Places.{push-slice_get}
 use Rattle.events.proofs.recording.empty_lanes.Goals as goal
 
 pub loop-preserved : goal.loop-preserved

@@ -5,7 +5,8 @@ use Rattle.events.specs.Operation.{Operation}
 use Rattle.events.specs.History.{History}
 use Rattle.events.specs.Operations.{operation, operations}
 use Rattle.events.specs.Lanes.{body_at}
-use Rattle.events.proofs.Lanes.{body_behind, nth-behind}
+use Rattle.events.proofs.Lanes.{body_behind}
+use Rattle.events.proofs.Places.{nth-behind}
 use Rattle.events.proofs.recording.Recording.operation.Goals as goal
 
 pub returns-in-Some : goal.returns-in-Some
