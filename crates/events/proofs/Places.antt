@@ -36,12 +36,16 @@ pub nth-behind : {X : Type 0} (xs : List X) (n : ℕ) → 1 ≤ n → nth xs n �
 nth-behind xs zero le = absurd (omega arith)
 nth-behind xs (suc i) le = let same : i ≡ suc i - 1 = omega arith in ap (slice_get xs) same
 
--- what stands in a list with one more element is that one or stood there before
-pub push-slice_get : {X : Type 0} (xs : List X) (x y : X) (r : ℕ) → slice_get (xs ++ x ∷ []) r ≡ Some y → (slice_get xs r ≡ Some y) ⊎ (y ≡ x)
-push-slice_get [] x y zero e = inr cc
+-- what stands in a list with one more element is that one, at the end, or stood there before
+pub push-slice_get : {X : Type 0} (xs : List X) (x y : X) (r : ℕ) → slice_get (xs ++ x ∷ []) r ≡ Some y → (slice_get xs r ≡ Some y) ⊎ ((r ≡ length xs) × (y ≡ x))
+push-slice_get [] x y zero e = inr (refl, cc)
 push-slice_get [] x y (suc r) e = absurd cc
 push-slice_get (z ∷ xs) x y zero e = inl e
-push-slice_get (z ∷ xs) x y (suc r) e = push-slice_get xs x y r e
+push-slice_get {X} (z ∷ xs) x y (suc r) e = go (push-slice_get xs x y r e)
+  where
+    go : (slice_get xs r ≡ Some y) ⊎ ((r ≡ length xs) × (y ≡ x)) → (slice_get (z ∷ xs) (suc r) ≡ Some y) ⊎ ((suc r ≡ suc (length xs)) × (y ≡ x))
+    go (inl h) = inl h
+    go (inr h) = inr (ap suc h.0, h.1)
 
 -- the element at a place within a list
 pub slice_get-within : {X : Type 0} (xs : List X) (i : ℕ) (x : X) → i < length xs → x ≡ get_or xs i x → slice_get xs i ≡ Some x

@@ -15,7 +15,7 @@ stream_of-append r xs ys =
     ap (map (λ (e : Entry). e.body)) (filter-append (λ (e : Entry). e.replica == r) xs ys)
     ∙ map-append (λ (e : Entry). e.body) (filter (λ (e : Entry). e.replica == r) xs) (filter (λ (e : Entry). e.replica == r) ys)
 
-own_stream : (r : ℕ) (e : Entry) → e.replica ≡ r → stream_of r (e ∷ []) ≡ e.body ∷ []
+pub own_stream : (r : ℕ) (e : Entry) → e.replica ≡ r → stream_of r (e ∷ []) ≡ e.body ∷ []
 own_stream r e h = ap (λ b. map (λ (e : Entry). e.body) (cond b (e ∷ []) [])) (eq-eqb e.replica r h)
 
 other_stream : (r : ℕ) (e : Entry) → e.replica ≢ r → stream_of r (e ∷ []) ≡ []

@@ -13,7 +13,7 @@ loop-preserved c = record {
   empty = λ r lane e.
       elim (push-slice_get c.loop.lanes.items c.new.result lane r (ap (λ ls. slice_get ls r) (sym c.in_ok-push.ensures.items) ∙ e)) [
         | inl was ↦ c.loop.invariant.empty r lane was
-        | inr is ↦ subst (λ (l : Lane). IsLaneOf [] [] l) (sym is)
+        | inr is ↦ subst (λ (l : Lane). IsLaneOf [] [] l) (sym is.1)
             (empty_lane c.new.result c.new.ensures.entries c.new.ensures.operations c.new.ensures.inserts c.new.ensures.places)
       ];
 }
