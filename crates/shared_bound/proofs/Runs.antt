@@ -1,5 +1,5 @@
 -- The least of a list of offers, and what one more call does to a run of the one-thread bound.
-use Rattle.std.proofs.Common.{◌≡◌, ◌≢◌, ℕ, zero, suc, ◌+◌, ◌<◌, ◌≤◌, min, Bool, true, false, List, [], ◌∷◌, ◌++◌, sym, refl, ap, arith, ◌∙◌, if◌then◌else◌}
+use Rattle.std.proofs.Common.{◌≡◌, ℕ, ◌+◌, ◌<◌, ◌≤◌, min, Bool, true, false, List, [], ◌∷◌, ◌++◌, sym, refl, ap, arith, ◌∙◌, if◌then◌else◌}
 use Rattle.std.specs.Prelude.{nat_lt}
 use Rattle.std.proofs.lemmas.Bool.{lt-ltb, le-ltb}
 use mathlib.Core.Logic.{dite}
@@ -8,7 +8,7 @@ use Rattle.shared_bound.specs.declared.TheConstants.{NO_OFFER}
 use Rattle.shared_bound.specs.Bound.{BoundState, BoundCall, claim, look, offer, fresh, bound_after, bound_after_all, offers}
 use Rattle.shared_bound.specs.Seats.{least_offer}
 use Rattle.shared_bound.specs.Rule.{times}
-use Rattle.shared_bound.proofs.Totals.{times_here, times_there, times-append}
+use Rattle.shared_bound.proofs.Totals.{times_here, times_there}
 
 pub least_offer_le_none : (xs : List ℕ) → least_offer xs ≤ NO_OFFER
 least_offer_le_none [] = omega arith

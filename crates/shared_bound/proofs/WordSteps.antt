@@ -1,5 +1,5 @@
 -- Each step on a word keeps the rule, and tells what its play says.
-use Rattle.std.proofs.Common.{◌≡◌, ◌≢◌, ℕ, zero, suc, ◌+◌, ◌%◌, ◌^◌, ◌<◌, ◌≤◌, min, true, List, [], ◌∷◌, ◌++◌, set, sym, refl, ap, subst, arith, le_refl, All}
+use Rattle.std.proofs.Common.{◌≡◌, ℕ, zero, suc, ◌+◌, ◌%◌, ◌^◌, ◌<◌, ◌≤◌, min, List, [], ◌∷◌, ◌++◌, set, sym, refl, ap, subst, arith, le_refl, All}
 use Rattle.std.specs.List.{range_with_len}
 use mathlib.Core.Logic.{dite}
 use mathlib.Core.Option.{none, some}
@@ -9,12 +9,12 @@ use Rattle.atomic_table.specs.Table.{State, Me, step, keeps, stepped, Allows}
 use Rattle.shared_bound.specs.declared.TheConstants.{MOST_SEATS, NO_OFFER}
 use Rattle.shared_bound.specs.declared.rule.Knowledge.{Knowledge}
 use Rattle.shared_bound.specs.Bound.{BoundCall, claim, look, offer, fresh, bound_after_all, offers}
-use Rattle.shared_bound.specs.Rule.{total, times, Knows, Kept, Holds}
-use Rattle.shared_bound.specs.Steps.{finished, passed, claimer, reader, offerer, Looked, Claimed, ReadBest, Offered, Counted, nobody}
-use Rattle.shared_bound.proofs.Totals.{total_set, total_le, one_le_total, times-append}
+use Rattle.shared_bound.specs.Rule.{times, Knows, Kept, Holds}
+use Rattle.shared_bound.specs.Steps.{finished, passed, claimer, reader, offerer, Looked, Claimed, ReadBest, Offered, Counted}
+use Rattle.shared_bound.proofs.Totals.{total_le, one_le_total, times-append}
 use Rattle.shared_bound.proofs.Permuted.{all_below, times_next}
 use Rattle.shared_bound.proofs.Runs.{leaves_least, least_offer_le_none, times-offers, leads_claim, leads_look, leads_offer}
-use Rattle.shared_bound.proofs.Changes.{Changes, changed, claims, best, counted, lowered}
+use Rattle.shared_bound.proofs.Changes.{changed, claims, best, counted, lowered}
 
 -- the claims are at most as many as there are sources and seats
 pub claims_few : (n c m : ℕ) (seats : List Knowledge) → Kept n c m seats → c ≤ n + MOST_SEATS

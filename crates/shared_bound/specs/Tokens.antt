@@ -1,5 +1,5 @@
 -- What a seat's knowledge and its two numbers show, and what ties them.
-use Rattle.std.specs.Prelude.{◌≡◌, ℕ, ◌+◌, ◌<◌, ◌≤◌, false, if◌then◌else◌}
+use Rattle.std.specs.Prelude.{◌≡◌, ℕ, ◌+◌, ◌<◌, false, if◌then◌else◌}
 use Rattle.atomic_table.specs.Seated.{TableId}
 use Rattle.shared_bound.specs.declared.TheConstants.{MOST_SEATS}
 use Rattle.shared_bound.specs.declared.rule.Knowledge.{Knowledge}
