@@ -15,7 +15,7 @@ use Rattle.shared_bound.specs.Rule.{total, times, Knows, Kept, Holds}
 use Rattle.shared_bound.specs.Tokens.{shown, IsTied}
 use Rattle.shared_bound.proofs.Totals.{total_alone}
 use Rattle.shared_bound.proofs.Permuted.{permuted}
-use Rattle.shared_bound.proofs.Runs.{leaves_least, same_least, least_offer_le_none}
+use Rattle.shared_bound.proofs.Runs.{leaves_least, same_least, least_offer_le_none, sources_of_run}
 use Rattle.shared_bound.proofs.SeatSteps.{first_parts}
 
 -- what `close` promises of a bound of n sources, its first seat and its answer
@@ -48,6 +48,7 @@ ends n c m seats id k table out shares_left h at all =
         h.history,
         record {
           leads = subst (λ (given : ℕ). bound_after_all n fresh h.history ≡ record { given = given; least = m }) count h.leads;
+          given = subst (λ (xs : List ℕ). IsPermutation xs k.claimed) (sym (sources_of_run n h.history (min c n) (ap (λ s. s.given) h.leads))) each_once;
           told = permuted (offers h.history) k.offered (λ x. sym (offered x));
         },
       );

@@ -1,11 +1,12 @@
 -- The least of a list of offers, and what one more call does to a run of the one-thread bound.
-use Rattle.std.proofs.Common.{◌≡◌, ℕ, ◌+◌, ◌<◌, ◌≤◌, min, Bool, true, false, List, [], ◌∷◌, ◌++◌, sym, refl, ap, arith, ◌∙◌, if◌then◌else◌}
-use Rattle.std.specs.Prelude.{nat_lt}
+use Rattle.std.proofs.Common.{◌≡◌, ℕ, ◌+◌, ◌<◌, ◌≤◌, min, Bool, true, false, List, [], ◌∷◌, ◌++◌, sym, refl, ap, subst, arith, ◌∙◌, if◌then◌else◌}
+use Rattle.std.specs.Prelude.{nat_lt, Some, None, length}
 use Rattle.std.proofs.lemmas.Bool.{lt-ltb, le-ltb}
+use Rattle.std.specs.List.{range_with_len}
 use mathlib.Core.Logic.{dite}
 use native.Mathlib.Decide.{ℕ_discrete, dec_le}
 use Rattle.shared_bound.specs.declared.TheConstants.{NO_OFFER}
-use Rattle.shared_bound.specs.Bound.{BoundState, BoundCall, claim, look, offer, fresh, bound_after, bound_after_all, offers}
+use Rattle.shared_bound.specs.Bound.{BoundState, BoundCall, claim, look, offer, fresh, bound_after, bound_after_all, offers, sources_given, with_source}
 use Rattle.shared_bound.specs.Seats.{least_offer}
 use Rattle.shared_bound.specs.Rule.{times}
 use Rattle.shared_bound.proofs.Totals.{times_here, times_there}
@@ -76,3 +77,40 @@ module _ (n : ℕ) (calls : List BoundCall) where
 
   pub leads_offer : (given m x : ℕ) → bound_after_all n fresh calls ≡ state given m → bound_after_all n fresh (calls ++ offer x ∷ []) ≡ state given (min m x)
   leads_offer given m x e = run-append n fresh calls (offer x) ∙ ap (λ s. bound_after n s (offer x)) e
+
+-- what the claims of a run are given, in order
+module _ (n : ℕ) where
+  -- one claim of a run
+  claim_below : (s : BoundState) (calls : List BoundCall) → s.given < n → sources_given n s (claim ∷ calls) ≡ s.given ∷ sources_given n (state (s.given + 1) s.least) calls
+  claim_below s calls below = ap (λ (b : Bool). with_source (if b then Some s.given else None) (sources_given n (state (if b then s.given + 1 else s.given) s.least) calls)) (lt-ltb s.given n below)
+
+  claim_past : (s : BoundState) (calls : List BoundCall) → n ≤ s.given → sources_given n s (claim ∷ calls) ≡ sources_given n s calls
+  claim_past s calls past = ap (λ (b : Bool). with_source (if b then Some s.given else None) (sources_given n (state (if b then s.given + 1 else s.given) s.least) calls)) (le-ltb s.given n past)
+
+  -- the claims of a run are given the next sources, in order
+  sources_in_order : (s : BoundState) (calls : List BoundCall) → sources_given n s calls ≡ range_with_len s.given (length (sources_given n s calls))
+  sources_in_order s [] = refl
+  sources_in_order s (look ∷ calls) = sources_in_order s calls
+  sources_in_order s (offer x ∷ calls) = sources_in_order (bound_after n s (offer x)) calls
+  sources_in_order s (claim ∷ calls) = dite (dec_le n s.given)
+      (λ past. subst (λ xs. xs ≡ range_with_len s.given (length xs)) (sym (claim_past s calls past)) (sources_in_order s calls))
+      (λ left. subst (λ xs. xs ≡ range_with_len s.given (length xs)) (sym (claim_below s calls (omega arith))) (ap (λ (xs : List ℕ). s.given ∷ xs) (sources_in_order (state (s.given + 1) s.least) calls)))
+
+  -- as many sources are given out as claims were given one
+  given_more : (s : BoundState) (calls : List BoundCall) → (bound_after_all n s calls).given ≡ s.given + length (sources_given n s calls)
+  given_more s [] = omega arith
+  given_more s (look ∷ calls) = given_more s calls
+  given_more s (offer x ∷ calls) = given_more (bound_after n s (offer x)) calls
+  given_more s (claim ∷ calls) = dite (dec_le n s.given)
+      (λ past.
+      let same : bound_after n s claim ≡ s = ap (λ (b : Bool). state (if b then s.given + 1 else s.given) s.least) (le-ltb s.given n past) in
+      ap (λ t. (bound_after_all n t calls).given) same ∙ (given_more s calls ∙ ap (λ xs. s.given + length xs) (sym (claim_past s calls past))))
+      (λ left.
+      let below : s.given < n = omega arith in
+      let up : bound_after n s claim ≡ state (s.given + 1) s.least = ap (λ (b : Bool). state (if b then s.given + 1 else s.given) s.least) (lt-ltb s.given n below) in
+      let rest = given_more (state (s.given + 1) s.least) calls in
+      let long = ap length (claim_below s calls below) in
+      ap (λ t. (bound_after_all n t calls).given) up ∙ omega arith)
+
+  pub sources_of_run : (calls : List BoundCall) (count : ℕ) → (bound_after_all n fresh calls).given ≡ count → sources_given n fresh calls ≡ range_with_len 0 count
+  sources_of_run calls count e = let more = given_more fresh calls in let long : length (sources_given n fresh calls) ≡ count = omega arith in sources_in_order fresh calls ∙ ap (range_with_len 0) long

@@ -14,12 +14,9 @@ pub data BoundCall : Type 0 where
   look : BoundCall
   offer : ℕ → BoundCall
 
--- what a claim among n sources gives, and a look
+-- what a claim among n sources gives; a look gives the least offer
 abbrev pub claimed_source : ℕ → BoundState → Option ℕ
 claimed_source n s = if nat_lt s.given n then Some s.given else None
-
-abbrev pub looked_bound : BoundState → ℕ
-looked_bound s = s.least
 
 -- the state after a call
 abbrev pub bound_after : ℕ → BoundState → BoundCall → BoundState
@@ -43,7 +40,19 @@ offers (claim ∷ cs) = offers cs
 offers (look ∷ cs) = offers cs
 offers (offer x ∷ cs) = x ∷ offers cs
 
--- these calls of one thread give out as many sources as were claimed, offer just what was offered, and leave this least offer
+abbrev pub with_source : Option ℕ → List ℕ → List ℕ
+with_source None sources = sources
+with_source (Some source) sources = source ∷ sources
+
+-- the sources given out by claims among n
+abbrev pub sources_given : ℕ → BoundState → List BoundCall → List ℕ
+sources_given n s [] = []
+sources_given n s (claim ∷ cs) = with_source (claimed_source n s) (sources_given n (bound_after n s claim) cs)
+sources_given n s (look ∷ cs) = sources_given n s cs
+sources_given n s (offer x ∷ cs) = sources_given n (bound_after n s (offer x)) cs
+
+-- these calls of one thread are given just the sources that were claimed, offer just what was offered, and leave this least offer
 pub record IsRun (n : ℕ) (claimed offered : List ℕ) (least : ℕ) (calls : List BoundCall) : Type 0 where
   pub leads : bound_after_all n fresh calls ≡ record { given = length claimed; least = least }
+  pub given : IsPermutation (sources_given n fresh calls) claimed
   pub told : IsPermutation (offers calls) offered
