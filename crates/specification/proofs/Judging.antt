@@ -31,26 +31,26 @@ use Rattle.specification.proofs.Tests.{Decides-each, Decides-some, is_in, Decide
 use Rattle.specification.proofs.FirstFault.{is_sound, Decides-sound, is_first_fault, Decides-first_fault}
 
 -- orders
-abbrev is_subsequence : List NameBytes → List NameBytes → Bool
+abbrev pub is_subsequence : List NameBytes → List NameBytes → Bool
 is_subsequence [] order = true
 is_subsequence (a ∷ w) [] = false
 is_subsequence (a ∷ w) (b ∷ order) = (bytes_eq a b && is_subsequence w order) || is_subsequence (a ∷ w) order
 
-Decides-subsequence : (w order : List NameBytes) → Decides (is_subsequence w order) (IsSubsequence w order)
+pub Decides-subsequence : (w order : List NameBytes) → Decides (is_subsequence w order) (IsSubsequence w order)
 Decides-subsequence [] order = (λ e. tt, λ s. refl)
 Decides-subsequence (a ∷ w) [] = (λ e. absurd (false≢true e), λ s. absurd s)
 Decides-subsequence (a ∷ w) (b ∷ order) =
     Decides-or (bytes_eq a b && is_subsequence w order) (is_subsequence (a ∷ w) order)
     (Decides-and (bytes_eq a b) (is_subsequence w order) (bytes_eq-Decides a b) (Decides-subsequence w order)) (Decides-subsequence (a ∷ w) order)
 
-abbrev is_element_order : Responses → List NameBytes → Bool
+abbrev pub is_element_order : Responses → List NameBytes → Bool
 is_element_order v order =
     is_once bytes_eq order && (list_all (λ a. is_in bytes_eq a v.elements) order && list_all (λ a. is_in bytes_eq a order) v.elements)
 
 Decides-members : (xs ys : List NameBytes) → Decides (list_all (λ a. is_in bytes_eq a ys) xs) ((a : NameBytes) → In a xs → In a ys)
 Decides-members xs ys = Decides-each (λ a. is_in bytes_eq a ys) (λ a. In a ys) (λ a. Decides-in bytes_eq bytes_eq-Decides a ys) xs
 
-Decides-element_order : (v : Responses) → AreProper v → (order : List NameBytes) → Decides (is_element_order v order) (IsElementOrder v order)
+pub Decides-element_order : (v : Responses) → AreProper v → (order : List NameBytes) → Decides (is_element_order v order) (IsElementOrder v order)
 Decides-element_order v proper order =
     Decides-like (is_element_order v order)
     (λ k. permutation_of_members v.elements order (elements-once v proper) k.0 k.1.1 k.1.0)
@@ -99,10 +99,10 @@ least_order-from v proper order t =
     }
 
 -- cycles
-abbrev stands_before : Responses → NameBytes → NameBytes → Bool
+abbrev pub stands_before : Responses → NameBytes → NameBytes → Bool
 stands_before v a b = list_any (λ r. is_before bytes_eq a b r.names) v.returned
 
-Decides-stands_before : (v : Responses) (a b : NameBytes) → Decides (stands_before v a b) (StandsBefore v a b)
+pub Decides-stands_before : (v : Responses) (a b : NameBytes) → Decides (stands_before v a b) (StandsBefore v a b)
 Decides-stands_before v a b =
     Decides-like (stands_before v a b) (λ s. (s.0.by, Shows-from_ShowsIn v s.0.by a b (s.0, s.1, refl, s.2)))
     (λ k. let s : ShowsIn v k.0 a b = ShowsIn-from_Shows v k.0 a b k.1 in (s.0, s.1, s.3))
@@ -152,10 +152,10 @@ least_cycle-from v proper c t =
         other (In-lists_of (length other) v.elements other refl (λ a i. cycle-elements v proper other is a i)) is)
 
 -- the steps that a refusal gives
-abbrev shows : Responses → NameBytes → NameBytes → Operation → Bool
+abbrev pub shows : Responses → NameBytes → NameBytes → Operation → Bool
 shows v a b o = list_any (λ r. is_operation_named r.by o && is_before bytes_eq a b r.names) v.returned
 
-Decides-shows : (v : Responses) (a b : NameBytes) (o : Operation) → Decides (shows v a b o) (Shows v o a b)
+pub Decides-shows : (v : Responses) (a b : NameBytes) (o : Operation) → Decides (shows v a b o) (Shows v o a b)
 Decides-shows v a b o =
     Decides-like (shows v a b o) (λ s. Shows-from_ShowsIn v o a b (s.0, s.1, s.2.0, s.2.1))
     (λ k. let s : ShowsIn v o a b = ShowsIn-from_Shows v o a b k in (s.0, s.1, (s.2, s.3)))
@@ -178,13 +178,13 @@ least_showing-from v a b o t =
           p.1 s.0 s.1 (subst (λ g. ComesBefore g o) (sym s.2) before, s.3);
     }
 
-abbrev are_pairs : List (NameBytes × NameBytes) → List (NameBytes × NameBytes) → Bool
+abbrev pub are_pairs : List (NameBytes × NameBytes) → List (NameBytes × NameBytes) → Bool
 are_pairs [] [] = true
 are_pairs [] (q ∷ qs) = false
 are_pairs (p ∷ ps) [] = false
 are_pairs (p ∷ ps) (q ∷ qs) = (bytes_eq p.0 q.0 && bytes_eq p.1 q.1) && are_pairs ps qs
 
-pairs-from : (ps qs : List (NameBytes × NameBytes)) → are_pairs ps qs ≡ true → ps ≡ qs
+pub pairs-from : (ps qs : List (NameBytes × NameBytes)) → are_pairs ps qs ≡ true → ps ≡ qs
 pairs-from [] [] t = refl
 pairs-from [] (q ∷ qs) t = absurd (false≢true t)
 pairs-from (p ∷ ps) [] t = absurd (false≢true t)
