@@ -69,10 +69,10 @@ Decides-follows_all v order =
     (λ all r i. All-member (λ (r : Returned). IsSubsequence r.names order) v.returned r all i)
     (Decides-each (λ (r : Returned). is_subsequence r.names order) (λ r. IsSubsequence r.names order) (λ r. Decides-subsequence r.names order) v.returned)
 
-abbrev is_following : Responses → List NameBytes → Bool
+abbrev pub is_following : Responses → List NameBytes → Bool
 is_following v order = is_element_order v order && follows_all v order
 
-Decides-following : (v : Responses) → AreProper v → (order : List NameBytes) → Decides (is_following v order) (IsFollowingOrder v order)
+pub Decides-following : (v : Responses) → AreProper v → (order : List NameBytes) → Decides (is_following v order) (IsFollowingOrder v order)
 Decides-following v proper order = Decides-and (is_element_order v order) (follows_all v order) (Decides-element_order v proper order) (Decides-follows_all v order)
 
 abbrev comes_first : Responses → List NameBytes → List NameBytes → Bool

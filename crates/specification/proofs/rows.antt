@@ -1,1 +1,3 @@
 pub mod Recordings
+pub mod Texts
+pub mod Certificates

@@ -212,7 +212,13 @@ Receipts =
     × Judged (recording 2 (ins 0 a 0 (a ∷ []) ∷ recv 1 0 1 ∷ recv 1 0 1 ∷ read 1 (a ∷ []) ∷ [])) (accepted (a ∷ [])) (codes "replicas 2 operations 2 inserts 1" ∷ codes "accepted" ∷ codes "strong yes" ∷ codes "weak yes" ∷ codes "order : a" ∷ [])
 
 -- of several orders that follow, the first by the elements' numbers; one alone where a response decides
+abbrev pub both_inserts : History
+both_inserts = recording 2 (ins 0 a 0 (a ∷ []) ∷ ins 1 b 0 (b ∷ []) ∷ [])
+
+abbrev pub both_inserts_read : History
+both_inserts_read = recording 2 (ins 0 a 0 (a ∷ []) ∷ ins 1 b 0 (b ∷ []) ∷ recv 0 1 1 ∷ read 0 (b ∷ a ∷ []) ∷ [])
+
 abbrev pub LeastOfSeveralOrders : Type 0
 LeastOfSeveralOrders =
-    Judged (recording 2 (ins 0 a 0 (a ∷ []) ∷ ins 1 b 0 (b ∷ []) ∷ [])) (accepted (a ∷ b ∷ [])) (codes "replicas 2 operations 2 inserts 2" ∷ codes "accepted" ∷ codes "strong yes" ∷ codes "weak yes" ∷ codes "order : a b" ∷ [])
-    × Judged (recording 2 (ins 0 a 0 (a ∷ []) ∷ ins 1 b 0 (b ∷ []) ∷ recv 0 1 1 ∷ read 0 (b ∷ a ∷ []) ∷ [])) (accepted (b ∷ a ∷ [])) (codes "replicas 2 operations 3 inserts 2" ∷ codes "accepted" ∷ codes "strong yes" ∷ codes "weak yes" ∷ codes "order : b a" ∷ [])
+    Judged both_inserts (accepted (a ∷ b ∷ [])) (codes "replicas 2 operations 2 inserts 2" ∷ codes "accepted" ∷ codes "strong yes" ∷ codes "weak yes" ∷ codes "order : a b" ∷ [])
+    × Judged both_inserts_read (accepted (b ∷ a ∷ [])) (codes "replicas 2 operations 3 inserts 2" ∷ codes "accepted" ∷ codes "strong yes" ∷ codes "weak yes" ∷ codes "order : b a" ∷ [])

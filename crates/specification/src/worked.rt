@@ -1,6 +1,8 @@
 //! Worked recordings, as the contracts of a function with an empty body: what the definitions say of each.
 
 ghost use Rattle.specification.specs.WorkedRecordings.{EmptyRecording, InsertDeleteRead, ThreeWayCycle, OppositePair, RingOfFour, ReadShowsDeleted, RepeatedName, ChainOfReceipts, InsertPastTheEnd, DeletedBeforeInserted, DoubledName, Receipts, LeastOfSeveralOrders};
+ghost use Rattle.specification.specs.WorkedCertificates.{ValidCertificates, WrittenRows, WrongCertificates, ForgedLayers};
+ghost use Rattle.specification.specs.WorkedTexts.{MalformedLines};
 
 /// Small recordings with their verdicts, by the definitions themselves: each is legal, the verdict given is its verdict
 /// (so it is the only one), and its report has the lines given. They show that the definitions mean what their words say.
@@ -18,4 +20,18 @@ pub fn worked_recordings()
     ensures doubled_name { DoubledName }
     ensures receipts { Receipts }
     ensures least_of_several_orders { LeastOfSeveralOrders }
+{}
+
+/// Certificates for these recordings: which are valid, the first reason against others, the rows that are written for a
+/// refusal, and forged layers that a checker must not believe.
+pub fn worked_certificates()
+    ensures valid_certificates { ValidCertificates }
+    ensures written_rows { WrittenRows }
+    ensures wrong_certificates { WrongCertificates }
+    ensures forged_layers { ForgedLayers }
+{}
+
+/// Trace texts with a fault: the line that is named, counted from 1, and its cause.
+pub fn worked_texts()
+    ensures { MalformedLines }
 {}

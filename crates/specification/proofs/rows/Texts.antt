@@ -1,0 +1,126 @@
+-- The worked texts with a fault: the right lines before it begin the spelling of a recording, which is legal by its test, and
+-- the faulty line is named with what makes it faulty.
+use Rattle.std.proofs.Common.{◌≡◌, ◌≢◌, ℕ, ◌≤◌, inr, false, List, [], ◌∷◌, ◌++◌, length, refl, sym, ◌∙◌, arith, ap, lit<, lit≤, length-append}
+use Rattle.std.specs.Prelude.{codes, decimal, ◌==◌}
+use Rattle.std.specs.Fmt.{digits}
+use Rattle.std.proofs.lemmas.Bool.{false≢true}
+use Rattle.std.proofs.lemmas.Bool.Decides.{Decides-eqb}
+use Rattle.events.specs.History.{History}
+use Rattle.specification.specs.Lines.{Line, text_of, IsOneLine}
+use Rattle.specification.specs.TraceText.{trace_lines, body_text, entry_line, IsFirstLineFault, header, replicas, shape, cut, refused}
+use Rattle.events.specs.declared.recording.Entry.{Entry}
+use Rattle.events.specs.declared.recording.Body.{Body}
+use Rattle.events.specs.declared.recording.Body.TheVariants.{Ins, Del, Read, Recv}
+use Rattle.events.specs.declared.refusal.Refusal.TheVariants.{NoReplica, OwnReceipt, NotYet}
+use Rattle.specification.specs.WorkedRecordings.{recording, ins, read, recv, a}
+use Rattle.specification.specs.WorkedTexts as worked
+use Rattle.specification.proofs.Members.{In-from_Contains}
+use Rattle.specification.proofs.Tests.{is_in, Decides-in}
+use Rattle.specification.proofs.Legality.{legal-from}
+
+-- a line without LF
+one_line : (line : Line) → is_in ◌==◌ 10 line ≡ false → IsOneLine line
+one_line line none c = false≢true (sym none ∙ (Decides-in ◌==◌ Decides-eqb 10 line).1 (In-from_Contains line 10 c))
+
+missing_header : IsFirstLineFault [] 1 header
+missing_header = inr (record { good = []; begins = (recording 1 [], legal-from (recording 1 []) refl, trace_lines (recording 1 []), refl); text_is = refl; number = refl; missing = tt })
+
+missing_replicas : IsFirstLineFault (text_of (codes "trace 1" ∷ [])) 2 replicas
+unfolding digits
+missing_replicas =
+    inr (record { good = codes "trace 1" ∷ []; begins = (recording 1 [], legal-from (recording 1 []) refl, codes "replicas 1" ∷ [], refl); text_is = refl; number = refl; missing = tt })
+
+cut_header : IsFirstLineFault (codes "tra") 1 cut
+cut_header = record {
+  good = [];
+  begins = (recording 1 [], legal-from (recording 1 []) refl, trace_lines (recording 1 []), refl);
+  rest = codes "tra";
+  some_byte = lit≤ tt;
+  one_line = one_line (codes "tra") refl;
+  text_is = refl;
+  number = refl;
+}
+
+cut_entry : IsFirstLineFault (worked.one_replica ++ codes "0 read :") 3 cut
+unfolding digits
+cut_entry = record {
+  good = codes "trace 1" ∷ codes "replicas 1" ∷ [];
+  begins = (recording 1 [], legal-from (recording 1 []) refl, [], refl);
+  rest = codes "0 read :";
+  some_byte = lit≤ tt;
+  one_line = one_line (codes "0 read :") refl;
+  text_is = refl;
+  number = refl;
+}
+
+-- an entry's line has some byte
+some_byte : (e : Entry) → [] ≢ entry_line e
+some_byte e is = go e.body is
+  where
+    -- behind a first part that has a byte
+    behind : (xs ys : List ℕ) → 1 ≤ length ys → [] ≡ xs ++ ys → ⊥
+    behind xs ys some e = omega (arith, ap length e, length-append xs ys)
+
+    go : (b : Body) → [] ≡ decimal e.replica ++ body_text b → ⊥
+    go (Ins name at w) f = behind (decimal e.replica) (body_text (Ins name at w)) (omega arith) f
+    go (Del name w) f = behind (decimal e.replica) (body_text (Del name w)) (omega arith) f
+    go (Read w) f = behind (decimal e.replica) (body_text (Read w)) (omega arith) f
+    go (Recv seen) f = behind (decimal e.replica) (body_text (Recv seen)) (omega arith) f
+
+empty_line : IsFirstLineFault (worked.one_replica ++ text_of ([] ∷ [])) 3 shape
+unfolding digits
+empty_line = record {
+  good = codes "trace 1" ∷ codes "replicas 1" ∷ [];
+  begins = (recording 1 [], legal-from (recording 1 []) refl, [], refl);
+  faulty = [];
+  one_line = one_line [] refl;
+  more = [];
+  text_is = refl;
+  number = refl;
+  is_faulty = λ e is. some_byte e;
+}
+
+unknown_replica : IsFirstLineFault (worked.one_replica ++ text_of (codes "1 read :" ∷ [])) 3 (refused NoReplica)
+unfolding digits
+unknown_replica = record {
+  good = codes "trace 1" ∷ codes "replicas 1" ∷ [];
+  begins = (recording 1 [], legal-from (recording 1 []) refl, [], refl);
+  faulty = codes "1 read :";
+  one_line = one_line (codes "1 read :") refl;
+  more = [];
+  text_is = refl;
+  number = refl;
+  is_faulty = (recording 1 [], legal-from (recording 1 []) refl, refl, read 1 [], (lit< tt, λ k x lt. absurd (omega arith)), refl, refl);
+}
+
+abbrev inserted_once : History
+inserted_once = recording 2 (ins 0 a 0 (a ∷ []) ∷ [])
+
+early_receipt : IsFirstLineFault (worked.one_insert ++ text_of (codes "1 recv 0 2" ∷ [])) 4 (refused (NotYet 1))
+unfolding digits
+early_receipt = record {
+  good = codes "trace 1" ∷ codes "replicas 2" ∷ codes "0 ins a 0 : a" ∷ [];
+  begins = (inserted_once, legal-from inserted_once refl, [], refl);
+  faulty = codes "1 recv 0 2";
+  one_line = one_line (codes "1 recv 0 2") refl;
+  more = [];
+  text_is = refl;
+  number = refl;
+  is_faulty = (inserted_once, legal-from inserted_once refl, refl, recv 1 0 2, (lit< tt, (lit< tt, lit≤ tt, lit< tt)), refl, refl);
+}
+
+own_receipt : IsFirstLineFault (worked.one_insert ++ text_of (codes "0 recv 0 1" ∷ [])) 4 (refused OwnReceipt)
+unfolding digits
+own_receipt = record {
+  good = codes "trace 1" ∷ codes "replicas 2" ∷ codes "0 ins a 0 : a" ∷ [];
+  begins = (inserted_once, legal-from inserted_once refl, [], refl);
+  faulty = codes "0 recv 0 1";
+  one_line = one_line (codes "0 recv 0 1") refl;
+  more = [];
+  text_is = refl;
+  number = refl;
+  is_faulty = (inserted_once, legal-from inserted_once refl, refl, recv 0 0 1, (lit< tt, (lit< tt, lit≤ tt, lit< tt)), refl, refl);
+}
+
+pub malformed_lines : worked.MalformedLines
+malformed_lines = (missing_header, missing_replicas, cut_header, cut_entry, empty_line, unknown_replica, early_receipt, own_receipt)
