@@ -1,0 +1,6 @@
+pub mod Numbers
+pub mod Table
+pub mod Doubled
+pub mod Fronts
+pub mod Contents
+pub mod Firsts

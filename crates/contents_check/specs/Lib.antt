@@ -1,0 +1,2 @@
+pub mod FaultOf
+pub mod Known
