@@ -12,3 +12,6 @@ mod rightness;
 
 pub use fault::Fault;
 pub use first::first_fault;
+
+#[cfg(test)]
+mod tests;
