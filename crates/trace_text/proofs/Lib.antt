@@ -1,0 +1,3 @@
+pub mod FirstWord
+pub mod NameList
+pub mod Numbers
