@@ -1,3 +1,6 @@
 pub mod FirstWord
 pub mod NameList
 pub mod Numbers
+pub mod NameWords
+pub mod LineWords
+pub mod Spelled
