@@ -4,3 +4,5 @@ pub mod Numbers
 pub mod NameWords
 pub mod LineWords
 pub mod Spelled
+pub mod SecondLine
+pub mod FaultyLines

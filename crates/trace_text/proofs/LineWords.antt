@@ -74,7 +74,7 @@ number-lacks n small =
 word-then : (w : Word) (rest : List ℕ) → LacksSpace w → words_of (w ++ 32 ∷ rest) ≡ w ∷ words_of rest
 word-then w rest h = slice_split_at (λ b. b == 32) w 32 rest h refl
 
-last-word : (w : Word) → LacksSpace w → words_of w ≡ w ∷ []
+pub last-word : (w : Word) → LacksSpace w → words_of w ≡ w ∷ []
 last-word w h = slice_split_none (λ b. b == 32) w h
 
 names-words : (w : Word) (names : List NameBytes) → LacksSpace w → All LacksSpace names → words_of (w ++ names_text names) ≡ w ∷ names

@@ -19,11 +19,11 @@ use Rattle.trace_text.proofs.NameWords.{name-is, name_of-name}
 use Rattle.trace_text.proofs.NameList.{word-at-some}
 use Rattle.trace_text.proofs.LineWords.{body_words, entry_words, line-by-words, words-of-line}
 
-bind-some : {A B : Type 0} (o : Option A) (f : A → Option B) (y : B) → (o >>= f) ≡ Some y → (x : A) × (o ≡ Some x) × (f x ≡ Some y)
+pub bind-some : {A B : Type 0} (o : Option A) (f : A → Option B) (y : B) → (o >>= f) ≡ Some y → (x : A) × (o ≡ Some x) × (f x ≡ Some y)
 bind-some None f y e = absurd (cc)
 bind-some (Some x) f y e = (x, refl, e)
 
-number-at-is : (ws : List Word) (n : ℕ) (more : List Word) → number_at ws ≡ Some (n, more) → (ws ≡ decimal n ∷ more) × (n < 2 ^ 32)
+pub number-at-is : (ws : List Word) (n : ℕ) (more : List Word) → number_at ws ≡ Some (n, more) → (ws ≡ decimal n ∷ more) × (n < 2 ^ 32)
 unfolding number_at
 number-at-is [] n more e = absurd (cc)
 number-at-is (w ∷ ws) n more e =
@@ -32,7 +32,7 @@ number-at-is (w ∷ ws) n more e =
     let is = number_of-is w p.0 p.1 in
     (cc, rw (← parts.0) is.1)
 
-after-word-is : (wanted : Word) (ws more : List Word) → after_word wanted ws ≡ Some more → ws ≡ wanted ∷ more
+pub after-word-is : (wanted : Word) (ws more : List Word) → after_word wanted ws ≡ Some more → ws ≡ wanted ∷ more
 unfolding after_word
 after-word-is wanted [] more e = absurd (cc)
 after-word-is wanted (w ∷ ws) more e =
@@ -94,7 +94,7 @@ read-is ws b e =
     let third = response-is ws response.0 response.1 in
     (subst IsWellFormed body third.1, ap (λ l. codes "read" ∷ l) third.0 ∙ ap body_words body)
 
-no-more-is : (ws : List Word) (x : Unit {0}) → no_more ws ≡ Some x → ws ≡ []
+pub no-more-is : (ws : List Word) (x : Unit {0}) → no_more ws ≡ Some x → ws ≡ []
 no-more-is [] x e = refl
 no-more-is (w ∷ ws) x e = absurd (cc)
 
@@ -151,14 +151,14 @@ entry-is (w ∷ ws) e h =
     let second = body-is ws body.0 body.1 in
     (subst IsEntry same (first.1, second.0), ap (λ l. l ∷ ws) first.0 ∙ ap (λ l. decimal replica.0 ∷ l) second.1 ∙ ap entry_words same)
 
-number-again : (n : ℕ) (ws : List Word) → n < 2 ^ 32 → number_at (decimal n ∷ ws) ≡ Some (n, ws)
+pub number-again : (n : ℕ) (ws : List Word) → n < 2 ^ 32 → number_at (decimal n ∷ ws) ≡ Some (n, ws)
 unfolding number_at
 number-again n ws small = rw (number_of-decimal n small) refl
 
 name-again : (a : NameBytes) → IsName a → name_of a ≡ Some a
 name-again a h = name_of-name a h
 
-word-again : (wanted : Word) (ws : List Word) → after_word wanted (wanted ∷ ws) ≡ Some ws
+pub word-again : (wanted : Word) (ws : List Word) → after_word wanted (wanted ∷ ws) ≡ Some ws
 unfolding after_word
 word-again wanted ws = rw ((bytes_eq-Decides wanted wanted).1 refl) refl
 

@@ -1,7 +1,11 @@
 //! The trace text of a recording, read and written.
 #![tactic(auto)]
 
+mod cause;
 mod entry;
 mod fields;
+mod reading;
 mod stop;
 mod words;
+
+pub use cause::{Cause, LineFault};
