@@ -6,3 +6,5 @@ pub mod LineWords
 pub mod Spelled
 pub mod SecondLine
 pub mod FaultyLines
+pub mod FirstLine
+pub mod Faults

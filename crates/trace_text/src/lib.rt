@@ -6,6 +6,8 @@ mod entry;
 mod fields;
 mod reading;
 mod stop;
+mod whole;
 mod words;
 
 pub use cause::{Cause, LineFault};
+pub use whole::read;
