@@ -8,3 +8,4 @@ pub mod SecondLine
 pub mod FaultyLines
 pub mod FirstLine
 pub mod Faults
+pub mod Written

@@ -8,6 +8,8 @@ mod reading;
 mod stop;
 mod whole;
 mod words;
+mod writing;
 
 pub use cause::{Cause, LineFault};
 pub use whole::read;
+pub use writing::write;
