@@ -93,19 +93,19 @@ body-words r (Ins name at response) h k =
     ap (λ l. words_of (r ++ (codes " ins " ++ l))) (sym (place-and-names name (decimal at) (names_text response)))
     ∙ word-then r (codes "ins " ++ (name ++ 32 ∷ (decimal at ++ 32 ∷ 58 ∷ names_text response))) h
     ∙ ap (λ l. r ∷ codes "ins" ∷ l) (word-then name (decimal at ++ 32 ∷ 58 ∷ names_text response) (name-lacks name k.0)
-        ∙ ap (λ l. name ∷ l) (word-then (decimal at) (58 ∷ names_text response) (number-lacks at k.1)
-            ∙ ap (λ l. decimal at ∷ l) (response-words response k.2)))
+    ∙ ap (λ l. name ∷ l) (word-then (decimal at) (58 ∷ names_text response) (number-lacks at k.1)
+    ∙ ap (λ l. decimal at ∷ l) (response-words response k.2)))
 body-words r (Del name response) h k =
     ap (λ l. words_of (r ++ (codes " del " ++ l))) (append_assoc name (codes " :") (names_text response))
     ∙ word-then r (codes "del " ++ (name ++ 32 ∷ 58 ∷ names_text response)) h
     ∙ ap (λ l. r ∷ codes "del" ∷ l) (word-then name (58 ∷ names_text response) (name-lacks name k.0)
-        ∙ ap (λ l. name ∷ l) (response-words response k.1))
+    ∙ ap (λ l. name ∷ l) (response-words response k.1))
 body-words r (Read response) h k =
     word-then r (codes "read " ++ 58 ∷ names_text response) h ∙ ap (λ l. r ∷ codes "read" ∷ l) (response-words response k)
 body-words r (Recv seen) h k =
     word-then r (codes "recv " ++ (decimal seen.replica ++ 32 ∷ decimal seen.n)) h
     ∙ ap (λ l. r ∷ codes "recv" ∷ l) (word-then (decimal seen.replica) (decimal seen.n) (number-lacks seen.replica k.0)
-        ∙ ap (λ l. decimal seen.replica ∷ l) (last-word (decimal seen.n) (number-lacks seen.n k.2)))
+    ∙ ap (λ l. decimal seen.replica ∷ l) (last-word (decimal seen.n) (number-lacks seen.n k.2)))
 
 -- an entry's line has the entry's words
 pub words-of-line : (e : Entry) → IsEntry e → words_of (entry_line e) ≡ entry_words e

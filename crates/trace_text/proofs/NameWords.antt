@@ -57,7 +57,7 @@ name-no-fault : (w : Word) → IsName w → name_fault w ≡ None
 name-no-fault [] h = absurd (omega (arith, h.some_byte))
 name-no-fault (b ∷ bs) h =
     let none : position (λ c. not (is_name_byte c)) (b ∷ bs) ≡ None =
-        position_from-zero (λ c. not (is_name_byte c)) (b ∷ bs) ∙ all-good-from is_name_byte 0 (b ∷ bs) h.each_byte in
+    position_from-zero (λ c. not (is_name_byte c)) (b ∷ bs) ∙ all-good-from is_name_byte 0 (b ∷ bs) h.each_byte in
     let short : nat_lt 32 (length (b ∷ bs)) ≡ false = le-ltb _ _ h.few_bytes in
     rw (short, none) refl
 

@@ -40,9 +40,10 @@ pub number_of-is : (w : Word) (n : ℕ) → number_of w ≡ Some n → (w ≡ de
 unfolding number_of
 number_of-is w n e =
     let parts = cond_some (bytes_eq w (decimal (digits_value 10 w)) && nat_lt (digits_value 10 w) (2 ^ 32)) (digits_value 10 w) n e in
-    let passed = both _ _ parts.0 in
-    ( (bytes_eq-Decides w (decimal (digits_value 10 w))).0 passed.0 ∙ ap decimal parts.1
-    , rw (← parts.1) ((Decides-ltb (digits_value 10 w) (2 ^ 32)).0 passed.1))
+    let passed = both _ _ parts.0 in (
+      (bytes_eq-Decides w (decimal (digits_value 10 w))).0 passed.0 ∙ ap decimal parts.1,
+      rw (← parts.1) ((Decides-ltb (digits_value 10 w) (2 ^ 32)).0 passed.1),
+    )
 
 none-or : (o : Option ℕ) → ((n : ℕ) → o ≡ Some n → ⊥) → o ≡ None
 none-or None h = refl
@@ -62,10 +63,10 @@ parsed-number {E} w (Ok n) h some low high =
 parsed-number {E} w (Err e) h some low high =
     let plain = parse_plain own {E = E} 32 w (Err e) h (λ e. absurd (omega arith)) in
     sym (no-number w (λ n small is.
-        let numeral = decimal_is_IsNumeral n (omega arith) in
-        let digits : AllDigits 10 w = rw is numeral.0.1 in
-        let value : digits_value 10 w ≡ n = rw is numeral.1 in
-        plain (digits, some, rw value small)))
+    let numeral = decimal_is_IsNumeral n (omega arith) in
+    let digits : AllDigits 10 w = rw is numeral.0.1 in
+    let value : digits_value 10 w ≡ n = rw is numeral.1 in
+    plain (digits, some, rw value small)))
 
 pub zero-number : number_of (48 ∷ []) ≡ Some 0
 zero-number = ap number_of (sym (decimal_digit 0 (omega arith))) ∙ number_of-decimal 0 (omega arith)

@@ -70,7 +70,7 @@ insert-is ws b e =
     let second = number-at-is word.0.1 place.0.0 place.0.1 place.1 in
     let third = response-is place.0.1 response.0 response.1 in
     let words : ws ≡ name.0 ∷ decimal place.0.0 ∷ codes ":" ∷ response.0 =
-        word-at-some ws word.0.0 word.0.1 word.1 ∙ ap (λ l. word.0.0 ∷ l) (second.0 ∙ ap (λ l. decimal place.0.0 ∷ l) third.0) ∙ ap (λ w. w ∷ decimal place.0.0 ∷ codes ":" ∷ response.0) first.0 in
+    word-at-some ws word.0.0 word.0.1 word.1 ∙ ap (λ l. word.0.0 ∷ l) (second.0 ∙ ap (λ l. decimal place.0.0 ∷ l) third.0) ∙ ap (λ w. w ∷ decimal place.0.0 ∷ codes ":" ∷ response.0) first.0 in
     (subst IsWellFormed body (first.1, second.1, third.1), ap (λ l. codes "ins" ∷ l) words ∙ ap body_words body)
 
 delete-is : (ws : List Word) (b : Body) → delete_at ws ≡ Some b → IsWellFormed b × (codes "del" ∷ ws ≡ body_words b)
@@ -83,7 +83,7 @@ delete-is ws b e =
     let first = name-is word.0.0 name.0 name.1 in
     let third = response-is word.0.1 response.0 response.1 in
     let words : ws ≡ name.0 ∷ codes ":" ∷ response.0 =
-        word-at-some ws word.0.0 word.0.1 word.1 ∙ ap (λ l. word.0.0 ∷ l) third.0 ∙ ap (λ w. w ∷ codes ":" ∷ response.0) first.0 in
+    word-at-some ws word.0.0 word.0.1 word.1 ∙ ap (λ l. word.0.0 ∷ l) third.0 ∙ ap (λ w. w ∷ codes ":" ∷ response.0) first.0 in
     (subst IsWellFormed body (first.1, third.1), ap (λ l. codes "del" ∷ l) words ∙ ap body_words body)
 
 read-is : (ws : List Word) (b : Body) → read_at ws ≡ Some b → IsWellFormed b × (codes "read" ∷ ws ≡ body_words b)
@@ -108,7 +108,7 @@ receipt-is ws b e =
     let first = number-at-is ws replica.0.0 replica.0.1 replica.1 in
     let second = number-at-is replica.0.1 n.0.0 n.0.1 n.1 in
     let words : ws ≡ decimal replica.0.0 ∷ decimal n.0.0 ∷ [] =
-        first.0 ∙ ap (λ l. decimal replica.0.0 ∷ l) (second.0 ∙ ap (λ l. decimal n.0.0 ∷ l) (no-more-is n.0.1 none.0 none.1)) in
+    first.0 ∙ ap (λ l. decimal replica.0.0 ∷ l) (second.0 ∙ ap (λ l. decimal n.0.0 ∷ l) (no-more-is n.0.1 none.0 none.1)) in
     (subst IsWellFormed parts.1 (first.1, leb-true 1 n.0.0 parts.0, second.1), ap (λ l. codes "recv" ∷ l) words ∙ ap body_words parts.1)
 
 chosen : {A : Type 0} (t : Bool) (x y : Option A) (z : A) → cond t x y ≡ Some z → ((t ≡ true) × (x ≡ Some z)) ⊎ (y ≡ Some z)
@@ -125,12 +125,15 @@ cond_some_of false x z e = absurd (cc)
 kind-is : (kind : Word) (ws : List Word) (b : Body) → body_of_kind kind ws ≡ Some b → IsWellFormed b × (kind ∷ ws ≡ body_words b)
 unfolding body_of_kind
 kind-is kind ws b e = elim (chosen (bytes_eq kind (codes "ins")) _ _ b e) [
-    inl h ↦ by-kind kind (codes "ins") ws b h.0 (insert-is ws b h.1)
+  | inl h ↦ by-kind kind (codes "ins") ws b h.0 (insert-is ws b h.1)
   | inr e1 ↦ elim (chosen (bytes_eq kind (codes "del")) _ _ b e1) [
-      inl h ↦ by-kind kind (codes "del") ws b h.0 (delete-is ws b h.1)
+    | inl h ↦ by-kind kind (codes "del") ws b h.0 (delete-is ws b h.1)
     | inr e2 ↦ elim (chosen (bytes_eq kind (codes "read")) _ _ b e2) [
-        inl h ↦ by-kind kind (codes "read") ws b h.0 (read-is ws b h.1)
-      | inr e3 ↦ (let p = cond_some_of (bytes_eq kind (codes "recv")) (receipt_at ws) b e3 in by-kind kind (codes "recv") ws b p.0 (receipt-is ws b p.1)) ] ] ]
+      | inl h ↦ by-kind kind (codes "read") ws b h.0 (read-is ws b h.1)
+      | inr e3 ↦ (let p = cond_some_of (bytes_eq kind (codes "recv")) (receipt_at ws) b e3 in by-kind kind (codes "recv") ws b p.0 (receipt-is ws b p.1))
+    ]
+  ]
+]
 
 body-is : (ws : List Word) (b : Body) → body_at ws ≡ Some b → IsWellFormed b × (ws ≡ body_words b)
 unfolding body_at

@@ -7,7 +7,7 @@ ghost use Rattle.trace_text.specs.Reading.{Gives, names_at, response_at, insert_
 use crate::fields::{end, name_of, next_number, number_of, skip_word};
 use crate::stop::Stop;
 use crate::words::{first_word, next_word};
-use events::{Body, Entry, Name, OpName, Response, MOST_NAMES};
+use events::{Body, Entry, MOST_NAMES, Name, OpName, Response};
 use std::alloc::Global;
 
 /// How many names to make room for: one for each space, and no more than one above what a response may have.

@@ -13,3 +13,6 @@ mod writing;
 pub use cause::{Cause, LineFault};
 pub use whole::read;
 pub use writing::write;
+
+#[cfg(test)]
+mod tests;

@@ -12,7 +12,7 @@ use crate::entry::entry_of;
 use crate::fields::{end, next_number};
 use crate::stop::Stop;
 use crate::words::first_word;
-use events::{NewFault, Recording, Refusal, MOST_REPLICAS};
+use events::{MOST_REPLICAS, NewFault, Recording, Refusal};
 use std::alloc::Global;
 
 /// What the right lines so far say.

@@ -4,6 +4,7 @@ ghost use Rattle.std.specs.Prelude.{◌≡◌, ◌+◌, ◌<◌, ◌∷◌, ◌+
 ghost use Rattle.specification.specs.Lines.{IsOneLine};
 ghost use Rattle.specification.specs.TraceText.{Spells, IsFirstLineFault};
 ghost use Rattle.trace_text.specs.Causes.{cause_of};
+ghost use Rattle.trace_text.specs.Place.{IsBehindRightLines};
 
 use crate::cause::{Cause, LineFault};
 use crate::reading::Reading;
@@ -26,6 +27,8 @@ fn split_line(text: &[u8]) -> Option<(&[u8], &[u8])>
 pub fn read(alloc: Global, bytes: &[u8]) -> Result<Recording, LineFault>
     ensures ok { IfOk result (λ h. Spells bytes.now h) }
     ensures fault { IfErr result (λ fault. IfSome (cause_of fault.cause) (λ cause. IsFirstLineFault bytes.now fault.line cause)) }
+    // Want of memory too is answered at a line behind right lines.
+    ensures place { IfErr result (λ fault. IsBehindRightLines bytes.now fault.line) }
 {
     let mut reading = Reading::Start;
     let mut rest = bytes;

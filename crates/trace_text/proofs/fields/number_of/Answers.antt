@@ -18,7 +18,7 @@ returns-in_default c = sym (empty-word c.args.word.now (omega arith))
 pub returns-in_default-2 : goal.returns-in_default-2
 returns-in_default-2 c =
     let ne : c.args.word.now ≢ 48 ∷ [] =
-        λ e. false≢true (sym c.if-eq.false ∙ (slice_eq-Decides Decides-eqb _ _ _ c.eq.ensures).1 (e ∙ sym c.as_slice.ensures)) in
+    λ e. false≢true (sym c.if-eq.false ∙ (slice_eq-Decides Decides-eqb _ _ _ c.eq.ensures).1 (e ∙ sym c.as_slice.ensures)) in
     sym (low-word c.args.word.now ne (omega arith))
 
 pub returns-in_default-3 : goal.returns-in_default-3

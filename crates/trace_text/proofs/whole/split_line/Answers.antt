@@ -10,6 +10,7 @@ pub returns : goal.returns
 returns c =
     let text : List ℕ = c.args.text.now in
     let end : ℕ = c.in_ok-end.end in
-    let parts = line-parts text end (sym c.in_ok-end.ensures) in
-    ( line-before text end (sym c.in_ok-end.ensures)
-    , parts.1 ∙ ap (λ l. take end text ++ 10 ∷ l) (sym (take_rest text (end + 1))))
+    let parts = line-parts text end (sym c.in_ok-end.ensures) in (
+      line-before text end (sym c.in_ok-end.ensures),
+      parts.1 ∙ ap (λ l. take end text ++ 10 ∷ l) (sym (take_rest text (end + 1))),
+    )
