@@ -1,7 +1,7 @@
 -- The first line of a text.
-use Rattle.std.proofs.Common.{◌≡◌, ℕ, ◌+◌, ◌<◌, ◌≤◌, ◌==◌, ◌-◌, Bool, true, false, not, cond, ltb, List, [], ◌∷◌, ◌++◌, length, get_or, take, drop, position, Option, Some, None, refl, sym, ap, ◌∙◌, arith, length-take, ltb-false}
-use Rattle.std.specs.List.{position_or_len, prefix_len, Contains}
-use Rattle.std.proofs.lemmas.List.{drop_more, take-append-drop, get_or-take, get_or_default}
+use Rattle.std.proofs.Common.{◌≡◌, ℕ, ◌+◌, ◌<◌, ◌≤◌, ◌==◌, Bool, true, false, not, cond, ltb, List, ◌∷◌, ◌++◌, length, get_or, take, drop, position, Some, None, refl, sym, ap, ◌∙◌, arith, length-take, ltb-false}
+use Rattle.std.specs.List.{position_or_len}
+use Rattle.std.proofs.lemmas.List.{drop_more, take-append-drop, get_or-take}
 use Rattle.std.proofs.lemmas.List.Sums.{prefix_len_passes}
 use Rattle.std.proofs.lemmas.List.Quantifiers.{position-Some}
 use Rattle.std.proofs.lemmas.Bool.{eqb-true, both_ways, eq-eqb, not-true}

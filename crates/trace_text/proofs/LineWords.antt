@@ -1,7 +1,6 @@
 -- An entry's line, as its words.
-use Rattle.std.proofs.Common.{◌≡◌, ℕ, ◌+◌, ◌<◌, ◌≤◌, ◌^◌, ◌==◌, Bool, true, false, List, [], ◌∷◌, ◌++◌, length, get_or, refl, sym, ap, ◌∙◌, arith, decimal, codes, ◌≢◌, inl, inr}
-use Rattle.std.specs.List.{All, slice_split, join_with_byte, list_all}
-use Rattle.std.specs.Str.Parse.{AllDigits}
+use Rattle.std.proofs.Common.{◌≡◌, ℕ, ◌<◌, ◌^◌, ◌==◌, true, false, List, [], ◌∷◌, ◌++◌, get_or, refl, sym, ap, ◌∙◌, arith, decimal, codes, ◌≢◌, inl, inr}
+use Rattle.std.specs.List.{All, join_with_byte}
 use Rattle.std.proofs.lemmas.List.{append-nil, append_assoc}
 use Rattle.std.proofs.lemmas.List.Splits.{slice_split_none, slice_split_at, join_with_byte-slice_split}
 use Rattle.std.proofs.lemmas.List.Elements.{All-head, All-tail, All-weaker, All-from_get_or, All-cons, All-nil}

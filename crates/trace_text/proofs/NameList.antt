@@ -1,7 +1,7 @@
 -- Names, one word after another.
 use Rattle.std.proofs.Common.{◌≡◌, ℕ, ◌<◌, List, [], ◌∷◌, ◌++◌, length, refl, sym, ap, ◌∙◌, Option, Some, None, option_map, option_and_then}
 use Rattle.std.proofs.lemmas.List.{append-nil, append_assoc}
-use Rattle.std.proofs.lemmas.Option.{same_Some, some_pair_parts}
+use Rattle.std.proofs.lemmas.Option.{some_pair_parts}
 use Rattle.events.specs.Names.{NameBytes}
 use Rattle.trace_text.specs.Words.{Word, words_behind}
 use Rattle.trace_text.specs.Reading.{Fails, word_at, no_more, name_of, names_at}

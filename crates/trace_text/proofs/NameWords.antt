@@ -1,14 +1,12 @@
 -- What words are names.
-use Rattle.std.proofs.Common.{◌≡◌, ℕ, ◌+◌, ◌<◌, ◌≤◌, Bool, true, false, cond, not, ◌&&◌, ltb, nat_lt, IsTrue, Option, Some, None, option_map, List, [], ◌∷◌, length, position, refl, sym, ap, ◌∙◌, arith, ltb-false, le-ltb}
-use Rattle.std.specs.List.{list_all, position_from, All, AllPass}
+use Rattle.std.proofs.Common.{◌≡◌, ℕ, ◌+◌, ◌≤◌, Bool, true, false, cond, not, ◌&&◌, nat_lt, Option, Some, None, option_map, List, [], ◌∷◌, length, position, refl, sym, ◌∙◌, arith, ltb-false, le-ltb}
+use Rattle.std.specs.List.{list_all, position_from}
 use Rattle.std.proofs.lemmas.Iterator.Adapters.{position_from-zero}
 use Rattle.std.proofs.lemmas.Option.{same_Some}
-use Rattle.std.proofs.lemmas.Bool.Decides.{Decides-ltb}
-use Rattle.std.proofs.lemmas.Bool.{false≢true}
 use Rattle.events.specs.Names.{NameBytes, IsName, is_name_byte}
 use Rattle.events.specs.NameFaults.{name_fault}
 use Rattle.events.specs.declared.name.NameFault.{NameFault}
-use Rattle.events.specs.declared.name.NameFault.TheVariants.{Empty, Long, BadByte}
+use Rattle.events.specs.declared.name.NameFault.TheVariants.{Long, BadByte}
 use Rattle.trace_text.specs.Words.{Word}
 use Rattle.trace_text.specs.Reading.{unless_fault, name_of}
 

@@ -1,11 +1,11 @@
 -- What words are numbers.
-use Rattle.std.proofs.Common.{◌≡◌, ◌≢◌, ℕ, ◌+◌, ◌<◌, ◌≤◌, ◌^◌, Bool, true, false, cond, ltb, ◌&&◌, nat_lt, List, [], ◌∷◌, length, get_or, refl, sym, ap, ◌∙◌, arith, Option, Some, None, Result, Ok, Err, MatchResult, subst, decimal, rules, tests}
+use Rattle.std.proofs.Common.{◌≡◌, ◌≢◌, ℕ, ◌<◌, ◌≤◌, ◌^◌, Bool, true, false, ◌&&◌, nat_lt, [], ◌∷◌, length, get_or, refl, sym, ap, ◌∙◌, arith, Option, Some, None, Result, Ok, Err, MatchResult, subst, decimal}
 use Rattle.std.specs.Str.{bytes_eq, IsUtf8}
 use Rattle.std.proofs.lemmas.Str.{IsUtf8-from_ascii}
 use Rattle.std.proofs.lemmas.Bool.{cases_eq}
 use Rattle.std.proofs.Common.{inl, inr}
 use Rattle.std.specs.Result.{result_ok}
-use Rattle.std.specs.Str.Parse.{AllDigits, IsNumeral, digits_value, ParsesUnsigned}
+use Rattle.std.specs.Str.Parse.{AllDigits, digits_value, ParsesUnsigned}
 use Rattle.std.proofs.lemmas.Str.Parse.{IsNumeralModel, numerals_by_value, tells_digits, parse_plain, digit_at}
 use Rattle.std.proofs.lemmas.Fmt.{first_decimal, IsAscii-decimal, digits_value-decimal, decimal-digits_value, decimal_is_IsNumeral, decimal_nonempty, decimal_digit}
 use Rattle.std.proofs.lemmas.Slice.Eq.{bytes_eq-Decides}

@@ -1,5 +1,5 @@
 -- Reading an entry's words gives the entry, and no other words give one.
-use Rattle.std.proofs.Common.{◌≡◌, ◌≢◌, ℕ, ◌+◌, ◌<◌, ◌≤◌, ◌^◌, Bool, true, false, cond, nat_le, List, [], ◌∷◌, ◌++◌, length, refl, sym, ap, ◌∙◌, subst, arith, decimal, codes, Option, Some, None, option_and_then, ◌⊎◌, inl, inr}
+use Rattle.std.proofs.Common.{◌≡◌, ◌≢◌, ℕ, ◌<◌, ◌^◌, Bool, true, false, cond, nat_le, List, [], ◌∷◌, refl, sym, ap, ◌∙◌, subst, decimal, codes, Option, Some, None, ◌⊎◌, inl, inr}
 use Rattle.std.specs.Str.{bytes_eq}
 use Rattle.std.specs.List.{All}
 use Rattle.std.proofs.lemmas.Slice.Eq.{bytes_eq-Decides}
@@ -13,7 +13,7 @@ use Rattle.events.specs.declared.recording.Body.{Body}
 use Rattle.events.specs.declared.recording.Body.TheVariants.{Ins, Del, Read, Recv}
 use Rattle.specification.specs.TraceText.{entry_line, IsEntry}
 use Rattle.trace_text.specs.Words.{Word, words_of}
-use Rattle.trace_text.specs.Reading.{◌>>=◌, word_at, no_more, number_of, name_of, number_at, after_word, names_at, response_at, insert_at, delete_at, read_at, receipt_at, body_of_kind, body_at, entry_at, replicas_at}
+use Rattle.trace_text.specs.Reading.{◌>>=◌, word_at, no_more, number_of, name_of, number_at, after_word, names_at, response_at, insert_at, delete_at, read_at, receipt_at, body_of_kind, body_at, entry_at}
 use Rattle.trace_text.proofs.Numbers.{number_of-is, number_of-decimal}
 use Rattle.trace_text.proofs.NameWords.{name-is, name_of-name}
 use Rattle.trace_text.proofs.NameList.{word-at-some}

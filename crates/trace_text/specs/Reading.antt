@@ -1,9 +1,8 @@
 -- What words say: a number, a name, a response, an entry. Nothing, where they say none.
-use Rattle.std.specs.Prelude.{◌≡◌, ℕ, ◌+◌, ◌^◌, Bool, ◌&&◌, nat_lt, nat_le, ◌==◌, if◌then◌else◌, Option, Some, None, option_map, option_and_then, Result, Ok, Err, List, [], ◌∷◌, decimal, codes, bytes_eq}
+use Rattle.std.specs.Prelude.{◌≡◌, ℕ, ◌^◌, ◌&&◌, nat_lt, nat_le, if◌then◌else◌, Option, Some, None, option_and_then, Result, Ok, Err, List, [], ◌∷◌, decimal, codes, bytes_eq}
 use Rattle.std.specs.Str.Parse.{digits_value}
 use Rattle.events.specs.Names.{NameBytes}
 use Rattle.events.specs.NameFaults.{name_fault}
-use Rattle.events.specs.Operation.{Operation}
 use Rattle.events.specs.declared.name.NameFault.{NameFault}
 use Rattle.events.specs.declared.recording.Entry.{Entry}
 use Rattle.events.specs.declared.recording.Body.{Body}

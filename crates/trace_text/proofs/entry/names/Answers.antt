@@ -1,10 +1,10 @@
-use Rattle.std.proofs.Common.{◌≡◌, ◌<◌, ◌++◌, ◌∷◌, List, [], length, arith, sym, ap, ◌∙◌}
+use Rattle.std.proofs.Common.{◌≡◌, ◌<◌, length, arith}
 use Rattle.std.proofs.lemmas.Grind.{common_steps}
 use Rattle.std.proofs.lemmas.Result.{err_from_is_err_and}
 use Rattle.trace_text.specs.Words.{words_behind}
-use Rattle.trace_text.specs.Reading.{word_at, name_of, names_at}
+use Rattle.trace_text.specs.Reading.{word_at, name_of}
 use Rattle.trace_text.proofs.FirstWord.{none-behind}
-use Rattle.trace_text.proofs.NameList.{onto, fails-by, some-word-at, names-end, names-more, names-stop}
+use Rattle.trace_text.proofs.NameList.{fails-by, some-word-at, names-end, names-more, names-stop}
 use Rattle.trace_text.proofs.entry.names.Goals as goal
 
 pub returns-in_err-word : goal.returns-in_err-word

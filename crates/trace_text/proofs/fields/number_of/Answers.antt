@@ -1,5 +1,4 @@
-use Rattle.std.proofs.Common.{◌≡◌, ◌≢◌, ℕ, ◌<◌, ◌≤◌, length, get_or, List, [], ◌∷◌, arith, sym, ap, ◌∙◌, refl, Ok, Err, Option, None}
-use Rattle.std.specs.Result.{result_ok}
+use Rattle.std.proofs.Common.{◌≢◌, ℕ, List, [], ◌∷◌, arith, sym, ap, ◌∙◌}
 use Rattle.std.proofs.lemmas.Slice.Eq.{slice_eq-Decides}
 use Rattle.std.proofs.lemmas.Bool.Decides.{Decides-eqb}
 use Rattle.std.proofs.lemmas.Bool.{false≢true}

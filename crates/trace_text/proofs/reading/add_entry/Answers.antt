@@ -1,5 +1,4 @@
-use Rattle.std.proofs.Common.{◌≡◌, ◌++◌, ◌∷◌, List, [], sym, ap, ◌∙◌, subst, IfSome}
-use Rattle.events.specs.History.{History}
+use Rattle.std.proofs.Common.{ap, ◌∙◌, subst}
 use Rattle.specification.specs.TraceText.{trace_lines}
 use Rattle.trace_text.specs.Reading.{Fails, entry_at}
 use Rattle.trace_text.specs.Words.{words_of}

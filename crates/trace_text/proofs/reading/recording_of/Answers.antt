@@ -1,4 +1,4 @@
-use Rattle.std.proofs.Common.{◌≡◌, sym, ap, ◌∙◌, inl, inr, Err}
+use Rattle.std.proofs.Common.{sym, ap, ◌∙◌, inl, inr, Err}
 use Rattle.std.proofs.lemmas.Result.{err_from_is_err_and}
 use Rattle.specification.specs.TraceText.{replicas_line}
 use Rattle.trace_text.proofs.SecondLine.{replicas-spells, no-second-line, bad-number}

@@ -1,4 +1,4 @@
-use Rattle.std.proofs.Common.{◌≡◌, ◌<◌, length, sym, ◌∙◌, arith}
+use Rattle.std.proofs.Common.{sym, ◌∙◌, arith}
 use Rattle.trace_text.proofs.Written.{name-more, not-past}
 use Rattle.trace_text.proofs.writing.push_names.Goals as goal
 use Rattle.trace_text.proofs.writing.push_names.Goals.{in-Some+in_ok-push+in_ok-extend_from_slice, in_default}

@@ -1,4 +1,4 @@
-use Rattle.std.proofs.Common.{◌≡◌, ◌<◌, length, sym, ◌∙◌, arith}
+use Rattle.std.proofs.Common.{sym, arith}
 use Rattle.trace_text.proofs.Written.{entry-more, not-past}
 use Rattle.trace_text.proofs.writing.write.Goals as goal
 use Rattle.trace_text.proofs.writing.write.Goals.{in-Some+in_ok-push_entry, in_default}
