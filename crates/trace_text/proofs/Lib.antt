@@ -1,3 +1,4 @@
+pub mod Bytes
 pub mod FirstWord
 pub mod NameList
 pub mod Numbers
@@ -9,3 +10,7 @@ pub mod FaultyLines
 pub mod FirstLine
 pub mod Faults
 pub mod Written
+pub mod TextLines
+pub mod Accepted
+pub mod OneReading
+pub mod ReadBack

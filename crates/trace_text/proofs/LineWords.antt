@@ -17,10 +17,11 @@ use Rattle.events.specs.declared.recording.Body.TheVariants.{Ins, Del, Read, Rec
 use Rattle.specification.specs.Lines.{names_text}
 use Rattle.specification.specs.TraceText.{entry_line, body_text, IsEntry}
 use Rattle.trace_text.specs.Words.{Word, words_of}
+use Rattle.trace_text.proofs.Bytes.{Lacks, lacks-name, lacks-number, lacks-literal}
 
 -- no space stands in it
 abbrev pub LacksSpace : Word → Type 0
-LacksSpace w = All (λ b. (b == 32) ≡ false) w
+LacksSpace w = Lacks 32 w
 
 abbrev pub body_words : Body → List Word
 body_words (Ins name at response) = codes "ins" ∷ name ∷ decimal at ∷ codes ":" ∷ response
@@ -53,22 +54,14 @@ body-join r (Recv seen) = refl
 pub line-by-words : (line : List ℕ) (e : Entry) → words_of line ≡ entry_words e → line ≡ entry_line e
 line-by-words line e h = sym (join_with_byte-slice_split 32 line) ∙ ap (join_with_byte 32) h ∙ body-join (decimal e.replica) e.body
 
-no-space : (b : ℕ) → b ≢ 32 → (b == 32) ≡ false
-no-space b ne = grind (arith, nat_tests)
-
-name-byte : (b : ℕ) → is_name_byte b ≡ true → (b == 32) ≡ false
-name-byte b h = elim (cases_eq b 32) [ inl e ↦ absurd (let bad : is_name_byte 32 ≡ true = rw e at h in cc bad) | inr ne ↦ no-space b ne ]
-
 pub name-lacks : (a : NameBytes) → IsName a → LacksSpace a
-name-lacks a h = All-weaker (λ b. is_name_byte b ≡ true) (λ b. (b == 32) ≡ false) name-byte a (AllPass-from_list_all is_name_byte a h.each_byte)
+name-lacks a h = lacks-name 32 a refl h
 
-pub names-lack : (names : List NameBytes) → All IsName names → All LacksSpace names
+names-lack : (names : List NameBytes) → All IsName names → All LacksSpace names
 names-lack names h = All-weaker IsName LacksSpace name-lacks names h
 
 pub number-lacks : (n : ℕ) → n < 2 ^ 32 → LacksSpace (decimal n)
-number-lacks n small =
-    let numeral = decimal_is_IsNumeral n (omega arith) in
-    All-from_get_or (λ b. (b == 32) ≡ false) (decimal n) 0 (λ i l. no-space (get_or (decimal n) i 0) (λ e. absurd (omega (arith, digit_at (decimal n) i numeral.0.1 l, e))))
+number-lacks n small = lacks-number 32 n (omega arith) small
 
 word-then : (w : Word) (rest : List ℕ) → LacksSpace w → words_of (w ++ 32 ∷ rest) ≡ w ∷ words_of rest
 word-then w rest h = slice_split_at (λ b. b == 32) w 32 rest h refl
@@ -82,7 +75,7 @@ names-words w (a ∷ names) h k =
     word-then w (a ++ names_text names) h ∙ ap (λ l. w ∷ l) (names-words a names (All-head LacksSpace a names k) (All-tail LacksSpace a names k))
 
 colon-lacks : LacksSpace (codes ":")
-colon-lacks = All-cons (λ b. (b == 32) ≡ false) 58 [] refl (All-nil (λ b. (b == 32) ≡ false))
+colon-lacks = lacks-literal 32 (codes ":") refl
 
 response-words : (names : List NameBytes) → All IsName names → words_of (codes ":" ++ names_text names) ≡ codes ":" ∷ names
 response-words names h = names-words (codes ":") names colon-lacks (names-lack names h)

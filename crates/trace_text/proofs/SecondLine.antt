@@ -33,7 +33,7 @@ replicas-words n small = ap (λ l. codes "replicas" ∷ l) (last-word (decimal n
 pub replicas-spells : (line : List ℕ) (n : ℕ) → replicas_at (words_of line) ≡ Some n → line ≡ replicas_line n
 replicas-spells line n e = sym (join_with_byte-slice_split 32 line) ∙ ap (join_with_byte 32) (replicas-are (words_of line) n e)
 
-replicas-line-again : (line : List ℕ) (n : ℕ) → n < 2 ^ 32 → line ≡ replicas_line n → replicas_at (words_of line) ≡ Some n
+pub replicas-line-again : (line : List ℕ) (n : ℕ) → n < 2 ^ 32 → line ≡ replicas_line n → replicas_at (words_of line) ≡ Some n
 replicas-line-again line n small is = ap (λ l. replicas_at (words_of l)) is ∙ ap replicas_at (replicas-words n small) ∙ replicas-again n small
 
 -- it has no other number
