@@ -1,13 +1,13 @@
 -- Each entry of a legal recording was accepted behind the entries before it.
-use Rattle.std.proofs.Common.{◌≡◌, ◌≢◌, ℕ, ◌+◌, ◌<◌, ◌≤◌, Bool, true, false, cond, ◌&&◌, ◌||◌, ◌==◌, nat_le, nat_lt, List, [], ◌∷◌, ◌++◌, length, get_or, Option, Some, None, refl, sym, ap, ◌∙◌, subst, arith, length-append}
-use Rattle.std.specs.Prelude.{All, count_by, sum_by}
+use Rattle.std.proofs.Common.{◌≡◌, ℕ, ◌+◌, ◌<◌, ◌≤◌, Bool, true, false, cond, ◌&&◌, ◌||◌, ◌==◌, nat_le, nat_lt, List, [], ◌∷◌, ◌++◌, length, get_or, None, refl, sym, ap, ◌∙◌, subst, arith, length-append}
+use Rattle.std.specs.Prelude.{count_by, sum_by}
 use Rattle.std.proofs.lemmas.Bool.{lt-leb, le-ltb, ne_eqb}
 use Rattle.std.proofs.lemmas.List.{append_assoc, get_or_at}
 use Rattle.std.proofs.lemmas.List.Sums.{sum_by-append, sum_by-cons}
 use Rattle.events.specs.Operation.{Operation}
-use Rattle.events.specs.History.{History, IsLegal, KeepsLimits, IsInOrder, stream, stream_of, count_of, response_of, is_insert}
+use Rattle.events.specs.History.{History, IsLegal, KeepsLimits, IsInOrder, stream_of, count_of, response_of, is_insert}
 use Rattle.events.specs.Session.{first_refusal, received, passes}
-use Rattle.events.specs.declared.TheConstants.{MOST_REPLICAS, MOST_ENTRIES, MOST_INSERTS, MOST_NAMES, MOST_PLACES}
+use Rattle.events.specs.declared.TheConstants.{MOST_ENTRIES, MOST_INSERTS, MOST_NAMES, MOST_PLACES}
 use Rattle.events.specs.declared.recording.Entry.{Entry}
 use Rattle.events.specs.declared.recording.Body.{Body}
 use Rattle.events.specs.declared.recording.Body.TheVariants.{Ins, Del, Read, Recv}
@@ -44,7 +44,7 @@ sums f before after b = sum_by-append f before (b ∷ after) ∙ ap (λ n. sum_b
 inserts-unspent : (before after : List Body) (b : Body) → KeepsLimits (before ++ b ∷ after) → (is_insert b && nat_le MOST_INSERTS (count_by is_insert before)) ≡ false
 inserts-unspent before after b h =
     few-inserts (is_insert b) (count_by is_insert before) (count_by is_insert after)
-        (subst (λ (n : ℕ). n ≤ MOST_INSERTS) (sums (λ b. cond (is_insert b) 1 0) before after b) h.inserts)
+    (subst (λ (n : ℕ). n ≤ MOST_INSERTS) (sums (λ b. cond (is_insert b) 1 0) before after b) h.inserts)
 
 short-response : (before after : List Body) (b : Body) → KeepsLimits (before ++ b ∷ after) → nat_lt MOST_NAMES (length (response_of b)) ≡ false
 short-response before after b h =
@@ -64,13 +64,17 @@ accepted h earlier later e legal is =
     let known : r < h.replicas = subst (λ (d : Entry). d.replica < h.replicas) element (legal.replica_known (length earlier) e here) in
     let in_order : IsInOrder h.replicas earlier e = legal.receipts earlier later e is in
     let limits : KeepsLimits (stream_of r earlier ++ e.body ∷ stream_of r later) =
-        subst KeepsLimits (ap (stream_of r) is ∙ stream-about r earlier later e refl) (legal.limits r) in
+    subst KeepsLimits (ap (stream_of r) is ∙ stream-about r earlier later e refl) (legal.limits r) in
     let no_replica = neither (nat_le h.replicas r) (passes (λ o. nat_le h.replicas o.replica) (received e.body)) (lt-leb h.replicas r known)
-        (passes-none (λ o. nat_le h.replicas o.replica) e.body (λ seen b. lt-leb h.replicas seen.replica (in_order seen b).0)) in
+    (passes-none (λ o. nat_le h.replicas o.replica) e.body (λ seen b. lt-leb h.replicas seen.replica (in_order seen b).0)) in
     let own = passes-none (λ o. o.replica == r) e.body (λ seen b. ne_eqb seen.replica r (in_order seen b).1) in
     let not_yet = passes-none (λ o. nat_lt (count_of o.replica earlier) o.n) e.body (λ seen b. le-ltb (count_of seen.replica earlier) seen.n (in_order seen b).2) in
-    rw (no_replica, own, not_yet
-        , few-entries (stream_of r earlier) (stream_of r later) e.body limits
-        , inserts-unspent (stream_of r earlier) (stream_of r later) e.body limits
-        , short-response (stream_of r earlier) (stream_of r later) e.body limits
-        , places-unspent (stream_of r earlier) (stream_of r later) e.body limits) refl
+    rw (
+      no_replica,
+      own,
+      not_yet,
+      few-entries (stream_of r earlier) (stream_of r later) e.body limits,
+      inserts-unspent (stream_of r earlier) (stream_of r later) e.body limits,
+      short-response (stream_of r earlier) (stream_of r later) e.body limits,
+      places-unspent (stream_of r earlier) (stream_of r later) e.body limits,
+    ) refl

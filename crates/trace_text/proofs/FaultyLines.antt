@@ -1,6 +1,6 @@
 -- Which lines are faulty behind right lines, and what begins a spelling.
 use Rattle.std.proofs.Common.{◌≡◌, ◌≢◌, ◌<◌, ◌≤◌, List, [], ◌∷◌, ◌++◌, length, map, refl, sym, ap, ◌∙◌, arith, Some, IfSome}
-use Rattle.std.proofs.lemmas.List.{append-nil, map_push}
+use Rattle.std.proofs.lemmas.List.{map_push}
 use Rattle.std.proofs.lemmas.List.Elements.{All-nil}
 use Rattle.events.specs.History.{History, IsLegal, IsWellFormed, with_entry, response_of}
 use Rattle.events.specs.Session.{first_refusal}
@@ -51,6 +51,3 @@ nothing-begins = (smallest, smallest-legal, trace_lines smallest, refl)
 
 pub header-begins : BeginsSpelling (HEADER ∷ [])
 header-begins = (smallest, smallest-legal, replicas_line 1 ∷ [], refl)
-
-pub lines-begin : (h : History) → IsLegal h → BeginsSpelling (trace_lines h)
-lines-begin h legal = (h, legal, [], append-nil (trace_lines h))

@@ -14,3 +14,4 @@ pub mod TextLines
 pub mod Accepted
 pub mod OneReading
 pub mod ReadBack
+pub mod OneFault

@@ -1,16 +1,11 @@
 -- An entry's line, as its words.
-use Rattle.std.proofs.Common.{◌≡◌, ℕ, ◌<◌, ◌^◌, ◌==◌, true, false, List, [], ◌∷◌, ◌++◌, get_or, refl, sym, ap, ◌∙◌, arith, decimal, codes, ◌≢◌, inl, inr}
+use Rattle.std.proofs.Common.{◌≡◌, ℕ, ◌<◌, ◌^◌, ◌==◌, List, [], ◌∷◌, ◌++◌, refl, sym, ap, ◌∙◌, arith, decimal, codes}
 use Rattle.std.specs.List.{All, join_with_byte}
 use Rattle.std.proofs.lemmas.List.{append-nil, append_assoc}
 use Rattle.std.proofs.lemmas.List.Splits.{slice_split_none, slice_split_at, join_with_byte-slice_split}
-use Rattle.std.proofs.lemmas.List.Elements.{All-head, All-tail, All-weaker, All-from_get_or, All-cons, All-nil}
-use Rattle.std.proofs.lemmas.List.Sums.{AllPass-from_list_all}
-use Rattle.std.proofs.lemmas.Bool.{cases_eq}
-use Rattle.std.proofs.lemmas.Bool.Decides.{nat_tests}
+use Rattle.std.proofs.lemmas.List.Elements.{All-head, All-tail, All-weaker}
 use Rattle.events.specs.History.{IsWellFormed}
-use Rattle.std.proofs.lemmas.Str.Parse.{digit_at}
-use Rattle.std.proofs.lemmas.Fmt.{decimal_is_IsNumeral}
-use Rattle.events.specs.Names.{NameBytes, IsName, is_name_byte}
+use Rattle.events.specs.Names.{NameBytes, IsName}
 use Rattle.events.specs.declared.recording.Entry.{Entry}
 use Rattle.events.specs.declared.recording.Body.{Body}
 use Rattle.events.specs.declared.recording.Body.TheVariants.{Ins, Del, Read, Recv}

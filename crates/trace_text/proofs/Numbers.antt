@@ -17,9 +17,6 @@ use Rattle.trace_text.specs.Reading.{number_of}
 own : IsNumeralModel (AllDigits 10) (digits_value 10)
 own = numerals_by_value _ tells_digits
 
-both-true : (a b : Bool) → a ≡ true → b ≡ true → a && b ≡ true
-both-true a b h k = rw (h, k) refl
-
 both : (a b : Bool) → (a && b) ≡ true → (a ≡ true) × (b ≡ true)
 both true b h = (refl, h)
 both false b h = absurd (cc)

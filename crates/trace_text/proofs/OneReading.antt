@@ -1,5 +1,5 @@
 -- A text that spells a recording spells no other, and has no fault.
-use Rattle.std.proofs.Common.{◌≡◌, ◌≢◌, ℕ, ◌+◌, ◌<◌, ◌≤◌, ◌^◌, List, [], ◌∷◌, ◌++◌, length, map, refl, sym, ap, ◌∙◌, subst, arith, Option, Some, None, inl, inr, ◌==◌, length-append}
+use Rattle.std.proofs.Common.{◌≡◌, ℕ, ◌<◌, ◌≤◌, ◌^◌, List, [], ◌∷◌, ◌++◌, length, map, refl, sym, ap, ◌∙◌, subst, arith, Some, inl, inr, ◌==◌, length-append}
 use Rattle.std.specs.List.{All}
 use Rattle.std.proofs.lemmas.List.{append_assoc, append-nil, append_cancel_right, same_from_push}
 use Rattle.std.proofs.lemmas.Option.{none-some}
@@ -12,7 +12,7 @@ use Rattle.events.specs.declared.recording.Entry.{Entry}
 use Rattle.specification.specs.Lines.{Line, text_of, IsOneLine}
 use Rattle.specification.specs.TraceText as format
 use Rattle.specification.specs.TraceText.{HEADER, entry_line, replicas_line, trace_lines, trace_text, Spells, IsEntry, IsFaultyLine, IsMissingLine, BeginsSpelling, HasWholeFault, IsCutAt, LacksLine, IsFirstLineFault}
-use Rattle.trace_text.proofs.TextLines.{lines_of, LacksLf, lacks-lf, lines-then, one-line, line-then, lines-lack, beginning-lacks, legal-entries}
+use Rattle.trace_text.proofs.TextLines.{lines_of, lacks-lf, lines-then, one-line, line-then, lines-lack, beginning-lacks, legal-entries}
 use Rattle.trace_text.proofs.Spelled.{one-spelling}
 use Rattle.trace_text.proofs.SecondLine.{replicas-line-again, replicas-same}
 use Rattle.trace_text.proofs.Accepted.{accepted}
@@ -38,7 +38,7 @@ same-entries (d ∷ ds) (e ∷ es) h k is =
 few : (h : History) → IsLegal h → h.replicas < 2 ^ 32
 few h legal = omega (arith, legal.few_replicas)
 
-same-history : (g h : History) → IsLegal g → IsLegal h → trace_lines g ≡ trace_lines h → g ≡ h
+pub same-history : (g h : History) → IsLegal g → IsLegal h → trace_lines g ≡ trace_lines h → g ≡ h
 same-history g h legal good is =
     let second : replicas_line g.replicas ≡ replicas_line h.replicas = cc in
     let others : map entry_line g.entries ≡ map entry_line h.entries = cc in
@@ -64,7 +64,7 @@ front-of-push (x ∷ xs) (g ∷ good) more z f some is =
     let p = front-of-push xs good more z f some tail in
     (p.0, ap (λ y. y ∷ xs) head ∙ ap (λ l. g ∷ l) p.1)
 
-some-line : (text : List ℕ) → 1 ≤ length (lines_of text)
+pub some-line : (text : List ℕ) → 1 ≤ length (lines_of text)
 some-line text = omega (arith, length-slice_split (λ b. b == 10) text)
 
 -- right lines and one more stand first among a recording's lines
@@ -72,8 +72,8 @@ lines-stand : (h : History) (good : List Line) (line : Line) (more : List ℕ) �
     (rest : List Line) × (trace_lines h ≡ good ++ line ∷ rest)
 lines-stand h good line more legal begins one is =
     let lines : trace_lines h ++ [] ∷ [] ≡ good ++ line ∷ lines_of more =
-        sym (trace-lines-are h legal) ∙ ap lines_of (is ∙ append_assoc (text_of good) line (10 ∷ more))
-        ∙ lines-then good (line ++ 10 ∷ more) (beginning-lacks good begins) ∙ ap (λ ls. good ++ ls) (line-then line more (lacks-lf line one)) in
+    sym (trace-lines-are h legal) ∙ ap lines_of (is ∙ append_assoc (text_of good) line (10 ∷ more))
+    ∙ lines-then good (line ++ 10 ∷ more) (beginning-lacks good begins) ∙ ap (λ ls. good ++ ls) (line-then line more (lacks-lf line one)) in
     front-of-push (trace_lines h) good (lines_of more) [] line (some-line more) lines
 
 -- one of the entries' lines is an entry's
@@ -103,10 +103,10 @@ not-refused h g earlier later e d why legal good is second others k line refused
     let entries : g.entries ≡ earlier = same-entries g.entries earlier (legal-entries g good) known.0 others in
     let same : e ≡ d = one-spelling e d known.1 k line in
     let refusal : first_refusal h.replicas earlier e ≡ Some why =
-        ap (λ n. first_refusal n earlier e) (sym replicas) ∙ ap (λ (es : List Entry). first_refusal g.replicas es e) (sym entries) ∙ ap (first_refusal g.replicas g.entries) same ∙ refused in
+    ap (λ n. first_refusal n earlier e) (sym replicas) ∙ ap (λ (es : List Entry). first_refusal g.replicas es e) (sym entries) ∙ ap (first_refusal g.replicas g.entries) same ∙ refused in
     none-some why (sym (accepted h earlier later e legal is) ∙ refusal)
 
-line-right : (h : History) (good : List Line) (line : Line) (rest : List Line) (cause : format.Cause) → IsLegal h → trace_lines h ≡ good ++ line ∷ rest → IsFaultyLine good line cause → ⊥
+pub line-right : (h : History) (good : List Line) (line : Line) (rest : List Line) (cause : format.Cause) → IsLegal h → trace_lines h ≡ good ++ line ∷ rest → IsFaultyLine good line cause → ⊥
 line-right h [] line rest format.header legal is faulty = let same : line ≡ HEADER = cc in faulty same
 line-right h [] line rest format.replicas legal is faulty = faulty
 line-right h [] line rest format.shape legal is faulty = faulty
@@ -141,7 +141,7 @@ no-whole-fault h text line cause (legal, is) fault =
 not-cut : (h : History) (text : List ℕ) (line : ℕ) → Spells text h → IsCutAt text line → ⊥
 not-cut h text line (legal, is) cut =
     let lines : trace_lines h ++ [] ∷ [] ≡ cut.good ++ cut.rest ∷ [] =
-        sym (trace-lines-are h legal) ∙ ap lines_of (sym is ∙ cut.text_is) ∙ lines-then cut.good cut.rest (beginning-lacks cut.good cut.begins) ∙ ap (λ ls. cut.good ++ ls) (one-line cut.rest (lacks-lf cut.rest cut.one_line)) in
+    sym (trace-lines-are h legal) ∙ ap lines_of (sym is ∙ cut.text_is) ∙ lines-then cut.good cut.rest (beginning-lacks cut.good cut.begins) ∙ ap (λ ls. cut.good ++ ls) (one-line cut.rest (lacks-lf cut.rest cut.one_line)) in
     let empty : [] ≡ cut.rest = (same_from_push (trace_lines h) cut.good [] cut.rest lines).1 in
     absurd (omega (arith, ap length empty, cut.some_byte))
 
@@ -157,7 +157,7 @@ none-missing h (a ∷ b ∷ good) (format.refused why) is missing = missing
 lacks-none : (h : History) (text : List ℕ) (line : ℕ) (cause : format.Cause) → Spells text h → LacksLine text line cause → ⊥
 lacks-none h text line cause (legal, is) lacks =
     let lines : trace_lines h ++ [] ∷ [] ≡ lacks.good ++ [] ∷ [] =
-        sym (trace-lines-are h legal) ∙ ap lines_of (sym is ∙ lacks.text_is ∙ sym (append-nil (text_of lacks.good))) ∙ lines-then lacks.good [] (beginning-lacks lacks.good lacks.begins) in
+    sym (trace-lines-are h legal) ∙ ap lines_of (sym is ∙ lacks.text_is ∙ sym (append-nil (text_of lacks.good))) ∙ lines-then lacks.good [] (beginning-lacks lacks.good lacks.begins) in
     none-missing h lacks.good cause (append_cancel_right (trace_lines h) lacks.good ([] ∷ []) lines) lacks.missing
 
 -- a text that spells a recording has no fault

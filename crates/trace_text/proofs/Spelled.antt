@@ -158,9 +158,6 @@ pub number-again : (n : ℕ) (ws : List Word) → n < 2 ^ 32 → number_at (deci
 unfolding number_at
 number-again n ws small = rw (number_of-decimal n small) refl
 
-name-again : (a : NameBytes) → IsName a → name_of a ≡ Some a
-name-again a h = name_of-name a h
-
 pub word-again : (wanted : Word) (ws : List Word) → after_word wanted (wanted ∷ ws) ≡ Some ws
 unfolding after_word
 word-again wanted ws = rw ((bytes_eq-Decides wanted wanted).1 refl) refl

@@ -1,7 +1,7 @@
 -- A text falls into its lines in one way.
-use Rattle.std.proofs.Common.{◌≡◌, ℕ, ◌+◌, ◌<◌, ◌≤◌, ◌^◌, ◌==◌, Bool, true, false, List, [], ◌∷◌, ◌++◌, length, get_or, map, decimal, codes, refl, sym, ap, ◌∙◌, arith}
-use Rattle.std.specs.List.{All, slice_split, onto_first, Contains}
-use Rattle.std.proofs.lemmas.List.{append_assoc, append-nil, get_or_default}
+use Rattle.std.proofs.Common.{◌≡◌, ℕ, ◌==◌, Bool, true, false, List, [], ◌∷◌, ◌++◌, get_or, map, decimal, codes, refl, ap, ◌∙◌, arith}
+use Rattle.std.specs.List.{All, slice_split}
+use Rattle.std.proofs.lemmas.List.{append_assoc, get_or_default}
 use Rattle.std.proofs.lemmas.List.Splits.{slice_split_none, slice_split_at}
 use Rattle.std.proofs.lemmas.List.Elements.{All-head, All-tail, All-cons, All-nil, All-weaker, All-map}
 use Rattle.std.proofs.lemmas.Bool.{eqb-true}
@@ -50,23 +50,23 @@ names-one (a ∷ names) h =
 body-one : (b : Body) → IsWellFormed b → LacksLf (body_text b)
 body-one (Ins name at response) h =
     lacks-both 10 (((codes " ins " ++ name) ++ 32 ∷ decimal at) ++ codes " :") (names_text response)
-        (lacks-both 10 ((codes " ins " ++ name) ++ 32 ∷ decimal at) (codes " :")
-            (lacks-both 10 (codes " ins " ++ name) (32 ∷ decimal at)
-                (lacks-both 10 (codes " ins ") name (lacks-literal 10 (codes " ins ") refl) (lacks-name 10 name refl h.0))
-                (All-cons (λ b. (b == 10) ≡ false) 32 (decimal at) refl (lacks-number 10 at (omega arith) h.1)))
-            (lacks-literal 10 (codes " :") refl))
-        (names-one response h.2)
+    (lacks-both 10 ((codes " ins " ++ name) ++ 32 ∷ decimal at) (codes " :")
+    (lacks-both 10 (codes " ins " ++ name) (32 ∷ decimal at)
+    (lacks-both 10 (codes " ins ") name (lacks-literal 10 (codes " ins ") refl) (lacks-name 10 name refl h.0))
+    (All-cons (λ b. (b == 10) ≡ false) 32 (decimal at) refl (lacks-number 10 at (omega arith) h.1)))
+    (lacks-literal 10 (codes " :") refl))
+    (names-one response h.2)
 body-one (Del name response) h =
     lacks-both 10 ((codes " del " ++ name) ++ codes " :") (names_text response)
-        (lacks-both 10 (codes " del " ++ name) (codes " :")
-            (lacks-both 10 (codes " del ") name (lacks-literal 10 (codes " del ") refl) (lacks-name 10 name refl h.0))
-            (lacks-literal 10 (codes " :") refl))
-        (names-one response h.1)
+    (lacks-both 10 (codes " del " ++ name) (codes " :")
+    (lacks-both 10 (codes " del ") name (lacks-literal 10 (codes " del ") refl) (lacks-name 10 name refl h.0))
+    (lacks-literal 10 (codes " :") refl))
+    (names-one response h.1)
 body-one (Read response) h = lacks-both 10 (codes " read :") (names_text response) (lacks-literal 10 (codes " read :") refl) (names-one response h)
 body-one (Recv seen) h =
     lacks-both 10 (codes " recv " ++ decimal seen.replica) (32 ∷ decimal seen.n)
-        (lacks-both 10 (codes " recv ") (decimal seen.replica) (lacks-literal 10 (codes " recv ") refl) (lacks-number 10 seen.replica (omega arith) h.0))
-        (All-cons (λ b. (b == 10) ≡ false) 32 (decimal seen.n) refl (lacks-number 10 seen.n (omega arith) h.2))
+    (lacks-both 10 (codes " recv ") (decimal seen.replica) (lacks-literal 10 (codes " recv ") refl) (lacks-number 10 seen.replica (omega arith) h.0))
+    (All-cons (λ b. (b == 10) ≡ false) 32 (decimal seen.n) refl (lacks-number 10 seen.n (omega arith) h.2))
 
 entry-one : (e : Entry) → IsEntry e → LacksLf (entry_line e)
 entry-one e h = lacks-both 10 (decimal e.replica) (body_text e.body) (lacks-number 10 e.replica (omega arith) h.0) (body-one e.body h.1)
@@ -78,9 +78,9 @@ legal-entries h legal k d low = (let below = legal.replica_known k d low in omeg
 pub lines-lack : (h : History) → IsLegal h → All LacksLf (trace_lines h)
 lines-lack h legal =
     All-cons LacksLf HEADER (replicas_line h.replicas ∷ map entry_line h.entries) (lacks-literal 10 HEADER refl)
-        (All-cons LacksLf (replicas_line h.replicas) (map entry_line h.entries)
-            (lacks-both 10 (codes "replicas ") (decimal h.replicas) (lacks-literal 10 (codes "replicas ") refl) (lacks-number 10 h.replicas (omega arith) (omega (arith, legal.few_replicas))))
-            (All-map LacksLf entry_line h.entries (All-weaker IsEntry (λ e. LacksLf (entry_line e)) entry-one h.entries (legal-entries h legal))))
+    (All-cons LacksLf (replicas_line h.replicas) (map entry_line h.entries)
+    (lacks-both 10 (codes "replicas ") (decimal h.replicas) (lacks-literal 10 (codes "replicas ") refl) (lacks-number 10 h.replicas (omega arith) (omega (arith, legal.few_replicas))))
+    (All-map LacksLf entry_line h.entries (All-weaker IsEntry (λ e. LacksLf (entry_line e)) entry-one h.entries (legal-entries h legal))))
 
 all-front : {X : Type 0} (P : X → Type 0) (xs ys : List X) → All P (xs ++ ys) → All P xs
 all-front P [] ys h = All-nil P

@@ -3,3 +3,4 @@ pub mod Reading
 pub mod Causes
 pub mod Progress
 pub mod Place
+pub mod Laws

@@ -27,7 +27,7 @@ pub enum Reading {
 }
 
 /// The number of the line behind a recording's lines.
-fn next_number_of(recording: &Recording) -> u32
+fn number_behind(recording: &Recording) -> u32
     ensures number { result ≡ length (trace_lines recording.now) + 1 }
     ensures legal { IsLegal recording.now }
 {
@@ -91,7 +91,7 @@ impl Reading {
         match self {
             Reading::Start => 1,
             Reading::Headed => 2,
-            Reading::Entries(recording) => next_number_of(recording),
+            Reading::Entries(recording) => number_behind(recording),
         }
     }
 
@@ -112,6 +112,7 @@ impl Reading {
         }
     }
 
+    /// Takes the next line, or says what is wrong with it.
     fn take(&mut self, alloc: Global, line: &[u8]) -> Result<(), Cause>
         requires { IsLegalSoFar self.old }
         ensures ok { OnOk result (good self.new ≡ good self.old ++ line.now ∷ []) }

@@ -2,7 +2,7 @@
 use Rattle.std.proofs.Common.{◌≤◌, ◌*◌, length, arith}
 use Rattle.events.specs.declared.TheConstants.{MOST_REPLICAS, MOST_ENTRIES}
 use Rattle.events.proofs.Streams.{entries_few}
-use Rattle.trace_text.proofs.reading.next_number_of.Goals as goal
+use Rattle.trace_text.proofs.reading.number_behind.Goals as goal
 
 pub overflow_add-result : goal.overflow_add-result
 overflow_add-result c =
