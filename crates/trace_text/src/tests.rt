@@ -1,6 +1,6 @@
 use super::{Cause, LineFault, read, write};
 use events::{Body, Memory, Recording, Refusal};
-use std::alloc::Global;
+use std::alloc::{AllocError, Global};
 use std::test::Fail;
 
 /// What reading says; where the first call finds no memory, what the second says.
@@ -24,13 +24,47 @@ fn writing(alloc: Global, recording: &Recording) -> Result<Vec<u8>, Memory> {
     }
 }
 
-/// `front`, and `entry` `count` times behind it.
-fn repeated(alloc: Global, front: &str, entry: &str, count: u32) -> Result<Vec<u8>, Memory> {
-    let mut text = Vec::from_slice(alloc, front.as_bytes())?;
-    for _ in 0..count {
-        text.extend_from_slice(entry.as_bytes())?;
+/// A text: a front, a piece so many times, and a back.
+#[derive(Drop)]
+struct Pieces<'a> {
+    front: &'a [u8],
+    piece: &'a [u8],
+    count: u32,
+    back: &'a [u8],
+}
+
+impl Pieces<'_> {
+    fn once(&self, alloc: Global) -> Result<Vec<u8>, Memory> {
+        let mut text = Vec::from_slice(alloc, self.front)?;
+        for _ in 0..self.count {
+            text.extend_from_slice(self.piece)?;
+        }
+        text.extend_from_slice(self.back)?;
+        Ok(text)
     }
-    Ok(text)
+
+    /// All of them in a row; where the first try finds no memory, by a second.
+    fn join(&self, alloc: Global) -> Result<Vec<u8>, Memory> {
+        match self.once(alloc) {
+            Err(Memory) => self.once(alloc),
+            text => text,
+        }
+    }
+}
+
+/// The fault's text; where the first call finds no memory, what the second gives.
+fn text_of(alloc: Global, fault: &LineFault) -> Result<String, AllocError> {
+    match fault.to_string(alloc) {
+        Err(_) => fault.to_string(alloc),
+        text => text,
+    }
+}
+
+fn words_of(alloc: Global, cause: &Cause) -> Result<String, AllocError> {
+    match cause.to_string(alloc) {
+        Err(_) => cause.to_string(alloc),
+        text => text,
+    }
 }
 
 #[test]
@@ -169,7 +203,13 @@ fn malformed_entries(rt: HostRuntime) -> Result<(), Fail> {
         "9 read : a  b\n",
     ];
     for entry in rows {
-        let text = repeated(rt.alloc(), "trace 1\nreplicas 1\n", entry, 1)?;
+        let text = Pieces {
+            front: b"trace 1\nreplicas 1\n",
+            piece: entry.as_bytes(),
+            count: 1,
+            back: b"",
+        };
+        let text = text.join(rt.alloc())?;
         let cause = if entry.ends_with('\n') {
             Cause::Shape
         } else {
@@ -208,35 +248,64 @@ fn refused_entries(rt: HostRuntime) -> Result<(), Fail> {
         ),
     ];
     for (entry, cause) in rows {
-        let text = repeated(rt.alloc(), "trace 1\nreplicas 2\n0 ins a 0 : a\n", entry, 1)?;
+        let text = Pieces {
+            front: b"trace 1\nreplicas 2\n0 ins a 0 : a\n",
+            piece: entry.as_bytes(),
+            count: 1,
+            back: b"",
+        };
+        let text = text.join(rt.alloc())?;
         let answer = reading(rt.alloc(), text.as_slice()).err();
         assert_eq!(rt; answer, Some(LineFault { line: 4, cause }), "at {entry}");
     }
     Ok(())
 }
 
+/// A text of two replicas in which one has so many entries, with and without a line behind them.
+fn entries<'a>(piece: &'a [u8], count: u32, back: &'a [u8]) -> Pieces<'a> {
+    Pieces {
+        front: b"trace 1\nreplicas 2\n",
+        piece,
+        count,
+        back,
+    }
+}
+
 #[test]
 fn limits(rt: HostRuntime) -> Result<(), Fail> {
-    let front = "trace 1\nreplicas 2\n";
     let rows = [
         ("1 ins n 0 :\n", 256, Refusal::InsertsFull),
         ("1 read :\n", 4096, Refusal::EntriesFull),
     ];
     for (entry, most, why) in rows {
-        let text = repeated(rt.alloc(), front, entry, most)?;
-        assert_eq!(rt; reading(rt.alloc(), text.as_slice())?.len(), most);
-        let text = repeated(rt.alloc(), front, entry, most + 1)?;
+        let full = entries(entry.as_bytes(), most, b"").join(rt.alloc())?;
+        assert_eq!(rt; reading(rt.alloc(), full.as_slice())?.len(), most);
+        let fuller = entries(entry.as_bytes(), most, entry.as_bytes()).join(rt.alloc())?;
         let fault = LineFault {
             line: most + 3,
             cause: Cause::Refused(why),
         };
-        assert_eq!(rt; reading(rt.alloc(), text.as_slice()).err(), Some(fault));
+        assert_eq!(rt; reading(rt.alloc(), fuller.as_slice()).err(), Some(fault));
     }
-    let mut long = repeated(rt.alloc(), "trace 1\nreplicas 2\n1 read :", " q", 4096)?;
-    long.push(b'\n')?;
+    Ok(())
+}
+
+/// `1 read :` with so many names.
+fn long_read<'a>(front: &'a [u8], names: u32) -> Pieces<'a> {
+    Pieces {
+        front,
+        piece: b" q",
+        count: names,
+        back: b"\n",
+    }
+}
+
+#[test]
+fn long_responses(rt: HostRuntime) -> Result<(), Fail> {
+    let front = b"trace 1\nreplicas 2\n1 read :";
+    let long = long_read(front, 4096).join(rt.alloc())?;
     assert_eq!(rt; reading(rt.alloc(), long.as_slice())?.len(), 1);
-    let mut longer = repeated(rt.alloc(), "trace 1\nreplicas 2\n1 read :", " q", 4097)?;
-    longer.push(b'\n')?;
+    let longer = long_read(front, 4097).join(rt.alloc())?;
     let fault = LineFault {
         line: 3,
         cause: Cause::Refused(Refusal::LongResponse),
@@ -247,24 +316,20 @@ fn limits(rt: HostRuntime) -> Result<(), Fail> {
 
 #[test]
 fn full_places(rt: HostRuntime) -> Result<(), Fail> {
-    let mut read = repeated(rt.alloc(), "1 read :", " q", 4096)?;
-    read.push(b'\n')?;
-    let mut text = Vec::from_slice(rt.alloc(), b"trace 1\nreplicas 2\n")?;
-    for _ in 0..64 {
-        text.extend_from_slice(read.as_slice())?;
-    }
-    let recording = reading(rt.alloc(), text.as_slice())?;
+    let read = long_read(b"1 read :", 4096).join(rt.alloc())?;
+    let full = entries(read.as_slice(), 64, b"").join(rt.alloc())?;
+    let recording = reading(rt.alloc(), full.as_slice())?;
     assert_eq!(rt; recording.len(), 64);
     assert_eq!(rt;
         writing(rt.alloc(), &recording)?.as_slice(),
-        text.as_slice()
+        full.as_slice()
     );
-    text.extend_from_slice(b"1 read : q\n")?;
+    let fuller = entries(read.as_slice(), 64, b"1 read : q\n").join(rt.alloc())?;
     let fault = LineFault {
         line: 67,
         cause: Cause::Refused(Refusal::PlacesFull),
     };
-    assert_eq!(rt; reading(rt.alloc(), text.as_slice()).err(), Some(fault));
+    assert_eq!(rt; reading(rt.alloc(), fuller.as_slice()).err(), Some(fault));
     Ok(())
 }
 
@@ -288,14 +353,14 @@ fn words_of_the_faults(rt: HostRuntime) -> Result<(), Fail> {
         (Cause::Refused(Refusal::Memory), "memory"),
     ];
     for (cause, words) in rows {
-        assert_eq!(rt; cause.to_string(rt.alloc())?.as_str(), words);
+        assert_eq!(rt; words_of(rt.alloc(), &cause)?.as_str(), words);
     }
     let fault = LineFault {
         line: 4,
         cause: Cause::Refused(Refusal::NotYet { have: 1 }),
     };
     assert_eq!(rt;
-        fault.to_string(rt.alloc())?.as_str(),
+        text_of(rt.alloc(), &fault)?.as_str(),
         "line 4: not yet, have 1"
     );
     Ok(())
