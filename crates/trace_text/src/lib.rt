@@ -1,4 +1,9 @@
 //! The trace text of a recording, read and written.
+//!
+//! A trace text is lines of ASCII, each ended by one LF: `trace 1`, `replicas R` with R from 1 to 16, and
+//! a line for each entry: `r ins a k : names`, `r del a : names`, `r read : names`, `r recv q n`. Words
+//! stand apart by one space, numbers have no leading zeros and are below 2^32, operations count from 1.
+//! Each recording has one spelling.
 #![tactic(auto)]
 
 mod cause;
