@@ -1,9 +1,10 @@
 -- Which lines are faulty behind right lines, and what begins a spelling.
-use Rattle.std.proofs.Common.{◌≡◌, ◌≢◌, ◌<◌, ◌≤◌, List, [], ◌∷◌, ◌++◌, length, map, refl, sym, ap, ◌∙◌, arith, Some, IfSome}
-use Rattle.std.proofs.lemmas.List.{map_push}
+use Rattle.std.proofs.Common.{ℕ, ◌≡◌, ◌≢◌, ◌<◌, ◌≤◌, List, [], ◌∷◌, ◌++◌, length, map, refl, sym, ap, ◌∙◌, arith, Some, IfSome}
+use Rattle.std.proofs.lemmas.List.{append-nil, map_push}
 use Rattle.std.proofs.lemmas.List.Elements.{All-nil}
 use Rattle.events.specs.History.{History, IsLegal, IsWellFormed, with_entry, response_of}
 use Rattle.events.specs.Session.{first_refusal}
+use Rattle.events.specs.declared.TheConstants.{MOST_REPLICAS}
 use Rattle.events.specs.declared.recording.Entry.{Entry}
 use Rattle.events.specs.declared.recording.Body.{Body}
 use Rattle.events.specs.declared.refusal.Refusal.{Refusal}
@@ -28,22 +29,26 @@ refused-line h line e LongResponse legal k is first = (h, legal, refl, e, k, is,
 refused-line h line e PlacesFull legal k is first = (h, legal, refl, e, k, is, first (λ p. cc))
 refused-line h line e Memory legal k is first = tt
 
-abbrev smallest : History
-smallest = record { replicas = 1; entries = [] }
-
 no-split : (earlier later : List Entry) (e : Entry) → [] ≡ earlier ++ e ∷ later → ⊥
 no-split [] later e h = cc
 no-split (d ∷ earlier) later e h = cc
 
-smallest-legal : IsLegal smallest
-smallest-legal = record {
-  some_replica = omega arith;
-  few_replicas = omega arith;
-  replica_known = All-nil (λ (e : Entry). e.replica < 1);
+-- a recording without entries
+pub empty-legal : (n : ℕ) → 1 ≤ n → n ≤ MOST_REPLICAS → IsLegal (record { replicas = n; entries = [] })
+empty-legal n low high = record {
+  some_replica = low;
+  few_replicas = high;
+  replica_known = All-nil (λ (e : Entry). e.replica < n);
   well_formed = All-nil (λ (e : Entry). IsWellFormed e.body);
   limits = λ r. record { entries = omega arith; inserts = omega arith; names = All-nil (λ (b : Body). length (response_of b) ≤ 4096); places = omega arith };
   receipts = λ earlier later e h. absurd (no-split earlier later e h);
 }
+
+abbrev smallest : History
+smallest = record { replicas = 1; entries = [] }
+
+smallest-legal : IsLegal smallest
+smallest-legal = empty-legal 1 (omega arith) (omega arith)
 
 -- no line, and the first line, begin a spelling
 pub nothing-begins : BeginsSpelling []
@@ -51,3 +56,6 @@ nothing-begins = (smallest, smallest-legal, trace_lines smallest, refl)
 
 pub header-begins : BeginsSpelling (HEADER ∷ [])
 header-begins = (smallest, smallest-legal, replicas_line 1 ∷ [], refl)
+
+pub lines-begin : (h : History) → IsLegal h → BeginsSpelling (trace_lines h)
+lines-begin h legal = (h, legal, [], append-nil (trace_lines h))

@@ -15,3 +15,4 @@ pub mod Accepted
 pub mod OneReading
 pub mod ReadBack
 pub mod OneFault
+pub mod EachText

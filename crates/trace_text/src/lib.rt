@@ -18,7 +18,8 @@ mod writing;
 
 pub use cause::{Cause, LineFault};
 pub use laws::{
-    spelled_texts_have_no_fault, texts_have_one_first_fault, texts_spell_one_recording,
+    each_text_spells_or_has_a_fault, spelled_texts_have_no_fault, texts_have_one_first_fault,
+    texts_spell_one_recording,
 };
 pub use whole::read;
 pub use writing::write;
