@@ -1,0 +1,38 @@
+-- The first fault of a text, from what its right lines are and what follows them.
+use Rattle.std.proofs.Common.{◌≡◌, ℕ, ◌+◌, List, [], ◌∷◌, ◌++◌, length, sym, ap, ◌∙◌, Option, Some, None, IfSome, inl}
+use Rattle.std.proofs.lemmas.List.{append_assoc}
+use Rattle.specification.specs.Lines.{Line, text_of, IsOneLine}
+use Rattle.specification.specs.TraceText as format
+use Rattle.specification.specs.TraceText.{IsFaultyLine, IsMissingLine, BeginsSpelling, HasWholeFault, IsCutAt, LacksLine, IsFirstLineFault}
+
+never-cut : (lines : List Line) (line : Line) → IsFaultyLine lines line format.cut → ⊥
+never-cut [] line h = h
+never-cut (a ∷ []) line h = h
+never-cut (a ∷ b ∷ lines) line h = h
+
+first-of-whole : (text : List ℕ) (number : ℕ) (lines : List Line) (line : Line) (cause : format.Cause) → IsFaultyLine lines line cause → HasWholeFault text number cause → IsFirstLineFault text number cause
+first-of-whole text number lines line format.header h whole = inl whole
+first-of-whole text number lines line format.replicas h whole = inl whole
+first-of-whole text number lines line format.shape h whole = whole
+first-of-whole text number lines line format.cut h whole = absurd (never-cut lines line h)
+first-of-whole text number lines line (format.refused why) h whole = whole
+
+-- a faulty line behind right ones
+whole-fault : (text : List ℕ) (number : ℕ) (lines : List Line) (line rest behind : List ℕ) (cause : format.Cause) →
+    text ≡ text_of lines ++ rest → rest ≡ line ++ 10 ∷ behind → IsOneLine line → number ≡ length lines + 1 → BeginsSpelling lines → IsFaultyLine lines line cause → IsFirstLineFault text number cause
+whole-fault text number lines line rest behind cause whole cut one_line is begins faulty =
+    first-of-whole text number lines line cause faulty (record {
+      good = lines;
+      begins = begins;
+      faulty = line;
+      one_line = one_line;
+      more = behind;
+      text_is = whole ∙ ap (λ l. text_of lines ++ l) cut ∙ sym (append_assoc (text_of lines) line (10 ∷ behind));
+      number = is;
+      is_faulty = faulty;
+    })
+
+pub line-fault : (text : List ℕ) (number : ℕ) (lines : List Line) (line rest behind : List ℕ) (cause : Option format.Cause) →
+    text ≡ text_of lines ++ rest → rest ≡ line ++ 10 ∷ behind → IsOneLine line → number ≡ length lines + 1 → BeginsSpelling lines → IfSome cause (IsFaultyLine lines line) → IfSome cause (IsFirstLineFault text number)
+line-fault text number lines line rest behind None whole cut one_line is begins faulty = tt
+line-fault text number lines line rest behind (Some cause) whole cut one_line is begins faulty = whole-fault text number lines line rest behind cause whole cut one_line is begins faulty

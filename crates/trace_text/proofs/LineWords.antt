@@ -1,0 +1,99 @@
+-- An entry's line, as its words.
+use Rattle.std.proofs.Common.{◌≡◌, ℕ, ◌<◌, ◌^◌, ◌==◌, List, [], ◌∷◌, ◌++◌, refl, sym, ap, ◌∙◌, arith, decimal, codes}
+use Rattle.std.specs.List.{All, join_with_byte}
+use Rattle.std.proofs.lemmas.List.{append-nil, append_assoc}
+use Rattle.std.proofs.lemmas.List.Splits.{slice_split_none, slice_split_at, join_with_byte-slice_split}
+use Rattle.std.proofs.lemmas.List.Elements.{All-head, All-tail, All-weaker}
+use Rattle.events.specs.History.{IsWellFormed}
+use Rattle.events.specs.Names.{NameBytes, IsName}
+use Rattle.events.specs.declared.recording.Entry.{Entry}
+use Rattle.events.specs.declared.recording.Body.{Body}
+use Rattle.events.specs.declared.recording.Body.TheVariants.{Ins, Del, Read, Recv}
+use Rattle.specification.specs.Lines.{names_text}
+use Rattle.specification.specs.TraceText.{entry_line, body_text, IsEntry}
+use Rattle.trace_text.specs.Words.{Word, words_of}
+use Rattle.trace_text.proofs.Bytes.{Lacks, lacks-name, lacks-number, lacks-literal}
+
+-- no space stands in it
+abbrev pub LacksSpace : Word → Type 0
+LacksSpace w = Lacks 32 w
+
+abbrev pub body_words : Body → List Word
+body_words (Ins name at response) = codes "ins" ∷ name ∷ decimal at ∷ codes ":" ∷ response
+body_words (Del name response) = codes "del" ∷ name ∷ codes ":" ∷ response
+body_words (Read response) = codes "read" ∷ codes ":" ∷ response
+body_words (Recv seen) = codes "recv" ∷ decimal seen.replica ∷ decimal seen.n ∷ []
+
+abbrev pub entry_words : Entry → List Word
+entry_words e = decimal e.replica ∷ body_words e.body
+
+-- names behind a word, put together
+join-names : (w : Word) (names : List NameBytes) → join_with_byte 32 (w ∷ names) ≡ w ++ names_text names
+join-names w [] = sym (append-nil w)
+join-names w (a ∷ names) = ap (λ l. w ++ 32 ∷ l) (join-names a names)
+
+place-and-names : (name place names : List ℕ) → name ++ 32 ∷ (place ++ 32 ∷ 58 ∷ names) ≡ ((name ++ 32 ∷ place) ++ codes " :") ++ names
+place-and-names name place names = sym (append_assoc (name ++ 32 ∷ place) (codes " :") names ∙ append_assoc name (32 ∷ place) (codes " :" ++ names))
+
+body-join : (r : List ℕ) (b : Body) → join_with_byte 32 (r ∷ body_words b) ≡ r ++ body_text b
+body-join r (Ins name at response) =
+    ap (λ l. r ++ (codes " ins " ++ (name ++ 32 ∷ (decimal at ++ 32 ∷ l)))) (join-names (codes ":") response)
+    ∙ ap (λ l. r ++ (codes " ins " ++ l)) (place-and-names name (decimal at) (names_text response))
+body-join r (Del name response) =
+    ap (λ l. r ++ (codes " del " ++ (name ++ 32 ∷ l))) (join-names (codes ":") response)
+    ∙ ap (λ l. r ++ (codes " del " ++ l)) (sym (append_assoc name (codes " :") (names_text response)))
+body-join r (Read response) = ap (λ l. r ++ (codes " read " ++ l)) (join-names (codes ":") response)
+body-join r (Recv seen) = refl
+
+-- a line with an entry's words is the entry's line
+pub line-by-words : (line : List ℕ) (e : Entry) → words_of line ≡ entry_words e → line ≡ entry_line e
+line-by-words line e h = sym (join_with_byte-slice_split 32 line) ∙ ap (join_with_byte 32) h ∙ body-join (decimal e.replica) e.body
+
+pub name-lacks : (a : NameBytes) → IsName a → LacksSpace a
+name-lacks a h = lacks-name 32 a refl h
+
+names-lack : (names : List NameBytes) → All IsName names → All LacksSpace names
+names-lack names h = All-weaker IsName LacksSpace name-lacks names h
+
+pub number-lacks : (n : ℕ) → n < 2 ^ 32 → LacksSpace (decimal n)
+number-lacks n small = lacks-number 32 n (omega arith) small
+
+word-then : (w : Word) (rest : List ℕ) → LacksSpace w → words_of (w ++ 32 ∷ rest) ≡ w ∷ words_of rest
+word-then w rest h = slice_split_at (λ b. b == 32) w 32 rest h refl
+
+pub last-word : (w : Word) → LacksSpace w → words_of w ≡ w ∷ []
+last-word w h = slice_split_none (λ b. b == 32) w h
+
+names-words : (w : Word) (names : List NameBytes) → LacksSpace w → All LacksSpace names → words_of (w ++ names_text names) ≡ w ∷ names
+names-words w [] h k = ap words_of (append-nil w) ∙ last-word w h
+names-words w (a ∷ names) h k =
+    word-then w (a ++ names_text names) h ∙ ap (λ l. w ∷ l) (names-words a names (All-head LacksSpace a names k) (All-tail LacksSpace a names k))
+
+colon-lacks : LacksSpace (codes ":")
+colon-lacks = lacks-literal 32 (codes ":") refl
+
+response-words : (names : List NameBytes) → All IsName names → words_of (codes ":" ++ names_text names) ≡ codes ":" ∷ names
+response-words names h = names-words (codes ":") names colon-lacks (names-lack names h)
+
+body-words : (r : Word) (b : Body) → LacksSpace r → IsWellFormed b → words_of (r ++ body_text b) ≡ r ∷ body_words b
+body-words r (Ins name at response) h k =
+    ap (λ l. words_of (r ++ (codes " ins " ++ l))) (sym (place-and-names name (decimal at) (names_text response)))
+    ∙ word-then r (codes "ins " ++ (name ++ 32 ∷ (decimal at ++ 32 ∷ 58 ∷ names_text response))) h
+    ∙ ap (λ l. r ∷ codes "ins" ∷ l) (word-then name (decimal at ++ 32 ∷ 58 ∷ names_text response) (name-lacks name k.0)
+    ∙ ap (λ l. name ∷ l) (word-then (decimal at) (58 ∷ names_text response) (number-lacks at k.1)
+    ∙ ap (λ l. decimal at ∷ l) (response-words response k.2)))
+body-words r (Del name response) h k =
+    ap (λ l. words_of (r ++ (codes " del " ++ l))) (append_assoc name (codes " :") (names_text response))
+    ∙ word-then r (codes "del " ++ (name ++ 32 ∷ 58 ∷ names_text response)) h
+    ∙ ap (λ l. r ∷ codes "del" ∷ l) (word-then name (58 ∷ names_text response) (name-lacks name k.0)
+    ∙ ap (λ l. name ∷ l) (response-words response k.1))
+body-words r (Read response) h k =
+    word-then r (codes "read " ++ 58 ∷ names_text response) h ∙ ap (λ l. r ∷ codes "read" ∷ l) (response-words response k)
+body-words r (Recv seen) h k =
+    word-then r (codes "recv " ++ (decimal seen.replica ++ 32 ∷ decimal seen.n)) h
+    ∙ ap (λ l. r ∷ codes "recv" ∷ l) (word-then (decimal seen.replica) (decimal seen.n) (number-lacks seen.replica k.0)
+    ∙ ap (λ l. decimal seen.replica ∷ l) (last-word (decimal seen.n) (number-lacks seen.n k.2)))
+
+-- an entry's line has the entry's words
+pub words-of-line : (e : Entry) → IsEntry e → words_of (entry_line e) ≡ entry_words e
+words-of-line e h = body-words (decimal e.replica) e.body (number-lacks e.replica h.0) h.1

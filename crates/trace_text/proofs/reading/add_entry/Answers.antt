@@ -1,0 +1,22 @@
+use Rattle.std.proofs.Common.{ap, ◌∙◌, subst}
+use Rattle.specification.specs.TraceText.{trace_lines}
+use Rattle.trace_text.specs.Reading.{Fails, entry_at}
+use Rattle.trace_text.specs.Words.{words_of}
+use Rattle.trace_text.specs.declared.stop.Stop.{Stop}
+use Rattle.trace_text.proofs.Spelled.{line-spells, line-spells-none}
+use Rattle.trace_text.proofs.FaultyLines.{one-line-more, refused-line}
+use Rattle.trace_text.proofs.reading.add_entry.Goals as goal
+
+pub returns-in-Err-Shape-clause-fault : goal.returns-in-Err-Shape-clause-fault
+returns-in-Err-Shape-clause-fault c =
+    line-spells-none c.args.line.now (subst (λ (e : Stop). Fails e (entry_at (words_of c.args.line.now))) c.in-Err-Shape.field-0-is c.in-Err-Shape.ensures)
+
+pub returns-in-Ok-record-clause-ok : goal.returns-in-Ok-record-clause-ok
+returns-in-Ok-record-clause-ok c =
+    let spelled = line-spells c.args.line.now c.in-Ok.entry c.in-Ok.ensures in
+    ap trace_lines c.in-Ok-record.ensures.ok.1 ∙ one-line-more c.args.recording.now c.in-Ok.entry c.args.line.now spelled.1
+
+pub returns-in-Err-clause-fault : goal.returns-in-Err-clause-fault
+returns-in-Err-clause-fault c =
+    let spelled = line-spells c.args.line.now c.in-Ok.entry c.in-Ok.ensures in
+    refused-line c.args.recording.now c.args.line.now c.in-Ok.entry c.in-Err.refused.why c.requires spelled.0 spelled.1 c.in-Err.ensures.refused

@@ -1,0 +1,6 @@
+pub mod Words
+pub mod Reading
+pub mod Causes
+pub mod Progress
+pub mod Place
+pub mod Laws

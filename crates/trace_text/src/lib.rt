@@ -1,0 +1,28 @@
+//! The trace text of a recording, read and written.
+//!
+//! A trace text is lines of ASCII, each ended by one LF: `trace 1`, `replicas R` with R from 1 to 16, and
+//! a line for each entry: `r ins a k : names`, `r del a : names`, `r read : names`, `r recv q n`. Words
+//! stand apart by one space, numbers have no leading zeros and are below 2^32, operations count from 1.
+//! Each recording has one spelling.
+#![tactic(auto)]
+
+mod cause;
+mod entry;
+mod fields;
+mod laws;
+mod reading;
+mod stop;
+mod whole;
+mod words;
+mod writing;
+
+pub use cause::{Cause, LineFault};
+pub use laws::{
+    each_text_spells_or_has_a_fault, spelled_texts_have_no_fault, texts_have_one_first_fault,
+    texts_spell_one_recording,
+};
+pub use whole::read;
+pub use writing::write;
+
+#[cfg(test)]
+mod tests;

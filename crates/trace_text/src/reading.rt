@@ -1,0 +1,161 @@
+//! How far a text is read, and one line more.
+
+ghost use Rattle.std.specs.Prelude.{◌≡◌, ◌≢◌, ◌+◌, ◌≤◌, ℕ, [], ◌∷◌, ◌++◌, length, IfOk, IfErr, IfSome, OnOk};
+ghost use Rattle.events.specs.History.{IsLegal};
+ghost use Rattle.specification.specs.TraceText.{HEADER, replicas_line, trace_lines, IsFaultyLine, IsMissingLine, BeginsSpelling};
+ghost use Rattle.trace_text.specs.Words.{words_of};
+ghost use Rattle.trace_text.specs.Reading.{Gives, replicas_at};
+ghost use Rattle.trace_text.specs.Causes.{cause_of};
+
+use crate::cause::{Cause, LineFault};
+use crate::entry::entry_of;
+use crate::fields::{end, next_number};
+use crate::stop::Stop;
+use crate::words::first_word;
+use events::{MOST_REPLICAS, NewFault, Recording, Refusal};
+use std::alloc::Global;
+
+/// What the right lines so far say.
+#[derive(Drop)]
+pub enum Reading {
+    /// There is no line yet.
+    Start,
+    /// The first line is there.
+    Headed,
+    /// The first two lines are there, and the entries of this recording.
+    Entries(Recording),
+}
+
+/// The number of the line behind a recording's lines.
+fn number_behind(recording: &Recording) -> u32
+    ensures number { result ≡ length (trace_lines recording.now) + 1 }
+    ensures legal { IsLegal recording.now }
+{
+    recording.len() + 3
+}
+
+/// The number of `replicas R`.
+#[tactic(auto, unfolding(crate::specs::Reading::replicas_at, crate::specs::Reading::after_word))]
+fn replicas_of(line: &[u8]) -> Result<u32, Stop>
+    ensures { Gives (λ n. n) result (replicas_at (words_of line.now)) }
+{
+    let (word, rest) = first_word(line);
+    if word != b"replicas".as_slice() {
+        return Err(Stop::Shape);
+    }
+    let (n, rest) = next_number(rest)?;
+    end(rest)?;
+    Ok(n)
+}
+
+/// The recording without entries that the second line begins.
+fn recording_of(alloc: Global, line: &[u8]) -> Result<Recording, Stop>
+    ensures ok { IfOk result (λ h. (h.entries ≡ []) × (line.now ≡ replicas_line h.replicas)) }
+    ensures shape { IfErr result (λ stop. stop ≡ Stop.Shape → (n : ℕ) → 1 ≤ n → n ≤ MOST_REPLICAS → line.now ≢ replicas_line n) }
+{
+    let replicas = replicas_of(line)?;
+    match Recording::new(alloc, replicas) {
+        Ok(recording) => Ok(recording),
+        Err(NewFault::NoReplicas) => Err(Stop::Shape),
+        Err(NewFault::ManyReplicas) => Err(Stop::Shape),
+        Err(NewFault::Memory) => Err(Stop::Memory),
+    }
+}
+
+/// Records the entry of a line behind the recording's lines.
+fn add_entry(alloc: Global, recording: &mut Recording, line: &[u8]) -> Result<(), Cause>
+    requires { IsLegal recording.old }
+    ensures ok { OnOk result (trace_lines recording.new ≡ trace_lines recording.old ++ line.now ∷ []) }
+    ensures fault { IfErr result (λ cause. IfSome (cause_of cause) (IsFaultyLine (trace_lines recording.old) line.now)) }
+{
+    let entry = match entry_of(alloc, line) {
+        Ok(entry) => entry,
+        Err(Stop::Shape) => return Err(Cause::Shape),
+        Err(Stop::Memory) => return Err(Cause::Refused(Refusal::Memory)),
+    };
+    match recording.record(entry) {
+        Ok(_) => Ok(()),
+        Err(refused) => Err(Cause::Refused(refused.why)),
+    }
+}
+
+impl Reading {
+    ghost use Rattle.trace_text.specs.Progress.{good, IsLegalSoFar};
+
+    /// The number of the line that comes next, from 1.
+    pub fn next_line(&self) -> u32
+        ensures number { result ≡ length (good self.now) + 1 }
+        ensures begins { BeginsSpelling (good self.now) }
+        ensures legal { IsLegalSoFar self.now }
+    {
+        match self {
+            Reading::Start => 1,
+            Reading::Headed => 2,
+            Reading::Entries(recording) => number_behind(recording),
+        }
+    }
+
+    /// Takes the next line, without its LF.
+    pub fn line(&mut self, alloc: Global, line: &[u8]) -> Result<(), LineFault>
+        ensures ok { OnOk result (good self.new ≡ good self.old ++ line.now ∷ []) }
+        ensures number { IfErr result (λ fault. fault.line ≡ length (good self.old) + 1) }
+        ensures begins { BeginsSpelling (good self.old) }
+        ensures fault { IfErr result (λ fault. IfSome (cause_of fault.cause) (IsFaultyLine (good self.old) line.now)) }
+    {
+        let number = self.next_line();
+        match self.take(alloc, line) {
+            Ok(()) => Ok(()),
+            Err(cause) => Err(LineFault {
+                line: number,
+                cause,
+            }),
+        }
+    }
+
+    /// Takes the next line, or says what is wrong with it.
+    fn take(&mut self, alloc: Global, line: &[u8]) -> Result<(), Cause>
+        requires { IsLegalSoFar self.old }
+        ensures ok { OnOk result (good self.new ≡ good self.old ++ line.now ∷ []) }
+        ensures fault { IfErr result (λ cause. IfSome (cause_of cause) (IsFaultyLine (good self.old) line.now)) }
+    {
+        match self {
+            Reading::Start => {
+                if line != b"trace 1".as_slice() {
+                    return Err(Cause::Header);
+                }
+                *self = Reading::Headed;
+                Ok(())
+            }
+            Reading::Headed => match recording_of(alloc, line) {
+                Ok(recording) => {
+                    *self = Reading::Entries(recording);
+                    Ok(())
+                }
+                Err(Stop::Shape) => Err(Cause::Replicas),
+                Err(Stop::Memory) => Err(Cause::Refused(Refusal::Memory)),
+            },
+            Reading::Entries(recording) => add_entry(alloc, recording, line),
+        }
+    }
+
+    /// The recording, where both first lines are there.
+    pub fn end(self) -> Result<Recording, LineFault>
+        ensures ok { IfOk result (λ h. IsLegal h × (good self ≡ trace_lines h)) }
+        ensures number { IfErr result (λ fault. fault.line ≡ length (good self) + 1) }
+        ensures begins { BeginsSpelling (good self) }
+        ensures fault { IfErr result (λ fault. IfSome (cause_of fault.cause) (IsMissingLine (good self))) }
+    {
+        let line = self.next_line();
+        match self {
+            Reading::Start => Err(LineFault {
+                line,
+                cause: Cause::Header,
+            }),
+            Reading::Headed => Err(LineFault {
+                line,
+                cause: Cause::Replicas,
+            }),
+            Reading::Entries(recording) => Ok(recording),
+        }
+    }
+}

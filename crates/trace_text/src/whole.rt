@@ -1,0 +1,58 @@
+//! A whole text, line by line.
+
+ghost use Rattle.std.specs.Prelude.{◌≡◌, ◌+◌, ◌<◌, ◌∷◌, ◌++◌, length, IfOk, IfErr, IfSome, MatchOption, MatchResult};
+ghost use Rattle.events.specs.History.{History};
+ghost use Rattle.specification.specs.Lines.{IsOneLine};
+ghost use Rattle.specification.specs.TraceText.{Spells, IsFirstLineFault};
+ghost use Rattle.trace_text.specs.Causes.{cause_of};
+ghost use Rattle.trace_text.specs.Place.{IsBehindRightLines};
+
+use crate::cause::{Cause, LineFault};
+use crate::reading::Reading;
+use crate::words::place_of;
+use events::{Recording, Refusal};
+use std::alloc::Global;
+
+/// The first line of a text without its LF, and what follows that LF; none where the text has no LF.
+fn split_line(text: &[u8]) -> Option<(&[u8], &[u8])>
+    ensures { MatchOption result (IsOneLine text.now) (λ x. IsOneLine x.0.now × (text.now ≡ x.0.now ++ 10 ∷ x.1.now)) }
+{
+    let end = place_of(text, b'\n')?;
+    Some((&text[..end], &text[end + 1..]))
+}
+
+/// The recording that the text spells, or the first faulty line.
+fn read_lines(alloc: Global, bytes: &[u8]) -> Result<Recording, LineFault>
+    ensures ok { IfOk result (λ h. Spells bytes.now h) }
+    ensures fault { IfErr result (λ fault. IfSome (cause_of fault.cause) (λ cause. IsFirstLineFault bytes.now fault.line cause)) }
+    ensures place { IfErr result (λ fault. IsBehindRightLines bytes.now fault.line) }
+{
+    let mut reading = Reading::Start;
+    let mut rest = bytes;
+    while !rest.is_empty() {
+        let Some((line, behind)) = split_line(rest) else {
+            return Err(LineFault {
+                line: reading.next_line(),
+                cause: Cause::Cut,
+            });
+        };
+        reading.line(alloc, line)?;
+        rest = behind;
+    }
+    reading.end()
+}
+
+/// The recording that the text spells, or the text's first faulty line with its cause.
+///
+/// Want of memory is `Refused(Memory)` at the line whose reading found none. It takes time in proportion to the
+/// text, and keeps nothing but what the recording holds.
+pub fn read(alloc: Global, bytes: &[u8]) -> Result<Recording, LineFault>
+    ensures ok { IfOk result (λ h. Spells bytes.now h) }
+    ensures fault { IfErr result (λ fault. IfSome (cause_of fault.cause) (λ cause. IsFirstLineFault bytes.now fault.line cause)) }
+    // Want of memory too is answered at a line behind right lines.
+    ensures place { IfErr result (λ fault. IsBehindRightLines bytes.now fault.line) }
+    // What is spelled is read, unless memory runs out.
+    ensures spelled { (h : History) → Spells bytes.now h → MatchResult result (λ g. g ≡ h) (λ fault. fault.cause ≡ Cause.Refused Refusal.Memory) }
+{
+    read_lines(alloc, bytes)
+}
