@@ -2,5 +2,9 @@
 #![tactic(auto)]
 
 mod streams;
+mod task;
+mod words;
 
 pub use streams::{READS, ReadFault, Sink, Source, WriteFault};
+pub use task::{Task, Word};
+pub use words::{MOST_WORKERS, WORKERS, WordsFault, read_words};
