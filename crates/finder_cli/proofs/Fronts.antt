@@ -11,5 +11,5 @@ pub front-grows : (a b c : Option (List ℕ)) (bytes : List ℕ) (at n : ℕ)
 front-grows a b c bytes at n first second =
     let rest : take n (take (length bytes - at) (drop at bytes)) ≡ take n (drop at bytes) = ap (take n) (take_rest bytes at) in
     let joined : take (at + n) bytes ≡ take at bytes ++ take n (take (length bytes - at) (drop at bytes)) =
-        take-add at n bytes ∙ ap (λ l. take at bytes ++ l) (sym rest) in
+    take-add at n bytes ∙ ap (λ l. take at bytes ++ l) (sym rest) in
     subst (Appends a c) (sym joined) (Appends-trans a b c _ _ first second)

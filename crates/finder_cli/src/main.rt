@@ -8,8 +8,9 @@ mod program;
 mod run;
 mod streams;
 mod task;
+#[cfg(test)]
+mod tests;
 mod words;
-
 
 use program::finder;
 use std::process::ExitCode;

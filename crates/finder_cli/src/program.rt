@@ -9,11 +9,10 @@ use super::task::{Task, Word};
 use super::words::{WordsFault, read_words};
 use std::alloc::Global;
 use std::env::Env;
-use std::fmt;
 use std::io::{ErrorKind, Input, Print, Read};
 use std::rt::Files;
 use std::thread::Threads;
-use std::{env, fs, io};
+use std::{env, fmt, fs, io};
 use thiserror::Error;
 use trace_text::LineFault;
 
@@ -56,7 +55,9 @@ impl fmt::Display for Word {
 }
 
 /// Does what the words ask for, with standard input and output.
-pub fn finder<H: Env + Files + Input + Print + AllocGlobal + Threads + Sync>(rt: &H) -> Result<Status, ProgramFault> {
+pub fn finder<H: Env + Files + Input + Print + AllocGlobal + Threads + Sync>(
+    rt: &H,
+) -> Result<Status, ProgramFault> {
     let words = words_of(rt)?;
     match read_words(rt.alloc(), words.as_slice()) {
         Ok(Task::Verdict { workers, file }) => judge_file(rt, file, workers),
@@ -88,7 +89,11 @@ fn show<H: Print>(rt: &H, text: &[u8]) -> Result<Status, ProgramFault> {
 }
 
 /// The verdict on the recording that the file spells; `-` is standard input.
-fn judge_file<H: Files + Input + Print + AllocGlobal + Threads + Sync>(rt: &H, file: Word, workers: u32) -> Result<Status, ProgramFault> {
+fn judge_file<H: Files + Input + Print + AllocGlobal + Threads + Sync>(
+    rt: &H,
+    file: Word,
+    workers: u32,
+) -> Result<Status, ProgramFault> {
     if file.as_str() == "-" {
         return judge(rt, rt.reader(), file, workers);
     }
@@ -98,7 +103,12 @@ fn judge_file<H: Files + Input + Print + AllocGlobal + Threads + Sync>(rt: &H, f
     }
 }
 
-fn judge<H: Print + AllocGlobal + Threads + Sync, R: Read + Drop>(rt: &H, reader: R, file: Word, workers: u32) -> Result<Status, ProgramFault> {
+fn judge<H: Print + AllocGlobal + Threads + Sync, R: Read + Drop>(
+    rt: &H,
+    reader: R,
+    file: Word,
+    workers: u32,
+) -> Result<Status, ProgramFault> {
     let mut source = Source::new(reader);
     let mut sink = Sink::new(io::writer(rt));
     match run(rt, rt.alloc(), &mut source, &mut sink, workers) {

@@ -111,7 +111,11 @@ pub fn run<H: Threads + Sync, R: Read + Drop, W: Write + Drop>(
 }
 
 /// The verdict on the recording that the text spells.
-fn verdict_of<H: Threads + Sync>(rt: &H, alloc: Global, text: &[u8]) -> Result<Option<Fault>, RunFault>
+fn verdict_of<H: Threads + Sync>(
+    rt: &H,
+    alloc: Global,
+    text: &[u8],
+) -> Result<Option<Fault>, RunFault>
     ensures ok { IfOk result (λ verdict. IsVerdictOf text.now (option_map fault_of verdict)) }
     ensures trace { IfErr result (λ fault. NamesFirstFault text.now fault × IsOfText fault) }
 {

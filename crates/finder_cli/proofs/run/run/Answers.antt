@@ -13,7 +13,9 @@ pub returns-clause-write : goal.returns-clause-write
 returns-clause-write g c =
     let read = c.in-Ok.ensures.ok in
     let wrote = c.in-Err.ensures.err in
-    λ _. (wrote.1,
-        front-report _ _ _ _ c.deref.result.now c.in-Ok.text.items c.as_bytes.result.now _ _
-        record { consumed = read.0; ended = read.1; same = c.deref.ensures.value }
-        c.in_ok-verdict.ensures.ok c.as_bytes.ensures.value c.in_ok-line.ensures wrote.0)
+    λ _. (
+      wrote.1,
+      front-report _ _ _ _ c.deref.result.now c.in-Ok.text.items c.as_bytes.result.now _ _
+          record { consumed = read.0; ended = read.1; same = c.deref.ensures.value }
+          c.in_ok-verdict.ensures.ok c.as_bytes.ensures.value c.in_ok-line.ensures wrote.0,
+    )

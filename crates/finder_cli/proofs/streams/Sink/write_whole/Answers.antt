@@ -9,9 +9,9 @@ loop-at-preserved g c =
     let open_before = wrote.went.1 in
     let kept = c.loop-at.invariant.still in
     record {
-        within = omega (arith, wrote.within, length-take {A = ℕ}, length-drop {A = ℕ});
-        written = front-grows _ _ _ c.args.bytes.now c.loop-at.at c.in-Some.n c.loop-at.invariant.written wrote.bytes;
-        still = cc;
-        closed = λ failed. cc;
-        first = λ none. absurd (omega (arith, wrote.within));
+      within = omega (arith, wrote.within, length-take {A = ℕ}, length-drop {A = ℕ});
+      written = front-grows _ _ _ c.args.bytes.now c.loop-at.at c.in-Some.n c.loop-at.invariant.written wrote.bytes;
+      still = cc;
+      closed = λ failed. cc;
+      first = λ none. absurd (omega (arith, wrote.within));
     }

@@ -6,8 +6,8 @@ use Rattle.finder_cli.proofs.streams.Source.whole.Given as goal
 
 abbrev pub invariant-loop-n : goal.invariant-loop-n
 invariant-loop-n g l = record {
-    bytes : Consumes l.fn.self.bytes l.self.bytes l.all.items;
-    closed : IsClosed l.fn.self → l.self ≡ l.fn.self;
+  bytes : Consumes l.fn.self.bytes l.self.bytes l.all.items;
+  closed : IsClosed l.fn.self → l.self ≡ l.fn.self;
 }
 
 abbrev pub decreases-loop-n : goal.decreases-loop-n
