@@ -55,16 +55,16 @@ fn tried<'a, H: Threads + Sync>(
 
 #[test]
 fn reader_that_fails(rt: HostRuntime) -> Result<(), Fail> {
-    // 48 bytes are 7 reads, and one more shows the end.
-    for fails_at in 1..=8 {
+    // 52 bytes are 8 reads, and one more shows the end.
+    for fails_at in 1..=9 {
         let trial = tried(&rt, rt.alloc(), DELETED, fails_at, 0);
         assert_eq!(rt; trial.answer, Err(RunFault::Read), "at {fails_at}");
         assert_eq!(rt; trial.script.reads, fails_at);
         assert_eq!(rt; trial.page.writes, 0);
     }
-    let trial = tried(&rt, rt.alloc(), DELETED, 9, 0);
+    let trial = tried(&rt, rt.alloc(), DELETED, 10, 0);
     assert_eq!(rt; trial.answer, Ok(Status::Good));
-    assert_eq!(rt; trial.script.reads, 8);
+    assert_eq!(rt; trial.script.reads, 9);
     assert_eq!(rt; trial.page.text(), b"sound\n".as_slice());
     Ok(())
 }
