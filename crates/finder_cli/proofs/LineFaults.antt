@@ -1,0 +1,17 @@
+-- From the fault of a text to the fault of a run.
+use Rattle.std.proofs.Common.{◌≡◌, ℕ, List, Option, Some, None, IfSome, MatchOption, refl, sym, subst}
+use Rattle.specification.specs.TraceText.{Cause, IsFirstLineFault}
+use Rattle.trace_text.specs.Causes.{cause_of}
+use Rattle.trace_text.specs.declared.cause.LineFault.{LineFault}
+use Rattle.finder_cli.specs.Runs.{NamesFirstFault, IsOfText}
+use Rattle.finder_cli.specs.declared.run.RunFault.{RunFault}
+use Rattle.finder_cli.specs.declared.run.RunFault.TheVariants as run
+
+-- want of memory has no line, and any other cause is the text's first fault
+pub trace_fault-names : (text : List ℕ) (fault : LineFault) (answer : RunFault) (cause : Option Cause) → cause_of fault.cause ≡ cause
+    → IfSome cause (λ c. IsFirstLineFault text fault.line c) → MatchOption cause (answer ≡ run.Memory) (λ _. answer ≡ run.Trace fault)
+    → NamesFirstFault text answer × IsOfText answer
+trace_fault-names text fault answer None same first is =
+    subst (λ a. NamesFirstFault text a × IsOfText a) (sym is) (tt, tt)
+trace_fault-names text fault answer (Some c) same first is =
+    subst (λ a. NamesFirstFault text a × IsOfText a) (sym is) ((c, same, first), tt)

@@ -1,0 +1,29 @@
+-- How the program ends: exit statuses, and its fault for that of a run.
+use Rattle.std.specs.Prelude.{◌≡◌, ℕ, List}
+use Rattle.finder_cli.specs.declared.run.Status.{Status}
+use Rattle.finder_cli.specs.declared.run.Status.TheVariants.{Good, Bad}
+use Rattle.finder_cli.specs.declared.run.RunFault.{RunFault}
+use Rattle.finder_cli.specs.declared.run.RunFault.TheVariants as run
+use Rattle.finder_cli.specs.declared.program.ProgramFault.{ProgramFault}
+use Rattle.finder_cli.specs.declared.program.ProgramFault.TheVariants as program
+
+-- the exit status of a verdict
+abbrev pub number_of_status : Status → ℕ
+number_of_status Good = 0
+number_of_status Bad = 1
+
+-- the exit status of a fault
+abbrev pub number_of_fault : ProgramFault → ℕ
+number_of_fault program.Usage = 2
+number_of_fault (program.Read file) = 2
+number_of_fault (program.Trace fault) = 2
+number_of_fault program.Write = 2
+number_of_fault program.Memory = 3
+
+-- the program's fault for a run's on this file
+abbrev pub IsFaultOfRun : RunFault → List ℕ → ProgramFault → Type 0
+IsFaultOfRun run.Workers file answer = answer ≡ program.Usage
+IsFaultOfRun run.Read file answer = answer ≡ program.Read file
+IsFaultOfRun (run.Trace fault) file answer = answer ≡ program.Trace fault
+IsFaultOfRun run.Write file answer = answer ≡ program.Write
+IsFaultOfRun run.Memory file answer = answer ≡ program.Memory

@@ -1,0 +1,26 @@
+//! The program `finder`: reads a recording of collaborative editors, and says whether it is sound.
+//!
+//! `run` is the engine, over any reader and writer; `read_words` is the command line; `program` joins
+//! them to files, standard streams and exit statuses.
+#![tactic(auto)]
+
+mod program;
+mod run;
+mod streams;
+mod task;
+#[cfg(test)]
+mod tests;
+mod words;
+
+use program::finder;
+use std::process::ExitCode;
+
+fn main(rt: HostRuntime) -> ExitCode {
+    match finder(&rt) {
+        Ok(status) => ExitCode::from(status.number()),
+        Err(fault) => {
+            let _ = eprintln!(rt; "finder: {fault}");
+            ExitCode::from(fault.number())
+        }
+    }
+}

@@ -1,0 +1,131 @@
+//! The program: its words, files and standard streams, and how it ends.
+
+ghost use Rattle.std.specs.Prelude.{◌≡◌};
+ghost use Rattle.finder_cli.specs.Endings.{number_of_fault, IsFaultOfRun};
+
+use super::run::{RunFault, Status, run};
+use super::streams::{Sink, Source};
+use super::task::{Task, Word};
+use super::words::{WordsFault, read_words};
+use std::alloc::Global;
+use std::env::Env;
+use std::io::{ErrorKind, Input, Print, Read};
+use std::rt::Files;
+use std::thread::Threads;
+use std::{env, fmt, fs, io};
+use thiserror::Error;
+use trace_text::LineFault;
+
+/// Why the program did not do what it was asked for: its text is what stands on standard error.
+#[derive(Debug, Drop, Error)]
+pub enum ProgramFault {
+    /// The words are no command.
+    #[error("usage")]
+    Usage,
+    /// The file can't be opened or read.
+    #[error("cannot read {file}")]
+    Read { file: Word },
+    /// The text spells no recording.
+    #[error("{0}")]
+    Trace(LineFault),
+    /// Standard output can't be written.
+    #[error("cannot write")]
+    Write,
+    /// A growth was refused.
+    #[error("memory")]
+    Memory,
+}
+
+impl ProgramFault {
+    /// The exit status: 3 for want of memory, 2 for any other fault.
+    pub fn number(&self) -> u8
+        ensures { result ≡ number_of_fault self.now }
+    {
+        match self {
+            ProgramFault::Memory => 3,
+            _ => 2,
+        }
+    }
+}
+
+impl fmt::Display for Word {
+    fn fmt<W: fmt::Write>(&self, f: &mut fmt::Formatter<W>) -> fmt::Result {
+        f.write_str(self.as_str())
+    }
+}
+
+/// Does what the words ask for, with standard input and output.
+pub fn finder<H: Env + Files + Input + Print + AllocGlobal + Threads + Sync>(
+    rt: &H,
+) -> Result<Status, ProgramFault> {
+    let words = words_of(rt)?;
+    match read_words(rt.alloc(), words.as_slice()) {
+        Ok(Task::Verdict { workers, file }) => judge_file(rt, file, workers),
+        Err(WordsFault::Usage) => Err(ProgramFault::Usage),
+        Err(WordsFault::Memory) => Err(ProgramFault::Memory),
+        Err(WordsFault::Help { text }) => show(rt, text.as_bytes()),
+    }
+}
+
+/// The words behind the program's name. One that is not UTF-8 is a usage fault.
+fn words_of<H: Env + AllocGlobal>(rt: &H) -> Result<Vec<String>, ProgramFault> {
+    match env::args(rt) {
+        Ok(words) => words
+            .skip(1)
+            .collect(rt.alloc())
+            .map_err(|_| ProgramFault::Memory),
+        Err(error) if error.kind() == ErrorKind::OutOfMemory => Err(ProgramFault::Memory),
+        Err(_) => Err(ProgramFault::Usage),
+    }
+}
+
+/// Writes the text to standard output.
+fn show<H: Print>(rt: &H, text: &[u8]) -> Result<Status, ProgramFault> {
+    let mut sink = Sink::new(io::writer(rt));
+    match sink.write_whole(text) {
+        Ok(()) => Ok(Status::Good),
+        Err(_) => Err(ProgramFault::Write),
+    }
+}
+
+/// The verdict on the recording that the file spells; `-` is standard input.
+fn judge_file<H: Files + Input + Print + AllocGlobal + Threads + Sync>(
+    rt: &H,
+    file: Word,
+    workers: u32,
+) -> Result<Status, ProgramFault> {
+    if file.as_str() == "-" {
+        return judge(rt, rt.reader(), file, workers);
+    }
+    match fs::open(rt, file.as_str()) {
+        Ok(opened) => judge(rt, opened, file, workers),
+        Err(_) => Err(ProgramFault::Read { file }),
+    }
+}
+
+fn judge<H: Print + AllocGlobal + Threads + Sync, R: Read + Drop>(
+    rt: &H,
+    reader: R,
+    file: Word,
+    workers: u32,
+) -> Result<Status, ProgramFault> {
+    let mut source = Source::new(reader);
+    let mut sink = Sink::new(io::writer(rt));
+    match run(rt, rt.alloc(), &mut source, &mut sink, workers) {
+        Ok(status) => Ok(status),
+        Err(fault) => Err(fault_of_run(fault, file)),
+    }
+}
+
+/// The program's fault for a run's, where the text came from the file.
+fn fault_of_run(fault: RunFault, file: Word) -> ProgramFault
+    ensures { IsFaultOfRun fault file result }
+{
+    match fault {
+        RunFault::Workers => ProgramFault::Usage,
+        RunFault::Read => ProgramFault::Read { file },
+        RunFault::Trace(fault) => ProgramFault::Trace(fault),
+        RunFault::Write => ProgramFault::Write,
+        RunFault::Memory => ProgramFault::Memory,
+    }
+}

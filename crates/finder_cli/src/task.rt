@@ -1,0 +1,49 @@
+//! What a command line asks for.
+
+use std::alloc::{AllocError, Global};
+use std::marker::Model;
+
+/// A word of a command line.
+#[derive(Debug, Drop)]
+pub struct Word {
+    text: String,
+}
+
+impl Model for Word {
+    ghost use Rattle.std.specs.Prelude.{List, ℕ, string_bytes};
+
+    ghost Value = { List ℕ };
+
+    ghost view = { λ word. string_bytes word.text };
+}
+
+impl Word {
+    ghost use Rattle.std.specs.Prelude.{◌≡◌, IfOk};
+
+    /// A copy of the text.
+    pub fn new(alloc: Global, text: &str) -> Result<Word, AllocError>
+        ensures { IfOk result (λ word. word ≡ text.now) }
+    {
+        Ok(Word {
+            text: String::from_str(alloc, text)?,
+        })
+    }
+
+    /// The word's text.
+    pub fn as_str(&self) -> &str
+        ensures { result.now ≡ self.now }
+    {
+        self.text.as_str()
+    }
+}
+
+/// What a command line asks for.
+#[derive(Debug, Drop)]
+pub enum Task {
+    /// The verdict on the recording that a file spells; `-` is standard input.
+    Verdict {
+        /// How many workers search: 1 to 64.
+        workers: u32,
+        file: Word,
+    },
+}

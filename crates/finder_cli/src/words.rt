@@ -1,0 +1,140 @@
+//! The words of the command line.
+
+ghost use Rattle.std.specs.Prelude.{◌≡◌, ◌≤◌, [], IfOk, MatchResult};
+ghost use Rattle.finder_cli.specs.Tasks.{HasWorkers, IsDefault};
+
+use super::task::{Task, Word};
+use clap::error::ErrorKind;
+use clap::{Arg, ArgAction, ArgMatches, Command};
+use std::alloc::{AllocError, Global};
+use thiserror::Error;
+
+/// How many workers search where the words give no number.
+pub const WORKERS: u32 = 4;
+/// The most workers that may search; the fewest is 1.
+pub const MOST_WORKERS: u32 = 64;
+
+/// Why the words of a command line give no task.
+#[derive(Debug, Drop, Error)]
+pub enum WordsFault {
+    /// They are no command.
+    #[error("usage")]
+    Usage,
+    /// They ask for help: its text.
+    #[error("help")]
+    Help { text: String },
+    /// A growth was refused.
+    #[error("memory")]
+    Memory,
+}
+
+impl From<AllocError> for WordsFault {
+    ghost use Rattle.finder_cli.specs.declared.words.WordsFault.TheVariants.{Memory};
+
+    ghost from_gives = { λ _ fault. fault ≡ Memory };
+
+    fn from(_error: AllocError) -> WordsFault {
+        WordsFault::Memory
+    }
+}
+
+/// The task that the words ask for: those behind the program's name.
+///
+/// `verdict [--workers N] FILE` is the one command; N is 1 to 64, in digits and without leading zeros, and
+/// 4 where it is not given. No words mean `verdict -`.
+pub fn read_words(alloc: Global, words: &[String]) -> Result<Task, WordsFault>
+    ensures workers { IfOk result HasWorkers }
+    ensures none { words.now ≡ [] → MatchResult result IsDefault (λ fault. fault ≡ WordsFault.Memory) }
+{
+    if words.is_empty() {
+        return default_task(alloc);
+    }
+    match finder_command(alloc)?.try_get_matches_from(words) {
+        Ok(matches) => task_of(alloc, &matches),
+        Err(error) => Err(fault_of(alloc, &error)),
+    }
+}
+
+/// The task of a command line without words.
+fn default_task(alloc: Global) -> Result<Task, WordsFault>
+    ensures { MatchResult result (λ task. HasWorkers task × IsDefault task) (λ fault. fault ≡ WordsFault.Memory) }
+{
+    let file = Word::new(alloc, "-")?;
+    Ok(Task::Verdict {
+        workers: WORKERS,
+        file,
+    })
+}
+
+fn finder_command<'a>(alloc: Global) -> Result<Command<'a>, AllocError> {
+    Command::new(alloc, "finder")
+        .no_binary_name(true)
+        .subcommand_required(true)
+        .subcommand(verdict_command(alloc)?)
+}
+
+fn verdict_command<'a>(alloc: Global) -> Result<Command<'a>, AllocError> {
+    let workers = Arg::new(alloc, "workers")
+        .long("workers")
+        .action(ArgAction::Set);
+    let file = Arg::new(alloc, "FILE")
+        .required(true)
+        .action(ArgAction::Set);
+    Command::new(alloc, "verdict").arg(workers)?.arg(file)
+}
+
+/// The task of words that `clap` has read.
+fn task_of(alloc: Global, matches: &ArgMatches<'_>) -> Result<Task, WordsFault>
+    ensures { IfOk result HasWorkers }
+{
+    let (name, given) = matches.subcommand().ok_or(WordsFault::Usage)?;
+    match name {
+        "verdict" => Ok(Task::Verdict {
+            workers: workers_of(given)?,
+            file: file_of(alloc, given)?,
+        }),
+        _ => Err(WordsFault::Usage),
+    }
+}
+
+/// The number of workers that was given, or `WORKERS`.
+fn workers_of(given: &ArgMatches<'_>) -> Result<u32, WordsFault>
+    ensures { IfOk result (λ n. (1 ≤ n) × (n ≤ MOST_WORKERS)) }
+{
+    let Some(word) = given.get_str("workers") else {
+        return Ok(WORKERS);
+    };
+    match number_of(word) {
+        Some(n) if n <= MOST_WORKERS => Ok(n),
+        _ => Err(WordsFault::Usage),
+    }
+}
+
+ghost use Rattle.std.specs.Prelude.{IfSome};
+
+/// The number that the word is: digits, the first of them not 0.
+fn number_of(word: &str) -> Option<u32>
+    ensures { IfSome result (λ n. 1 ≤ n) }
+{
+    if !matches!(word.as_bytes(), [b'1'..=b'9', ..]) {
+        return None;
+    }
+    let n = word.parse().ok()?;
+    if n == 0 { None } else { Some(n) }
+}
+
+fn file_of(alloc: Global, given: &ArgMatches<'_>) -> Result<Word, WordsFault> {
+    let word = given.get_str("FILE").ok_or(WordsFault::Usage)?;
+    Ok(Word::new(alloc, word)?)
+}
+
+fn fault_of(alloc: Global, error: &clap::Error) -> WordsFault {
+    match error.kind() {
+        ErrorKind::DisplayHelp => match error.to_string(alloc) {
+            Ok(text) => WordsFault::Help { text },
+            Err(_) => WordsFault::Memory,
+        },
+        ErrorKind::OutOfMemory => WordsFault::Memory,
+        _ => WordsFault::Usage,
+    }
+}

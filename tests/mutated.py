@@ -1,0 +1,141 @@
+#!/usr/bin/env python3
+"""mutated.py PROGRAM: random bytes and mutated traces, the same in each run of this script.
+
+The program must end with status 0, 1 or 2 and one line on the right stream, in time linear in its input."""
+import math
+import random
+import re
+import sys
+import time
+from pathlib import Path
+
+from program import Ended, Tally, program_of, run
+
+CASES = 1000
+SEED = 20161016
+VECTORS = Path(__file__).parent / "vectors"
+
+VERDICT = re.compile(rb"(sound|doubled \d+\.\d+ \d+\.\d+|contents \d+\.\d+|position \d+\.\d+)\n")
+FAULT = re.compile(rb"finder: line \d+: (header|replicas|shape|cut|no such replica|own receipt|not yet, have \d+"
+                   rb"|entries full|inserts full|long response|places full)\n")
+
+WORDS = [b"0", b"1", b"2", b"01", b"4294967295", b"4294967296", b"ins", b"del", b"read", b"recv", b":", b"a", b"",
+         b"trace 1", b"replicas 2", b"\n", b" ", b"\r\n", b"\0", b"\xff", b"\xc3\xa4"]
+
+
+def is_right(ended: Ended) -> bool:
+    """One line on the right stream, and nothing on the other."""
+    if ended.status == 2:
+        return not ended.out and FAULT.fullmatch(ended.err) is not None
+    line = VERDICT.fullmatch(ended.out)
+    return not ended.err and line is not None and ended.status == (0 if line[1] == b"sound" else 1)
+
+
+def some_bytes(rnd: random.Random) -> bytes:
+    alphabet = rnd.choice([bytes(range(256)), b"0123456789 :abdeilnprstv.\n", b"trace 1\nreplicas 2\n0 ins a : 0"])
+    return bytes(rnd.choice(alphabet) for _ in range(rnd.randint(0, 400)))
+
+
+def mutated(rnd: random.Random, text: bytes, other: bytes) -> bytes:
+    """The text with one change."""
+    at, end = sorted(rnd.randint(0, len(text)) for _ in range(2))
+    end = min(end, at + 40)
+    kind = rnd.randrange(8)
+    if kind == 0:
+        return text[:at] + bytes([rnd.randrange(256)]) + text[at + 1:]
+    if kind == 1:
+        return text[:at] + text[end:]
+    if kind == 2:
+        return text[:end] + text[at:end] + text[end:]
+    if kind == 3:
+        return text[:at] + rnd.choice(WORDS) + text[at:]
+    if kind == 4:
+        lines = text.split(b"\n")
+        i, j = rnd.randrange(len(lines)), rnd.randrange(len(lines))
+        lines[i], lines[j] = lines[j], lines[i]
+        return b"\n".join(lines)
+    if kind == 5:
+        words = text.split(b" ")
+        words[rnd.randrange(len(words))] = rnd.choice(WORDS)
+        return b" ".join(words)
+    if kind == 6:
+        return text[:at] + other[min(at, len(other)):]
+    return text[:at]
+
+
+def edited(rnd: random.Random, text: bytes) -> bytes:
+    """The text with one change that mostly leaves it a trace: of a name, a number, or the order of two lines."""
+    lines = text.splitlines(keepends=True)
+    at = rnd.randrange(min(2, len(lines) - 1), len(lines))
+    if rnd.random() < 0.3:
+        other = rnd.randrange(min(2, len(lines) - 1), len(lines))
+        lines[at], lines[other] = lines[other], lines[at]
+        return b"".join(lines)
+    words = lines[at].rstrip(b"\n").split(b" ")
+    i = rnd.randrange(len(words))
+    if words[i].isdigit():
+        words[i] = b"%d" % rnd.randrange(4)
+    elif b":" in words and i > words.index(b":"):
+        words[i:i + 1] = rnd.choice([[], [words[i]] * 2, [rnd.choice(words[words.index(b":") + 1:])], [b"new"]])
+    lines[at] = b" ".join(words) + b"\n"
+    return b"".join(lines)
+
+
+def cases() -> list:
+    rnd = random.Random(SEED)
+    traces = [path.read_bytes() for path in sorted(VECTORS.rglob("*.trace"))]
+    spelled = [path.read_bytes() for path in sorted(VECTORS.glob("*.trace"))]
+    made = []
+    for i in range(CASES):
+        if i % 4 == 0:
+            made.append(some_bytes(rnd))
+            continue
+        text = rnd.choice(spelled if i % 2 else traces)
+        for _ in range(rnd.randint(1, 3)):
+            text = edited(rnd, text) if i % 2 else mutated(rnd, text, rnd.choice(traces))
+        made.append(text)
+    return made
+
+
+FRONT = b"trace 1\nreplicas 16\n"
+
+# Texts of any length, by the number of bytes that is wanted.
+GROWING = {
+    "random bytes": lambda n: random.Random(n).randbytes(n),
+    "random bytes behind two right lines": lambda n: FRONT + random.Random(n).randbytes(n),
+    "one line of names": lambda n: FRONT + b"0 read :" + b" a" * (n // 2),
+    "one long name": lambda n: FRONT + b"0 del " + b"a" * n + b" :\n",
+    "one long number": lambda n: FRONT + b"9" * n + b" read :\n",
+    "full responses": lambda n: FRONT + b"".join(b"%d read :%s\n" % (i % 16, b" a" * 4096) for i in range(n // 8200)),
+    "empty lines": lambda n: FRONT + b"\n" * n,
+}
+SMALL, LARGE = 2_000_000, 8_000_000
+
+
+def seconds(program: str, text: bytes) -> float:
+    best = math.inf
+    for _ in range(3):
+        start = time.monotonic()
+        run(program, trace=text)
+        best = min(best, time.monotonic() - start)
+    return best
+
+
+def main() -> None:
+    program = program_of(sys.argv)
+    tally = Tally()
+    kinds = {0: 0, 1: 0, 2: 0}
+    for i, text in enumerate(cases()):
+        ended = run(program, trace=text)
+        tally.check(f"case {i}", is_right(ended), (ended, text[:200]))
+        kinds[ended.status] = kinds.get(ended.status, 0) + 1
+    print(f"{kinds[0]} sound, {kinds[1]} with a fault, {kinds[2]} that spell no recording")
+    for name, text_of in GROWING.items():
+        fast, slow = seconds(program, text_of(SMALL)), seconds(program, text_of(LARGE))
+        # Four times the text may take six times as long; short runs say nothing.
+        tally.check(f"time of {name}", slow < max(0.2, 6 * fast), f"{fast:.3f} s, then {slow:.3f} s")
+    tally.close()
+
+
+if __name__ == "__main__":
+    main()

@@ -1,0 +1,68 @@
+"""Runs the built program as a user would, and keeps count of what holds."""
+import os
+import subprocess
+import sys
+from pathlib import Path
+from typing import NamedTuple
+
+SECONDS = 60
+
+
+class Ended(NamedTuple):
+    """How a run ended: its exit status, and what stands on its two streams."""
+
+    status: int
+    out: bytes
+    err: bytes
+
+
+def run(program: str, words: list = (), trace: bytes = b"", out=subprocess.PIPE, stdin=None) -> Ended:
+    """One run of the program: `trace` on standard input, unless `stdin` is an open file."""
+    given = {"input": trace} if stdin is None else {"stdin": stdin}
+    done = subprocess.run([program, *words], stdout=out, stderr=subprocess.PIPE, timeout=SECONDS, **given)
+    return Ended(done.returncode, done.stdout or b"", done.stderr)
+
+
+def fault(words: str) -> Ended:
+    """A fault of the input, the files or the words."""
+    return Ended(2, b"", b"finder: " + os.fsencode(words) + b"\n")
+
+
+def verdict(line: str) -> Ended:
+    """A verdict: good exactly for `sound`."""
+    return Ended(0 if line == "sound" else 1, line.encode() + b"\n", b"")
+
+
+class Tally:
+    """What passed, and what failed."""
+
+    def __init__(self):
+        self.passed = 0
+        self.failed = 0
+
+    def check(self, name: str, holds: bool, shown: object = "") -> None:
+        if holds:
+            self.passed += 1
+        else:
+            self.failed += 1
+            print(f"FAILED {name} {shown}")
+
+    def same(self, name: str, got: Ended, wanted: Ended) -> None:
+        self.check(name, got == wanted, f"got {short(got)}, wanted {short(wanted)}")
+
+    def close(self) -> None:
+        """Prints the counts and ends the script: with status 1 where something failed."""
+        print(f"{self.passed} passed, {self.failed} failed")
+        sys.exit(1 if self.failed else 0)
+
+
+def short(ended: Ended) -> str:
+    text = repr(tuple(ended))
+    return text if len(text) < 300 else text[:300] + ".."
+
+
+def program_of(words: list) -> str:
+    """The program's path, from the script's one word."""
+    if len(words) != 2 or not os.access(words[1], os.X_OK):
+        sys.exit(f"usage: {Path(words[0]).name} PROGRAM")
+    return os.path.abspath(words[1])
