@@ -4,3 +4,4 @@ pub mod Doubled
 pub mod Fronts
 pub mod Contents
 pub mod Firsts
+pub mod Marked

@@ -1,2 +1,3 @@
 pub mod FaultOf
 pub mod Known
+pub mod Marks

@@ -18,7 +18,9 @@ use visibility::Sight;
 /// The first fault of a recording, or none where it is sound.
 ///
 /// A name that is inserted twice comes before all other faults. Else the operations are searched by
-/// several threads for the least with a fault; at one operation contents come before position.
+/// several threads for the least with a fault; at one operation contents come before position. It costs
+/// the places of all responses, and for each operation the number of elements with their deletes. Where
+/// a thread finds no memory for its marks it does without, and is slower.
 pub fn first_fault(
     rt: &(impl Threads + Sync),
     alloc: Global,
@@ -34,7 +36,7 @@ pub fn first_fault(
         Inserted::Distinct(elements) => {
             let mut elements = elements;
             delete_all(&mut elements, recording, &names)?;
-            Ok(first_wrong(rt, &elements, sight, recording, &names))
+            Ok(first_wrong(rt, alloc, &elements, sight, recording, &names))
         }
     }
 }
@@ -42,6 +44,7 @@ pub fn first_fault(
 /// The fault at the least operation with one, among operations whose names all differ.
 fn first_wrong(
     rt: &(impl Threads + Sync),
+    alloc: Global,
     elements: &Elements,
     sight: &Sight,
     recording: &Recording,
@@ -50,11 +53,11 @@ fn first_wrong(
     requires { CanJudge recording.now sight.now elements.now names.now }
     ensures { MatchOption result (IsSound recording.now) (λ fault. IsFirstFault recording.now (fault_of fault)) }
 {
-    match first_wrong_place(rt, elements, sight, recording, names) {
+    match first_wrong_place(rt, alloc, elements, sight, recording, names) {
         None => None,
         Some(i) => {
             let at = names[i];
-            if has_right_contents(elements, sight, recording, at) {
+            if has_right_contents(alloc, elements, sight, recording, at) {
                 Some(Fault::Position { at })
             } else {
                 Some(Fault::Contents { at })
@@ -66,6 +69,7 @@ fn first_wrong(
 /// The place of the first operation at which something is wrong.
 fn first_wrong_place(
     rt: &(impl Threads + Sync),
+    alloc: Global,
     elements: &Elements,
     sight: &Sight,
     recording: &Recording,
@@ -79,12 +83,13 @@ fn first_wrong_place(
         |i: &usize| -> bool
             requires { CanJudge recording.now sight.now elements.now names.now × (i.now < length names.now) }
             ensures { JudgesAt recording.entry.now names.entry.now i.now result }
-        { is_wrong_at(elements, sight, recording, names, *i) },
+        { is_wrong_at(alloc, elements, sight, recording, names, *i) },
     )
 }
 
 /// Whether something is wrong at the operation of a place.
 fn is_wrong_at(
+    alloc: Global,
     elements: &Elements,
     sight: &Sight,
     recording: &Recording,
@@ -95,5 +100,5 @@ fn is_wrong_at(
     requires within { i < length names.now }
     ensures { JudgesAt recording.now names.now i result }
 {
-    is_wrong(elements, sight, recording, names[i])
+    is_wrong(alloc, elements, sight, recording, names[i])
 }

@@ -7,6 +7,7 @@ mod elements;
 mod fault;
 mod first;
 mod kept;
+mod marks;
 mod names;
 mod rightness;
 

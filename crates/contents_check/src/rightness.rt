@@ -8,11 +8,13 @@ ghost use Rattle.contents_check.specs.Known.{AreElementsOf, HoldsAll, IsLive, Is
 
 use super::element::Element;
 use super::elements::Elements;
+use super::marks::holds_exactly;
 use events::{Body, Name, OpName, Recording, Response};
+use std::alloc::Global;
 use visibility::Sight;
 
 /// Whether the insert of the element is `e` or visible to it, and no delete of its name is.
-fn is_live(element: &Element, sight: &Sight, e: OpName) -> bool
+pub fn is_live(element: &Element, sight: &Sight, e: OpName) -> bool
     ensures { IsTrue result ↔ IsLive sight.now element.now e }
 {
     if !is_or_sees(sight, element.insert, e) {
@@ -124,8 +126,9 @@ fn response_of<'a>(recording: &'a Recording, e: OpName) -> Option<&'a Response>
 }
 
 /// Whether the response of an operation repeats no name and holds exactly what is visible. Its cost is
-/// the square of the response's length, and the product of that and the elements that are live.
+/// linear in the response's length and the number of elements.
 pub fn has_right_contents(
+    alloc: Global,
     elements: &Elements,
     sight: &Sight,
     recording: &Recording,
@@ -139,16 +142,25 @@ pub fn has_right_contents(
 {
     match response_of(recording, e) {
         None => true,
-        Some(w) => {
-            if !is_repeat_free(w) {
-                return false;
-            }
-            if !knows_all(elements, sight, e, w) {
-                return false;
-            }
-            holds_all(&elements.list, sight, e, w)
-        }
+        Some(w) => match holds_exactly(alloc, elements, sight, e, w) {
+            Ok(holds) => holds,
+            Err(_) => holds_exactly_unmarked(elements, sight, e, w),
+        },
     }
+}
+
+/// What `holds_exactly` answers, without memory: its cost is the square of the response's length, and the
+/// product of that and the elements that are live.
+fn holds_exactly_unmarked(elements: &Elements, sight: &Sight, e: OpName, w: &Response) -> bool
+    ensures { IsTrue result ↔ (Once w.now × KnowsAll sight.now elements.now e w.now × HoldsAll sight.now elements.now.list.items e w.now) }
+{
+    if !is_repeat_free(w) {
+        return false;
+    }
+    if !knows_all(elements, sight, e, w) {
+        return false;
+    }
+    holds_all(&elements.list, sight, e, w)
 }
 
 /// Whether the operation's insert, if it is one, stands where it was asked for.
@@ -162,12 +174,18 @@ fn has_right_position(recording: &Recording, e: OpName) -> bool
 }
 
 /// Whether the contents or the position are wrong at an operation.
-pub fn is_wrong(elements: &Elements, sight: &Sight, recording: &Recording, e: OpName) -> bool
+pub fn is_wrong(
+    alloc: Global,
+    elements: &Elements,
+    sight: &Sight,
+    recording: &Recording,
+    e: OpName,
+) -> bool
     requires elements { AreElementsOf recording.now elements.now }
     requires sight { IsSightOf recording.now sight.now }
     requires legal { IsLegal recording.now }
     requires operation { IsOperation recording.now e }
     ensures { Judges recording.now e result }
 {
-    !(has_right_contents(elements, sight, recording, e) && has_right_position(recording, e))
+    !(has_right_contents(alloc, elements, sight, recording, e) && has_right_position(recording, e))
 }
