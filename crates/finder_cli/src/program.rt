@@ -1,6 +1,7 @@
 //! The program: its words, files and standard streams, and how it ends.
 
-ghost use Rattle.std.specs.Prelude.{◌≡◌, IfOk, IfErr, IfSome, MatchResult};
+ghost use Rattle.std.specs.Prelude.{◌≡◌, true, IfOk, IfErr, IfSome, MatchResult};
+ghost use Rattle.std.specs.Io.KnownBytes.{Appends};
 ghost use Rattle.finder_cli.specs.Runs.{Reports};
 ghost use Rattle.finder_cli.specs.Endings.{number_of_fault, IsFaultOfRun, NamesFile, IsOfWords};
 
@@ -64,7 +65,7 @@ pub fn finder<H: Env + Files + Input + Print + AllocGlobal + Threads + Sync>(
         Ok(Task::Verdict { workers, file }) => judge_file(rt, file, workers),
         Err(WordsFault::Usage) => Err(ProgramFault::Usage),
         Err(WordsFault::Memory) => Err(ProgramFault::Memory),
-        Err(WordsFault::Help { text }) => show(rt, text.as_bytes()),
+        Err(WordsFault::Help { text }) => show(&mut Sink::new(io::writer(rt)), text.as_bytes()),
     }
 }
 
@@ -82,11 +83,12 @@ fn words_of<H: Env + AllocGlobal>(rt: &H) -> Result<Vec<String>, ProgramFault>
     }
 }
 
-/// Writes the text to standard output.
-fn show<H: Print>(rt: &H, text: &[u8]) -> Result<Status, ProgramFault>
-    ensures { MatchResult result (λ status. status ≡ Status.Good) (λ fault. fault ≡ ProgramFault.Write) }
+/// Writes the text of a help.
+fn show<W: Write + Drop>(sink: &mut Sink<W>, text: &[u8]) -> Result<Status, ProgramFault>
+    ensures { MatchResult result
+        (λ status. (status ≡ Status.Good) × Appends sink.old.bytes sink.new.bytes text.now)
+        (λ fault. (fault ≡ ProgramFault.Write) × (sink.new.failed ≡ true)) }
 {
-    let mut sink = Sink::new(io::writer(rt));
     match sink.write_whole(text) {
         Ok(()) => Ok(Status::Good),
         Err(_) => Err(ProgramFault::Write),
