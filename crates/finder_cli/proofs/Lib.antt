@@ -1,3 +1,4 @@
 pub mod Fronts
 pub mod LineFaults
 pub mod Reported
+pub mod Positives

@@ -1,5 +1,5 @@
 -- From the fault of a text to the fault of a run.
-use Rattle.std.proofs.Common.{◌≡◌, ℕ, List, Option, Some, None, IfSome, MatchOption, refl, sym, subst}
+use Rattle.std.proofs.Common.{◌≡◌, ℕ, List, Option, Some, None, IfSome, MatchOption, sym, subst}
 use Rattle.specification.specs.TraceText.{Cause, IsFirstLineFault}
 use Rattle.trace_text.specs.Causes.{cause_of}
 use Rattle.trace_text.specs.declared.cause.LineFault.{LineFault}

@@ -27,3 +27,19 @@ IsFaultOfRun run.Read file answer = answer ≡ program.Read file
 IsFaultOfRun (run.Trace fault) file answer = answer ≡ program.Trace fault
 IsFaultOfRun run.Write file answer = answer ≡ program.Write
 IsFaultOfRun run.Memory file answer = answer ≡ program.Memory
+
+-- where a file can't be read, it is this one
+abbrev pub NamesFile : List ℕ → ProgramFault → Type 0
+NamesFile file (program.Read named) = named ≡ file
+NamesFile file program.Usage = Unit {0}
+NamesFile file (program.Trace fault) = Unit {0}
+NamesFile file program.Write = Unit {0}
+NamesFile file program.Memory = Unit {0}
+
+-- the two faults of words that can't be had
+abbrev pub IsOfWords : ProgramFault → Type 0
+IsOfWords program.Usage = Unit {0}
+IsOfWords program.Memory = Unit {0}
+IsOfWords (program.Read named) = ⊥
+IsOfWords (program.Trace fault) = ⊥
+IsOfWords program.Write = ⊥

@@ -1,5 +1,5 @@
 -- What a run writes and answers for the text that it reads.
-use Rattle.std.specs.Prelude.{◌≡◌, ℕ, ◌<◌, ◌⊎◌, Option, Some, None, IfSome, MatchOption, List, [], ◌∷◌, ◌++◌, codes}
+use Rattle.std.specs.Prelude.{◌≡◌, ℕ, ◌<◌, ◌⊎◌, Option, Some, None, MatchOption, List, [], ◌∷◌, ◌++◌, codes}
 use Rattle.std.specs.Io.KnownBytes.{Appends}
 use Rattle.events.specs.History.{History}
 use Rattle.specification.specs.Faults.{Fault, doubled, contents, position, IsSound, IsFirstFault}

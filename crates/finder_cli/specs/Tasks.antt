@@ -1,5 +1,5 @@
 -- What holds of the task that a command line asks for.
-use Rattle.std.specs.Prelude.{◌≡◌, ℕ, ◌≤◌, codes}
+use Rattle.std.specs.Prelude.{◌≡◌, ◌≤◌, codes}
 use Rattle.finder_cli.specs.declared.task.Task.{Task}
 use Rattle.finder_cli.specs.declared.task.Task.TheVariants.{Verdict}
 

@@ -1,7 +1,9 @@
 //! The program: its words, files and standard streams, and how it ends.
 
-ghost use Rattle.std.specs.Prelude.{◌≡◌};
-ghost use Rattle.finder_cli.specs.Endings.{number_of_fault, IsFaultOfRun};
+ghost use Rattle.std.specs.Prelude.{◌≡◌, true, IfOk, IfErr, IfSome, MatchResult};
+ghost use Rattle.std.specs.Io.KnownBytes.{Appends};
+ghost use Rattle.finder_cli.specs.Runs.{Reports};
+ghost use Rattle.finder_cli.specs.Endings.{number_of_fault, IsFaultOfRun, NamesFile, IsOfWords};
 
 use super::run::{RunFault, Status, run};
 use super::streams::{Sink, Source};
@@ -9,7 +11,7 @@ use super::task::{Task, Word};
 use super::words::{WordsFault, read_words};
 use std::alloc::Global;
 use std::env::Env;
-use std::io::{ErrorKind, Input, Print, Read};
+use std::io::{ErrorKind, Input, Print, Read, Write};
 use std::rt::Files;
 use std::thread::Threads;
 use std::{env, fmt, fs, io};
@@ -63,12 +65,14 @@ pub fn finder<H: Env + Files + Input + Print + AllocGlobal + Threads + Sync>(
         Ok(Task::Verdict { workers, file }) => judge_file(rt, file, workers),
         Err(WordsFault::Usage) => Err(ProgramFault::Usage),
         Err(WordsFault::Memory) => Err(ProgramFault::Memory),
-        Err(WordsFault::Help { text }) => show(rt, text.as_bytes()),
+        Err(WordsFault::Help { text }) => show(&mut Sink::new(io::writer(rt)), text.as_bytes()),
     }
 }
 
 /// The words behind the program's name. One that is not UTF-8 is a usage fault.
-fn words_of<H: Env + AllocGlobal>(rt: &H) -> Result<Vec<String>, ProgramFault> {
+fn words_of<H: Env + AllocGlobal>(rt: &H) -> Result<Vec<String>, ProgramFault>
+    ensures { IfErr result IsOfWords }
+{
     match env::args(rt) {
         Ok(words) => words
             .skip(1)
@@ -79,9 +83,12 @@ fn words_of<H: Env + AllocGlobal>(rt: &H) -> Result<Vec<String>, ProgramFault> {
     }
 }
 
-/// Writes the text to standard output.
-fn show<H: Print>(rt: &H, text: &[u8]) -> Result<Status, ProgramFault> {
-    let mut sink = Sink::new(io::writer(rt));
+/// Writes the text of a help.
+fn show<W: Write + Drop>(sink: &mut Sink<W>, text: &[u8]) -> Result<Status, ProgramFault>
+    ensures { MatchResult result
+        (λ status. (status ≡ Status.Good) × Appends sink.old.bytes sink.new.bytes text.now)
+        (λ fault. (fault ≡ ProgramFault.Write) × (sink.new.failed ≡ true)) }
+{
     match sink.write_whole(text) {
         Ok(()) => Ok(Status::Good),
         Err(_) => Err(ProgramFault::Write),
@@ -93,25 +100,31 @@ fn judge_file<H: Files + Input + Print + AllocGlobal + Threads + Sync>(
     rt: &H,
     file: Word,
     workers: u32,
-) -> Result<Status, ProgramFault> {
+) -> Result<Status, ProgramFault>
+    ensures { IfErr result (λ fault. NamesFile file fault) }
+{
+    let mut sink = Sink::new(io::writer(rt));
     if file.as_str() == "-" {
-        return judge(rt, rt.reader(), file, workers);
+        return judge(rt, &mut Source::new(rt.reader()), &mut sink, file, workers);
     }
     match fs::open(rt, file.as_str()) {
-        Ok(opened) => judge(rt, opened, file, workers),
+        Ok(opened) => judge(rt, &mut Source::new(opened), &mut sink, file, workers),
         Err(_) => Err(ProgramFault::Read { file }),
     }
 }
 
-fn judge<H: Print + AllocGlobal + Threads + Sync, R: Read + Drop>(
+/// The verdict on the recording that the source spells, where it is the source of this file.
+fn judge<H: AllocGlobal + Threads + Sync, R: Read + Drop, W: Write + Drop>(
     rt: &H,
-    reader: R,
+    source: &mut Source<R>,
+    sink: &mut Sink<W>,
     file: Word,
     workers: u32,
-) -> Result<Status, ProgramFault> {
-    let mut source = Source::new(reader);
-    let mut sink = Sink::new(io::writer(rt));
-    match run(rt, rt.alloc(), &mut source, &mut sink, workers) {
+) -> Result<Status, ProgramFault>
+    ensures report { IfOk result (λ status. IfSome source.old.bytes (λ text. Reports text sink.old.bytes sink.new.bytes status)) }
+    ensures file { IfErr result (λ fault. NamesFile file fault) }
+{
+    match run(rt, rt.alloc(), source, sink, workers) {
         Ok(status) => Ok(status),
         Err(fault) => Err(fault_of_run(fault, file)),
     }

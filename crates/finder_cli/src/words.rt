@@ -1,7 +1,9 @@
 //! The words of the command line.
 
-ghost use Rattle.std.specs.Prelude.{◌≡◌, ◌≤◌, [], IfOk, MatchResult};
+ghost use Rattle.std.specs.Prelude.{◌≡◌, ◌≢◌, ◌↔◌, [], Some, IfOk, MatchResult, codes};
+ghost use Rattle.clap.specs.Words.{first_value, found_of, kind_of};
 ghost use Rattle.finder_cli.specs.Tasks.{HasWorkers, IsDefault};
+ghost use Rattle.finder_cli.specs.Workers.{IsPositiveOf, IsWorkersOf};
 
 use super::task::{Task, Word};
 use clap::error::ErrorKind;
@@ -99,36 +101,43 @@ fn task_of(alloc: Global, matches: &ArgMatches<'_>) -> Result<Task, WordsFault>
 
 /// The number of workers that was given, or `WORKERS`.
 fn workers_of(given: &ArgMatches<'_>) -> Result<u32, WordsFault>
-    ensures { IfOk result (λ n. (1 ≤ n) × (n ≤ MOST_WORKERS)) }
+    ensures { IsWorkersOf (first_value (found_of given.now) (codes "workers")) result }
 {
     let Some(word) = given.get_str("workers") else {
         return Ok(WORKERS);
     };
-    match number_of(word) {
-        Some(n) if n <= MOST_WORKERS => Ok(n),
-        _ => Err(WordsFault::Usage),
+    let Some(n) = number_of(word) else {
+        return Err(WordsFault::Usage);
+    };
+    if n > MOST_WORKERS {
+        return Err(WordsFault::Usage);
     }
+    Ok(n)
 }
 
-ghost use Rattle.std.specs.Prelude.{IfSome};
-
-/// The number that the word is: digits, the first of them not 0.
+/// The number from 1 below 2^32 that the word is: digits, the first of them not 0.
 fn number_of(word: &str) -> Option<u32>
-    ensures { IfSome result (λ n. 1 ≤ n) }
+    ensures { IsPositiveOf word.now result }
 {
-    if !matches!(word.as_bytes(), [b'1'..=b'9', ..]) {
+    let [b'1'..=b'9', ..] = word.as_bytes() else {
         return None;
-    }
-    let n = word.parse().ok()?;
-    if n == 0 { None } else { Some(n) }
+    };
+    word.parse().ok()
 }
 
-fn file_of(alloc: Global, given: &ArgMatches<'_>) -> Result<Word, WordsFault> {
+/// The file that was given.
+fn file_of(alloc: Global, given: &ArgMatches<'_>) -> Result<Word, WordsFault>
+    ensures { IfOk result (λ word. first_value (found_of given.now) (codes "FILE") ≡ Some word) }
+{
     let word = given.get_str("FILE").ok_or(WordsFault::Usage)?;
     Ok(Word::new(alloc, word)?)
 }
 
-fn fault_of(alloc: Global, error: &clap::Error) -> WordsFault {
+/// What `clap` found wrong, or the help that was asked for.
+fn fault_of(alloc: Global, error: &clap::Error) -> WordsFault
+    ensures memory { kind_of error.now ≡ ErrorKind.OutOfMemory → result ≡ WordsFault.Memory }
+    ensures usage { (result ≡ WordsFault.Usage) ↔ ((kind_of error.now ≢ ErrorKind.OutOfMemory) × (kind_of error.now ≢ ErrorKind.DisplayHelp)) }
+{
     match error.kind() {
         ErrorKind::DisplayHelp => match error.to_string(alloc) {
             Ok(text) => WordsFault::Help { text },

@@ -1,4 +1,4 @@
-use Rattle.std.proofs.Common.{◌≡◌, ◌-◌, false}
+use Rattle.std.proofs.Common.{◌≡◌, ◌-◌}
 use Rattle.std.specs.Io.KnownBytes.{Consumes}
 use Rattle.finder_cli.specs.Streams.{IsClosed}
 use Rattle.finder_cli.specs.declared.streams.TheConstants.{READS}
