@@ -1,4 +1,4 @@
-ghost use Rattle.std.specs.Prelude.{◌≡◌, [], ◌∷◌, ◌++◌, OnOk, slice_index_or, vec_len};
+ghost use Rattle.std.specs.Prelude.{◌≡◌, ◌<◌, ◌≤◌, ◌-◌, take, drop, [], ◌∷◌, ◌++◌, OnOk, slice_index_or, vec_len};
 
 use events::Memory;
 use std::alloc::Global;
@@ -12,7 +12,7 @@ pub struct Rows<T: Copy + Drop> {
 }
 
 impl<T: Copy + Drop> Rows<T> {
-    ghost use Rattle.order_graph.specs.Cuts.{rows_of, IsCut};
+    ghost use Rattle.order_graph.specs.Cuts.{rows_of, IsCut, begin_of};
 
     /// No rows. It takes no memory.
     pub fn new(alloc: Global) -> Rows<T>
@@ -39,10 +39,32 @@ impl<T: Copy + Drop> Rows<T> {
         requires { IsCut self.now }
         ensures { result.now ≡ slice_index_or (rows_of self.now) number [] }
     {
-        let Some(end) = self.ends.get(number) else {
-            return &self.items[..0];
-        };
-        let start = if number == 0 { 0 } else { self.ends[number - 1] };
-        &self.items[start..*end]
+        let (start, end) = self.bounds(number);
+        &self.items[start..end]
+    }
+
+    /// Where a row begins and ends; both 0 past the last.
+    fn bounds(&self, number: usize) -> (usize, usize)
+        requires { IsCut self.now }
+        ensures rising { result.0 ≤ result.1 }
+        ensures within { result.1 ≤ vec_len self.now.items }
+        ensures row { slice_index_or (rows_of self.now) number [] ≡ take (result.1 - result.0) (drop result.0 self.now.items.items) }
+    {
+        match self.ends.get(number) {
+            None => (0, 0),
+            Some(end) => (self.begin(number), *end),
+        }
+    }
+
+    /// Where a row begins.
+    fn begin(&self, number: usize) -> usize
+        requires { number < vec_len self.now.ends }
+        ensures { result ≡ begin_of 0 self.now.ends.items number }
+    {
+        if number == 0 {
+            0
+        } else {
+            self.ends[number - 1]
+        }
     }
 }
