@@ -1,7 +1,8 @@
 -- Rows cut from a list: one more at the end, and where each begins and ends.
 use Rattle.std.proofs.Common.{◌≡◌, ◌≢◌, ℕ, zero, suc, ◌+◌, ◌-◌, ◌<◌, ◌≤◌, List, [], ◌∷◌, ◌++◌, length, take, drop, get_or, slice_index_or, refl, sym, ◌∙◌, ap, subst, arith, length-append, length-drop}
 use Rattle.std.proofs.lemmas.List.{take-append-le, drop-append-le, take_all}
-use Rattle.order_graph.specs.Cuts.{cut, AreEnds, begin_of}
+use Rattle.order_graph.specs.Cuts.{cut, AreEnds, begin_of, rows_of, IsCut}
+use Rattle.order_graph.specs.declared.rows.Rows.{Rows}
 
 empty_of : {X : Type 0} (xs : List X) → length xs ≡ 0 → xs ≡ []
 empty_of [] e = refl
@@ -97,3 +98,14 @@ row-lies {X = X} from (e ∷ es) xs (suc l) ends lt =
         row_is = rest.row_is ∙ ap (λ l. take (end - b) l) (drop-drop (b - e) (e - from) xs ∙ ap (λ k. drop k xs) sums)
             ∙ ap (λ k. take (end - k) (drop (k - from) xs)) begin;
     }
+
+-- the row that was begun is ended
+pub row-ended : {X : Type 0} (old new : Rows X) (r : List X) → IsCut old → new.items.items ≡ old.items.items ++ r
+    → new.ends.items ≡ old.ends.items ++ (length new.items.items) ∷ [] → (rows_of new ≡ rows_of old ++ r ∷ []) × IsCut new
+row-ended {X = X} old new r whole items ends =
+    let e : ℕ = length new.items.items in
+    let all : e ≡ 0 + length old.items.items + length r = omega (arith, ap length items, length-append old.items.items r) in
+    let xs : List X = old.items.items in
+    let es : List ℕ = old.ends.items in
+    (ap (λ l. cut 0 l new.items.items) ends ∙ ap (λ l. cut 0 (es ++ e ∷ []) l) items ∙ cut-push 0 e es xs r whole all,
+        subst (λ l. AreEnds 0 l new.items.items) (sym ends) (subst (λ (l : List X). AreEnds 0 (es ++ e ∷ []) l) (sym items) (ends-push 0 e es xs r whole all)))

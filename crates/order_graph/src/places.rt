@@ -1,9 +1,8 @@
-ghost use Rattle.std.specs.Prelude.{◌≡◌, ◌≢◌, ◌<◌, ◌^◌, ◌==◌, ℕ, AllPairs, IfOk, OnOk, ◌∷◌, ◌++◌, [], length, map, option_copied, option_map, unwrap_or, vec_len};
+ghost use Rattle.std.specs.Prelude.{◌≡◌, ◌≢◌, ◌<◌, ◌^◌, ◌==◌, AllPairs, IfOk, OnOk, ◌∷◌, ◌++◌, [], length, map, option_copied, unwrap_or};
 ghost use Rattle.std.specs.Cmp.Lexicographic.{pointwise};
 ghost use Rattle.indexmap.specs.IndexMap.{get};
 ghost use Rattle.events.specs.Names.{NameBytes};
-ghost use Rattle.events.specs.History.{response_of};
-ghost use Rattle.events.specs.Operations.{operation, response};
+ghost use Rattle.events.specs.Operations.{response};
 ghost use Rattle.specification.specs.Elements.{number_in, numbers_in};
 ghost use Rattle.order_graph.specs.Cuts.{rows_of, IsCut};
 
@@ -25,15 +24,27 @@ pub fn numbers_of(alloc: Global, names: &[Name]) -> Result<IndexMap<Name, u32>, 
     Ok(numbers)
 }
 
-/// The response of a body; none of a receipt.
-fn response_in(body: &Body) -> Option<&Response>
-    ensures { unwrap_or (option_copied result) [] ≡ response_of body.now }
+/// What an operation returned; none where there is no such operation.
+fn response_to(recording: &Recording, name: OpName) -> Option<&Response>
+    ensures { unwrap_or (option_copied result) [] ≡ response recording.now name }
 {
-    match body {
+    match recording.operation(name)? {
         Body::Ins { response, .. } => Some(response),
         Body::Del { response, .. } => Some(response),
         Body::Read { response } => Some(response),
         Body::Recv { .. } => None,
+    }
+}
+
+/// The number of a name; for one that is not among these their count.
+fn number_or_count(names: &[Name], numbers: &IndexMap<Name, u32>, name: &Name) -> u32
+    requires numbered { (a : NameBytes) → get (pointwise ◌==◌) numbers.now a ≡ number_in names.now a }
+    requires few { length names.now < 2 ^ 32 }
+    ensures { result ≡ unwrap_or (number_in names.now name.now) (length names.now) }
+{
+    match numbers.get(name) {
+        Some(number) => *number,
+        None => names.len() as u32,
     }
 }
 
@@ -48,10 +59,9 @@ fn add_numbers(
     requires few { length names.now < 2 ^ 32 }
     ensures { OnOk result (items.new.items ≡ items.old.items ++ numbers_in names.now response.now) }
 {
-    let other = names.len() as u32;
     for i in 0..response.len() {
         if let Some(name) = response.get(i) {
-            items.push(numbers.get(&name).copied().unwrap_or(other))?;
+            items.push(number_or_count(names, numbers, &name))?;
         }
     }
     Ok(())
@@ -71,12 +81,13 @@ fn add_list(
     ensures cut { OnOk result (IsCut places.new) }
     ensures rows { OnOk result (rows_of places.new ≡ rows_of places.old ++ (numbers_in names.now (response recording.now operation)) ∷ []) }
 {
-    if let Some(body) = recording.operation(operation) {
-        if let Some(response) = response_in(body) {
+    match response_to(recording, operation) {
+        None => places.end_row(),
+        Some(response) => {
             add_numbers(&mut places.items, names, numbers, response)?;
+            places.end_row()
         }
     }
-    places.end_row()
 }
 
 /// The responses of these operations as lists of numbers, one list each.

@@ -1,4 +1,4 @@
-ghost use Rattle.std.specs.Prelude.{◌≡◌, ◌<◌, ◌≤◌, ◌-◌, take, drop, [], ◌∷◌, ◌++◌, OnOk, slice_index_or, vec_len};
+ghost use Rattle.std.specs.Prelude.{◌≡◌, ◌<◌, ◌≤◌, ◌-◌, take, drop, [], ◌∷◌, ◌++◌, OnOk, length, slice_index_or, vec_len};
 
 use events::Memory;
 use std::alloc::Global;
@@ -28,7 +28,7 @@ impl<T: Copy + Drop> Rows<T> {
     /// Ends the row that is begun.
     pub fn end_row(&mut self) -> Result<(), Memory>
         ensures items { self.new.items.items ≡ self.old.items.items }
-        ensures ends { OnOk result (self.new.ends.items ≡ self.old.ends.items ++ (vec_len self.old.items) ∷ []) }
+        ensures ends { OnOk result (self.new.ends.items ≡ self.old.ends.items ++ (length self.old.items.items) ∷ []) }
     {
         self.ends.push(self.items.len())?;
         Ok(())

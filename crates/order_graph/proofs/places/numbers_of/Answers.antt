@@ -1,5 +1,5 @@
 -- One name more has their count as its number, and no other name's number changes.
-use Rattle.std.proofs.Common.{◌≡◌, ◌==◌, ℕ, ◌<◌, Bool, cond, Option, Some, List, [], ◌∷◌, ◌++◌, take, length, sym, ◌∙◌, ap, subst, arith}
+use Rattle.std.proofs.Common.{◌≡◌, ◌==◌, ℕ, ◌+◌, ◌<◌, cond, Option, Some, List, [], ◌∷◌, ◌++◌, take, length, sym, ◌∙◌, ap, subst, arith}
 use Rattle.std.specs.Prelude.{bytes_eq}
 use Rattle.std.proofs.lemmas.List.{length-take-le}
 use Rattle.events.specs.Names.{NameBytes}
@@ -13,8 +13,9 @@ pub loop-i-preserved : goal.loop-i-preserved
 loop-i-preserved c = λ a.
     let k : ℕ = c.loop-i.i in
     let xs : List NameBytes = c.args.names.now in
-    let x : NameBytes = c.name-item.result in
-    let next : take (k + 1) xs ≡ take k xs ++ x ∷ [] = take-next xs k x c.loop-i-test.true c.name-item.is in
+    let x : NameBytes = c.index-names-i.result in
+    let lt : k < length xs = omega arith in
+    let next : take (k + 1) xs ≡ take k xs ++ x ∷ [] = take-next xs k x lt c.index-names-i.is in
     let once : Once (take k xs ++ x ∷ []) = subst Once next (Once-take (k + 1) xs (Once-from_AllPairs xs c.requires.distinct)) in
     let size : k ≡ length (take k xs) = omega (arith, length-take-le k xs) in
     c.in_ok-insert.ensures.updates.0 a
