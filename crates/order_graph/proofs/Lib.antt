@@ -7,3 +7,4 @@ pub mod Adding
 pub mod InOrder
 pub mod Shown
 pub mod Totals
+pub mod Made

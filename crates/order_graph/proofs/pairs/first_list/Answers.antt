@@ -1,8 +1,7 @@
 -- The first spot of a behind which b stands is in the least list that has a before b, since spots stand in order of lists.
-use Rattle.std.proofs.Common.{◌≡◌, ℕ, ◌+◌, ◌<◌, ◌≤◌, ◌⊎◌, inl, inr, Some, List, length, get_or, slice_get, subst, sym, ap, ◌∙◌, arith}
+use Rattle.std.proofs.Common.{◌≡◌, ℕ, ◌+◌, ◌<◌, ◌≤◌, ◌⊎◌, inl, inr, Some, List, length, get_or, slice_get, subst, refl, sym, ap, ◌∙◌, arith}
 use Rattle.std.proofs.lemmas.Bool.{cases_eq, cases_lt}
-use Rattle.std.proofs.lemmas.Option.{same_Some, slice_get_within}
-use Rattle.events.proofs.Places.{slice_get-within}
+use Rattle.std.proofs.lemmas.Option.{same_Some, slice_get_within, slice_get-get_or}
 use Rattle.order_graph.specs.Cuts.{rows_of}
 use Rattle.order_graph.specs.Lists.{row, BeforeIn, Stands, IsBehind}
 use Rattle.order_graph.specs.Spots.{spots_of}
@@ -27,18 +26,57 @@ behind-spot rows m a b shows among =
 pub loop-spot-preserved : goal.loop-spot-preserved
 loop-spot-preserved c = λ k q lt at.
     let i : ℕ = c.loop-spot.spot-index in
-    let s : Spot = c.spot-item.result in
-    let here : slice_get c.args.spots.now i ≡ Some s = slice_get-within c.args.spots.now i s c.loop-spot-test.true c.spot-item.is in
+    let spots : List Spot = c.args.spots.now in
+    let rows : List (List ℕ) = rows_of c.args.places.now in
+    let b : ℕ = c.args.b in
+    let s : Spot = get_or spots i (record { list = 0; place = 0 }) in
+    let here : slice_get spots i ≡ Some s = slice_get-get_or spots i (record { list = 0; place = 0 }) c.loop-spot-test.true in
     elim (cases_eq k i) [
         | inl e ↦
-            let both : Some s ≡ Some q = sym here ∙ ap (slice_get c.args.spots.now) (sym e) ∙ at in
+            let both : Some s ≡ Some q = sym here ∙ ap (slice_get spots) (sym e) ∙ at in
             let same : s ≡ q = same_Some s q both in
-            λ behind. ?
+            λ behind.
+                let there : IsBehind (row rows s.list) s.place b = subst (λ (z : Spot). IsBehind (row rows z.list) z.place b) (sym same) behind in
+                c.if-stands_behind.ensures.absent refl (subst (λ (r : List ℕ). IsBehind r s.place b) (sym c.row.ensures) there)
         | inr n ↦ c.loop-spot.invariant k q (omega arith) at
     ]
 
 pub returns-then-stands_behind : goal.returns-then-stands_behind
-returns-then-stands_behind c = ?
+returns-then-stands_behind c =
+    let i : ℕ = c.loop-spot.spot-index in
+    let spots : List Spot = c.args.spots.now in
+    let rows : List (List ℕ) = rows_of c.args.places.now in
+    let a : ℕ = c.args.a in
+    let b : ℕ = c.args.b in
+    let s : Spot = get_or spots i (record { list = 0; place = 0 }) in
+    let here : slice_get spots i ≡ Some s = slice_get-get_or spots i (record { list = 0; place = 0 }) c.loop-spot-test.true in
+    let get : slice_get (spots_of rows a) i ≡ Some s = ap (λ (l : List Spot). slice_get l i) (sym c.requires.spots) ∙ here in
+    let behind : IsBehind (row rows s.list) s.place b = subst (λ (r : List ℕ). IsBehind r s.place b) c.row.ensures (c.if-stands_behind.ensures.found refl) in
+    record {
+        shows = record {
+            place = s.place;
+            later = behind.later;
+            in_order = behind.in_order;
+            first = spots_sound rows a i s get;
+            second = record { within = behind.within; here = behind.here };
+        };
+        least = λ m shows.
+            let among = spots_complete rows a m shows.place shows.first in
+            let named : among.spot.list ≡ m = among.list_is in
+            let got : slice_get spots among.at ≡ Some among.spot = ap (λ (l : List Spot). slice_get l among.at) c.requires.spots ∙ among.get in
+            elim (cases_lt among.at i) [
+                | inl early ↦ absurd (c.loop-spot.invariant among.at among.spot early got (behind-spot rows m a b shows among))
+                | inr late ↦ elim (cases_eq among.at i) [
+                    | inl same ↦
+                        let one : Some s ≡ Some among.spot = sym get ∙ subst (λ n. slice_get (spots_of rows a) n ≡ Some among.spot) same among.get in
+                        let lists : s.list ≡ among.spot.list = ap (λ (z : Spot). z.list) (same_Some s among.spot one) in
+                        omega arith
+                    | inr other ↦
+                        let order = lists_in_order 0 rows a i among.at s among.spot (omega arith) get among.get in
+                        omega arith
+                ]
+            ];
+    }
 
 pub returns : goal.returns
 returns c = λ l shows.

@@ -1,6 +1,8 @@
 -- One name more has their count as its number, and no other name's number changes.
 use Rattle.std.proofs.Common.{◌≡◌, ◌==◌, ℕ, ◌+◌, ◌<◌, cond, Option, Some, List, [], ◌∷◌, ◌++◌, take, length, sym, ◌∙◌, ap, subst, arith}
 use Rattle.std.specs.Prelude.{bytes_eq}
+use Rattle.std.specs.Cmp.Lexicographic.{pointwise}
+use Rattle.indexmap.specs.IndexMap.{get}
 use Rattle.std.proofs.lemmas.List.{length-take-le}
 use Rattle.events.specs.Names.{NameBytes}
 use Rattle.specification.specs.Elements.{number_in}
@@ -19,6 +21,6 @@ loop-i-preserved c = λ a.
     let once : Once (take k xs ++ x ∷ []) = subst Once next (Once-take (k + 1) xs (Once-from_AllPairs xs c.requires.distinct)) in
     let size : k ≡ length (take k xs) = omega (arith, length-take-le k xs) in
     c.in_ok-insert.ensures.updates.0 a
-    ∙ ap (λ n. cond (bytes_eq x a) (Some n) _) size
+    ∙ ap (λ n. cond (bytes_eq x a) (Some n) (get (pointwise ◌==◌) c.loop-i.numbers a)) size
     ∙ ap (λ (o : Option ℕ). cond (bytes_eq x a) (Some (length (take k xs))) o) (c.loop-i.invariant a)
     ∙ sym (number-push (take k xs) x a once) ∙ ap (λ l. number_in l a) (sym next)

@@ -15,8 +15,8 @@ loop-list-preserved c =
     let all : List (Vec Spot Global) = c.args.lists.now in
     let old : Rows Spot = c.loop-list.rows in
     let new : Rows Spot = c.end_row.new.self in
-    let items : new.items.items ≡ old.items.items ++ list.items = ? in
-    let ends : new.ends.items ≡ old.ends.items ++ (length new.items.items) ∷ [] = ? in
+    let items : new.items.items ≡ old.items.items ++ list.items = c.in_ok-end_row.ensures.items ∙ c.in_ok-extend_from_slice.ensures.items ∙ ap (λ l. old.items.items ++ l) c.as_slice.ensures.value in
+    let ends : new.ends.items ≡ old.ends.items ++ (length new.items.items) ∷ [] = c.in_ok-end_row.ensures.ends ∙ ap (λ n. old.ends.items ++ n ∷ []) (ap length (sym c.in_ok-end_row.ensures.items)) in
     let both = row-ended old new list.items c.loop-list.invariant.cut items ends in
     record {
         cut = both.1;
