@@ -74,10 +74,10 @@ begin-tail from e (suc l) es = refl
 pub row-lies : {X : Type 0} (from : ℕ) (es : List ℕ) (xs : List X) (l : ℕ) → AreEnds from es xs → l < length es → Lies from es xs l
 row-lies from [] xs l ends lt = absurd (omega arith)
 row-lies from (e ∷ es) xs zero ends lt = record {
-    low = omega arith;
-    rising = ends.0;
-    within = ends.1;
-    row_is = let none : from - from ≡ 0 = omega arith in ap (λ k. take (e - from) (drop k xs)) (sym none);
+  low = omega arith;
+  rising = ends.0;
+  within = ends.1;
+  row_is = let none : from - from ≡ 0 = omega arith in ap (λ k. take (e - from) (drop k xs)) (sym none);
 }
 row-lies {X = X} from (e ∷ es) xs (suc l) ends lt =
     let rest : Lies e es (drop (e - from) xs) l = row-lies e es (drop (e - from) xs) l ends.2 (omega arith) in
@@ -92,11 +92,11 @@ row-lies {X = X} from (e ∷ es) xs (suc l) ends lt =
     let inside : e - from ≤ length xs = ends.1 in
     let sums : (e - from) + (b - e) ≡ b - from = omega arith in
     record {
-        low = subst (λ k. from ≤ k) begin (omega arith);
-        rising = subst (λ k. k ≤ end) begin rising;
-        within = omega arith;
-        row_is = rest.row_is ∙ ap (λ l. take (end - b) l) (drop-drop (b - e) (e - from) xs ∙ ap (λ k. drop k xs) sums)
-            ∙ ap (λ k. take (end - k) (drop (k - from) xs)) begin;
+      low = subst (λ k. from ≤ k) begin (omega arith);
+      rising = subst (λ k. k ≤ end) begin rising;
+      within = omega arith;
+      row_is = rest.row_is ∙ ap (λ l. take (end - b) l) (drop-drop (b - e) (e - from) xs ∙ ap (λ k. drop k xs) sums)
+          ∙ ap (λ k. take (end - k) (drop (k - from) xs)) begin;
     }
 
 -- the row that was begun is ended
@@ -106,6 +106,7 @@ row-ended {X = X} old new r whole items ends =
     let e : ℕ = length new.items.items in
     let all : e ≡ 0 + length old.items.items + length r = omega (arith, ap length items, length-append old.items.items r) in
     let xs : List X = old.items.items in
-    let es : List ℕ = old.ends.items in
-    (ap (λ l. cut 0 l new.items.items) ends ∙ ap (λ l. cut 0 (es ++ e ∷ []) l) items ∙ cut-push 0 e es xs r whole all,
-        subst (λ l. AreEnds 0 l new.items.items) (sym ends) (subst (λ (l : List X). AreEnds 0 (es ++ e ∷ []) l) (sym items) (ends-push 0 e es xs r whole all)))
+    let es : List ℕ = old.ends.items in (
+      ap (λ l. cut 0 l new.items.items) ends ∙ ap (λ l. cut 0 (es ++ e ∷ []) l) items ∙ cut-push 0 e es xs r whole all,
+      subst (λ l. AreEnds 0 l new.items.items) (sym ends) (subst (λ (l : List X). AreEnds 0 (es ++ e ∷ []) l) (sym items) (ends-push 0 e es xs r whole all)),
+    )

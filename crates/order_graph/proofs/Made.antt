@@ -37,7 +37,7 @@ module _ (h : History) (legal : IsLegal h) (sound : IsSound h) (names : List Nam
   whole-is : responses_kept (elements h) (operation_names h) (answers h (elements h) (operation_names h)) ≡ responses_of h
   whole-is =
       let back = returned-back (elements h) (response h) (operation_names h) (elements-once (responses_of h) proper-responses)
-          (λ o i a j. response-elements h o legal (sound.right o (listed-operation h o i)).contents a j) in
+      (λ o i a j. response-elements h o legal (sound.right o (listed-operation h o i)).contents a j) in
       λ i. record { elements = elements h; returned = back i }
 
   pub kept-is : responses_kept names shown rows ≡ responses_of h
@@ -66,11 +66,11 @@ module _ (h : History) (legal : IsLegal h) (sound : IsSound h) (names : List Nam
   pub kept-short : (l : ℕ) → length (row rows l) < 2 ^ 32
   kept-short l =
       let total : sum_by (λ r. length r) rows ≡ place_count (responses_kept names shown rows) =
-          ap (sum_by (λ (r : List ℕ). length r)) (sym kept-lists) ∙ lists-total (responses_kept names shown rows) in
+      ap (sum_by (λ (r : List ℕ). length r)) (sym kept-lists) ∙ lists-total (responses_kept names shown rows) in
       omega (arith, total, row-le rows l, kept-few.places)
 
   pub few-rows : length rows < 2 ^ 32
   few-rows =
       let same : length rows ≡ length (responses_kept names shown rows).returned =
-          ap (λ (l : List (List ℕ)). length l) (sym kept-lists) ∙ length-map {B = List ℕ} (responses_kept names shown rows).returned (λ (r : Returned). numbers_in names r.names) in
+      ap (λ (l : List (List ℕ)). length l) (sym kept-lists) ∙ length-map {B = List ℕ} (responses_kept names shown rows).returned (λ (r : Returned). numbers_in names r.names) in
       omega (arith, same, kept-few.lists)

@@ -67,8 +67,8 @@ number-push xs x a once = go (same_name x a)
     other differs (Some i) e = number-at (xs ++ x ∷ []) i a once (slice_get-first xs (x ∷ []) i a (name-at xs i a e)) ∙ sym e
     other differs None e =
         number-none (xs ++ x ∷ []) a (λ i. elim (In-append_cases a xs (x ∷ []) i) [
-            | inl j ↦ let s = number-some xs a (Once-front xs (x ∷ []) once) j in let bad : None ≡ Some s.0 = sym e ∙ s.2 in cc
-            | inr j ↦ elim j [ inl q ↦ differs (sym q) | inr z ↦ z ]
+          | inl j ↦ let s = number-some xs a (Once-front xs (x ∷ []) once) j in let bad : None ≡ Some s.0 = sym e ∙ s.2 in cc
+          | inr j ↦ elim j [ inl q ↦ differs (sym q) | inr z ↦ z ]
         ]) ∙ sym e
 
     go : Dec (x ≡ a) → number_in (xs ++ x ∷ []) a ≡ cond (bytes_eq x a) (Some (length xs)) (number_in xs a)
@@ -85,5 +85,5 @@ read-back xs [] once known = refl
 read-back xs (a ∷ w) once known =
     let s = number-some xs a once (known a (inl refl)) in
     let here : get_or xs (unwrap_or (number_in xs a) (length xs)) [] ≡ a =
-        ap (λ n. get_or xs (unwrap_or n (length xs)) []) s.2 ∙ get_or_from_slice_get xs s.0 a [] s.1 in
+    ap (λ n. get_or xs (unwrap_or n (length xs)) []) s.2 ∙ get_or_from_slice_get xs s.0 a [] s.1 in
     ap (λ b. b ∷ names_at xs (numbers_in xs w)) here ∙ ap (λ l. a ∷ l) (read-back xs w once (λ b i. known b (inr i)))

@@ -36,8 +36,13 @@ row-le (r ∷ rs) (suc l) = omega (arith, row-le rs l, sum_by-cons (λ (l : List
 total-go : (names : List NameBytes) (rs : List Returned) → sum_by (λ r. length r) (map (λ (r : Returned). numbers_in names r.names) rs) ≡ sum_by (λ (r : Returned). length r.names) rs
 total-go names [] = refl
 total-go names (r ∷ rs) =
-    omega (arith, total-go names rs, sum_by-cons (λ (l : List ℕ). length l) (numbers_in names r.names) (map (λ (r : Returned). numbers_in names r.names) rs),
-        sum_by-cons (λ (r : Returned). length r.names) r rs, length-map r.names (number_or names))
+    omega (
+      arith,
+      total-go names rs,
+      sum_by-cons (λ (l : List ℕ). length l) (numbers_in names r.names) (map (λ (r : Returned). numbers_in names r.names) rs),
+      sum_by-cons (λ (r : Returned). length r.names) r rs,
+      length-map r.names (number_or names),
+    )
 
 -- as many places as the responses have
 pub lists-total : (v : Responses) → sum_by (λ r. length r) (lists_of v) ≡ place_count v
@@ -65,9 +70,9 @@ module _ (v : Responses) (proper : AreProper v) where
       let same : length (numbers_in v.elements r.names) ≡ length r.names = length-map r.names (number_or v.elements) in
       let number : number_in v.elements a ≡ Some x = number-at v.elements x a (elements-once v proper) named in
       record {
-          within = subst (λ (w : List ℕ). p < length w) (sym list) (omega arith);
-          here = ap (λ (w : List ℕ). get_or w p 0) list ∙ get_or-map (number_or v.elements) r.names p a 0 within
-              ∙ ap (number_or v.elements) (get_or_from_slice_get r.names p a a there) ∙ ap (λ n. unwrap_or n (length v.elements)) number;
+        within = subst (λ (w : List ℕ). p < length w) (sym list) (omega arith);
+        here = ap (λ (w : List ℕ). get_or w p 0) list ∙ get_or-map (number_or v.elements) r.names p a 0 within
+            ∙ ap (number_or v.elements) (get_or_from_slice_get r.names p a a there) ∙ ap (λ n. unwrap_or n (length v.elements)) number;
       }
 
   pub named-stands : (l p x : ℕ) → Stands (lists_of v) l p x → IsNameAt v l p x
@@ -83,8 +88,8 @@ module _ (v : Responses) (proper : AreProper v) where
           let there : slice_get r.names p ≡ Some a = slice_get-get_or r.names p [] within in
           let s = number-some v.elements a (elements-once v proper) (names-elements v proper r (In-from_place v.returned l r at) a (In-from_place r.names p a there)) in
           let number : s.0 ≡ x =
-              sym (ap (λ n. unwrap_or n (length v.elements)) s.2) ∙ sym (get_or-map (number_or v.elements) r.names p [] 0 within)
-              ∙ sym (ap (λ (w : List ℕ). get_or w p 0) list) ∙ stands.here in
+          sym (ap (λ n. unwrap_or n (length v.elements)) s.2) ∙ sym (get_or-map (number_or v.elements) r.names p [] 0 within)
+          ∙ sym (ap (λ (w : List ℕ). get_or w p 0) list) ∙ stands.here in
           record { by = r; at = at; name = a; there = there; named = subst (λ n. slice_get v.elements n ≡ Some a) number s.1 }
 
       go : (l < length v.returned) ⊎ (length v.returned ≤ l) → IsNameAt v l p x
@@ -117,12 +122,24 @@ module _ (v : Responses) (proper : AreProper v) where
       let first = named-stands l before.place a before.first in
       let second = named-stands l before.later b before.second in
       let one : first.by ≡ r = one_same first.by r l first.at at in
-      let two : second.by ≡ r = one_same second.by r l second.at at in
-      (first.name, second.name, first.named, second.named,
-          (r, Contains-from_In v.returned r (In-from_place v.returned l r at), refl,
-              (before.place, before.later, before.in_order,
-                  subst (λ (s : Returned). slice_get s.names before.place ≡ Some first.name) one first.there,
-                  subst (λ (s : Returned). slice_get s.names before.later ≡ Some second.name) two second.there)))
+      let two : second.by ≡ r = one_same second.by r l second.at at in (
+        first.name,
+        second.name,
+        first.named,
+        second.named,
+        (
+          r,
+          Contains-from_In v.returned r (In-from_place v.returned l r at),
+          refl,
+          (
+            before.place,
+            before.later,
+            before.in_order,
+            subst (λ (s : Returned). slice_get s.names before.place ≡ Some first.name) one first.there,
+            subst (λ (s : Returned). slice_get s.names before.later ≡ Some second.name) two second.there,
+          ),
+        ),
+      )
 
   -- and what an operation shows its list has in order
   pub list-shows : (o : Operation) (a b : ℕ) → ShowsNumbers v o a b → (l : ℕ) × (r : Returned) × (slice_get v.returned l ≡ Some r) × (r.by ≡ o) × BeforeIn (lists_of v) l a b
@@ -130,24 +147,29 @@ module _ (v : Responses) (proper : AreProper v) where
       let shown = shows.4 in
       let r : Returned = shown.0 in
       let p = place_of_In v.returned r (In-from_Contains v.returned r shown.1) in
-      let order = shown.3 in
-      (p.0, r, p.2, shown.2, record {
+      let order = shown.3 in (
+        p.0,
+        r,
+        p.2,
+        shown.2,
+        record {
           place = order.0;
           later = order.1;
           in_order = order.2;
           first = stands-named p.0 order.0 a r shows.0 p.2 order.3 shows.2;
           second = stands-named p.0 order.1 b r shows.1 p.2 order.4 shows.3;
-      })
+        },
+      )
 
   pub none-shown : (a b : ℕ) → ((l : ℕ) → BeforeIn (lists_of v) l a b → ⊥) → (o : Operation) → ShowsNumbers v o a b → ⊥
   none-shown a b none o shows = let s = list-shows o a b shows in none s.0 s.4
 
   pub least-shown : (a b l : ℕ) (r : Returned) → slice_get v.returned l ≡ Some r → IsLeastList (lists_of v) a b l → IsLeast (λ o. ShowsNumbers v o a b) r.by
   least-shown a b l r at is = record {
-          holds = shows-list l a b r at is.shows;
-          least = λ f shows less. let s = list-shows f a b shows in
-              later s.0 s.1 s.2 (is.least s.0 s.4) (subst (λ (o : Operation). ComesBefore o r.by) (sym s.3) less);
-      }
+    holds = shows-list l a b r at is.shows;
+    least = λ f shows less. let s = list-shows f a b shows in
+        later s.0 s.1 s.2 (is.least s.0 s.4) (subst (λ (o : Operation). ComesBefore o r.by) (sym s.3) less);
+  }
     where
       later : (m : ℕ) (s : Returned) → slice_get v.returned m ≡ Some s → l ≤ m → ComesBefore s.by r.by → ⊥
       later m s there le less = go (cases_eq l m)

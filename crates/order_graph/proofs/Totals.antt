@@ -51,8 +51,13 @@ sum-shifted w from (suc n) =
 sum-places : {X : Type 0} (w : Option X → ℕ) (xs : List X) → sum_by (λ j. w (slice_get xs j)) (numbers_from 0 (length xs)) ≡ sum_by (λ x. w (Some x)) xs
 sum-places w [] = refl
 sum-places w (x ∷ xs) =
-    omega (arith, sum-places w xs, sum-shifted (λ j. w (slice_get (x ∷ xs) j)) 0 (length xs),
-        sum_by-cons (λ j. w (slice_get (x ∷ xs) j)) 0 (numbers_from 1 (length xs)), sum_by-cons (λ x. w (Some x)) x xs)
+    omega (
+      arith,
+      sum-places w xs,
+      sum-shifted (λ j. w (slice_get (x ∷ xs) j)) 0 (length xs),
+      sum_by-cons (λ j. w (slice_get (x ∷ xs) j)) 0 (numbers_from 1 (length xs)),
+      sum_by-cons (λ x. w (Some x)) x xs,
+    )
 
 abbrev names_of : History → ℕ → List Operation
 names_of h r = map (λ n. record { replica = r; n = n }) (numbers_from 1 (count h r))
@@ -69,20 +74,28 @@ module _ (h : History) (legal : IsLegal h) where
   lists-of_replica r =
       let limits : KeepsLimits (stream h r) = legal.limits r in
       let few : sum_by (λ b. 1) (operations h r) ≤ sum_by (λ b. 1) (stream h r) = sum-filter (λ b. 1) is_operation (stream h r) in
-      omega (arith, limits.entries, few, sum-ones (names_of h r), sum-ones (operations h r), sum-ones (stream h r),
-          length-map {B = Operation} (numbers_from 1 (count h r)) (λ n. record { replica = r; n = n }), length-numbers 1 (count h r))
+      omega (
+        arith,
+        limits.entries,
+        few,
+        sum-ones (names_of h r),
+        sum-ones (operations h r),
+        sum-ones (stream h r),
+        length-map {B = Operation} (numbers_from 1 (count h r)) (λ n. record { replica = r; n = n }),
+        length-numbers 1 (count h r),
+      )
 
   places-of_replica : (r : ℕ) → sum_by (λ o. length (response h o)) (names_of h r) ≤ MOST_PLACES
   places-of_replica r =
       let limits : KeepsLimits (stream h r) = legal.limits r in
       let a : sum_by (λ o. length (response h o)) (names_of h r) ≡ sum_by (λ n. weight (nth (operations h r) n)) (numbers_from 1 (count h r)) =
-          sum-map (λ o. length (response h o)) (λ n. record { replica = r; n = n }) (numbers_from 1 (count h r)) in
+      sum-map (λ o. length (response h o)) (λ n. record { replica = r; n = n }) (numbers_from 1 (count h r)) in
       let b : sum_by (λ n. weight (nth (operations h r) n)) (numbers_from 1 (count h r)) ≡ sum_by (λ j. weight (slice_get (operations h r) j)) (numbers_from 0 (count h r)) =
-          sum-shifted (λ n. weight (nth (operations h r) n)) 0 (count h r) in
+      sum-shifted (λ n. weight (nth (operations h r) n)) 0 (count h r) in
       let c : sum_by (λ j. weight (slice_get (operations h r) j)) (numbers_from 0 (count h r)) ≡ sum_by (λ b. length (response_of b)) (operations h r) =
-          sum-places weight (operations h r) in
+      sum-places weight (operations h r) in
       let d : sum_by (λ b. length (response_of b)) (operations h r) ≤ sum_by (λ b. length (response_of b)) (stream h r) =
-          sum-filter (λ b. length (response_of b)) is_operation (stream h r) in
+      sum-filter (λ b. length (response_of b)) is_operation (stream h r) in
       omega (arith, a, b, c, d, limits.places)
 
   pub few-responses : AreFew (responses_of h)
@@ -90,10 +103,10 @@ module _ (h : History) (legal : IsLegal h) where
       let replicas : h.replicas ≤ MOST_REPLICAS = legal.few_replicas in
       let lists : sum_by (λ o. 1) (operation_names h) ≤ h.replicas * MOST_ENTRIES = sum-flat (λ o. 1) (names_of h) MOST_ENTRIES lists-of_replica 0 h.replicas in
       let places : sum_by (λ o. length (response h o)) (operation_names h) ≤ h.replicas * MOST_PLACES =
-          sum-flat (λ o. length (response h o)) (names_of h) MOST_PLACES places-of_replica 0 h.replicas in
+      sum-flat (λ o. length (response h o)) (names_of h) MOST_PLACES places-of_replica 0 h.replicas in
       record {
-          lists = omega (arith, lists, replicas, sum-ones (operation_names h), length-map {B = Returned} (operation_names h) (λ o. record { by = o; names = response h o }));
-          places = omega (arith, places, replicas, sum-map (λ (r : Returned). length r.names) (λ o. record { by = o; names = response h o }) (operation_names h));
+        lists = omega (arith, lists, replicas, sum-ones (operation_names h), length-map {B = Returned} (operation_names h) (λ o. record { by = o; names = response h o }));
+        places = omega (arith, places, replicas, sum-map (λ (r : Returned). length r.names) (λ o. record { by = o; names = response h o }) (operation_names h));
       }
 
 -- lists of the numbers of responses read as the responses

@@ -23,7 +23,10 @@ fn add_replica(names: &mut Vec<OpName>, r: u32, count: u32) -> Result<(), Memory
     ensures { OnOk result (names.new.items ≡ names.old.items ++ map (λ n. record { replica = r; n = n }) (numbers_from 1 count)) }
 {
     for i in 0..count {
-        names.push(OpName { replica: r, n: i + 1 })?;
+        names.push(OpName {
+            replica: r,
+            n: i + 1,
+        })?;
     }
     Ok(())
 }
@@ -44,11 +47,7 @@ pub fn inserted_names(
 }
 
 /// Adds the name that an operation inserts, if it inserts one.
-fn add_inserted(
-    names: &mut Vec<Name>,
-    recording: &Recording,
-    by: OpName,
-) -> Result<(), Memory>
+fn add_inserted(names: &mut Vec<Name>, recording: &Recording, by: OpName) -> Result<(), Memory>
     ensures { OnOk result (names.new.items ≡ names.old.items ++ cons_option (option_and_then inserted_name (operation recording.now by)) []) }
 {
     if let Some(Body::Ins { name, .. }) = recording.operation(by) {

@@ -37,11 +37,7 @@ fn row_spots(list: u32, row: &[u32], spots: &mut Vec<Vec<Spot>>) -> Result<(), M
 }
 
 /// The spots of each element.
-fn all_spots(
-    alloc: Global,
-    elements: usize,
-    places: &Rows<u32>,
-) -> Result<Vec<Vec<Spot>>, Memory>
+fn all_spots(alloc: Global, elements: usize, places: &Rows<u32>) -> Result<Vec<Vec<Spot>>, Memory>
     requires whole { IsCut places.now }
     requires few { length (rows_of places.now) < 2 ^ 32 }
     requires known { (l : ℕ) → All (λ x. x < elements) (row (rows_of places.now) l) }

@@ -10,10 +10,10 @@ found : (row : List ℕ) (p b : ℕ) (r : Bool) → IsAnyAnswer (λ y t. eqb y b
 found row p b true (k, within, holds) is =
     let at : get_or (drop (p + 1) row) k 0 ≡ b = eqb-true (get_or (drop (p + 1) row) k 0) b (holds 0) in
     record {
-        later = p + 1 + k;
-        in_order = omega arith;
-        within = omega (arith, within, length-drop (p + 1) row);
-        here = sym (get_or-drop (p + 1) row k 0) ∙ at;
+      later = p + 1 + k;
+      in_order = omega arith;
+      within = omega (arith, within, length-drop (p + 1) row);
+      here = sym (get_or-drop (p + 1) row k 0) ∙ at;
     }
 found row p b false answer is = absurd (cc)
 

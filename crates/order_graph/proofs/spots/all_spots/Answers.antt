@@ -18,12 +18,12 @@ loop-list-preserved c =
     let count : vec_len c.loop-list.spots ≡ c.args.elements = c.loop-list.invariant.count in
     let within : l < length rows = omega (arith, length-cut 0 t.ends.items t.items.items) in
     record {
-        count = c.in_ok-row_spots.ensures.count ∙ count;
-        spots = λ x inside.
-            c.in_ok-row_spots.ensures.spots x (omega arith)
-            ∙ ap (λ s. s ++ spots_in l 0 c.row.result.now x) (c.loop-list.invariant.spots x inside)
-            ∙ ap (λ r. spots_from 0 (take l rows) x ++ spots_in l 0 r x) c.row.ensures
-            ∙ one_more_list rows l x within;
+      count = c.in_ok-row_spots.ensures.count ∙ count;
+      spots = λ x inside.
+          c.in_ok-row_spots.ensures.spots x (omega arith)
+          ∙ ap (λ s. s ++ spots_in l 0 c.row.result.now x) (c.loop-list.invariant.spots x inside)
+          ∙ ap (λ r. spots_from 0 (take l rows) x ++ spots_in l 0 r x) c.row.ensures
+          ∙ one_more_list rows l x within;
     }
 
 pub returns-clause-spots : goal.returns-clause-spots

@@ -19,8 +19,8 @@ loop-list-preserved c =
     let ends : new.ends.items ≡ old.ends.items ++ (length new.items.items) ∷ [] = c.in_ok-end_row.ensures.ends ∙ ap (λ n. old.ends.items ++ n ∷ []) (ap length (sym c.in_ok-end_row.ensures.items)) in
     let both = row-ended old new list.items c.loop-list.invariant.cut items ends in
     record {
-        cut = both.1;
-        rows = both.0 ∙ ap (λ l. l ++ list.items ∷ []) c.loop-list.invariant.rows
-            ∙ sym (map_push (λ (s : Vec Spot Global). s.items) (take k all) list)
-            ∙ ap (map (λ (s : Vec Spot Global). s.items)) (sym (take-next all k list c.loop-list-test.true c.list-item.is));
+      cut = both.1;
+      rows = both.0 ∙ ap (λ l. l ++ list.items ∷ []) c.loop-list.invariant.rows
+          ∙ sym (map_push (λ (s : Vec Spot Global). s.items) (take k all) list)
+          ∙ ap (map (λ (s : Vec Spot Global). s.items)) (sym (take-next all k list c.loop-list-test.true c.list-item.is));
     }

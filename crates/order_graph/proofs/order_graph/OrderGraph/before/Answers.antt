@@ -16,10 +16,10 @@ returns-in_err-list c =
     let g = c.self.inside in
     let v : Responses = responses_kept g.names.items g.shown.items (rows_of g.places) in
     let none : (l : ℕ) → BeforeIn (lists_of v) l c.args.a c.args.b → ⊥ =
-        subst (λ (rows : List (List ℕ)). (l : ℕ) → BeforeIn rows l c.args.a c.args.b → ⊥) (sym c.self.invariant.lists_are) c.in_err-list.ensures in
+    subst (λ (rows : List (List ℕ)). (l : ℕ) → BeforeIn rows l c.args.a c.args.b → ⊥) (sym c.self.invariant.lists_are) c.in_err-list.ensures in
     let answer : IsLeastShowing v c.args.a c.args.b None = none-shown v c.self.invariant.proper c.args.a c.args.b none in
     subst (λ (o : Option Operation). IsLeastShowing c.args.self.now c.args.a c.args.b o) (sym c.from_residual.ensures)
-        (subst (λ (w : Responses). IsLeastShowing w c.args.a c.args.b None) c.self.view_is answer)
+    (subst (λ (w : Responses). IsLeastShowing w c.args.a c.args.b None) c.self.view_is answer)
 
 pub returns : goal.returns
 returns c =
@@ -34,6 +34,6 @@ returns c =
     let r : Returned = named.by in
     let got : c.copied.result ≡ slice_get g.shown.items l = grind (arith, common_steps, gets) in
     let by : c.copied.result ≡ Some r.by =
-        got ∙ sym (shown_of g.names.items g.shown.items (rows_of g.places) l c.self.invariant.count) ∙ ap (option_map (λ (r : Returned). r.by)) named.at in
+    got ∙ sym (shown_of g.names.items g.shown.items (rows_of g.places) l c.self.invariant.count) ∙ ap (option_map (λ (r : Returned). r.by)) named.at in
     let answer : IsLeastShowing v a b (Some r.by) = least-shown v proper a b l r named.at least in
     subst (λ (o : Option Operation). IsLeastShowing c.args.self.now a b o) (sym by) (subst (λ (w : Responses). IsLeastShowing w a b (Some r.by)) c.self.view_is answer)

@@ -21,4 +21,4 @@ returns-clause-known c =
     let there : slice_get r c.args.j ≡ Some x = ap (λ (l : List ℕ). slice_get l c.args.j) (sym list) ∙ got in
     let known = known-numbers v c.self.invariant.proper c.args.list c.args.j x (slice_get_within r c.args.j x there) in
     subst (λ n. n < length c.args.self.now.elements) (get_or_from_slice_get r c.args.j x x there)
-        (subst (λ (w : Responses). get_or r c.args.j x < length w.elements) c.self.view_is known)
+    (subst (λ (w : Responses). get_or r c.args.j x < length w.elements) c.self.view_is known)
