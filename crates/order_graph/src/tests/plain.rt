@@ -1,8 +1,6 @@
 //! Plain, slow programs that look through every response, and the comparison of a graph with them.
-use crate::{Looked, OrderGraph};
+use crate::{Looked, OrderGraph, Spot};
 use events::{Body, Name, OpName, Recording, Response};
-use std::process::Abort;
-use std::test::Fail;
 
 /// The response of an operation.
 fn response(recording: &Recording, name: OpName) -> Option<&Response> {
@@ -79,75 +77,134 @@ fn before(recording: &Recording, a: u32, b: u32) -> Option<OpName> {
     least_showing(recording, element(recording, a)?, element(recording, b)?)
 }
 
-/// The elements of a graph are those of the recording, and so are their orders.
-fn compare_elements(
-    rt: &impl Abort,
-    recording: &Recording,
-    graph: &OrderGraph,
-) -> Result<(), Fail> {
-    let elements = graph.elements();
-    assert_eq!(rt; graph.name(elements), None);
-    assert_eq!(rt; element(recording, elements), None);
-    for x in 0..elements {
-        let name = element(recording, x).ok_or("no element")?;
-        assert_eq!(rt; graph.name(x), Some(name));
-        assert_eq!(rt; graph.number(&name), Some(x));
+/// Whether an element has the same name and number in both.
+fn is_element(recording: &Recording, graph: &OrderGraph, x: u32) -> bool {
+    match element(recording, x) {
+        None => false,
+        Some(name) => graph.name(x) == Some(name) && graph.number(&name) == Some(x),
     }
-    for a in 0..=elements {
-        for b in 0..=elements {
-            assert_eq!(rt; graph.before(a, b), before(recording, a, b));
-        }
-    }
-    Ok(())
 }
 
-/// The lists of a graph are the responses.
-fn compare_lists(rt: &impl Abort, recording: &Recording, graph: &OrderGraph) -> Result<(), Fail> {
-    let lists = graph.lists();
-    assert_eq!(rt; lists, operations(recording));
-    assert_eq!(rt; graph.shown_by(lists), None);
-    assert_eq!(rt; graph.length(lists), 0);
+/// Whether an element stands before the same ones in both.
+fn has_same_order(recording: &Recording, graph: &OrderGraph, a: u32) -> bool {
+    for b in 0..=graph.elements() {
+        if graph.before(a, b) != before(recording, a, b) {
+            return false;
+        }
+    }
+    true
+}
+
+/// Whether a list has this name at a place, which counts as looked at.
+fn has_at(graph: &OrderGraph, list: u32, place: u32, name: Option<Name>) -> bool {
     let mut looked = Looked::new();
-    for list in 0..lists {
-        let by = operation_at(recording, list).ok_or("no operation")?;
-        assert_eq!(rt; graph.shown_by(list), Some(by));
-        let names = response(recording, by).ok_or("no response")?;
-        let length = graph.length(list);
-        assert_eq!(rt; length as usize, names.len());
-        assert_eq!(rt; graph.place(list, length, &mut looked), None);
-        for j in 0..length {
-            let x = graph.place(list, j, &mut looked).ok_or("no place")?;
-            assert_eq!(rt; graph.name(x), names.get(j as usize));
-        }
+    let there = graph.place(list, place, &mut looked);
+    let counts = looked.count() == u64::from(there.is_some());
+    match there {
+        None => counts && name.is_none(),
+        Some(x) => counts && graph.name(x) == name,
     }
-    Ok(())
 }
 
-/// The spots of an element are the places where its name stands, in order of lists.
-fn compare_spots(rt: &impl Abort, recording: &Recording, graph: &OrderGraph) -> Result<(), Fail> {
-    for x in 0..graph.elements() {
-        let name = element(recording, x).ok_or("no element")?;
-        let mut found: u32 = 0;
-        for list in 0..graph.lists() {
-            let by = operation_at(recording, list).ok_or("no operation")?;
-            let names = response(recording, by).ok_or("no response")?;
-            if let Some(place) = place_of(names, name) {
-                let spot = graph.spot(x, found).ok_or("no spot")?;
-                assert_eq!(rt; spot.list, list);
-                assert_eq!(rt; spot.place as usize, place);
-                found = found.saturating_add(1);
+/// Whether a list is a response, with nothing behind its end.
+fn is_list(graph: &OrderGraph, list: u32, names: &Response) -> bool {
+    let length = graph.length(list);
+    for j in 0..=length {
+        if !has_at(graph, list, j, names.get(j as usize)) {
+            return false;
+        }
+    }
+    length as usize == names.len()
+}
+
+/// Whether a list is the response of its operation.
+fn is_list_of(recording: &Recording, graph: &OrderGraph, list: u32) -> bool {
+    let by = operation_at(recording, list);
+    let names = match by {
+        None => None,
+        Some(by) => response(recording, by),
+    };
+    match names {
+        None => false,
+        Some(names) => graph.shown_by(list) == by && is_list(graph, list, names),
+    }
+}
+
+/// Where a name stands in the response of the operation of a list.
+fn place_in(recording: &Recording, list: u32, name: Name) -> Option<usize> {
+    place_of(response(recording, operation_at(recording, list)?)?, name)
+}
+
+/// Whether an element's spots are the places of its name, in order of lists.
+fn has_spots(recording: &Recording, graph: &OrderGraph, x: u32, name: Name) -> bool {
+    let mut found: u32 = 0;
+    for list in 0..graph.lists() {
+        if let Some(place) = place_in(recording, list, name) {
+            if !is_spot(graph.spot(x, found), list, place) {
+                return false;
             }
+            found = found.saturating_add(1);
         }
-        assert_eq!(rt; graph.spots(x), found);
-        assert!(rt; graph.spot(x, found).is_none());
     }
-    assert_eq!(rt; graph.spots(graph.elements()), 0);
-    Ok(())
+    graph.spots(x) == found && graph.spot(x, found).is_none()
 }
 
-/// Compares all that a graph answers with the plain programs.
-pub fn compare(rt: &impl Abort, recording: &Recording, graph: &OrderGraph) -> Result<(), Fail> {
-    compare_elements(rt, recording, graph)?;
-    compare_lists(rt, recording, graph)?;
-    compare_spots(rt, recording, graph)
+fn is_spot(spot: Option<Spot>, list: u32, place: usize) -> bool {
+    match spot {
+        None => false,
+        Some(spot) => spot.list == list && spot.place as usize == place,
+    }
+}
+
+/// Whether all that a graph says of its elements is what the plain programs find.
+fn has_same_elements(recording: &Recording, graph: &OrderGraph) -> bool {
+    for x in 0..graph.elements() {
+        let Some(name) = element(recording, x) else {
+            return false;
+        };
+        if !is_element(recording, graph, x) || !has_spots(recording, graph, x, name) {
+            return false;
+        }
+    }
+    has_same_ends(recording, graph)
+}
+
+/// Whether there is nothing past the last element and the last list.
+fn has_same_ends(recording: &Recording, graph: &OrderGraph) -> bool {
+    let elements = graph.elements();
+    let lists = graph.lists();
+    if lists != operations(recording) || element(recording, elements).is_some() {
+        return false;
+    }
+    graph.name(elements).is_none()
+        && graph.spots(elements) == 0
+        && graph.shown_by(lists).is_none()
+        && graph.length(lists) == 0
+}
+
+/// Whether all that a graph says of its lists is what the plain programs find.
+fn has_same_lists(recording: &Recording, graph: &OrderGraph) -> bool {
+    for list in 0..graph.lists() {
+        if !is_list_of(recording, graph, list) {
+            return false;
+        }
+    }
+    true
+}
+
+/// Whether all elements stand before the same ones, also what is no element.
+fn has_same_orders(recording: &Recording, graph: &OrderGraph) -> bool {
+    for a in 0..=graph.elements() {
+        if !has_same_order(recording, graph, a) {
+            return false;
+        }
+    }
+    true
+}
+
+/// Whether a graph answers all as the plain programs do.
+pub fn agrees(recording: &Recording, graph: &OrderGraph) -> bool {
+    has_same_elements(recording, graph)
+        && has_same_lists(recording, graph)
+        && has_same_orders(recording, graph)
 }
