@@ -1,0 +1,35 @@
+-- What is kept of the responses, and what holds of it.
+use Rattle.std.specs.Prelude.{◌≡◌, ℕ, ◌<◌, Option, List, [], ◌∷◌, length, map, slice_index_or}
+use Rattle.events.specs.Names.{NameBytes}
+use Rattle.events.specs.Operation.{Operation}
+use Rattle.specification.specs.Elements.{number_in}
+use Rattle.specification.specs.Responses.{Responses, Returned, AreProper}
+use Rattle.order_graph.specs.Cuts.{rows_of, IsCut}
+use Rattle.order_graph.specs.Lists.{lists_of, AreFew}
+use Rattle.order_graph.specs.Spots.{spots_of}
+use Rattle.order_graph.specs.declared.rows.Rows.{Rows}
+use Rattle.order_graph.specs.declared.spot.Spot.{Spot}
+
+-- the names with these numbers
+abbrev pub names_at : List NameBytes → List ℕ → List NameBytes
+names_at names = map (λ x. slice_index_or names x [])
+
+-- each operation with its list, whose numbers are read as names
+abbrev pub returned_of : List NameBytes → List Operation → List (List ℕ) → List Returned
+returned_of names [] rows = []
+returned_of names (o ∷ os) [] = []
+returned_of names (o ∷ os) (r ∷ rs) = record { by = o; names = names_at names r } ∷ returned_of names os rs
+
+abbrev pub responses_kept : List NameBytes → List Operation → List (List ℕ) → Responses
+responses_kept names shown rows = record { elements = names; returned = returned_of names shown rows }
+
+-- the numbers are those of the names, and the spots those of the places
+pub record AreKept (names : List NameBytes) (number : NameBytes → Option ℕ) (shown : List Operation) (places : Rows ℕ) (spots : Rows Spot) : Type 0 where
+  pub proper : AreProper (responses_kept names shown (rows_of places))
+  pub few : AreFew (responses_kept names shown (rows_of places))
+  pub numbered : (a : NameBytes) → number a ≡ number_in names a
+  pub places_cut : IsCut places
+  pub spots_cut : IsCut spots
+  pub lists_are : lists_of (responses_kept names shown (rows_of places)) ≡ rows_of places
+  pub count : length shown ≡ length (rows_of places)
+  pub spots_are : (x : ℕ) → slice_index_or (rows_of spots) x [] ≡ spots_of (rows_of places) x

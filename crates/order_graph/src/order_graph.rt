@@ -1,0 +1,151 @@
+ghost use Rattle.std.specs.Prelude.{◌≡◌, ℕ, ◌<◌, ◌≤◌, ◌^◌, IfOk, IfSome, length, slice_get, is_some, option_map, if◌then◌else◌};
+ghost use Rattle.specification.specs.Faults.{IsSound};
+ghost use Rattle.specification.specs.Elements.{number_in};
+ghost use Rattle.specification.specs.Responses.{responses_of, AreProper, IsLeastShowing};
+
+use super::looked::Looked;
+use super::names::{inserted_names, operations_of};
+use super::pairs::first_list;
+use super::places::{numbers_of, places_of};
+use super::rows::Rows;
+use super::spot::Spot;
+use super::spots::spots_in_lists;
+use events::{Memory, Name, OpName, Recording};
+use indexmap::IndexMap;
+use std::alloc::Global;
+use std::marker::Model;
+
+/// The elements of a recording and its responses, as lists of the elements' numbers.
+///
+/// Elements are numbered from 0 in the order of their inserts' operations. There is one list for each
+/// operation, in the order of their names, also where the response is empty; lists and their places are
+/// numbered from 0. A spot of an element is a place where it stands.
+///
+/// Its memory is linear in the places of all responses. Only `of` takes memory.
+#[derive(Drop)]
+pub struct OrderGraph {
+    names: Vec<Name>,
+    numbers: IndexMap<Name, u32>,
+    shown: Vec<OpName>,
+    places: Rows<u32>,
+    spots: Rows<Spot>,
+}
+
+impl Model for OrderGraph {
+    ghost use Rattle.std.specs.Prelude.{◌==◌};
+    ghost use Rattle.std.specs.Cmp.Lexicographic.{pointwise};
+    ghost use Rattle.indexmap.specs.IndexMap.{get};
+    ghost use Rattle.specification.specs.Responses.{Responses};
+    ghost use Rattle.order_graph.specs.Cuts.{rows_of};
+    ghost use Rattle.order_graph.specs.Kept.{responses_kept, AreKept};
+
+    ghost Value = { Responses };
+
+    ghost view = { λ g. responses_kept g.names.items g.shown.items (rows_of g.places) };
+
+    ghost invariant = { λ g. AreKept g.names.items (get (pointwise ◌==◌) g.numbers) g.shown.items g.places g.spots };
+}
+
+impl OrderGraph {
+    ghost use Rattle.order_graph.specs.Lists.{lists_of, row, ticked, AreFew};
+    ghost use Rattle.order_graph.specs.Spots.{spots_of};
+
+    /// The graph of a recording that has no fault. It takes memory and time linear in the places of all
+    /// responses: a name is looked up once for each place.
+    pub fn of(alloc: Global, recording: &Recording) -> Result<OrderGraph, Memory>
+        requires { IsSound recording.now }
+        ensures { IfOk result (λ g. g ≡ responses_of recording.now) }
+    {
+        let shown = operations_of(alloc, recording)?;
+        let names = inserted_names(alloc, recording, &shown)?;
+        let numbers = numbers_of(alloc, &names)?;
+        let places = places_of(alloc, recording, &shown, &names, &numbers)?;
+        let spots = spots_in_lists(alloc, names.len(), &places)?;
+        Ok(OrderGraph {
+            names,
+            numbers,
+            shown,
+            places,
+            spots,
+        })
+    }
+
+    /// How many elements there are, at most 4,096.
+    pub fn elements(&self) -> u32
+        ensures value { result ≡ length self.now.elements }
+        ensures proper { AreProper self.now }
+    {
+        self.names.len() as u32
+    }
+
+    /// The number of a name; none where it is no element's. It asks the map once.
+    pub fn number(&self, name: &Name) -> Option<u32>
+        ensures { result ≡ number_in self.now.elements name.now }
+    {
+        self.numbers.get(name).copied()
+    }
+
+    /// The name of the element with this number; none past the last.
+    pub fn name(&self, x: u32) -> Option<Name>
+        ensures { result ≡ slice_get self.now.elements x }
+    {
+        self.names.get(x as usize).copied()
+    }
+
+    /// How many lists there are: one for each operation, at most 65,536.
+    pub fn lists(&self) -> u32
+        ensures value { result ≡ length self.now.returned }
+        ensures few { AreFew self.now }
+    {
+        self.shown.len() as u32
+    }
+
+    /// The operation whose response a list is; none past the last.
+    pub fn shown_by(&self, list: u32) -> Option<OpName>
+        ensures { result ≡ option_map (λ r. r.by) (slice_get self.now.returned list) }
+    {
+        self.shown.get(list as usize).copied()
+    }
+
+    /// How many places a list has; 0 past the last list.
+    pub fn length(&self, list: u32) -> u32
+        ensures { result ≡ length (row (lists_of self.now) list) }
+    {
+        self.places.row(list as usize).len() as u32
+    }
+
+    /// The element at place j of a list, which counts as looked at; none past the end.
+    pub fn place(&self, list: u32, j: u32, looked: &mut Looked) -> Option<u32>
+        ensures value { result ≡ slice_get (row (lists_of self.now) list) j }
+        ensures looked { looked.new ≡ (if is_some result then ticked looked.old else looked.old) }
+        ensures forward { looked.old ≤ looked.new }
+        ensures known { IfSome result (λ x. x < length self.now.elements) }
+    {
+        let x = *self.places.row(list as usize).get(j as usize)?;
+        looked.expand();
+        Some(x)
+    }
+
+    /// How many spots an element has; 0 past the last element.
+    pub fn spots(&self, x: u32) -> u32
+        ensures { result ≡ length (spots_of (lists_of self.now) x) }
+    {
+        self.spots.row(x as usize).len() as u32
+    }
+
+    /// The i-th spot of an element, from 0, in order of lists; none past the last.
+    pub fn spot(&self, x: u32, i: u32) -> Option<Spot>
+        ensures { result ≡ slice_get (spots_of (lists_of self.now) x) i }
+    {
+        self.spots.row(x as usize).get(i as usize).copied()
+    }
+
+    /// The least operation whose response shows element a before element b; none where no response does.
+    /// It reads the places behind each spot of a, at most those of all responses together.
+    pub fn before(&self, a: u32, b: u32) -> Option<OpName>
+        ensures { IsLeastShowing self.now a b result }
+    {
+        let list = first_list(&self.places, self.spots.row(a as usize), a, b)?;
+        self.shown.get(list as usize).copied()
+    }
+}

@@ -1,0 +1,111 @@
+ghost use Rattle.std.specs.Prelude.{◌≡◌, ◌≢◌, ◌<◌, ◌^◌, ◌==◌, AllPairs, IfOk, OnOk, ◌∷◌, ◌++◌, [], length, map, option_copied, unwrap_or};
+ghost use Rattle.std.specs.Cmp.Lexicographic.{pointwise};
+ghost use Rattle.indexmap.specs.IndexMap.{get};
+ghost use Rattle.events.specs.Names.{NameBytes};
+ghost use Rattle.events.specs.Operations.{response};
+ghost use Rattle.specification.specs.Elements.{number_in, numbers_in};
+ghost use Rattle.order_graph.specs.Cuts.{rows_of, IsCut};
+
+use super::rows::Rows;
+use events::{Body, Memory, Name, OpName, Recording, Response};
+use indexmap::IndexMap;
+use std::alloc::Global;
+
+/// Each name with its number, its place among these names.
+pub fn numbers_of(alloc: Global, names: &[Name]) -> Result<IndexMap<Name, u32>, Memory>
+    requires distinct { AllPairs (λ a b. a ≢ b) names.now }
+    requires few { length names.now < 2 ^ 32 }
+    ensures { IfOk result (λ m. (a : NameBytes) → get (pointwise ◌==◌) m a ≡ number_in names.now a) }
+{
+    let mut numbers = IndexMap::new(alloc);
+    for (i, name) in names.iter().enumerate() {
+        numbers.insert(*name, i as u32)?;
+    }
+    Ok(numbers)
+}
+
+/// What an operation returned; none where there is no such operation.
+fn response_to(recording: &Recording, name: OpName) -> Option<&Response>
+    ensures { unwrap_or (option_copied result) [] ≡ response recording.now name }
+{
+    match recording.operation(name)? {
+        Body::Ins { response, .. } => Some(response),
+        Body::Del { response, .. } => Some(response),
+        Body::Read { response } => Some(response),
+        Body::Recv { .. } => None,
+    }
+}
+
+/// The number of a name; for one that is not among these their count.
+fn number_or_count(names: &[Name], numbers: &IndexMap<Name, u32>, name: &Name) -> u32
+    requires numbered { (a : NameBytes) → get (pointwise ◌==◌) numbers.now a ≡ number_in names.now a }
+    requires few { length names.now < 2 ^ 32 }
+    ensures { result ≡ unwrap_or (number_in names.now name.now) (length names.now) }
+{
+    match numbers.get(name) {
+        Some(number) => *number,
+        None => names.len() as u32,
+    }
+}
+
+/// Adds the numbers of a response's names. For a name that is not among these their count stands.
+fn add_numbers(
+    items: &mut Vec<u32>,
+    names: &[Name],
+    numbers: &IndexMap<Name, u32>,
+    response: &Response,
+) -> Result<(), Memory>
+    requires numbered { (a : NameBytes) → get (pointwise ◌==◌) numbers.now a ≡ number_in names.now a }
+    requires few { length names.now < 2 ^ 32 }
+    ensures { OnOk result (items.new.items ≡ items.old.items ++ numbers_in names.now response.now) }
+{
+    for i in 0..response.len() {
+        if let Some(name) = response.get(i) {
+            items.push(number_or_count(names, numbers, &name))?;
+        }
+    }
+    Ok(())
+}
+
+/// Adds an operation's response as a list of numbers.
+fn add_list(
+    places: &mut Rows<u32>,
+    recording: &Recording,
+    operation: OpName,
+    names: &[Name],
+    numbers: &IndexMap<Name, u32>,
+) -> Result<(), Memory>
+    requires numbered { (a : NameBytes) → get (pointwise ◌==◌) numbers.now a ≡ number_in names.now a }
+    requires few { length names.now < 2 ^ 32 }
+    requires whole { IsCut places.old }
+    ensures cut { OnOk result (IsCut places.new) }
+    ensures rows { OnOk result (rows_of places.new ≡ rows_of places.old ++ (numbers_in names.now (response recording.now operation)) ∷ []) }
+{
+    match response_to(recording, operation) {
+        None => places.end_row(),
+        Some(response) => {
+            add_numbers(&mut places.items, names, numbers, response)?;
+            places.end_row()
+        }
+    }
+}
+
+/// The responses of these operations as lists of numbers, one list each.
+pub fn places_of(
+    alloc: Global,
+    recording: &Recording,
+    operations: &[OpName],
+    names: &[Name],
+    numbers: &IndexMap<Name, u32>,
+) -> Result<Rows<u32>, Memory>
+    requires numbered { (a : NameBytes) → get (pointwise ◌==◌) numbers.now a ≡ number_in names.now a }
+    requires few { length names.now < 2 ^ 32 }
+    ensures cut { IfOk result (λ t. IsCut t) }
+    ensures rows { IfOk result (λ t. rows_of t ≡ map (λ o. numbers_in names.now (response recording.now o)) operations.now) }
+{
+    let mut places = Rows::new(alloc);
+    for operation in operations {
+        add_list(&mut places, recording, *operation, names, numbers)?;
+    }
+    Ok(places)
+}

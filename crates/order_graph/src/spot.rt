@@ -1,0 +1,6 @@
+/// A place in a list: both are counted from 0.
+#[derive(Clone, Copy, Debug, PartialEq, Eq)]
+pub struct Spot {
+    pub list: u32,
+    pub place: u32,
+}
