@@ -41,7 +41,7 @@ pub fn first_fault(
     }
 }
 
-/// The fault at the least operation with one, among operations whose names all differ.
+/// The fault at the least operation with one, in a recording that inserts no name twice.
 fn first_wrong(
     rt: &(impl Threads + Sync),
     alloc: Global,

@@ -126,7 +126,7 @@ fn response_of<'a>(recording: &'a Recording, e: OpName) -> Option<&'a Response>
 }
 
 /// Whether the response of an operation repeats no name and holds exactly what is visible. Its cost is
-/// linear in the response's length and the number of elements.
+/// linear in the response's length and the number of elements, each with its deletes.
 pub fn has_right_contents(
     alloc: Global,
     elements: &Elements,

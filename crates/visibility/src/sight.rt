@@ -25,7 +25,7 @@ impl Sight {
     ghost use Rattle.std.specs.Prelude.{IfOk, IsTrue, ◌↔◌};
     ghost use Rattle.specification.specs.Visibility.{IsSightOf, Sees};
 
-    /// What is visible in a recording, in one pass over its entries.
+    /// What is visible in a recording, in one pass over its entries, sixteen numbers for each.
     pub fn of(alloc: Global, recording: &Recording) -> Result<Sight, Memory>
         ensures { IfOk result (λ s. IsSightOf recording.now s) }
     {
@@ -34,7 +34,7 @@ impl Sight {
     }
 
     /// Whether both are operations of the recording and `f` is visible to `e`. An operation is not
-    /// visible to itself.
+    /// visible to itself. It costs the same however long the recording is.
     pub fn sees(&self, f: OpName, e: OpName) -> bool
         ensures { IsTrue result ↔ Sees self.now f e }
     {
