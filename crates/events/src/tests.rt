@@ -2,6 +2,7 @@ use super::{
     Body, Entry, Memory, Name, NameFault, NewFault, OpName, Recording, Refusal, Refused, Response,
 };
 use std::alloc::Global;
+use std::fmt::Display;
 use std::test::Fail;
 
 /// The name; the bytes are those of a name wherever it is called.
@@ -310,9 +311,9 @@ fn a_replica_has_at_most_262144_names_in_responses(rt: HostRuntime) -> Result<()
 }
 
 /// The words of an error; where the first call finds no memory, what the second gives.
-fn words(alloc: Global, refusal: &Refusal) -> Result<String, Fail> {
-    match refusal.to_string(alloc) {
-        Err(_) => Ok(refusal.to_string(alloc)?),
+fn words<E: Display>(alloc: Global, error: &E) -> Result<String, Fail> {
+    match error.to_string(alloc) {
+        Err(_) => Ok(error.to_string(alloc)?),
         Ok(text) => Ok(text),
     }
 }
@@ -331,6 +332,22 @@ fn errors_have_their_words(rt: HostRuntime) -> Result<(), Fail> {
     ];
     for (refusal, text) in rows {
         assert_eq!(rt; words(rt.alloc(), &refusal)?.as_str(), text);
+    }
+    let rows = [
+        (NameFault::Empty, "empty name"),
+        (NameFault::Long, "long name"),
+        (NameFault::BadByte { at: 31 }, "bad byte at 31"),
+    ];
+    for (fault, text) in rows {
+        assert_eq!(rt; words(rt.alloc(), &fault)?.as_str(), text);
+    }
+    let rows = [
+        (NewFault::NoReplicas, "no replicas"),
+        (NewFault::ManyReplicas, "many replicas"),
+        (NewFault::Memory, "memory"),
+    ];
+    for (fault, text) in rows {
+        assert_eq!(rt; words(rt.alloc(), &fault)?.as_str(), text);
     }
     Ok(())
 }

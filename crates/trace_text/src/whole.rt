@@ -44,8 +44,8 @@ fn read_lines(alloc: Global, bytes: &[u8]) -> Result<Recording, LineFault>
 
 /// The recording that the text spells, or the text's first faulty line with its cause.
 ///
-/// Want of memory is `Refused(Memory)` at the line whose reading found none. It takes time in proportion to the
-/// text, and keeps nothing but what the recording holds.
+/// Want of memory is `Refused(Memory)` at a line behind right lines: the one whose reading found none, which
+/// no contract can say. It takes time in proportion to the text, and keeps nothing but what the recording holds.
 pub fn read(alloc: Global, bytes: &[u8]) -> Result<Recording, LineFault>
     ensures ok { IfOk result (λ h. Spells bytes.now h) }
     ensures fault { IfErr result (λ fault. IfSome (cause_of fault.cause) (λ cause. IsFirstLineFault bytes.now fault.line cause)) }
