@@ -1,8 +1,8 @@
 //! The program: its words, files and standard streams, and how it ends.
 
-ghost use Rattle.std.specs.Prelude.{◌≡◌, true, IfOk, IfErr, IfSome, MatchResult};
+ghost use Rattle.std.specs.Prelude.{◌≡◌, ◌↔◌, true, IfOk, IfErr, IfSome, IsErrOf, MatchResult};
 ghost use Rattle.std.specs.Io.KnownBytes.{Appends};
-ghost use Rattle.finder_cli.specs.Runs.{Reports};
+ghost use Rattle.finder_cli.specs.Runs.{Reports, IsNoWorkers};
 ghost use Rattle.finder_cli.specs.Endings.{number_of_fault, IsFaultOfRun, NamesFile, IsOfWords};
 
 use super::run::{RunFault, Status, run};
@@ -122,6 +122,7 @@ fn judge<H: AllocGlobal + Threads + Sync, R: Read + Drop, W: Write + Drop>(
     workers: u32,
 ) -> Result<Status, ProgramFault>
     ensures report { IfOk result (λ status. IfSome source.old.bytes (λ text. Reports text sink.old.bytes sink.new.bytes status)) }
+    ensures usage { IsErrOf result ProgramFault.Usage ↔ IsNoWorkers workers }
     ensures file { IfErr result (λ fault. NamesFile file fault) }
 {
     match run(rt, rt.alloc(), source, sink, workers) {
