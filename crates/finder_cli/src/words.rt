@@ -78,11 +78,17 @@ fn finder_command<'a>(alloc: Global) -> Result<Command<'a>, AllocError> {
 fn verdict_command<'a>(alloc: Global) -> Result<Command<'a>, AllocError> {
     let workers = Arg::new(alloc, "workers")
         .long("workers")
+        .value_name("N")
+        .help("How many workers search: 1 to 64, and 4 where it is not said")
         .action(ArgAction::Set);
     let file = Arg::new(alloc, "FILE")
+        .help("The trace; - is standard input")
         .required(true)
         .action(ArgAction::Set);
-    Command::new(alloc, "verdict").arg(workers)?.arg(file)
+    Command::new(alloc, "verdict")
+        .about("Says whether a recording is sound, or its first fault")
+        .arg(workers)?
+        .arg(file)
 }
 
 /// The task of words that `clap` has read.
