@@ -146,6 +146,6 @@ impl OrderGraph {
         ensures { IsLeastShowing self.now a b result }
     {
         let list = first_list(&self.places, self.spots.row(a as usize), a, b)?;
-        self.shown.get(list as usize).copied()
+        self.shown_by(list)
     }
 }

@@ -7,7 +7,9 @@ use std::alloc::Global;
 use std::test::Fail;
 
 const REPLICAS: usize = 3;
+
 const LETTERS: [&str; 6] = ["a", "b", "c", "d", "e", "f"];
+
 const MOST_OPERATIONS: usize = 12;
 
 /// Numbers that look drawn at random, from a seed.

@@ -66,22 +66,28 @@ fn marks_of_the_ring_of_four(rt: HostRuntime) -> Result<(), Fail> {
 }
 
 #[test]
-fn steps_of_worked_cycles(rt: HostRuntime) -> Result<(), Fail> {
+fn steps_of_the_three_way_cycle(rt: HostRuntime) -> Result<(), Fail> {
     let alloc = rt.alloc();
-    let three = recording(alloc, 3, &THREE_WAY_CYCLE)?;
-    let cycle = graph(&rt, alloc, &three)?;
+    let recording = recording(alloc, 3, &THREE_WAY_CYCLE)?;
+    let cycle = graph(&rt, alloc, &recording)?;
     // x, a and b have the numbers 0, 1 and 2.
     assert_eq!(rt; cycle.before(0, 2), Some(operation(2, 1)?));
     assert_eq!(rt; cycle.before(2, 1), Some(operation(0, 3)?));
     assert_eq!(rt; cycle.before(1, 0), Some(operation(1, 1)?));
     assert_eq!(rt; cycle.before(0, 1), None);
-    assert!(rt; agrees(&three, &cycle));
-    let two = recording(alloc, 2, &OPPOSITE_PAIR)?;
-    let pair = graph(&rt, alloc, &two)?;
+    assert!(rt; agrees(&recording, &cycle));
+    Ok(())
+}
+
+#[test]
+fn steps_of_the_opposite_pair(rt: HostRuntime) -> Result<(), Fail> {
+    let alloc = rt.alloc();
+    let recording = recording(alloc, 2, &OPPOSITE_PAIR)?;
+    let pair = graph(&rt, alloc, &recording)?;
     assert_eq!(rt; pair.before(0, 1), Some(operation(0, 2)?));
     assert_eq!(rt; pair.before(1, 0), Some(operation(1, 2)?));
     assert_eq!(rt; pair.before(0, 0), None);
-    assert!(rt; agrees(&two, &pair));
+    assert!(rt; agrees(&recording, &pair));
     Ok(())
 }
 

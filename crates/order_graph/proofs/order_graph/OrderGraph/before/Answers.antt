@@ -1,14 +1,12 @@
 -- The least list's operation is the least.
 use Rattle.std.proofs.Common.{◌≡◌, ℕ, ◌<◌, Some, None, Option, List, length, get_or, sym, ◌∙◌, ap, subst, arith}
 use Rattle.std.specs.Prelude.{slice_get, option_map}
-use Rattle.std.proofs.lemmas.Grind.{common_steps}
-use Rattle.std.proofs.lemmas.Option.{gets}
 use Rattle.events.specs.Operation.{Operation}
 use Rattle.specification.specs.Responses.{Responses, Returned, AreProper, IsLeastShowing}
 use Rattle.order_graph.specs.Cuts.{rows_of}
 use Rattle.order_graph.specs.Kept.{responses_kept}
 use Rattle.order_graph.specs.Lists.{lists_of, BeforeIn, IsLeastList}
-use Rattle.order_graph.proofs.Shown.{none-shown, least-shown, named-stands, shown_of}
+use Rattle.order_graph.proofs.Shown.{none-shown, least-shown, named-stands}
 use Rattle.order_graph.proofs.order_graph.OrderGraph.before.Goals as goal
 
 pub returns-in_err-list : goal.returns-in_err-list
@@ -32,8 +30,8 @@ returns c =
     let least : IsLeastList (lists_of v) a b l = subst (λ (rows : List (List ℕ)). IsLeastList rows a b l) (sym c.self.invariant.lists_are) c.in_ok-list.ensures in
     let named = named-stands v proper l least.shows.place a least.shows.first in
     let r : Returned = named.by in
-    let got : c.copied.result ≡ slice_get g.shown.items l = grind (arith, common_steps, gets) in
-    let by : c.copied.result ≡ Some r.by =
-    got ∙ sym (shown_of g.names.items g.shown.items (rows_of g.places) l c.self.invariant.count) ∙ ap (option_map (λ (r : Returned). r.by)) named.at in
+    let by : c.shown_by.result ≡ Some r.by =
+    c.shown_by.ensures ∙ ap (λ (w : Responses). option_map (λ (r : Returned). r.by) (slice_get w.returned l)) (sym c.self.view_is)
+    ∙ ap (option_map (λ (r : Returned). r.by)) named.at in
     let answer : IsLeastShowing v a b (Some r.by) = least-shown v proper a b l r named.at least in
     subst (λ (o : Option Operation). IsLeastShowing c.args.self.now a b o) (sym by) (subst (λ (w : Responses). IsLeastShowing w a b (Some r.by)) c.self.view_is answer)
