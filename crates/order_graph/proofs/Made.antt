@@ -1,5 +1,5 @@
 -- What is kept of a sound recording reads as its responses, so all that holds of these holds of it.
-use Rattle.std.proofs.Common.{◌≡◌, ℕ, ◌<◌, ◌≤◌, ◌^◌, List, [], ◌∷◌, length, map, refl, sym, ◌∙◌, ap, subst, arith}
+use Rattle.std.proofs.Common.{◌≡◌, ℕ, ◌<◌, ◌^◌, List, [], ◌∷◌, length, map, refl, sym, ◌∙◌, ap, subst, arith}
 use Rattle.std.specs.Prelude.{All, sum_by}
 use Rattle.std.proofs.lemmas.List.{length-map}
 use Rattle.events.specs.Names.{NameBytes}
@@ -8,8 +8,7 @@ use Rattle.events.specs.History.{History, IsLegal}
 use Rattle.events.specs.Operations.{operation_names, response}
 use Rattle.specification.specs.Faults.{IsSound}
 use Rattle.specification.specs.Elements.{elements, numbers_in}
-use Rattle.specification.specs.Responses.{Responses, Returned, responses_of, AreProper, place_count}
-use Rattle.specification.proofs.Members.{In, Once, In-from_Contains}
+use Rattle.specification.specs.Responses.{Returned, responses_of, AreProper, place_count}
 use Rattle.specification.proofs.OperationNames.{listed-operation}
 use Rattle.specification.proofs.SoundResponses.{sound_responses_are_proper, response-elements}
 use Rattle.specification.proofs.Shown.{elements-once}

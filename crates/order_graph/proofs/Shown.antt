@@ -1,6 +1,6 @@
 -- What an operation shows is what its list has: names by their numbers, and the least operation by the least list.
-use Rattle.std.proofs.Common.{◌≡◌, ◌≢◌, ℕ, zero, suc, ◌+◌, ◌<◌, ◌≤◌, ◌⊎◌, inl, inr, Option, Some, None, List, [], ◌∷◌, length, map, get_or, refl, sym, ◌∙◌, ap, subst, arith}
-use Rattle.std.specs.Prelude.{unwrap_or, slice_get, option_map, sum_by, AllPairs, Contains, All}
+use Rattle.std.proofs.Common.{◌≡◌, ◌≢◌, ℕ, zero, suc, ◌<◌, ◌≤◌, ◌⊎◌, inl, inr, Some, List, [], ◌∷◌, length, map, get_or, refl, sym, ◌∙◌, ap, subst, arith}
+use Rattle.std.specs.Prelude.{unwrap_or, slice_get, option_map, sum_by, All}
 use Rattle.std.proofs.lemmas.Bool.{cases_lt, cases_eq}
 use Rattle.std.proofs.lemmas.List.{get_or-map, length-map, get_or_past}
 use Rattle.std.proofs.lemmas.List.Sums.{sum_by-cons}
@@ -8,13 +8,13 @@ use Rattle.std.proofs.lemmas.Option.{same_Some, slice_get-get_or, slice_get_with
 use Rattle.events.specs.Names.{NameBytes}
 use Rattle.events.specs.Operation.{Operation, ComesBefore, IsLeast}
 use Rattle.specification.specs.Elements.{number_in, numbers_in}
-use Rattle.specification.specs.Responses.{Responses, Returned, AreProper, ShowsNumbers, IsLeastShowing, place_count}
-use Rattle.specification.proofs.Members.{In, In-from_place, In-from_Contains, Contains-from_In, place_of_In, Before, Before-from_places, AllPairs-Before}
+use Rattle.specification.specs.Responses.{Responses, Returned, AreProper, ShowsNumbers, place_count}
+use Rattle.specification.proofs.Members.{In-from_place, In-from_Contains, Contains-from_In, place_of_In, Before-from_places, AllPairs-Before}
 use Rattle.specification.proofs.Shown.{elements-once, names-elements, ComesBefore-irreflexive}
 use Rattle.specification.proofs.Dictionary.{ComesBefore-asymmetric}
 use Rattle.order_graph.specs.Lists.{lists_of, row, Stands, BeforeIn, IsLeastList}
-use Rattle.order_graph.specs.Kept.{names_at, returned_of}
-use Rattle.order_graph.proofs.Numbering.{number-at, number-some, name-at}
+use Rattle.order_graph.specs.Kept.{returned_of}
+use Rattle.order_graph.proofs.Numbering.{number-at, number-some}
 
 abbrev number_or : List NameBytes → NameBytes → ℕ
 number_or names a = unwrap_or (number_in names a) (length names)

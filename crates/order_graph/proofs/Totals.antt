@@ -1,19 +1,19 @@
 -- The limits over all responses of a legal recording, and that what is kept reads as its responses.
-use Rattle.std.proofs.Common.{inl, inr, ◌≡◌, ℕ, zero, suc, ◌+◌, ◌*◌, ◌≤◌, Bool, true, false, cond, Option, Some, None, List, [], ◌∷◌, ◌++◌, length, map, filter, refl, sym, ◌∙◌, ap, subst, arith, length-append}
+use Rattle.std.proofs.Common.{inl, inr, ◌≡◌, ℕ, zero, suc, ◌+◌, ◌*◌, ◌≤◌, Bool, true, false, cond, Option, Some, List, [], ◌∷◌, ◌++◌, length, map, filter, refl, ap, arith}
 use Rattle.std.specs.Prelude.{unwrap_or, slice_get, option_map, sum_by, flat_map}
 use Rattle.std.proofs.lemmas.List.{length-map}
 use Rattle.std.proofs.lemmas.List.Sums.{sum_by-cons}
 use Rattle.events.specs.Names.{NameBytes}
 use Rattle.events.specs.Operation.{Operation}
 use Rattle.events.specs.History.{History, IsLegal, KeepsLimits, stream, is_operation, response_of}
-use Rattle.events.specs.Operations.{operations, count, nth, operation, response, numbers_from, operation_names}
+use Rattle.events.specs.Operations.{operations, count, nth, response, numbers_from, operation_names}
 use Rattle.events.specs.declared.TheConstants.{MOST_REPLICAS, MOST_ENTRIES, MOST_PLACES}
 use Rattle.events.specs.declared.recording.Body.{Body}
 use Rattle.specification.specs.Elements.{numbers_in}
-use Rattle.specification.specs.Responses.{Responses, Returned, responses_of, place_count}
+use Rattle.specification.specs.Responses.{Returned, responses_of}
 use Rattle.specification.proofs.Members.{In, Once}
-use Rattle.order_graph.specs.Lists.{AreFew, lists_of}
-use Rattle.order_graph.specs.Kept.{names_at, returned_of, responses_kept}
+use Rattle.order_graph.specs.Lists.{AreFew}
+use Rattle.order_graph.specs.Kept.{returned_of}
 use Rattle.order_graph.proofs.Numbering.{read-back}
 
 sum-map : {X Y : Type 0} (w : Y → ℕ) (f : X → Y) (xs : List X) → sum_by w (map f xs) ≡ sum_by (λ x. w (f x)) xs

@@ -5,7 +5,7 @@ use Rattle.events.specs.Names.{NameBytes}
 use Rattle.events.specs.Operations.{response}
 use Rattle.specification.specs.Elements.{numbers_in}
 use Rattle.order_graph.proofs.Cuts.{row-ended}
-use Rattle.order_graph.specs.Cuts.{rows_of, IsCut}
+use Rattle.order_graph.specs.Cuts.{rows_of}
 use Rattle.order_graph.proofs.places.add_list.Goals as goal
 
 pub returns-in-None : goal.returns-in-None

@@ -1,7 +1,6 @@
 -- One list more is a row more.
-use Rattle.std.proofs.Common.{◌≡◌, ℕ, ◌+◌, ◌<◌, List, [], ◌∷◌, ◌++◌, Vec, Global, take, map, length, sym, ◌∙◌, ap, arith}
+use Rattle.std.proofs.Common.{◌≡◌, ℕ, List, [], ◌∷◌, ◌++◌, Vec, Global, take, map, length, sym, ◌∙◌, ap}
 use Rattle.std.proofs.lemmas.List.{map_push}
-use Rattle.order_graph.specs.Cuts.{rows_of}
 use Rattle.order_graph.specs.declared.spot.Spot.{Spot}
 use Rattle.order_graph.specs.declared.rows.Rows.{Rows}
 use Rattle.order_graph.proofs.Cuts.{row-ended}

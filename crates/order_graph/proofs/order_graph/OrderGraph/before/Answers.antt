@@ -1,5 +1,5 @@
 -- The least list's operation is the least.
-use Rattle.std.proofs.Common.{◌≡◌, ℕ, ◌<◌, Some, None, Option, List, length, get_or, sym, ◌∙◌, ap, subst, arith}
+use Rattle.std.proofs.Common.{◌≡◌, ℕ, Some, None, Option, List, sym, ◌∙◌, ap, subst}
 use Rattle.std.specs.Prelude.{slice_get, option_map}
 use Rattle.events.specs.Operation.{Operation}
 use Rattle.specification.specs.Responses.{Responses, Returned, AreProper, IsLeastShowing}

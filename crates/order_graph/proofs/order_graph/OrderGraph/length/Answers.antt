@@ -1,5 +1,5 @@
 -- A list is no longer than all together, which fit.
-use Rattle.std.proofs.Common.{◌≡◌, ℕ, ◌≤◌, List, length, sym, ◌∙◌, ap, arith}
+use Rattle.std.proofs.Common.{◌≡◌, ℕ, List, length, sym, ◌∙◌, ap, arith}
 use Rattle.std.specs.Prelude.{sum_by}
 use Rattle.order_graph.specs.Cuts.{rows_of}
 use Rattle.order_graph.specs.Kept.{responses_kept}

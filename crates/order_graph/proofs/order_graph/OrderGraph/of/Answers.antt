@@ -1,10 +1,10 @@
 -- What is kept of a sound recording reads as its responses.
-use Rattle.std.proofs.Common.{◌≡◌, ◌≢◌, ℕ, ◌<◌, ◌≤◌, ◌^◌, ◌*◌, List, length, sym, ◌∙◌, ap, subst, arith}
+use Rattle.std.proofs.Common.{◌≡◌, ◌≢◌, ℕ, ◌<◌, ◌^◌, List, length, sym, ◌∙◌, ap, subst, arith}
 use Rattle.std.specs.Prelude.{AllPairs, All, filter_map, option_and_then}
 use Rattle.events.specs.Names.{NameBytes}
 use Rattle.events.specs.Operation.{Operation}
 use Rattle.events.specs.History.{History, IsLegal, inserted_name}
-use Rattle.events.specs.Operations.{operation, operation_names, response}
+use Rattle.events.specs.Operations.{operation, operation_names}
 use Rattle.specification.specs.Faults.{IsSound}
 use Rattle.specification.specs.Elements.{elements, number_in}
 use Rattle.specification.specs.Responses.{responses_of, AreProper}

@@ -1,5 +1,5 @@
 -- The operation of a list is that of its response.
-use Rattle.std.proofs.Common.{◌≡◌, ℕ, Option, Some, sym, ◌∙◌, ap, arith}
+use Rattle.std.proofs.Common.{◌≡◌, sym, ◌∙◌, ap, arith}
 use Rattle.std.specs.Prelude.{option_map, slice_get}
 use Rattle.specification.specs.Responses.{Responses, Returned}
 use Rattle.order_graph.specs.Cuts.{rows_of}
