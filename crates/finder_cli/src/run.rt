@@ -1,6 +1,6 @@
 //! A run: a trace in, its verdict out.
 
-ghost use Rattle.std.specs.Prelude.{◌≡◌, ◌≢◌, ◌↔◌, true, IfOk, IfErr, IfSome, OnOk, IsErrOf, option_map, string_bytes};
+ghost use Rattle.std.specs.Prelude.{◌≡◌, ◌≢◌, ◌↔◌, true, false, IfOk, IfErr, IfSome, OnOk, IsErrOf, option_map, string_bytes};
 ghost use Rattle.std.specs.Io.KnownBytes.{IsAtEnd};
 ghost use Rattle.specification.specs.Lines.{operation_text};
 ghost use Rattle.contents_check.specs.FaultOf.{fault_of};
@@ -89,6 +89,7 @@ pub fn run<H: Threads + Sync, R: Read + Drop, W: Write + Drop>(
     ensures workers { IsErrOf result RunFault.Workers ↔ IsNoWorkers workers }
     ensures unread { IsNoWorkers workers → source.new ≡ source.old }
     ensures read { IfErr result (λ fault. fault ≡ RunFault.Read → IsClosed source.new) }
+    ensures memory { IfErr result (λ fault. fault ≡ RunFault.Memory → source.new.failed ≡ false) }
     ensures trace { IfErr result (λ fault. IfSome source.old.bytes (λ text. NamesFirstFault text fault)) }
     ensures write { IfErr result (λ fault. fault ≡ RunFault.Write → (sink.new.failed ≡ true) × IfSome source.old.bytes (λ text. ReportsFront text sink.old.bytes sink.new.bytes)) }
     ensures unwritten { IfErr result (λ fault. fault ≢ RunFault.Write → sink.new ≡ sink.old) }

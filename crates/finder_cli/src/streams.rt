@@ -76,6 +76,7 @@ impl<R: Read + Drop> Source<R> {
         ensures bytes { IfSome result (λ n. Consumes self.old.bytes self.new.bytes (take n buffer.new) × (n ≡ 0 → 0 < length buffer.new → IsAtEnd self.new.bytes)) }
         ensures went { IfSome result (λ n. (self.new.failed ≡ false) × (self.old.failed ≡ false) × (self.new.calls ≡ self.old.calls + 1) × (self.new.calls ≤ READS)) }
         ensures failed { result ≡ None → Keeps self.old.bytes self.new.bytes × IsClosed self.new }
+        ensures asked { result ≡ None → ¬ IsClosed self.old → self.new.calls ≡ self.old.calls + 1 }
         ensures closed { IsClosed self.old → (result ≡ None) × (self.new ≡ self.old) }
     {
         if self.has_failed || self.reads == READS {
@@ -152,6 +153,7 @@ impl<W: Write + Drop> Sink<W> {
         ensures bytes { IfSome result (λ n. Appends self.old.bytes self.new.bytes (take n bytes.now)) }
         ensures went { IfSome result (λ n. (self.new.failed ≡ false) × (self.old.failed ≡ false) × (self.new.calls ≡ min (self.old.calls + 1) (2 ^ 64 - 1))) }
         ensures failed { result ≡ None → Keeps self.old.bytes self.new.bytes × (self.new.failed ≡ true) }
+        ensures asked { result ≡ None → self.old.failed ≡ false → self.new.calls ≡ min (self.old.calls + 1) (2 ^ 64 - 1) }
         ensures closed { self.old.failed ≡ true → (result ≡ None) × (self.new ≡ self.old) }
     {
         if self.has_failed {
