@@ -71,6 +71,7 @@ pub fn body(act: Act, response: Response) -> Result<Body, Fail> {
     }
 }
 
+/// The name of an operation.
 pub fn operation(replica: u32, n: u32) -> Result<OpName, Fail> {
     Ok(OpName::new(replica, n).ok_or("no operation")?)
 }
