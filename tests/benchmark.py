@@ -1,8 +1,9 @@
 #!/usr/bin/env python3
-"""benchmark.py PROGRAM: seconds, MB/s and peak memory on legal traces near the limits, and how time grows.
+"""benchmark.py PROGRAM [RUNS [SIZE..]]: seconds, MB/s and peak memory of the whole program, and how its time grows.
 
-It is no timed test: what counts as passed is that each trace has the verdict that it is made for. Traces `reading`
-insert one name twice, which is found before any response is judged."""
+The traces are those of traces.py: XL is near the limits. Sizes are M, L and XL, and runs ten, unless told otherwise. It
+is no timed test: what counts as passed is that each trace has the verdict that it is made for. What is required of time
+and memory stands beside the measures at XL, for a quiet machine."""
 import math
 import os
 import subprocess
@@ -13,15 +14,18 @@ from pathlib import Path
 from typing import NamedTuple
 
 from program import Tally, program_of
+from traces import FAMILIES, SIZES
 
-RUNS = 10
 TRACES = Path(__file__).parent / "traces.py"
+
+# Near the limits: at most so many seconds, and so many MB of memory.
+REQUIRED = {"accepted": (3, 400), "ring": (20, 400)}
 
 
 class Measured(NamedTuple):
     """The best of some runs."""
 
-    line: bytes
+    line: str  # of the verdict
     seconds: float
     peak: int  # bytes
 
@@ -34,62 +38,66 @@ def once(program: str, path: str) -> Measured:
                            file_actions=[(os.POSIX_SPAWN_DUP2, writer, 1)])
     os.close(writer)
     with open(reader, "rb") as out:
-        line = out.read()
+        lines = out.read().decode().splitlines()
     _, _, used = os.wait4(child, 0)
     seconds = time.monotonic() - start
-    return Measured(line, seconds, used.ru_maxrss * 1024)
+    return Measured(lines[1] if len(lines) > 1 else "", seconds, used.ru_maxrss * 1024)
 
 
-class Kind(NamedTuple):
-    """Traces of one kind: the words that make them, the names that are changed, and the verdict's first word."""
-
-    name: str
-    words: list
-    change: str
-    verdict: bytes
-
-
-KINDS = [
-    Kind("no receipts", [], "", b"sound"),
-    Kind("reading", [], "s/b000000/a000000/g", b"doubled"),
-    Kind("receipts", ["--receipts"], "", b"sound"),
-]
-
-
-def make(path: str, size: str, kind: Kind) -> None:
-    """A trace in a file. It is made by processes of their own: a child's peak counts what its parent holds."""
+def make(path: str, family: str, size: str) -> None:
+    """A trace in a file, made by a process of its own: a child's peak counts what its parent holds."""
     with open(path, "wb") as out:
-        traces = subprocess.Popen([sys.executable, str(TRACES), size, *kind.words], stdout=subprocess.PIPE)
-        subprocess.run(["sed", "-e", kind.change], stdin=traces.stdout, stdout=out, check=True)
-        traces.stdout.close()
-        if traces.wait() != 0:
-            sys.exit("no trace was made")
+        subprocess.run([sys.executable, str(TRACES), family, size], stdout=out, check=True)
 
 
-def measured(program: str, path: str) -> Measured:
-    runs = [once(program, path) for _ in range(RUNS)]
+def measured(program: str, path: str, times: int) -> Measured:
+    runs = [once(program, path) for _ in range(times)]
     return Measured(runs[0].line, min(run.seconds for run in runs), max(run.peak for run in runs))
 
 
+def requirement(family: str, size: str) -> str:
+    if size != "XL" or family not in REQUIRED:
+        return ""
+    seconds, peak = REQUIRED[family]
+    return f"required: under {seconds} s, under {peak} MB"
+
+
+def growth(grown: list) -> str:
+    """The power of the text's length with which time grows, from each size to the next."""
+    powers = [math.log(slow / fast) / math.log(large / small) for (small, fast), (large, slow) in zip(grown, grown[1:])]
+    return "time grows with the text to the power " + ", then ".join(f"{power:.2f}" for power in powers)
+
+
+def words_of() -> tuple:
+    """The script's words behind the program: how many runs, and the sizes."""
+    words = sys.argv[2:]
+    sizes = words[1:] or ["M", "L", "XL"]
+    if not all(size in SIZES for size in sizes) or (words and not words[0].isdigit()) or words[:1] == ["0"]:
+        sys.exit(f"usage: benchmark.py PROGRAM [RUNS [SIZE..]], sizes {' '.join(SIZES)}")
+    return int(words[0]) if words else 10, sizes
+
+
 def main() -> None:
-    program = program_of(sys.argv)
+    program = program_of(sys.argv[:2])
+    times, sizes = words_of()
     tally = Tally()
-    print(f"{'trace':18} {'bytes':>10} {'seconds':>8} {'MB/s':>7} {'peak MB':>8} {'peak/text':>9}")
+    print(f"{'trace':16} {'verdict':>11} {'bytes':>10} {'seconds':>8} {'MB/s':>7} {'peak MB':>8} {'peak/text':>9}")
     with tempfile.TemporaryDirectory() as folder:
         path = os.path.join(folder, "trace")
-        for kind in KINDS:
+        for name, family in FAMILIES.items():
             grown = []
-            for size in ("tenth", "full"):
-                make(path, size, kind)
+            for size in sizes:
+                make(path, name, size)
                 length = os.path.getsize(path)
-                got = measured(program, path)
-                shown = f"{size}, {kind.name}"
-                print(f"{shown:18} {length:10} {got.seconds:8.3f} {length / 1e6 / got.seconds:7.1f}"
-                      f" {got.peak / 1e6:8.1f} {got.peak / length:9.2f}")
-                tally.check(shown, got.line.split()[:1] == [kind.verdict], got.line)
+                got = measured(program, path, times)
+                verdict = family.verdict(SIZES[size].replicas)
+                print(f"{size + ' ' + name:16} {verdict:>11} {length:10} {got.seconds:8.3f} {length / 1e6 / got.seconds:7.1f}"
+                      f" {got.peak / 1e6:8.1f} {got.peak / length:9.2f} {requirement(name, size)}".rstrip(), flush=True)
+                holds = got.line == verdict or (verdict == "doubled" and got.line.startswith("doubled "))
+                tally.check(f"{size} {name}", holds, got.line)
                 grown.append((length, got.seconds))
-            (small, fast), (large, slow) = grown
-            print(f"time grows with the text to the power {math.log(slow / fast) / math.log(large / small):.2f}")
+            if len(grown) > 1:
+                print(f"{name}: {growth(grown)}")
     tally.close()
 
 

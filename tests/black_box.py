@@ -1,36 +1,41 @@
 #!/usr/bin/env python3
 """black_box.py PROGRAM: what only the built program can show: lines, statuses, standard error, files and pipes."""
+import json
 import os
+import subprocess
 import sys
 import tempfile
 from pathlib import Path
 
-from program import Ended, Tally, fault, program_of, run, verdict
+from program import Ended, Tally, fault, program_of, report, run
 
-VECTORS = Path(__file__).parent / "vectors"
+ROOT = Path(__file__).parent.parent
+VECTORS = ROOT / "tests" / "vectors"
 
-DELETED = "trace 1\nreplicas 1\n0 ins a 0 : a\n0 del a :\n0 read :\n"
+DELETED = b"trace 1\nreplicas 1\n0 ins a 0 : a\n0 del a :\n0 read :\n"
+DELETED_REPORT = report(b"replicas 1 operations 3 inserts 1\naccepted\nstrong yes\nweak yes\norder : a\n")
+ACCEPTED = "accepted|strong yes|weak yes|order :"
 
-# Recordings by name: how many replicas, the entries, and the line of the verdict.
+# Recordings by name that are no vectors: how many replicas, the entries, and the lines of the report.
 WORKED = [
-    ("empty recording", 1, "", "sound"),
-    ("insert, delete, read", 1, "0 ins a 0 : a|0 del a :|0 read :", "sound"),
-    ("three-way cycle", 3, "0 ins x 0 : x|1 recv 0 1|2 recv 0 1|1 ins a 0 : a x|2 ins b 1 : x b|0 del x :"
-     "|0 recv 1 1|0 recv 2 1|0 read : b a", "sound"),
-    ("opposite pair", 2, "0 ins a 0 : a|1 ins b 0 : b|0 recv 1 1|1 recv 0 1|0 read : a b|1 read : b a", "sound"),
-    ("ring of four", 6, "0 ins a 0 : a|1 ins b 0 : b|2 recv 0 1|2 recv 1 1|2 read : a b|3 recv 1 1|3 ins c 1 : b c"
-     "|4 recv 3 1|4 del b : c|4 ins d 1 : c d|5 recv 4 2|5 del c : d|5 recv 0 1|5 read : d a", "sound"),
-    ("read shows a deleted element", 1, "0 ins a 0 : a|0 del a :|0 read : a", "contents 0.3"),
-    ("repeated name in a response", 1, "0 ins a 0 : a|0 read : a a", "contents 0.2"),
-    ("chain of receipts", 3, "0 ins a 0 : a|1 recv 0 1|1 ins b 1 : a b|2 recv 1 1|2 read : b", "contents 2.1"),
-    ("insert past the end", 1, "0 ins a 0 : a|0 ins b 4294967295 : a b", "sound"),
-    ("insert past the end, elsewhere", 1, "0 ins a 0 : a|0 ins b 4294967295 : b a", "position 0.2"),
-    ("doubled name", 2, "0 ins a 0 : a|0 ins b 1 : a b|1 ins b 0 : b", "doubled 0.2 1.1"),
-    ("doubled name, the other way round", 2, "1 ins b 0 : b|0 ins a 0 : a|0 ins b 1 : a b", "doubled 0.2 1.1"),
-    ("deleted before it is inserted", 1, "0 del a :|0 ins a 0 :", "position 0.2"),
-    ("repeated receipts", 2, "0 ins a 0 : a|1 recv 0 1|1 recv 0 1|1 read : a", "sound"),
-    ("two inserts", 2, "0 ins a 0 : a|1 ins b 0 : b", "sound"),
+    ("repeated name in a response", 1, "0 ins a 0 : a|0 read : a a",
+     "replicas 1 operations 2 inserts 1|contents 0.2|strong no|weak no"),
+    ("insert past the end", 1, "0 ins a 0 : a|0 ins b 4294967295 : a b",
+     f"replicas 1 operations 2 inserts 2|{ACCEPTED} a b"),
+    ("insert past the end, elsewhere", 1, "0 ins a 0 : a|0 ins b 4294967295 : b a",
+     "replicas 1 operations 2 inserts 2|position 0.2|strong no|weak no"),
+    ("doubled name", 2, "0 ins a 0 : a|0 ins b 1 : a b|1 ins b 0 : b", "replicas 2 operations 3 inserts 3|doubled 0.2 1.1"),
+    ("doubled name, the other way round", 2, "1 ins b 0 : b|0 ins a 0 : a|0 ins b 1 : a b",
+     "replicas 2 operations 3 inserts 3|doubled 0.2 1.1"),
+    ("two inserts", 2, "0 ins a 0 : a|1 ins b 0 : b", f"replicas 2 operations 2 inserts 2|{ACCEPTED} a b"),
+    ("two inserts, read the other way round", 2, "0 ins a 0 : a|1 ins b 0 : b|0 recv 1 1|0 read : b a",
+     f"replicas 2 operations 3 inserts 2|{ACCEPTED} b a"),
 ]
+DOUBLED = "0 ins a 0 : a|0 ins b 1 : a b|1 ins b 0 : b"
+DOUBLED_JSON = b'{"again":"1.1","first":"0.2","inserts":3,"operations":3,"replicas":2,"verdict":"doubled"}\n'
+
+# Vectors of which the report must not depend on the number of workers.
+SEARCHED = ["all-three-way-cycle", "all-opposite-pair", "all-ring-of-four"]
 
 # Texts that spell no recording, and the fault.
 MALFORMED = [
@@ -69,6 +74,10 @@ USAGE = [
     ["verdict", "--workers"],
     ["verdict", "t", "u"],
     ["verdict", "--quick", "t"],
+    ["verdict", "--json"],
+    ["verdict", "--json", "--json", "t"],
+    ["verdict", "--json=yes", "t"],
+    ["--json", "verdict", "t"],
     ["verdict", b"\xff"],
     [b"\xff\xfe"],
     [""],
@@ -78,17 +87,18 @@ USAGE = [
 
 
 def trace_of(replicas: int, entries: str) -> bytes:
-    lines = ["trace 1", f"replicas {replicas}", *(entries.split("|") if entries else [])]
-    return "".join(line + "\n" for line in lines).encode()
+    return lines_of(f"trace 1|replicas {replicas}|{entries}")
+
+
+def lines_of(lines: str) -> bytes:
+    return "".join(line + "\n" for line in lines.split("|") if line).encode()
 
 
 def worked(tally: Tally, program: str) -> None:
-    for name, replicas, entries, line in WORKED:
-        trace = trace_of(replicas, entries)
-        tally.same(name, run(program, trace=trace), verdict(line))
-        for workers in ("1", "2", "7", "64"):
-            words = ["verdict", "--workers", workers, "-"]
-            tally.same(f"{name}, {workers} workers", run(program, words, trace), verdict(line))
+    for name, replicas, entries, lines in WORKED:
+        tally.same(name, run(program, trace=trace_of(replicas, entries)), report(lines_of(lines)))
+    got = run(program, ["verdict", "--json", "-"], trace_of(2, DOUBLED))
+    tally.same("doubled name as JSON", got, Ended(1, DOUBLED_JSON, b""))
 
 
 def malformed(tally: Tally, program: str) -> None:
@@ -104,25 +114,106 @@ def malformed(tally: Tally, program: str) -> None:
     tally.same("places full", run(program, trace=b"trace 1\nreplicas 1\n" + limit.encode()), fault("line 67: places full"))
 
 
-def line_of_report(report: str) -> str:
-    """The verdict's line, as it is written without the rest of the report."""
-    line = report.splitlines()[1]
-    return line if line.split()[0] in ("doubled", "contents", "position") else "sound"
+def reports_of(vector: Path) -> list:
+    """The two forms of a vector's report: the words that ask for each, and how the run must end."""
+    status = int(vector.with_suffix(".status").read_text())
+    forms = ([], ".report"), (["--json"], ".json")
+    return [(words, Ended(status, vector.with_suffix(suffix).read_bytes(), b"")) for words, suffix in forms]
 
 
 def vectors(tally: Tally, program: str) -> None:
     for path in sorted(VECTORS.glob("*.trace")):
-        wanted = verdict(line_of_report(path.with_suffix(".report").read_text()))
-        tally.same(f"{path.name} as a file", run(program, ["verdict", str(path)]), wanted)
-        tally.same(path.name, run(program, trace=path.read_bytes()), wanted)
+        for words, wanted in reports_of(path):
+            tally.same(f"{path.name} as a file {words}", run(program, ["verdict", *words, str(path)]), wanted)
+            tally.same(f"{path.name} {words}", run(program, ["verdict", "-", *words], path.read_bytes()), wanted)
     for path in sorted(VECTORS.glob("malformed/*.trace")):
         wanted = fault(path.with_suffix(".fault").read_text().rstrip("\n"))
-        tally.same(path.name, run(program, ["verdict", str(path)]), wanted)
+        for words in [], ["--json"]:
+            tally.same(f"{path.name} {words}", run(program, ["verdict", *words, str(path)]), wanted)
+
+
+def workers(tally: Tally, program: str) -> None:
+    for path in [VECTORS / f"{name}.trace" for name in SEARCHED]:
+        for words, wanted in reports_of(path):
+            for n in ("1", "2", "7", "64"):
+                got = run(program, ["verdict", "--workers", n, *words, str(path)])
+                tally.same(f"{path.name} {words}, {n} workers", got, wanted)
+
+
+def most_threads(program: str, words: list) -> int:
+    """The most threads that were seen of one run, which is looked at over and over until it ends."""
+    child = subprocess.Popen([program, *words], stdout=subprocess.DEVNULL)
+    most = 0
+    while child.poll() is None:
+        try:
+            most = max(most, len(os.listdir(f"/proc/{child.pid}/task")))
+        except FileNotFoundError:
+            pass
+    return most
+
+
+def threads(tally: Tally, program: str, folder: str) -> None:
+    """As many threads search as were asked for. The check of contents before it has a thread for each processor."""
+    path = os.path.join(folder, "ring")
+    with open(path, "wb") as out:
+        subprocess.run([sys.executable, str(ROOT / "tests" / "traces.py"), "ring", "M"], stdout=out, check=True)
+    processors = os.cpu_count() or 1
+    many = min(64, 2 * processors + 8)
+    tally.check("one worker", most_threads(program, ["verdict", "--workers", "1", path]) <= processors + 1)
+    seen = most_threads(program, ["verdict", "--workers", str(many), path])
+    tally.check(f"{many} workers in threads", seen >= many, f"saw {seen}")
+
+
+def runs_shown(page: Path) -> list:
+    """The indented blocks of a page that begin with `$`: the words of the command, and what it prints."""
+    shown = []
+    is_shown = False
+    for line in page.read_text().splitlines():
+        if line.startswith("    $ "):
+            shown.append((line[6:].split(), b""))
+            is_shown = True
+        elif line.startswith("    ") and is_shown:
+            words, printed = shown.pop()
+            shown.append((words, printed + line[4:].encode() + b"\n"))
+        else:
+            is_shown = False
+    return shown
+
+
+def readme(tally: Tally, program: str) -> None:
+    """Each report that the README shows is what the program prints."""
+    runs = runs_shown(ROOT / "README.md")
+    tally.check("README: runs", len(runs) >= 2, runs)
+    for words, printed in runs:
+        tally.check(f"README: {words}", words[:-1] == ["crates/finder_cli/out/finder_cli", "verdict"])
+        tally.same(f"README: {words[-1]}", run(program, ["verdict", str(ROOT / words[-1])]), report(printed))
+
+
+def gallery(tally: Tally, program: str) -> None:
+    """Each example is in the gallery with its report, and the picture of each cycle is the one that is drawn from it."""
+    page = ROOT / "docs" / "gallery.md"
+    judged = set()
+    for words, printed in runs_shown(page):
+        path = ROOT / words[-1]
+        if words[:-1] == ["cat"]:
+            tally.check(f"gallery: {words}", path.read_bytes() == printed)
+            continue
+        tally.check(f"gallery: {words}", words[:-1] == ["crates/finder_cli/out/finder_cli", "verdict"])
+        tally.same(f"gallery: report of {path.name}", run(program, ["verdict", str(path)]), report(printed))
+        judged.add(path)
+        if printed.split(b"\n")[1].startswith(b"refused"):
+            drawn = run(sys.executable, [str(ROOT / "tools" / "draw_cycle.py")],
+                        run(program, ["verdict", "--json", str(path)]).out)
+            picture = ROOT / "docs" / "gallery" / f"{path.stem}.svg"
+            tally.same(f"gallery: {picture.name}", drawn, Ended(0, picture.read_bytes(), b""))
+            tally.check(f"gallery: shows {picture.name}", f"](gallery/{picture.name})" in page.read_text())
+    examples = set(ROOT.glob("examples/*.trace"))
+    tally.check("gallery: has each example", len(examples) >= 10 and judged == examples, examples ^ judged)
 
 
 def command_line(tally: Tally, program: str) -> None:
     for words in USAGE:
-        tally.same(f"usage {words}", run(program, words, DELETED.encode()), fault("usage"))
+        tally.same(f"usage {words}", run(program, words, DELETED), fault("usage"))
     for words in (["--help"], ["-h"], ["help"], ["verdict", "--help"], ["help", "verdict"]):
         got = run(program, words)
         tally.check(f"help {words}", got.status == 0 and got.out.endswith(b"\n") and b"verdict" in got.out and not got.err, got)
@@ -130,12 +221,12 @@ def command_line(tally: Tally, program: str) -> None:
 
 def files(tally: Tally, program: str, folder: str) -> None:
     held = os.path.join(folder, "held trace")
-    Path(held).write_text(DELETED)
+    Path(held).write_bytes(DELETED)
     empty = os.path.join(folder, "empty")
     Path(empty).write_text("")
     missing = os.path.join(folder, "missing")
-    tally.same("a file", run(program, ["verdict", held], b"rubbish"), verdict("sound"))
-    tally.same("a file, workers behind it", run(program, ["verdict", held, "--workers=3"]), verdict("sound"))
+    tally.same("a file", run(program, ["verdict", held], b"rubbish"), DELETED_REPORT)
+    tally.same("a file, workers behind it", run(program, ["verdict", held, "--workers=3"]), DELETED_REPORT)
     tally.same("an empty file", run(program, ["verdict", empty]), fault("line 1: header"))
     tally.same("a missing file", run(program, ["verdict", missing]), fault(f"cannot read {missing}"))
     tally.same("a directory", run(program, ["verdict", folder]), fault(f"cannot read {folder}"))
@@ -143,7 +234,7 @@ def files(tally: Tally, program: str, folder: str) -> None:
     tally.same("no name", run(program, ["verdict", ""]), fault("cannot read "))
     tally.same("a word as given", run(program, ["verdict", "./no/../no such \u00e4"]), fault("cannot read ./no/../no such \u00e4"))
     with open(held, "rb") as opened:
-        tally.same("a file as standard input", run(program, ["verdict", "-"], stdin=opened), verdict("sound"))
+        tally.same("a file as standard input", run(program, ["verdict", "-"], stdin=opened), DELETED_REPORT)
     with open(empty, "rb") as opened:
         tally.same("an empty standard input", run(program, stdin=opened), fault("line 1: header"))
     opened = os.open(folder, os.O_RDONLY)
@@ -157,13 +248,47 @@ def closed_input(tally: Tally, program: str) -> None:
 
 
 def outputs(tally: Tally, program: str) -> None:
+    for words in ["verdict", "-"], ["verdict", "--json", "-"]:
+        with open("/dev/full", "wb") as full:
+            tally.same(f"a full output, {words}", run(program, words, DELETED, out=full), fault("cannot write"))
     with open("/dev/full", "wb") as full:
-        tally.same("a full output", run(program, trace=DELETED.encode(), out=full), fault("cannot write"))
         tally.same("help to a full output", run(program, ["--help"], out=full), fault("cannot write"))
         tally.same("a fault with a full output", run(program, out=full), fault("line 1: header"))
     shell = ["sh", "-c", f'"$0" >&-', program]
-    tally.same("a closed output", run(shell[0], shell[1:], DELETED.encode()), fault("cannot write"))
+    tally.same("a closed output", run(shell[0], shell[1:], DELETED), fault("cannot write"))
     tally.same("a closed error stream", run("sh", ["-c", '"$0" 2>&-', program], b"x\n"), Ended(2, b"", b""))
+
+
+def long_report(tally: Tally, program: str, folder: str) -> None:
+    """A report of 135 KB, more than a pipe holds: whole, and into pipes that nobody reads to the end."""
+    names = [[f"{replica:x}".ljust(32, "_")[:28] + f"{i:04x}" for i in range(256)] for replica in range(16)]
+    entries = [f"{r} ins {name} 0 : {name}|{r} del {name} :" for r in range(16) for name in names[r]]
+    path = os.path.join(folder, "long")
+    Path(path).write_bytes(trace_of(16, "|".join(entries)))
+    order = [name for of_replica in names for name in of_replica]
+    text = lines_of(f"replicas 16 operations 8192 inserts 4096|{ACCEPTED} " + " ".join(order))
+    tally.same("a long report", run(program, ["verdict", path]), report(text))
+    said = {"inserts": 4096, "operations": 8192, "order": order, "replicas": 16, "strong": True, "verdict": "accepted",
+            "weak": True}
+    wanted = Ended(0, json.dumps(said, separators=(",", ":")).encode() + b"\n", b"")
+    tally.same("a long report as JSON", run(program, ["verdict", "--json", path]), wanted)
+    for words, whole in ([], text), (["--json"], wanted.out):
+        for read in 0, 1, 1000:
+            ended = run_to_closed_pipe([program, "verdict", *words, path], read)
+            tally.same(f"a pipe closed after {read} bytes {words}", ended, fault("cannot write")._replace(out=whole[:read]))
+
+
+def run_to_closed_pipe(words: list, read: int) -> Ended:
+    """A run whose output is closed when so many bytes of it have been read."""
+    reader, writer = os.pipe()
+    with open(reader, "rb") as out:
+        if read == 0:
+            out.close()
+        child = subprocess.Popen(words, stdin=subprocess.DEVNULL, stdout=writer, stderr=subprocess.PIPE)
+        os.close(writer)
+        got = b"" if read == 0 else out.read(read)
+    _, err = child.communicate(timeout=60)
+    return Ended(child.returncode, got, err)
 
 
 def long_texts(tally: Tally, program: str) -> None:
@@ -183,9 +308,14 @@ def main() -> None:
     worked(tally, program)
     malformed(tally, program)
     vectors(tally, program)
+    workers(tally, program)
+    readme(tally, program)
+    gallery(tally, program)
     command_line(tally, program)
     with tempfile.TemporaryDirectory() as folder:
         files(tally, program, folder)
+        long_report(tally, program, folder)
+        threads(tally, program, folder)
     closed_input(tally, program)
     outputs(tally, program)
     long_texts(tally, program)

@@ -1,7 +1,8 @@
 #!/usr/bin/env python3
 """mutated.py PROGRAM: random bytes and mutated traces, the same in each run of this script.
 
-The program must end with status 0, 1 or 2 and one line on the right stream, in time linear in its input."""
+The program must end with status 0, 1 or 2 and a report or one line of fault on the right stream, in time linear in its
+input."""
 import math
 import random
 import re
@@ -15,7 +16,10 @@ CASES = 1000
 SEED = 20161016
 VECTORS = Path(__file__).parent / "vectors"
 
-VERDICT = re.compile(rb"(sound|doubled \d+\.\d+ \d+\.\d+|contents \d+\.\d+|position \d+\.\d+)\n")
+REPORT = re.compile(rb"replicas \d+ operations \d+ inserts \d+\n(?:doubled OP OP\n|(?:contents|position) OP\nstrong no\nweak no\n"
+                    rb"|(accepted)\nstrong yes\nweak yes\norder :NAMES\n"
+                    rb"|refused (\d+)\nstrong no\nweak (yes|no)\n((?:step NAME NAME OP :NAMES\n)*))"
+                    .replace(b"OP", rb"\d+\.[1-9]\d*").replace(b"NAMES", rb"(?: NAME)*").replace(b"NAME", rb"[A-Za-z0-9_.-]{1,32}"))
 FAULT = re.compile(rb"finder: line \d+: (header|replicas|shape|cut|no such replica|own receipt|not yet, have \d+"
                    rb"|entries full|inserts full|long response|places full)\n")
 
@@ -24,11 +28,19 @@ WORDS = [b"0", b"1", b"2", b"01", b"4294967295", b"4294967296", b"ins", b"del", 
 
 
 def is_right(ended: Ended) -> bool:
-    """One line on the right stream, and nothing on the other."""
+    """A report, or one line of fault, on the right stream, and nothing on the other."""
     if ended.status == 2:
         return not ended.out and FAULT.fullmatch(ended.err) is not None
-    line = VERDICT.fullmatch(ended.out)
-    return not ended.err and line is not None and ended.status == (0 if line[1] == b"sound" else 1)
+    report = REPORT.fullmatch(ended.out)
+    return not ended.err and report is not None and ended.status == (0 if report[1] else 1) and has_right_steps(report)
+
+
+def has_right_steps(report: re.Match) -> bool:
+    """A refusal has as many steps as its number, which is two exactly where the weak specification fails."""
+    if report[2] is None:
+        return True
+    number = int(report[2])
+    return number >= 2 and report[4].count(b"\n") == number and (report[3] == b"no") == (number == 2)
 
 
 def some_bytes(rnd: random.Random) -> bytes:
@@ -129,7 +141,7 @@ def main() -> None:
         ended = run(program, trace=text)
         tally.check(f"case {i}", is_right(ended), (ended, text[:200]))
         kinds[ended.status] = kinds.get(ended.status, 0) + 1
-    print(f"{kinds[0]} sound, {kinds[1]} with a fault, {kinds[2]} that spell no recording")
+    print(f"{kinds[0]} accepted, {kinds[1]} with a fault or a conflict, {kinds[2]} that spell no recording")
     for name, text_of in GROWING.items():
         fast, slow = seconds(program, text_of(SMALL)), seconds(program, text_of(LARGE))
         # Four times the text may take six times as long; short runs say nothing.

@@ -1,5 +1,5 @@
 #!/usr/bin/env python3
-"""refused_memory.py PROGRAM: each vector, with one request for memory refused, for each of the first requests.
+"""refused_memory.py PROGRAM: each vector, as text and as JSON, with one request for memory refused, for each request.
 
 The program must answer what it answers with ample memory, or want of memory. It needs a C compiler (`cc`)."""
 import os
@@ -10,7 +10,8 @@ from pathlib import Path
 
 from program import Ended, Tally, program_of, run
 
-REQUESTS = 260
+# When so many requests in a row change nothing, the program makes no more. (How many it makes depends on its threads.)
+UNTOLD = 40
 HERE = Path(__file__).parent
 MEMORY = Ended(3, b"", b"finder: memory\n")
 
@@ -22,25 +23,37 @@ def shim(folder: str) -> str:
     return path
 
 
-def refused(library: str, program: str, path: Path, request: int) -> Ended:
-    words = [f"LD_PRELOAD={library}", f"REFUSED_REQUEST={request}", program, "verdict", str(path)]
-    return run("env", words)
+def refused(library: str, words: list, request: int) -> Ended:
+    return run("env", [f"LD_PRELOAD={library}", f"REFUSED_REQUEST={request}", *words])
+
+
+def refuse_each(tally: Tally, library: str, words: list) -> int:
+    """Refuses one request after the other, and answers how often want of memory was told."""
+    ample = run(words[0], words[1:])
+    if ample.status not in (0, 1):
+        sys.exit(f"no report of {words[2:]}: {ample}")
+    told = last = request = 0
+    while request < last + UNTOLD:
+        request += 1
+        got = refused(library, words, request)
+        tally.check(f"{words[2:]}, request {request}", got in (ample, MEMORY), got)
+        if got == MEMORY:
+            told, last = told + 1, request
+    return told
 
 
 def main() -> None:
     program = program_of(sys.argv)
     tally = Tally()
-    short = 0
+    told = {}
     with tempfile.TemporaryDirectory() as folder:
         library = shim(folder)
         for path in sorted(HERE.glob("vectors/*.trace")):
-            ample = run(program, ["verdict", str(path)])
-            for request in range(1, REQUESTS + 1):
-                got = refused(library, program, path, request)
-                short += got == MEMORY
-                tally.check(f"{path.name}, request {request}", got in (ample, MEMORY), got)
-    print(f"{short} times want of memory")
-    tally.check("some request was refused", short > 0)
+            for form in [], ["--json"]:
+                name = " ".join([path.name, *form])
+                told[name] = refuse_each(tally, library, [program, "verdict", *form, str(path)])
+                tally.check(f"some request of {name} was refused", told[name] > 0)
+    print(f"{sum(told.values())} times want of memory, at most {max(told.values())} for one report")
     tally.close()
 
 

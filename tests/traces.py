@@ -1,10 +1,12 @@
 #!/usr/bin/env python3
-"""traces.py {full|tenth} [--receipts]: a legal trace of a sound recording, on standard output.
+"""traces.py FAMILY SIZE: a legal trace near the limits, or near those of a smaller SIZE, on standard output.
 
-Its editors keep one order of all elements. `full` is near the limits, `tenth` a tenth of that."""
+The editors of one group keep one order of all elements: those of their own group first, then those of the next group,
+and so on round; within a group by rank. So the groups' orders together make a ring."""
 import random
 import sys
-from bisect import bisect_left, insort
+from bisect import bisect_left
+from collections.abc import Callable
 from typing import NamedTuple
 
 
@@ -17,96 +19,260 @@ class Size(NamedTuple):
     places: int
 
 
-FULL = Size(16, 4096, 256, 262_144)
-TENTH = Size(16, 410, 26, 26_214)
+SIZES = {"S": Size(4, 160, 24, 3_000), "M": Size(8, 700, 80, 24_000), "L": Size(12, 2000, 160, 90_000),
+         "XL": Size(16, 4096, 256, 262_144)}
 
 # A share of the entries, where replicas hear of each other.
-RECEIPTS = 0.2
+RECEIPTS = 0.35
+
+
+class Element(NamedTuple):
+    author: int
+    rank: float
+    name: str
 
 
 class Replica:
-    """An editor: the elements that it shows, and what it has heard of the others."""
+    """An editor: the elements that it shows, what it may still do, and what it has heard of the others."""
 
-    def __init__(self, number: int, size: Size):
+    def __init__(self, number: int, size: Size, elements: list):
         self.number = number
         self.left = size
-        self.shown = []  # elements in their order, as (rank, name)
+        self.waiting = elements  # to be inserted, the next one last
+        self.keys, self.shown = [], []  # in the order that it keeps
         self.gone = set()
+        self.moved = {}  # elements that have another rank here
         self.did = []  # its operations, as (kind, element)
         self.clocks = []  # before each of them, how many operations of each replica it had heard of
         self.heard = [0] * size.replicas
 
-    def spend(self, inserts: int, places: int) -> None:
-        left = self.left
-        self.left = Size(left.replicas, left.entries - 1, left.inserts - inserts, left.places - places)
 
-    def operate(self, what: str, kind: str, element: tuple) -> str:
-        """The line of an operation, which shows what is there after it."""
-        self.clocks.append(list(self.heard))
-        self.did.append((kind, element))
-        self.heard[self.number] += 1
-        self.spend(kind == "ins", len(self.shown))
-        return f"{self.number} {what} :" + "".join(" " + name for _, name in self.shown)
+class Session:
+    """Editors in so many groups, and the lines that they have recorded."""
 
-    def hear(self, other: "Replica", replicas: list) -> str:
-        """The receipt of the other's last operation: what it had heard of is heard of here."""
-        n = len(other.did)
-        clock = list(other.clocks[-1])
+    def __init__(self, size: Size, groups: int, rnd: random.Random):
+        self.size, self.groups, self.rnd = size, groups, rnd
+        self.lines = ["trace 1", f"replicas {size.replicas}"]
+        elements = self.typed_in_runs()
+        self.replicas = [Replica(r, size, elements[r]) for r in range(size.replicas)]
+
+    def typed_in_runs(self) -> list:
+        """The elements of each replica: runs of typing that lie scattered among those of the others."""
+        runs = []
+        for author in range(self.size.replicas):
+            left = self.size.inserts
+            while left:
+                runs.append((author, min(left, self.rnd.randint(1, 24))))
+                left -= runs[-1][1]
+        self.rnd.shuffle(runs)
+        elements = [[] for _ in range(self.size.replicas)]
+        rank = 0
+        for author, length in runs:
+            first = len(elements[author])
+            run = [Element(author, rank + i, f"{chr(97 + author)}{first + i:06x}") for i in range(length)]
+            elements[author] += run
+            rank += length
+        return [typed[::-1] for typed in elements]
+
+    def group(self, replica: int) -> int:
+        return replica % self.groups
+
+    def key(self, replica: Replica, element: Element) -> tuple:
+        behind = (self.group(element.author) - self.group(replica.number)) % self.groups
+        return behind, replica.moved.get(element, element.rank)
+
+    def put(self, replica: Replica, element: Element) -> int:
+        key = self.key(replica, element)
+        at = bisect_left(replica.keys, key)
+        replica.keys.insert(at, key)
+        replica.shown.insert(at, element)
+        return at
+
+    def drop(self, replica: Replica, element: Element) -> None:
+        replica.gone.add(element)
+        key = self.key(replica, element)
+        at = bisect_left(replica.keys, key)
+        if replica.keys[at:at + 1] == [key]:
+            del replica.keys[at], replica.shown[at]
+
+    def operate(self, replica: Replica, what: str, kind: str, element: Element | None = None) -> None:
+        """An operation shows what is there after it."""
+        replica.did.append((kind, element))
+        replica.clocks.append(list(replica.heard))
+        replica.heard[replica.number] += 1
+        self.spend(replica, kind == "ins", len(replica.shown))
+        self.lines.append(f"{replica.number} {what} :" + "".join(" " + shown.name for shown in replica.shown))
+
+    def spend(self, replica: Replica, inserts: int, places: int) -> None:
+        replicas, entries, inserts_left, places_left = replica.left
+        replica.left = Size(replicas, entries - 1, inserts_left - inserts, places_left - places)
+
+    def insert(self, replica: Replica, element: Element) -> None:
+        at = self.put(replica, element)
+        self.operate(replica, f"ins {element.name} {at}", "ins", element)
+
+    def delete(self, replica: Replica, element: Element) -> None:
+        self.drop(replica, element)
+        self.operate(replica, f"del {element.name}", "del", element)
+
+    def read(self, replica: Replica) -> None:
+        self.operate(replica, "read", "read")
+
+    def receive(self, replica: Replica, other: Replica, n: int) -> None:
+        """The receipt of the other's n-th operation: what it had heard of is heard of here."""
+        self.lines.append(f"{replica.number} recv {other.number} {n}")
+        self.spend(replica, 0, 0)
+        clock = list(other.clocks[n - 1])
         clock[other.number] = n
         news = []
-        for told in replicas:
-            news += told.did[self.heard[told.number]:clock[told.number]]
-            self.heard[told.number] = max(self.heard[told.number], clock[told.number])
-        self.gone.update(element for kind, element in news if kind == "del")
-        self.shown = [element for element in self.shown if element not in self.gone]
+        for told in self.replicas:
+            news += told.did[replica.heard[told.number]:clock[told.number]]
+            replica.heard[told.number] = max(replica.heard[told.number], clock[told.number])
         for kind, element in news:
-            if kind == "ins" and element not in self.gone:
-                insort(self.shown, element)
-        self.spend(0, 0)
-        return f"{self.number} recv {other.number} {n}"
+            if kind == "del":
+                self.drop(replica, element)
+        for kind, element in news:
+            if kind == "ins" and element not in replica.gone:
+                self.put(replica, element)
 
+    def hear(self, replica: Replica, others: list) -> None:
+        other = self.rnd.choice(others)
+        if other is not replica and other.did:
+            old, new = replica.heard[other.number], len(other.did)
+            self.receive(replica, other, new if old == new or self.rnd.random() < 0.8 else self.rnd.randint(old + 1, new))
 
-def edit(replica: Replica, rnd: random.Random) -> str:
-    """One operation, so that the lists stay as long as the names that are left allow."""
-    wanted = replica.left.places / replica.left.entries
-    shown = len(replica.shown)
-    may_insert = replica.left.inserts > 0 and shown < wanted
-    if may_insert and (shown < wanted * 0.9 or rnd.random() < 0.1):
-        count = sum(kind == "ins" for kind, _ in replica.did)
-        element = (rnd.random(), f"{chr(97 + replica.number)}{count:06x}")
-        at = bisect_left(replica.shown, element)
-        replica.shown.insert(at, element)
-        return replica.operate(f"ins {element[1]} {at}", "ins", element)
-    if shown > 2 and (shown > wanted or rnd.random() < 0.02):
-        element = replica.shown.pop(rnd.randrange(shown))
-        replica.gone.add(element)
-        return replica.operate(f"del {element[1]}", "del", element)
-    return replica.operate("read", "read", ())
+    def meet(self, replicas: list) -> None:
+        """Each of them hears of all that the others have done."""
+        for replica in replicas:
+            for other in replicas:
+                if replica is not other and other.did:
+                    self.receive(replica, other, len(other.did))
 
+    def edit(self, replicas: list, rest: Size, deletes: bool = True) -> None:
+        """They edit together until each has only the rest left."""
+        live = [replica for replica in replicas if replica.left.entries > rest.entries]
+        while live:
+            replica = self.rnd.choice(live)
+            shown = len(replica.shown)
+            if replica.left.entries <= rest.entries or replica.left.places - rest.places < shown + 1:
+                live.remove(replica)
+            elif len(replicas) > 1 and self.rnd.random() < RECEIPTS:
+                self.hear(replica, replicas)
+            else:
+                self.edit_once(replica, rest, deletes)
 
-def trace(size: Size, receipts: bool, seed: int = 1) -> bytes:
-    """The text of a legal, sound recording."""
-    rnd = random.Random(seed)
-    replicas = [Replica(number, size) for number in range(size.replicas)]
-    lines = ["trace 1", f"replicas {size.replicas}"]
-    live = list(replicas)
-    while live:
-        replica = rnd.choice(live)
-        other = rnd.choice(replicas)
-        if replica.left.entries == 0 or replica.left.places < len(replica.shown) + 1:
-            live.remove(replica)
-        elif receipts and other is not replica and other.did and rnd.random() < RECEIPTS:
-            lines.append(replica.hear(other, replicas))
+    def edit_once(self, replica: Replica, rest: Size, deletes: bool) -> None:
+        """One operation, so that the lists stay as long as the names that are left allow."""
+        shown, rnd = len(replica.shown), self.rnd
+        operations = max((replica.left.entries - rest.entries) * (1 - RECEIPTS), 1)
+        wanted = (replica.left.places - rest.places) / operations
+        inserts = replica.left.inserts - rest.inserts
+        if deletes and shown > 2 and shown > wanted * 1.4 and rnd.random() < 0.85:
+            self.delete(replica, rnd.choice(replica.shown))
+        elif inserts > 0 and (shown < wanted * 0.9 or rnd.random() < inserts / operations):
+            self.insert(replica, replica.waiting.pop())
+        elif shown > 2 and rnd.random() < (0.6 if shown > wanted * 1.05 else 0.1 if inserts > 0 else 0):
+            self.delete(replica, rnd.choice(replica.shown))
         else:
-            lines.append(edit(replica, rnd))
-    return "".join(line + "\n" for line in lines).encode()
+            self.read(replica)
+
+    def play_small_cycle(self) -> None:
+        """The three-way cycle in the midst of a list: x, then a before it and b behind it, then b before a."""
+        zero, one, two = self.replicas[:3]
+        for replica in zero, one, two:
+            self.read(replica)
+        self.meet([zero, one, two])
+        at = zero.shown[len(zero.shown) // 2].rank
+        x, a, b = (Element(replica.number, at + part, replica.waiting.pop().name)
+                   for replica, part in ((zero, 0.5), (one, 0.4), (two, 0.6)))
+        zero.moved = {a: b.rank, b: a.rank}
+        self.insert(zero, x)
+        self.receive(one, zero, len(zero.did))
+        self.receive(two, zero, len(zero.did))
+        self.insert(one, a)
+        self.insert(two, b)
+        self.delete(zero, x)
+        self.receive(zero, one, len(one.did))
+        self.receive(zero, two, len(two.did))
+        self.read(zero)
+
+    def play_ring(self, deletes: bool) -> None:
+        """Each group edits alone, one reading of the next group's text between."""
+        size = self.size
+        groups = [[r for r in self.replicas if self.group(r.number) == g] for g in range(self.groups)]
+        for group in groups:
+            self.edit(group, Size(size.replicas, size.entries * 6 // 10, size.inserts // 3, size.places * 6 // 10), deletes)
+        for group in groups:
+            self.meet(group)
+            for replica in group:
+                self.read(replica)
+        alone = [len(group[0].did) for group in groups]
+        for replica in self.replicas:
+            after = (self.group(replica.number) + 1) % self.groups
+            self.receive(replica, groups[after][0], alone[after])
+            self.read(replica)
+        for group in groups:
+            self.edit(group, NOTHING, deletes)
+
+
+NOTHING = Size(0, 0, 0, 0)
+
+
+def play_accepted(size: Size, rnd: random.Random) -> Session:
+    session = Session(size, 1, rnd)
+    session.edit(session.replicas, NOTHING)
+    return session
+
+
+def play_small_cycle(size: Size, rnd: random.Random) -> Session:
+    session = Session(size, 1, rnd)
+    session.edit(session.replicas, Size(size.replicas, 80, 2, size.places // 8))
+    session.play_small_cycle()
+    return session
+
+
+def play_ring(size: Size, rnd: random.Random) -> Session:
+    session = Session(size, size.replicas, rnd)
+    session.play_ring(deletes=True)
+    return session
+
+
+def play_long_ring(size: Size, rnd: random.Random) -> Session:
+    session = Session(size, size.replicas // 2, rnd)
+    session.play_ring(deletes=False)
+    return session
+
+
+class Family(NamedTuple):
+    """What the traces are, how they are made, and the line of the verdict for so many replicas."""
+
+    about: str
+    play: Callable
+    verdict: Callable
+
+
+FAMILIES = {
+    "accepted": Family("edits with receipts, deletes and reads", play_accepted, lambda replicas: "accepted"),
+    "reading": Family("the same with one name inserted twice, found before any response is judged", play_accepted,
+                      lambda replicas: "doubled"),
+    "small_cycle": Family("at the end the three-way cycle", play_small_cycle, lambda replicas: "refused 3"),
+    "ring": Family("a group for each replica", play_ring, lambda replicas: f"refused {replicas}"),
+    "long_ring": Family("two replicas in a group, and long responses", play_long_ring,
+                        lambda replicas: f"refused {replicas // 2}"),
+}
+
+
+def trace(family: str, size: str, seed: int = 1) -> bytes:
+    """The text of a legal recording."""
+    session = FAMILIES[family].play(SIZES[size], random.Random(f"{family} {size} {seed}"))
+    text = "".join(line + "\n" for line in session.lines).encode()
+    return text.replace(b"b000000", b"a000000") if family == "reading" else text
 
 
 def main() -> None:
-    sizes = {"full": FULL, "tenth": TENTH}
-    if len(sys.argv) not in (2, 3) or sys.argv[1] not in sizes or sys.argv[2:] not in ([], ["--receipts"]):
-        sys.exit("usage: traces.py {full|tenth} [--receipts]")
-    sys.stdout.buffer.write(trace(sizes[sys.argv[1]], len(sys.argv) == 3))
+    if len(sys.argv) != 3 or sys.argv[1] not in FAMILIES or sys.argv[2] not in SIZES:
+        sys.exit(f"usage: traces.py {{{'|'.join(FAMILIES)}}} {{{'|'.join(SIZES)}}}")
+    sys.stdout.buffer.write(trace(sys.argv[1], sys.argv[2]))
 
 
 if __name__ == "__main__":

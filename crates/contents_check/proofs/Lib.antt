@@ -1,4 +1,3 @@
-pub mod Numbers
 pub mod Table
 pub mod Doubled
 pub mod Fronts

@@ -7,7 +7,6 @@ ghost use Rattle.contents_check.specs.Known.{CanJudge, IsFirstWrong, JudgesAt};
 use super::elements::Elements;
 use super::fault::Fault;
 use super::kept::{Inserted, delete_all, insert_all};
-use super::names::operations_of;
 use super::rightness::{has_right_contents, is_wrong};
 use events::{Memory, OpName, Recording};
 use rayon::prelude::*;
@@ -30,7 +29,7 @@ pub fn first_fault(
     requires { IsSightOf recording.now sight.now }
     ensures { IfOk result (λ found. MatchOption found (IsSound recording.now) (λ fault. IsFirstFault recording.now (fault_of fault))) }
 {
-    let names = operations_of(alloc, recording)?;
+    let names = recording.operations(alloc)?;
     match insert_all(alloc, recording, &names)? {
         Inserted::Twice { first, again } => Ok(Some(Fault::Doubled { first, again })),
         Inserted::Distinct(elements) => {

@@ -8,7 +8,6 @@ mod fault;
 mod first;
 mod kept;
 mod marks;
-mod names;
 mod rightness;
 
 pub use fault::Fault;

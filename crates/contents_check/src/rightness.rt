@@ -113,18 +113,6 @@ fn stands_where_asked(body: &Body) -> bool
     }
 }
 
-/// The response of an operation.
-fn response_of<'a>(recording: &'a Recording, e: OpName) -> Option<&'a Response>
-    ensures { MatchOption result (¬ IsOperation recording.now e) (λ w. response recording.now e ≡ w.now) }
-{
-    match recording.operation(e)? {
-        Body::Ins { response, .. } => Some(response),
-        Body::Del { response, .. } => Some(response),
-        Body::Read { response } => Some(response),
-        Body::Recv { .. } => None,
-    }
-}
-
 /// Whether the response of an operation repeats no name and holds exactly what is visible. Its cost is
 /// linear in the response's length and the number of elements, each with its deletes.
 pub fn has_right_contents(
@@ -140,7 +128,7 @@ pub fn has_right_contents(
     requires operation { IsOperation recording.now e }
     ensures { IsTrue result ↔ HasRightContents recording.now e }
 {
-    match response_of(recording, e) {
+    match recording.response(e) {
         None => true,
         Some(w) => match holds_exactly(alloc, elements, sight, e, w) {
             Ok(holds) => holds,

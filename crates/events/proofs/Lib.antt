@@ -4,3 +4,5 @@ pub mod Streams
 pub mod Lanes
 pub mod Legal
 pub mod Refusals
+pub mod Numbers
+pub mod Bodies

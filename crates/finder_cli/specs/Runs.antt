@@ -1,50 +1,44 @@
 -- What a run writes and answers for the text that it reads.
-use Rattle.std.specs.Prelude.{◌≡◌, ℕ, ◌<◌, ◌⊎◌, Option, Some, None, MatchOption, List, [], ◌∷◌, ◌++◌, codes}
+use Rattle.std.specs.Prelude.{◌≡◌, ℕ, ◌<◌, ◌⊎◌, Option, Some, List}
 use Rattle.std.specs.Io.KnownBytes.{Appends}
 use Rattle.events.specs.History.{History}
-use Rattle.specification.specs.Faults.{Fault, doubled, contents, position, IsSound, IsFirstFault}
-use Rattle.specification.specs.Lines.{Line, operation_text}
+use Rattle.specification.specs.Verdict.{Verdict, IsVerdict, faulty, accepted, refused}
+use Rattle.specification.specs.ReportText.{report_text}
 use Rattle.specification.specs.TraceText.{Spells, IsFirstLineFault, Cause}
 use Rattle.trace_text.specs.Causes.{cause_of}
 use Rattle.trace_text.specs.declared.cause.LineFault.{LineFault}
 use Rattle.finder_cli.specs.Streams.{AppendsFront}
+use Rattle.report.specs.JsonReport.{report_json}
+use Rattle.finder_cli.specs.declared.run.Form.{Form}
+use Rattle.finder_cli.specs.declared.run.Form.TheVariants.{Text, Json}
 use Rattle.finder_cli.specs.declared.run.Status.{Status}
 use Rattle.finder_cli.specs.declared.run.Status.TheVariants.{Good, Bad}
 use Rattle.finder_cli.specs.declared.run.RunFault.{RunFault}
 use Rattle.finder_cli.specs.declared.run.RunFault.TheVariants as run
 
--- the first fault, by its operations
-abbrev pub fault_line : Fault → Line
-fault_line (doubled first again) = codes "doubled " ++ operation_text first ++ 32 ∷ operation_text again
-fault_line (contents at) = codes "contents " ++ operation_text at
-fault_line (position at) = codes "position " ++ operation_text at
+-- the report in a form
+abbrev pub report_of : Form → History → Verdict → List ℕ
+report_of Text h v = report_text h v
+report_of Json h v = report_json h v
 
--- the first fault, or that there is none
-abbrev pub verdict_line : Option Fault → Line
-verdict_line None = codes "sound"
-verdict_line (Some fault) = fault_line fault
+-- good exactly where the verdict accepts
+abbrev pub status_of : Verdict → Status
+status_of (faulty fault) = Bad
+status_of (accepted order) = Good
+status_of (refused k steps) = Bad
 
--- what is written: that line, with its LF
-abbrev pub verdict_text : Option Fault → List ℕ
-verdict_text verdict = verdict_line verdict ++ 10 ∷ []
+-- this is the report of the recording that the text spells, and the status that of its verdict
+abbrev pub IsReportOf : List ℕ → Form → List ℕ → Status → Type 0
+IsReportOf text form report status =
+    (h : History) × (v : Verdict) × Spells text h × IsVerdict h v × (report ≡ report_of form h v) × (status ≡ status_of v)
 
--- good exactly where there is no fault
-abbrev pub status_of : Option Fault → Status
-status_of None = Good
-status_of (Some fault) = Bad
+-- exactly that report was appended
+abbrev pub Reports : List ℕ → Form → Option (List ℕ) → Option (List ℕ) → Status → Type 0
+Reports text form old new status = (report : List ℕ) × IsReportOf text form report status × Appends old new report
 
--- the verdict on the recording that the text spells: its first fault, or none where it is sound
-abbrev pub IsVerdictOf : List ℕ → Option Fault → Type 0
-IsVerdictOf text verdict = (h : History) × Spells text h × MatchOption verdict (IsSound h) (λ fault. IsFirstFault h fault)
-
--- exactly the line of the text's verdict was appended, and the status is that verdict's
-abbrev pub Reports : List ℕ → Option (List ℕ) → Option (List ℕ) → Status → Type 0
-Reports text old new status =
-    (verdict : Option Fault) × IsVerdictOf text verdict × Appends old new (verdict_text verdict) × (status ≡ status_of verdict)
-
--- a front of that line was appended
-abbrev pub ReportsFront : List ℕ → Option (List ℕ) → Option (List ℕ) → Type 0
-ReportsFront text old new = (verdict : Option Fault) × IsVerdictOf text verdict × AppendsFront old new (verdict_text verdict)
+-- a front of it was appended
+abbrev pub ReportsFront : List ℕ → Form → Option (List ℕ) → Option (List ℕ) → Type 0
+ReportsFront text form old new = (report : List ℕ) × (status : Status) × IsReportOf text form report status × AppendsFront old new report
 
 -- the first faulty line of the text, and not want of memory
 abbrev pub IsLineFaultOf : List ℕ → LineFault → Type 0

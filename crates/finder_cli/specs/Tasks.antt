@@ -1,12 +1,13 @@
 -- What holds of the task that a command line asks for.
 use Rattle.std.specs.Prelude.{◌≡◌, ◌≤◌, codes}
+use Rattle.finder_cli.specs.declared.run.Form.TheVariants.{Text}
 use Rattle.finder_cli.specs.declared.task.Task.{Task}
 use Rattle.finder_cli.specs.declared.task.Task.TheVariants.{Verdict}
 
 -- its workers are 1 to 64
 abbrev pub HasWorkers : Task → Type 0
-HasWorkers (Verdict workers file) = (1 ≤ workers) × (workers ≤ 64)
+HasWorkers (Verdict workers form file) = (1 ≤ workers) × (workers ≤ 64)
 
--- the task of a command line without words: standard input and four workers
+-- the task of a command line without words: standard input, four workers, and text
 abbrev pub IsDefault : Task → Type 0
-IsDefault (Verdict workers file) = (workers ≡ 4) × (file ≡ codes "-")
+IsDefault (Verdict workers form file) = (workers ≡ 4) × (form ≡ Text) × (file ≡ codes "-")

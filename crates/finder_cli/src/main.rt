@@ -1,4 +1,4 @@
-//! The program `finder`: reads a recording of collaborative editors, and says whether it is sound.
+//! The program `finder`: reads a recording of collaborative editors, judges it, and writes the report.
 //!
 //! `run` is the engine, over any reader and writer; `read_words` is the command line; `program` joins
 //! them to files, standard streams and exit statuses.

@@ -5,7 +5,7 @@ ghost use Rattle.std.specs.Io.KnownBytes.{Appends};
 ghost use Rattle.finder_cli.specs.Runs.{Reports, IsNoWorkers};
 ghost use Rattle.finder_cli.specs.Endings.{number_of_fault, IsFaultOfRun, NamesFile, IsOfWords};
 
-use super::run::{RunFault, Status, run};
+use super::run::{Form, RunFault, Status, run};
 use super::streams::{Sink, Source};
 use super::task::{Task, Word};
 use super::words::{WordsFault, read_words};
@@ -62,7 +62,13 @@ pub fn finder<H: Env + Files + Input + Print + AllocGlobal + Threads + Sync>(
 ) -> Result<Status, ProgramFault> {
     let words = words_of(rt)?;
     match read_words(rt.alloc(), words.as_slice()) {
-        Ok(Task::Verdict { workers, file }) => judge_file(rt, file, workers),
+        Ok(
+            Task::Verdict {
+                workers,
+                form,
+                file,
+            },
+        ) => judge_file(rt, file, workers, form),
         Err(WordsFault::Usage) => Err(ProgramFault::Usage),
         Err(WordsFault::Memory) => Err(ProgramFault::Memory),
         Err(WordsFault::Help { text }) => show(&mut Sink::new(io::writer(rt)), text.as_bytes()),
@@ -95,37 +101,46 @@ fn show<W: Write + Drop>(sink: &mut Sink<W>, text: &[u8]) -> Result<Status, Prog
     }
 }
 
-/// The verdict on the recording that the file spells; `-` is standard input.
+/// Writes the report on the recording that the file spells; `-` is standard input.
 fn judge_file<H: Files + Input + Print + AllocGlobal + Threads + Sync>(
     rt: &H,
     file: Word,
     workers: u32,
+    form: Form,
 ) -> Result<Status, ProgramFault>
     ensures { IfErr result (λ fault. NamesFile file fault) }
 {
     let mut sink = Sink::new(io::writer(rt));
     if file.as_str() == "-" {
-        return judge(rt, &mut Source::new(rt.reader()), &mut sink, file, workers);
+        return judge(
+            rt,
+            &mut Source::new(rt.reader()),
+            &mut sink,
+            file,
+            workers,
+            form,
+        );
     }
     match fs::open(rt, file.as_str()) {
-        Ok(opened) => judge(rt, &mut Source::new(opened), &mut sink, file, workers),
+        Ok(opened) => judge(rt, &mut Source::new(opened), &mut sink, file, workers, form),
         Err(_) => Err(ProgramFault::Read { file }),
     }
 }
 
-/// The verdict on the recording that the source spells, where it is the source of this file.
+/// Writes the report on the recording that the source spells, where it is the source of this file.
 fn judge<H: AllocGlobal + Threads + Sync, R: Read + Drop, W: Write + Drop>(
     rt: &H,
     source: &mut Source<R>,
     sink: &mut Sink<W>,
     file: Word,
     workers: u32,
+    form: Form,
 ) -> Result<Status, ProgramFault>
-    ensures report { IfOk result (λ status. IfSome source.old.bytes (λ text. Reports text sink.old.bytes sink.new.bytes status)) }
+    ensures report { IfOk result (λ status. IfSome source.old.bytes (λ text. Reports text form sink.old.bytes sink.new.bytes status)) }
     ensures usage { IsErrOf result ProgramFault.Usage ↔ IsNoWorkers workers }
     ensures file { IfErr result (λ fault. NamesFile file fault) }
 {
-    match run(rt, rt.alloc(), source, sink, workers) {
+    match run(rt, rt.alloc(), source, sink, workers, form) {
         Ok(status) => Ok(status),
         Err(fault) => Err(fault_of_run(fault, file)),
     }

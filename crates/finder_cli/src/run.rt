@@ -1,30 +1,37 @@
 //! A run: a trace in, its verdict out.
 
-ghost use Rattle.std.specs.Prelude.{◌≡◌, ◌≢◌, ◌↔◌, true, false, IfOk, IfErr, IfSome, OnOk, IsErrOf, option_map, string_bytes};
+ghost use Rattle.std.specs.Prelude.{◌≡◌, ◌≢◌, ◌↔◌, ◌≤◌, true, false, IfOk, IfErr, IfSome, OnOk, IsErrOf};
 ghost use Rattle.std.specs.Io.KnownBytes.{IsAtEnd};
-ghost use Rattle.specification.specs.Lines.{operation_text};
-ghost use Rattle.contents_check.specs.FaultOf.{fault_of};
+ghost use Rattle.certificate.specs.VerdictOf.{verdict_of};
 ghost use Rattle.finder_cli.specs.Streams.{IsClosed};
-ghost use Rattle.finder_cli.specs.Runs.{fault_line, verdict_text, status_of, IsVerdictOf, Reports, ReportsFront, NamesFirstFault, IsOfText, IsNoWorkers};
+ghost use Rattle.finder_cli.specs.Runs.{report_of, status_of, IsReportOf, Reports, ReportsFront, NamesFirstFault, IsOfText, IsNoWorkers};
 
 use super::streams::{ReadFault, Sink, Source};
 use super::words::MOST_WORKERS;
-use contents_check::{Fault, first_fault};
-use events::{Memory, OpName, Refusal};
-use std::alloc::{AllocError, Global};
+use certificate::{NoGate, SearchFault, Verdict, judge};
+use events::{Memory, Recording, Refusal};
+use std::alloc::Global;
 use std::io::{Read, Write};
 use std::thread::Threads;
 use thiserror::Error;
 use trace_text::{Cause, LineFault};
-use visibility::Sight;
 
-/// How a run ended that wrote its verdict.
+/// How a run ended that wrote its report.
 #[derive(Clone, Copy, Debug, PartialEq, Eq)]
 pub enum Status {
-    /// The recording is sound.
+    /// The recording is accepted: it has no fault, and some order follows every response.
     Good,
-    /// It has a fault.
+    /// It has a fault, or no order follows every response.
     Bad,
+}
+
+/// How a report is written.
+#[derive(Clone, Copy, Debug, PartialEq, Eq)]
+pub enum Form {
+    /// As lines of text.
+    Text,
+    /// As one JSON object, and a LF.
+    Json,
 }
 
 impl Status {
@@ -42,7 +49,8 @@ impl Status {
     }
 }
 
-/// Why a run wrote no verdict, or not the whole of it. The first that holds, in this order, is answered.
+/// Why a run wrote no report, or not the whole of it. `Workers` is tested first; want of memory is answered
+/// where it is met.
 #[derive(Clone, Copy, Debug, PartialEq, Eq, Error)]
 pub enum RunFault {
     /// The number of workers is not 1 to 64.
@@ -54,7 +62,7 @@ pub enum RunFault {
     /// The text spells no recording: its first faulty line.
     #[error(transparent)]
     Trace(LineFault),
-    /// A write failed or took no byte. A front of the verdict's line was written.
+    /// A write failed or took no byte. A front of the report was written.
     #[error("cannot write")]
     Write,
     /// A growth was refused.
@@ -73,9 +81,9 @@ impl From<Memory> for RunFault {
     }
 }
 
-/// Reads a trace to its end, and writes the one line of its verdict: its first fault, or `sound`.
+/// Reads a trace to its end, and writes the report of its verdict.
 ///
-/// The number of workers is tested before anything is read. Nothing is written before the whole line is
+/// The number of workers is tested before anything is read. Nothing is written before the whole report is
 /// made. A trace line that is refused for want of memory is `Memory`.
 pub fn run<H: Threads + Sync, R: Read + Drop, W: Write + Drop>(
     rt: &H,
@@ -83,15 +91,16 @@ pub fn run<H: Threads + Sync, R: Read + Drop, W: Write + Drop>(
     source: &mut Source<R>,
     sink: &mut Sink<W>,
     workers: u32,
+    form: Form,
 ) -> Result<Status, RunFault>
-    ensures report { IfOk result (λ status. IfSome source.old.bytes (λ text. Reports text sink.old.bytes sink.new.bytes status)) }
+    ensures report { IfOk result (λ status. IfSome source.old.bytes (λ text. Reports text form sink.old.bytes sink.new.bytes status)) }
     ensures end { OnOk result (IsAtEnd source.new.bytes) }
     ensures workers { IsErrOf result RunFault.Workers ↔ IsNoWorkers workers }
     ensures unread { IsNoWorkers workers → source.new ≡ source.old }
     ensures read { IfErr result (λ fault. fault ≡ RunFault.Read → IsClosed source.new) }
     ensures memory { IfErr result (λ fault. fault ≡ RunFault.Memory → source.new.failed ≡ false) }
     ensures trace { IfErr result (λ fault. IfSome source.old.bytes (λ text. NamesFirstFault text fault)) }
-    ensures write { IfErr result (λ fault. fault ≡ RunFault.Write → (sink.new.failed ≡ true) × IfSome source.old.bytes (λ text. ReportsFront text sink.old.bytes sink.new.bytes)) }
+    ensures write { IfErr result (λ fault. fault ≡ RunFault.Write → (sink.new.failed ≡ true) × IfSome source.old.bytes (λ text. ReportsFront text form sink.old.bytes sink.new.bytes)) }
     ensures unwritten { IfErr result (λ fault. fault ≢ RunFault.Write → sink.new ≡ sink.old) }
 {
     if workers == 0 || workers > MOST_WORKERS {
@@ -102,33 +111,78 @@ pub fn run<H: Threads + Sync, R: Read + Drop, W: Write + Drop>(
         Err(ReadFault::Read) => return Err(RunFault::Read),
         Err(ReadFault::Memory) => return Err(RunFault::Memory),
     };
-    let verdict = verdict_of(rt, alloc, &text)?;
-    let status = status_of(&verdict);
-    let line = text_of(alloc, verdict)?;
-    match sink.write_whole(line.as_bytes()) {
-        Ok(()) => Ok(status),
+    let report = report_on(rt, alloc, &text, workers, form)?;
+    match sink.write_whole(&report.bytes) {
+        Ok(()) => Ok(report.status),
         Err(_) => Err(RunFault::Write),
     }
 }
 
-/// The verdict on the recording that the text spells.
-fn verdict_of<H: Threads + Sync>(
+/// A report, and the status that goes with it.
+#[derive(Drop)]
+pub struct Report {
+    pub bytes: Vec<u8>,
+    pub status: Status,
+}
+
+/// The report on the recording that the text spells.
+fn report_on<H: Threads + Sync>(
     rt: &H,
     alloc: Global,
     text: &[u8],
-) -> Result<Option<Fault>, RunFault>
-    ensures ok { IfOk result (λ verdict. IsVerdictOf text.now (option_map fault_of verdict)) }
+    workers: u32,
+    form: Form,
+) -> Result<Report, RunFault>
+    requires workers { (1 ≤ workers) × (workers ≤ 64) }
+    ensures ok { IfOk result (λ report. IsReportOf text.now form report.bytes.items report.status) }
     ensures trace { IfErr result (λ fault. NamesFirstFault text.now fault × IsOfText fault) }
 {
     let recording = match trace_text::read(alloc, text) {
         Ok(recording) => recording,
         Err(fault) => return Err(trace_fault(fault)),
     };
-    let sight = Sight::of(alloc, &recording)?;
-    Ok(first_fault(rt, alloc, &recording, &sight)?)
+    let verdict = verdict_on(rt, alloc, &recording, workers)?;
+    let bytes = bytes_of(alloc, &recording, &verdict, form)?;
+    Ok(Report {
+        bytes,
+        status: status_of(&verdict),
+    })
+}
+
+/// The verdict on the recording.
+fn verdict_on<H: Threads + Sync>(
+    rt: &H,
+    alloc: Global,
+    recording: &Recording,
+    workers: u32,
+) -> Result<Verdict, Memory>
+    requires workers { (1 ≤ workers) × (workers ≤ 64) }
+    ensures { IfOk result (λ v. IsVerdict recording.now (verdict_of v)) }
+{
+    match judge(rt, alloc, recording, workers, &NoGate) {
+        Ok(verdict) => Ok(verdict),
+        Err(SearchFault::Memory) => Err(Memory),
+        Err(SearchFault::Workers) => unreachable!(),
+    }
+}
+
+/// The report of the verdict, in this form.
+fn bytes_of(
+    alloc: Global,
+    recording: &Recording,
+    verdict: &Verdict,
+    form: Form,
+) -> Result<Vec<u8>, Memory>
+    ensures { IfOk result (λ bytes. bytes.items ≡ report_of form recording.now (verdict_of verdict.now)) }
+{
+    match form {
+        Form::Text => report::text(alloc, recording, verdict),
+        Form::Json => report::json(alloc, recording, verdict),
+    }
 }
 
 ghost use Rattle.std.specs.Prelude.{MatchOption};
+ghost use Rattle.specification.specs.Verdict.{IsVerdict};
 ghost use Rattle.trace_text.specs.Causes.{cause_of};
 
 /// The run's fault for a text's: want of memory has no line.
@@ -141,52 +195,12 @@ fn trace_fault(fault: LineFault) -> RunFault
     }
 }
 
-fn status_of(verdict: &Option<Fault>) -> Status
-    ensures { result ≡ status_of (option_map fault_of verdict.now) }
+/// Good exactly where the verdict accepts.
+fn status_of(verdict: &Verdict) -> Status
+    ensures { result ≡ status_of (verdict_of verdict.now) }
 {
     match verdict {
-        None => Status::Good,
-        Some(_) => Status::Bad,
+        Verdict::Accepted(_) => Status::Good,
+        _ => Status::Bad,
     }
-}
-
-/// The verdict's line, with its LF.
-fn text_of(alloc: Global, verdict: Option<Fault>) -> Result<String, Memory>
-    ensures { IfOk result (λ text. string_bytes text ≡ verdict_text (option_map fault_of verdict)) }
-{
-    match verdict {
-        None => Ok(String::from_str(alloc, "sound\n")?),
-        Some(fault) => {
-            let line = line_of(alloc, fault)?;
-            Ok(format!(in alloc; "{line}\n")?)
-        }
-    }
-}
-
-fn line_of(alloc: Global, fault: Fault) -> Result<String, AllocError>
-    ensures { IfOk result (λ line. string_bytes line ≡ fault_line (fault_of fault)) }
-{
-    match fault {
-        Fault::Doubled { first, again } => {
-            let first = name_text(alloc, first)?;
-            let again = name_text(alloc, again)?;
-            format!(in alloc; "doubled {first} {again}")
-        }
-        Fault::Contents { at } => {
-            let at = name_text(alloc, at)?;
-            format!(in alloc; "contents {at}")
-        }
-        Fault::Position { at } => {
-            let at = name_text(alloc, at)?;
-            format!(in alloc; "position {at}")
-        }
-    }
-}
-
-/// The operation's name, as `r.n`.
-fn name_text(alloc: Global, name: OpName) -> Result<String, AllocError>
-    ensures { IfOk result (λ text. string_bytes text ≡ operation_text name) }
-{
-    let OpName { replica, n } = name;
-    format!(in alloc; "{replica}.{n}")
 }

@@ -1,5 +1,6 @@
 //! What a command line asks for.
 
+use super::run::Form;
 use std::alloc::{AllocError, Global};
 use std::marker::Model;
 
@@ -40,10 +41,12 @@ impl Word {
 /// What a command line asks for.
 #[derive(Debug, Drop)]
 pub enum Task {
-    /// The verdict on the recording that a file spells; `-` is standard input.
+    /// The report of the verdict on the recording that a file spells; `-` is standard input.
     Verdict {
         /// How many workers search: 1 to 64.
         workers: u32,
+        /// How the report is written.
+        form: Form,
         file: Word,
     },
 }

@@ -5,6 +5,7 @@ ghost use Rattle.clap.specs.Words.{first_value, found_of, kind_of};
 ghost use Rattle.finder_cli.specs.Tasks.{HasWorkers, IsDefault};
 ghost use Rattle.finder_cli.specs.Workers.{IsPositiveOf, IsWorkersOf};
 
+use super::run::Form;
 use super::task::{Task, Word};
 use clap::error::ErrorKind;
 use clap::{Arg, ArgAction, ArgMatches, Command};
@@ -42,8 +43,8 @@ impl From<AllocError> for WordsFault {
 
 /// The task that the words ask for: those behind the program's name.
 ///
-/// `verdict [--workers N] FILE` is the one command; N is 1 to 64, in digits and without leading zeros, and
-/// 4 where it is not given. No words mean `verdict -`.
+/// `verdict [--workers N] [--json] FILE` is the one command; N is 1 to 64, in digits and without leading
+/// zeros, and 4 where it is not given. No words mean `verdict -`.
 pub fn read_words(alloc: Global, words: &[String]) -> Result<Task, WordsFault>
     ensures workers { IfOk result HasWorkers }
     ensures none { words.now ≡ [] → MatchResult result IsDefault (λ fault. fault ≡ WordsFault.Memory) }
@@ -64,6 +65,7 @@ fn default_task(alloc: Global) -> Result<Task, WordsFault>
     let file = Word::new(alloc, "-")?;
     Ok(Task::Verdict {
         workers: WORKERS,
+        form: Form::Text,
         file,
     })
 }
@@ -81,13 +83,20 @@ fn verdict_command<'a>(alloc: Global) -> Result<Command<'a>, AllocError> {
         .value_name("N")
         .help("How many workers search: 1 to 64, and 4 where it is not said")
         .action(ArgAction::Set);
+    let json = Arg::new(alloc, "json")
+        .long("json")
+        .help("Writes the report as JSON")
+        .action(ArgAction::SetTrue);
     let file = Arg::new(alloc, "FILE")
         .help("The trace; - is standard input")
         .required(true)
         .action(ArgAction::Set);
     Command::new(alloc, "verdict")
-        .about("Says whether a recording is sound, or its first fault")
+        .about(
+            "Judges a recording: its first fault, the order that all responses follow, or the least conflict",
+        )
         .arg(workers)?
+        .arg(json)?
         .arg(file)
 }
 
@@ -99,6 +108,7 @@ fn task_of(alloc: Global, matches: &ArgMatches<'_>) -> Result<Task, WordsFault>
     match name {
         "verdict" => Ok(Task::Verdict {
             workers: workers_of(given)?,
+            form: form_of(given),
             file: file_of(alloc, given)?,
         }),
         _ => Err(WordsFault::Usage),
@@ -119,6 +129,15 @@ fn workers_of(given: &ArgMatches<'_>) -> Result<u32, WordsFault>
         return Err(WordsFault::Usage);
     }
     Ok(n)
+}
+
+/// JSON where it was asked for, else text.
+fn form_of(given: &ArgMatches<'_>) -> Form {
+    if given.get_flag("json") {
+        Form::Json
+    } else {
+        Form::Text
+    }
 }
 
 /// The number from 1 below 2^32 that the word is: digits, the first of them not 0.

@@ -48,6 +48,14 @@ number-none xs a absent =
     ap (λ n. cond (nat_lt n (length xs)) (Some n) None) (none-found xs a absent)
     ∙ ap (λ (b : Bool). cond b (Some (length xs)) None) (let same : length xs ≤ length xs = omega arith in le-ltb (length xs) (length xs) same)
 
+-- a number, or the count for a name that is not among them, is at most the count
+pub number-most : (xs : List NameBytes) (a : NameBytes) → unwrap_or (number_in xs a) (length xs) ≤ length xs
+number-most xs a = go (number_in xs a) refl
+  where
+    go : (n : Option ℕ) → number_in xs a ≡ n → unwrap_or n (length xs) ≤ length xs
+    go (Some i) e = let found = position-Some (bytes_eq a) xs i a e in omega (arith, found.0)
+    go None e = omega arith
+
 -- a member has a number
 pub number-some : (xs : List NameBytes) (a : NameBytes) → Once xs → In a xs → (i : ℕ) × (slice_get xs i ≡ Some a) × (number_in xs a ≡ Some i)
 number-some xs a once i = let p = place_of_In xs a i in (p.0, p.2, number-at xs p.0 a once p.2)

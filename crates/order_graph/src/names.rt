@@ -1,35 +1,10 @@
-ghost use Rattle.std.specs.Prelude.{◌≡◌, IfOk, OnOk, ◌++◌, [], map, filter_map, option_and_then};
+ghost use Rattle.std.specs.Prelude.{◌≡◌, IfOk, OnOk, ◌++◌, [], filter_map, option_and_then};
 ghost use Rattle.std.specs.List.{cons_option};
-ghost use Rattle.events.specs.History.{IsLegal, inserted_name};
-ghost use Rattle.events.specs.Operations.{count, numbers_from, operation, operation_names};
+ghost use Rattle.events.specs.History.{inserted_name};
+ghost use Rattle.events.specs.Operations.{operation};
 
 use events::{Body, Memory, Name, OpName, Recording};
 use std::alloc::Global;
-
-/// The names of all operations, in order.
-pub fn operations_of(alloc: Global, recording: &Recording) -> Result<Vec<OpName>, Memory>
-    ensures names { IfOk result (λ names. names.items ≡ operation_names recording.now) }
-    ensures legal { IsLegal recording.now }
-{
-    let mut names = Vec::new(alloc);
-    for r in 0..recording.replicas() {
-        add_replica(&mut names, r, recording.count(r))?;
-    }
-    Ok(names)
-}
-
-/// Adds the names of a replica's operations, of which there are `count`.
-fn add_replica(names: &mut Vec<OpName>, r: u32, count: u32) -> Result<(), Memory>
-    ensures { OnOk result (names.new.items ≡ names.old.items ++ map (λ n. record { replica = r; n = n }) (numbers_from 1 count)) }
-{
-    for i in 0..count {
-        names.push(OpName {
-            replica: r,
-            n: i + 1,
-        })?;
-    }
-    Ok(())
-}
 
 /// The names that these operations insert, in their order.
 pub fn inserted_names(

@@ -4,7 +4,7 @@ ghost use Rattle.specification.specs.Elements.{number_in};
 ghost use Rattle.specification.specs.Responses.{responses_of, AreProper, IsLeastShowing};
 
 use super::looked::Looked;
-use super::names::{inserted_names, operations_of};
+use super::names::inserted_names;
 use super::pairs::first_list;
 use super::places::{numbers_of, places_of};
 use super::rows::Rows;
@@ -51,12 +51,13 @@ impl OrderGraph {
     ghost use Rattle.order_graph.specs.Spots.{spots_of};
 
     /// The graph of a recording that has no fault. It takes memory and time linear in the places of all
-    /// responses: a name is looked up once for each place.
+    /// responses, the operations and the elements: a name is looked up at most once for each place, and not
+    /// at all where it is the one that followed the name before it the last time.
     pub fn of(alloc: Global, recording: &Recording) -> Result<OrderGraph, Memory>
         requires { IsSound recording.now }
         ensures { IfOk result (λ g. g ≡ responses_of recording.now) }
     {
-        let shown = operations_of(alloc, recording)?;
+        let shown = recording.operations(alloc)?;
         let names = inserted_names(alloc, recording, &shown)?;
         let numbers = numbers_of(alloc, &names)?;
         let places = places_of(alloc, recording, &shown, &names, &numbers)?;

@@ -1,33 +1,12 @@
 //! The one spelling of a recording.
 
-ghost use Rattle.std.specs.Prelude.{◌≡◌, ◌++◌, ◌∷◌, [], decimal, IfOk, OnOk};
-ghost use Rattle.specification.specs.Lines.{names_text, text_of};
+ghost use Rattle.std.specs.Prelude.{◌≡◌, ◌++◌, ◌∷◌, [], IfOk, OnOk};
+ghost use Rattle.specification.specs.Lines.{text_of};
 ghost use Rattle.specification.specs.TraceText.{HEADER, replicas_line, body_text, entry_line, trace_text};
 
-use events::{Body, Entry, Memory, Recording, Response};
+use events::{Body, Entry, Memory, Recording};
+use format_words::{push_name, push_names, push_number};
 use std::alloc::Global;
-
-/// Adds a number's digits.
-fn push_number(alloc: Global, text: &mut Vec<u8>, n: u32) -> Result<(), Memory>
-    ensures { OnOk result (text.new.items ≡ text.old.items ++ decimal n) }
-{
-    let digits = n.to_string(alloc)?;
-    text.extend_from_slice(digits.as_bytes())?;
-    Ok(())
-}
-
-/// Adds names, each after a space.
-fn push_names(text: &mut Vec<u8>, names: &Response) -> Result<(), Memory>
-    ensures { OnOk result (text.new.items ≡ text.old.items ++ names_text names.now) }
-{
-    for i in 0..names.len() {
-        if let Some(name) = names.get(i) {
-            text.push(b' ')?;
-            text.extend_from_slice(name.bytes())?;
-        }
-    }
-    Ok(())
-}
 
 /// Adds what stands behind an entry's replica.
 fn push_body(alloc: Global, text: &mut Vec<u8>, body: &Body) -> Result<(), Memory>
@@ -35,16 +14,16 @@ fn push_body(alloc: Global, text: &mut Vec<u8>, body: &Body) -> Result<(), Memor
 {
     match body {
         Body::Ins { name, at, response } => {
-            text.extend_from_slice(b" ins ")?;
-            text.extend_from_slice(name.bytes())?;
+            text.extend_from_slice(b" ins")?;
+            push_name(text, name)?;
             text.push(b' ')?;
             push_number(alloc, text, *at)?;
             text.extend_from_slice(b" :")?;
             push_names(text, response)?;
         }
         Body::Del { name, response } => {
-            text.extend_from_slice(b" del ")?;
-            text.extend_from_slice(name.bytes())?;
+            text.extend_from_slice(b" del")?;
+            push_name(text, name)?;
             text.extend_from_slice(b" :")?;
             push_names(text, response)?;
         }

@@ -1,3 +1,4 @@
+use crate::run::Form;
 use crate::task::Task;
 use crate::words::{WordsFault, read_words};
 use std::alloc::{AllocError, Global};
@@ -6,7 +7,7 @@ use std::test::Fail;
 /// What a command line asks for.
 #[derive(Clone, Copy, Debug, PartialEq, Eq)]
 enum Request {
-    Workers(u32),
+    Workers(u32, Form),
     Usage,
     Help,
     Memory,
@@ -27,9 +28,10 @@ fn asked_once(alloc: Global, words: &[String], file: &str) -> (Request, bool) {
         Ok(
             Task::Verdict {
                 workers,
+                form,
                 file: word,
             },
-        ) => (Request::Workers(workers), word.as_str() == file),
+        ) => (Request::Workers(workers, form), word.as_str() == file),
         Err(WordsFault::Usage) => (Request::Usage, true),
         Err(WordsFault::Memory) => (Request::Memory, true),
         Err(WordsFault::Help { text }) => (Request::Help, !text.is_empty()),
@@ -55,19 +57,27 @@ fn line_asks(alloc: Global, line: &str, file: &str) -> Result<(Request, bool), A
 #[test]
 fn words_of_a_command_line(rt: HostRuntime) -> Result<(), Fail> {
     let rows = [
-        ("", 4, "-"),
-        ("verdict t", 4, "t"),
-        ("verdict -", 4, "-"),
-        ("verdict --workers 7 t", 7, "t"),
-        ("verdict --workers=7 t", 7, "t"),
-        ("verdict t --workers 7", 7, "t"),
-        ("verdict --workers 1 t", 1, "t"),
-        ("verdict --workers 64 -", 64, "-"),
-        ("verdict -- --workers", 4, "--workers"),
+        ("", 4, Form::Text, "-"),
+        ("verdict t", 4, Form::Text, "t"),
+        ("verdict -", 4, Form::Text, "-"),
+        ("verdict --workers 7 t", 7, Form::Text, "t"),
+        ("verdict --workers=7 t", 7, Form::Text, "t"),
+        ("verdict t --workers 7", 7, Form::Text, "t"),
+        ("verdict --workers 1 t", 1, Form::Text, "t"),
+        ("verdict --workers 64 -", 64, Form::Text, "-"),
+        ("verdict -- --workers", 4, Form::Text, "--workers"),
+        ("verdict --json t", 4, Form::Json, "t"),
+        ("verdict t --json", 4, Form::Json, "t"),
+        ("verdict --workers 2 --json -", 2, Form::Json, "-"),
+        ("verdict -- --json", 4, Form::Text, "--json"),
     ];
-    for (line, workers, file) in rows {
+    for (line, workers, form, file) in rows {
         let answer = line_asks(rt.alloc(), line, file)?;
-        assert_eq!(rt; answer, (Request::Workers(workers), true), "at {line}");
+        assert_eq!(rt;
+            answer,
+            (Request::Workers(workers, form), true),
+            "at {line}"
+        );
     }
     Ok(())
 }
@@ -88,7 +98,8 @@ fn no_command_line(rt: HostRuntime) -> Result<(), Fail> {
         "verdict --workers 4294967303 t",
         "verdict --workers 7 --workers 8 t",
         "verdict t u",
-        "verdict --json t",
+        "verdict --json",
+        "verdict --json=yes t",
         "verdict --quick t",
         "cert t",
         "verify t c",

@@ -6,7 +6,7 @@ use std::io;
 use std::io::{Error, ErrorKind, Read, Write};
 
 /// How many bytes a page holds.
-const ROOM: usize = 64;
+const ROOM: usize = 512;
 
 /// Gives its text, so many bytes a read. One read fails, and those after it do not.
 #[derive(Drop)]
@@ -44,12 +44,12 @@ impl Read for Script<'_> {
 /// Keeps what is written, so many bytes a write. One write fails, and those after it do not.
 #[derive(Drop)]
 pub struct Page {
-    bytes: [u8; 64],
+    bytes: [u8; 512],
     len: usize,
     size: usize,
     pub writes: u32,
     fails_at: u32,
-    ghost within: { len ≤ 64 },
+    ghost within: { len ≤ 512 },
 }
 
 impl Page {

@@ -1,5 +1,5 @@
 use super::pages::{Page, Script};
-use crate::run::{RunFault, Status, run};
+use crate::run::{Form, RunFault, Status, run};
 use crate::streams::{Sink, Source};
 use events::Refusal;
 use std::alloc::Global;
@@ -16,11 +16,12 @@ fn ran_once<H: Threads + Sync>(
     alloc: Global,
     text: &str,
     workers: u32,
+    form: Form,
 ) -> (Result<Status, RunFault>, Page) {
     let mut page = Page::new(LARGE, 0);
     let mut source = Source::new(Script::new(text, LARGE, 0));
     let mut sink = Sink::new(&mut page);
-    let answer = run(rt, alloc, &mut source, &mut sink, workers);
+    let answer = run(rt, alloc, &mut source, &mut sink, workers, form);
     (answer, page)
 }
 
@@ -30,116 +31,167 @@ fn ran<H: Threads + Sync>(
     alloc: Global,
     text: &str,
     workers: u32,
+    form: Form,
 ) -> (Result<Status, RunFault>, Page) {
-    match ran_once(rt, alloc, text, workers) {
-        (Err(RunFault::Memory), _) => ran_once(rt, alloc, text, workers),
+    match ran_once(rt, alloc, text, workers, form) {
+        (Err(RunFault::Memory), _) => ran_once(rt, alloc, text, workers, form),
         answer => answer,
     }
 }
 
-/// Recordings with the line of their verdict.
-const ROWS: [(&str, &str); 19] = [
+/// Recordings with their reports and statuses.
+const ROWS: [(&str, &str, Status); 19] = [
     // The empty recording.
-    ("trace 1\nreplicas 1\n", "sound\n"),
+    (
+        "trace 1\nreplicas 1\n",
+        "replicas 1 operations 0 inserts 0\naccepted\nstrong yes\nweak yes\norder :\n",
+        Status::Good,
+    ),
     // Insert, delete, read.
     (
         "trace 1\nreplicas 1\n0 ins a 0 : a\n0 del a :\n0 read :\n",
-        "sound\n",
+        "replicas 1 operations 3 inserts 1\naccepted\nstrong yes\nweak yes\norder : a\n",
+        Status::Good,
     ),
-    // The three-way cycle, the opposite pair and the ring of four have no fault.
+    // The three-way cycle, the opposite pair and the ring of four.
     (
         "trace 1\nreplicas 3\n0 ins x 0 : x\n1 recv 0 1\n2 recv 0 1\n1 ins a 0 : a x\n2 ins b 1 : x b\n0 del x :\n0 recv 1 1\n0 recv 2 1\n0 read : b a\n",
-        "sound\n",
+        "replicas 3 operations 5 inserts 3\nrefused 3\nstrong no\nweak yes\nstep x b 2.1 : x b\nstep b a 0.3 : b a\nstep a x 1.1 : a x\n",
+        Status::Bad,
     ),
     (
         "trace 1\nreplicas 2\n0 ins a 0 : a\n1 ins b 0 : b\n0 recv 1 1\n1 recv 0 1\n0 read : a b\n1 read : b a\n",
-        "sound\n",
+        "replicas 2 operations 4 inserts 2\nrefused 2\nstrong no\nweak no\nstep a b 0.2 : a b\nstep b a 1.2 : b a\n",
+        Status::Bad,
     ),
     (
         "trace 1\nreplicas 6\n0 ins a 0 : a\n1 ins b 0 : b\n2 recv 0 1\n2 recv 1 1\n2 read : a b\n3 recv 1 1\n3 ins c 1 : b c\n4 recv 3 1\n4 del b : c\n4 ins d 1 : c d\n5 recv 4 2\n5 del c : d\n5 recv 0 1\n5 read : d a\n",
-        "sound\n",
+        "replicas 6 operations 8 inserts 4\nrefused 4\nstrong no\nweak yes\nstep a b 2.1 : a b\nstep b c 3.1 : b c\nstep c d 4.2 : c d\nstep d a 5.2 : d a\n",
+        Status::Bad,
     ),
     // A read shows a deleted element.
     (
         "trace 1\nreplicas 1\n0 ins a 0 : a\n0 del a :\n0 read : a\n",
-        "contents 0.3\n",
+        "replicas 1 operations 3 inserts 1\ncontents 0.3\nstrong no\nweak no\n",
+        Status::Bad,
     ),
     // A repeated name in a response.
     (
         "trace 1\nreplicas 1\n0 ins a 0 : a\n0 read : a a\n",
-        "contents 0.2\n",
+        "replicas 1 operations 2 inserts 1\ncontents 0.2\nstrong no\nweak no\n",
+        Status::Bad,
     ),
     // A chain of receipts: the first insert is visible behind two of them.
     (
         "trace 1\nreplicas 3\n0 ins a 0 : a\n1 recv 0 1\n1 ins b 1 : a b\n2 recv 1 1\n2 read : b\n",
-        "contents 2.1\n",
+        "replicas 3 operations 3 inserts 2\ncontents 2.1\nstrong no\nweak no\n",
+        Status::Bad,
     ),
     (
         "trace 1\nreplicas 3\n0 ins a 0 : a\n1 recv 0 1\n1 ins b 1 : a b\n2 recv 1 1\n2 read : a b\n",
-        "sound\n",
+        "replicas 3 operations 3 inserts 2\naccepted\nstrong yes\nweak yes\norder : a b\n",
+        Status::Good,
     ),
     // An insert past the end, at the end and elsewhere.
     (
         "trace 1\nreplicas 1\n0 ins a 0 : a\n0 ins b 4294967295 : a b\n",
-        "sound\n",
+        "replicas 1 operations 2 inserts 2\naccepted\nstrong yes\nweak yes\norder : a b\n",
+        Status::Good,
     ),
     (
         "trace 1\nreplicas 1\n0 ins a 0 : a\n0 ins b 4294967295 : b a\n",
-        "position 0.2\n",
+        "replicas 1 operations 2 inserts 2\nposition 0.2\nstrong no\nweak no\n",
+        Status::Bad,
     ),
     // A doubled name, both ways round.
     (
         "trace 1\nreplicas 2\n0 ins a 0 : a\n0 ins b 1 : a b\n1 ins b 0 : b\n",
-        "doubled 0.2 1.1\n",
+        "replicas 2 operations 3 inserts 3\ndoubled 0.2 1.1\n",
+        Status::Bad,
     ),
     (
         "trace 1\nreplicas 2\n1 ins b 0 : b\n0 ins a 0 : a\n0 ins b 1 : a b\n",
-        "doubled 0.2 1.1\n",
+        "replicas 2 operations 3 inserts 3\ndoubled 0.2 1.1\n",
+        Status::Bad,
     ),
     // A doubled name comes before other faults.
     (
         "trace 1\nreplicas 1\n0 read : q\n0 ins a 0 : a\n0 ins a 0 : a\n",
-        "doubled 0.2 0.3\n",
+        "replicas 1 operations 3 inserts 2\ndoubled 0.2 0.3\n",
+        Status::Bad,
     ),
     // Deleted before it is inserted.
     (
         "trace 1\nreplicas 1\n0 del a :\n0 ins a 0 :\n",
-        "position 0.2\n",
+        "replicas 1 operations 2 inserts 1\nposition 0.2\nstrong no\nweak no\n",
+        Status::Bad,
     ),
     // A receipt that is repeated.
     (
         "trace 1\nreplicas 2\n0 ins a 0 : a\n1 recv 0 1\n1 recv 0 1\n1 read : a\n",
-        "sound\n",
+        "replicas 2 operations 2 inserts 1\naccepted\nstrong yes\nweak yes\norder : a\n",
+        Status::Good,
     ),
     // Two inserts that do not see each other, and then one that sees both.
     (
         "trace 1\nreplicas 2\n0 ins a 0 : a\n1 ins b 0 : b\n",
-        "sound\n",
+        "replicas 2 operations 2 inserts 2\naccepted\nstrong yes\nweak yes\norder : a b\n",
+        Status::Good,
     ),
     (
         "trace 1\nreplicas 2\n0 ins a 0 : a\n1 ins b 0 : b\n0 recv 1 1\n0 read : b a\n",
-        "sound\n",
+        "replicas 2 operations 3 inserts 2\naccepted\nstrong yes\nweak yes\norder : b a\n",
+        Status::Good,
     ),
     // Contents come before position at one operation.
     (
         "trace 1\nreplicas 1\n0 ins a 0 : a\n0 ins b 0 : a q\n",
-        "contents 0.2\n",
+        "replicas 1 operations 2 inserts 2\ncontents 0.2\nstrong no\nweak no\n",
+        Status::Bad,
     ),
 ];
 
 #[test]
 fn worked_recordings(rt: HostRuntime) -> Result<(), Fail> {
-    for (text, line) in ROWS {
-        let status = if line == "sound\n" {
-            Status::Good
-        } else {
-            Status::Bad
-        };
-        for workers in [1, 4, 64] {
-            let (answer, page) = ran(&rt, rt.alloc(), text, workers);
+    for (text, report, status) in ROWS {
+        let (answer, page) = ran(&rt, rt.alloc(), text, 4, Form::Text);
+        assert_eq!(rt; answer, Ok(status), "at {text}");
+        assert_eq!(rt; page.text(), report.as_bytes(), "at {text}");
+    }
+    Ok(())
+}
+
+#[test]
+fn any_number_of_workers(rt: HostRuntime) -> Result<(), Fail> {
+    // The three-way cycle, the opposite pair and the ring of four.
+    for row in [2, 3, 4] {
+        let (text, report, status) = ROWS[row];
+        for workers in [1, 2, 7, 64] {
+            let (answer, page) = ran(&rt, rt.alloc(), text, workers, Form::Text);
             assert_eq!(rt; answer, Ok(status), "at {text}");
-            assert_eq!(rt; page.text(), line.as_bytes(), "at {text}");
+            assert_eq!(rt; page.text(), report.as_bytes(), "at {text}");
         }
+    }
+    Ok(())
+}
+
+#[test]
+fn reports_as_json(rt: HostRuntime) -> Result<(), Fail> {
+    let rows = [
+        (
+            0,
+            "{\"inserts\":0,\"operations\":0,\"order\":[],\"replicas\":1,\"strong\":true,\"verdict\":\"accepted\",\"weak\":true}\n",
+        ),
+        (
+            11,
+            "{\"again\":\"1.1\",\"first\":\"0.2\",\"inserts\":3,\"operations\":3,\"replicas\":2,\"verdict\":\"doubled\"}\n",
+        ),
+    ];
+    for (row, report) in rows {
+        let (text, _, status) = ROWS[row];
+        let (answer, page) = ran(&rt, rt.alloc(), text, 4, Form::Json);
+        assert_eq!(rt; answer, Ok(status), "at {text}");
+        assert_eq!(rt; page.text(), report.as_bytes(), "at {text}");
     }
     Ok(())
 }
@@ -169,7 +221,7 @@ fn faulty_lines(rt: HostRuntime) -> Result<(), Fail> {
         ),
     ];
     for (text, line, cause) in rows {
-        let (answer, page) = ran(&rt, rt.alloc(), text, 4);
+        let (answer, page) = ran(&rt, rt.alloc(), text, 4, Form::Text);
         assert_eq!(rt;
             answer,
             Err(RunFault::Trace(LineFault { line, cause })),
@@ -187,7 +239,7 @@ fn workers_out_of_range(rt: HostRuntime) -> Result<(), Fail> {
         let mut script = Script::new("trace 1\n", LARGE, 0);
         let mut source = Source::new(&mut script);
         let mut sink = Sink::new(&mut page);
-        let answer = run(&rt, rt.alloc(), &mut source, &mut sink, workers);
+        let answer = run(&rt, rt.alloc(), &mut source, &mut sink, workers, Form::Text);
         assert_eq!(rt; answer, Err(RunFault::Workers));
         assert_eq!(rt; script.reads, 0);
         assert_eq!(rt; page.writes, 0);

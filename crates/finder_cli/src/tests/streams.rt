@@ -1,11 +1,14 @@
 use super::pages::{Page, Script};
-use crate::run::{RunFault, Status, run};
+use crate::run::{Form, RunFault, Status, run};
 use crate::streams::{ReadFault, Sink, Source, WriteFault};
 use std::alloc::Global;
 use std::test::Fail;
 use std::thread::Threads;
 
 const DELETED: &str = "trace 1\nreplicas 1\n0 ins a 0 : a\n0 del a :\n0 read :\n";
+
+const REPORT: &[u8] =
+    b"replicas 1 operations 3 inserts 1\naccepted\nstrong yes\nweak yes\norder : a\n";
 
 /// A run on the text with a reader of 7 bytes a read and a writer of one byte a write.
 #[derive(Drop)]
@@ -30,6 +33,7 @@ fn tried_once<'a, H: Threads + Sync>(
         &mut Source::new(&mut script),
         &mut Sink::new(&mut page),
         4,
+        Form::Text,
     );
     Trial {
         script,
@@ -65,23 +69,22 @@ fn reader_that_fails(rt: HostRuntime) -> Result<(), Fail> {
     let trial = tried(&rt, rt.alloc(), DELETED, 10, 0);
     assert_eq!(rt; trial.answer, Ok(Status::Good));
     assert_eq!(rt; trial.script.reads, 9);
-    assert_eq!(rt; trial.page.text(), b"sound\n".as_slice());
+    assert_eq!(rt; trial.page.text(), REPORT);
     Ok(())
 }
 
 #[test]
 fn writer_that_fails(rt: HostRuntime) -> Result<(), Fail> {
-    let line = b"sound\n";
-    for fails_at in 1..=6u32 {
+    for fails_at in 1..=73u32 {
         let trial = tried(&rt, rt.alloc(), DELETED, 0, fails_at);
         assert_eq!(rt; trial.answer, Err(RunFault::Write), "at {fails_at}");
         assert_eq!(rt; trial.page.writes, fails_at);
-        assert_eq!(rt; trial.page.text(), &line[..fails_at as usize - 1]);
+        assert_eq!(rt; trial.page.text(), &REPORT[..fails_at as usize - 1]);
     }
-    let trial = tried(&rt, rt.alloc(), DELETED, 0, 7);
+    let trial = tried(&rt, rt.alloc(), DELETED, 0, 74);
     assert_eq!(rt; trial.answer, Ok(Status::Good));
-    assert_eq!(rt; trial.page.writes, 6);
-    assert_eq!(rt; trial.page.text(), line.as_slice());
+    assert_eq!(rt; trial.page.writes, 73);
+    assert_eq!(rt; trial.page.text(), REPORT);
     Ok(())
 }
 

@@ -1,5 +1,6 @@
 use Rattle.std.proofs.Common.{sym, arith}
-use Rattle.trace_text.proofs.Written.{entry-more, not-past}
+use Rattle.format_words.proofs.NameList.{not-past}
+use Rattle.trace_text.proofs.Written.{entry-more}
 use Rattle.trace_text.proofs.writing.write.Goals as goal
 use Rattle.trace_text.proofs.writing.write.Goals.{in-Some+in_ok-push_entry, in_default}
 

@@ -47,6 +47,13 @@ numbers_of-requires-clause-few c =
     let is = names-are h c.deref.result.now c.in_ok-names.names.items (c.deref.ensures.value ∙ c.in_ok-shown.ensures.names) c.in_ok-names.ensures in
     few-names h legal c.requires c.deref-2.result.now (c.deref-2.ensures.value ∙ is)
 
+pub places_of-requires-clause-distinct : goal.places_of-requires-clause-distinct
+places_of-requires-clause-distinct c =
+    let h = c.args.recording.now in
+    let legal : IsLegal h = c.in_ok-shown.ensures.legal in
+    let is = names-are h c.deref.result.now c.in_ok-names.names.items (c.deref.ensures.value ∙ c.in_ok-shown.ensures.names) c.in_ok-names.ensures in
+    distinct-names h legal c.requires c.deref-4.result.now (c.deref-4.ensures.value ∙ is)
+
 pub places_of-requires-clause-few : goal.places_of-requires-clause-few
 places_of-requires-clause-few c =
     let h = c.args.recording.now in

@@ -1,0 +1,93 @@
+ghost use Rattle.std.specs.Prelude.{◌⊎◌, ◌↔◌, ◌<◌, ◌≤◌, IfOk, IsErrOf};
+ghost use Rattle.specification.specs.Faults.{IsSound};
+ghost use Rattle.specification.specs.Orders.{HasNoOrder};
+ghost use Rattle.specification.specs.Verdict.{IsVerdict, DecidesSpecifications, ProvesItself};
+ghost use Rattle.certificate.specs.VerdictOf.{verdict_of, IsRefusalOf};
+
+use super::verdict::Verdict;
+use contents_check::first_fault;
+use events::Recording;
+use level_search::{Gate, SearchFault, conflict_number, least_cycle};
+use order_graph::OrderGraph;
+use std::alloc::Global;
+use std::thread::Threads;
+use visibility::Sight;
+use witness_order::order;
+
+/// The verdict on a recording.
+///
+/// The number of workers, 1 to 64, is tested before the recording is looked at. The contents are checked on
+/// all processors, whatever that number is. The search for the conflict number is made only where no order
+/// follows every response; the gate is called round each of its searches. The least cycle is then found in
+/// the caller's thread.
+///
+/// Without conflicts its cost is that of `first_fault` and linear in the places of all responses; the search
+/// costs at most the places and elements once for each element. Memory is linear in the places, and for each
+/// worker in the elements and operations.
+pub fn judge<H: Threads + Sync, G: Gate>(
+    rt: &H,
+    alloc: Global,
+    recording: &Recording,
+    workers: u32,
+    gate: &G,
+) -> Result<Verdict, SearchFault>
+    ensures verdict { IfOk result (λ v. IsVerdict recording.now (verdict_of v)) }
+    ensures specifications { IfOk result (λ v. DecidesSpecifications recording.now (verdict_of v)) }
+    ensures proof { IfOk result (λ v. ProvesItself recording.now (verdict_of v)) }
+    ensures workers { IsErrOf result SearchFault.Workers ↔ ((workers < 1) ⊎ (64 < workers)) }
+{
+    if workers == 0 || workers > 64 {
+        return Err(SearchFault::Workers);
+    }
+    // Its contract has that the recording is legal.
+    let _ = recording.replicas();
+    let sight = Sight::of(alloc, recording)?;
+    if let Some(fault) = first_fault(rt, alloc, recording, &sight)? {
+        return Ok(Verdict::of_fault(fault));
+    }
+    judge_sound(rt, alloc, recording, workers, gate)
+}
+
+/// The verdict on a recording that has no fault.
+fn judge_sound<H: Threads + Sync, G: Gate>(
+    rt: &H,
+    alloc: Global,
+    recording: &Recording,
+    workers: u32,
+    gate: &G,
+) -> Result<Verdict, SearchFault>
+    requires sound { IsSound recording.now }
+    requires workers { (1 ≤ workers) × (workers ≤ 64) }
+    ensures verdict { IfOk result (λ v. IsVerdict recording.now (verdict_of v)) }
+    ensures workers { ¬ IsErrOf result SearchFault.Workers }
+{
+    let graph = OrderGraph::of(alloc, recording)?;
+    if let Some(order) = order(alloc, &graph)? {
+        return Ok(Verdict::Accepted(order));
+    }
+    refuse(rt, alloc, &graph, workers, gate)
+}
+
+/// The verdict on responses that no order follows.
+fn refuse<H: Threads + Sync, G: Gate>(
+    rt: &H,
+    alloc: Global,
+    graph: &OrderGraph,
+    workers: u32,
+    gate: &G,
+) -> Result<Verdict, SearchFault>
+    requires disordered { HasNoOrder graph.now }
+    requires workers { (1 ≤ workers) × (workers ≤ 64) }
+    ensures verdict { IfOk result (λ v. IsRefusalOf graph.now (verdict_of v)) }
+    ensures workers { ¬ IsErrOf result SearchFault.Workers }
+{
+    // Its contract has that the responses are proper.
+    let _ = graph.elements();
+    match conflict_number(rt, alloc, graph, workers, gate)? {
+        Some(k) => {
+            let steps = least_cycle(alloc, graph, k)?;
+            Ok(Verdict::Refused { k, steps })
+        }
+        None => unreachable!(),
+    }
+}

@@ -1,0 +1,16 @@
+//! The verdict on a recording.
+//!
+//! `judge` looks for the first fault, then for the least order that every response follows, and only where
+//! there is none for the conflict number and the least cycle.
+#![tactic(auto)]
+
+mod judging;
+mod verdict;
+
+pub use judging::judge;
+pub use level_search::{Gate, NoGate, SearchFault, Step, Steps};
+pub use verdict::Verdict;
+pub use witness_order::Order;
+
+#[cfg(test)]
+mod tests;

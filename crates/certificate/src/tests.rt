@@ -1,0 +1,135 @@
+use super::{Gate, NoGate, SearchFault, Verdict, judge};
+use events::Recording;
+use std::alloc::Global;
+use std::sync::atomic::{AtomicU64, Ordering};
+use std::thread::Threads;
+use trace_text::read;
+
+const THREE_WAY: &str =
+    "trace 1\nreplicas 3\n0 ins x 0 : x\n1 recv 0 1\n2 recv 0 1\n1 ins a 0 : a x\n2 ins b 1 : x b\n0 del x :\n0 recv 1 1\n0 recv 2 1\n0 read : b a\n";
+
+const OPPOSITE: &str =
+    "trace 1\nreplicas 2\n0 ins a 0 : a\n1 ins b 0 : b\n0 recv 1 1\n1 recv 0 1\n0 read : a b\n1 read : b a\n";
+
+const TWO_ORDERS: &str =
+    "trace 1\nreplicas 2\n0 ins a 0 : a\n1 ins b 0 : b\n0 recv 1 1\n0 read : b a\n";
+
+/// What a test looks at of a verdict.
+#[derive(Clone, Copy, Debug, PartialEq, Eq)]
+enum Said {
+    Faulty,
+    Accepted(usize),
+    Refused(u32, usize),
+    Workers,
+    Memory,
+    NoText,
+}
+
+fn judged<H: Threads + Sync, G: Gate>(
+    rt: &H,
+    alloc: Global,
+    recording: &Recording,
+    workers: u32,
+    gate: &G,
+) -> Said {
+    match judge(rt, alloc, recording, workers, gate) {
+        Ok(Verdict::Accepted(order)) => Said::Accepted(order.len()),
+        Ok(Verdict::Refused { k, steps }) => Said::Refused(k, steps.len()),
+        Ok(_) => Said::Faulty,
+        Err(SearchFault::Workers) => Said::Workers,
+        Err(SearchFault::Memory) => Said::Memory,
+    }
+}
+
+/// What is said of the recording that the text spells; where memory is wanted, what the second call says.
+fn answered<H: Threads + Sync, G: Gate>(
+    rt: &H,
+    alloc: Global,
+    text: &str,
+    workers: u32,
+    gate: &G,
+) -> Said {
+    let recording = match read(alloc, text.as_bytes()) {
+        Ok(recording) => recording,
+        Err(_) => match read(alloc, text.as_bytes()) {
+            Ok(recording) => recording,
+            Err(_) => return Said::NoText,
+        },
+    };
+    match judged(rt, alloc, &recording, workers, gate) {
+        Said::Memory => judged(rt, alloc, &recording, workers, gate),
+        answer => answer,
+    }
+}
+
+#[test]
+fn verdicts_of_worked_recordings(rt: HostRuntime) {
+    let rows = [
+        (THREE_WAY, Said::Refused(3, 3)),
+        (OPPOSITE, Said::Refused(2, 2)),
+        (TWO_ORDERS, Said::Accepted(2)),
+        ("trace 1\nreplicas 1\n", Said::Accepted(0)),
+        ("trace 1\nreplicas 1\n0 read : a\n", Said::Faulty),
+    ];
+    for (text, wanted) in rows {
+        assert_eq!(&rt; answered(&rt, rt.alloc(), text, 4, &NoGate), wanted);
+    }
+}
+
+#[test]
+fn any_number_of_workers(rt: HostRuntime) {
+    for workers in [1, 2, 7, 64] {
+        assert_eq!(&rt;
+            answered(&rt, rt.alloc(), THREE_WAY, workers, &NoGate),
+            Said::Refused(3, 3)
+        );
+    }
+    for workers in [0, 65, 4294967295] {
+        assert_eq!(&rt;
+            answered(&rt, rt.alloc(), THREE_WAY, workers, &NoGate),
+            Said::Workers
+        );
+    }
+}
+
+/// How many turns a search is held up at most.
+const TURNS: u32 = 50_000_000;
+
+/// Holds up the search that begins first until another has begun, and notes whether one did.
+#[derive(Drop)]
+struct Hold {
+    begun: AtomicU64,
+    ended: AtomicU64,
+    seen: AtomicU64,
+}
+
+impl Gate for Hold {
+    fn before(&self, _worker: u32, _source: u32) {
+        if self.begun.fetch_add(1, Ordering::SeqCst) != 0 {
+            return;
+        }
+        for _ in 0..TURNS {
+            if self.begun.load(Ordering::SeqCst) >= 2 {
+                self.seen.store(1, Ordering::SeqCst);
+                return;
+            }
+        }
+    }
+
+    fn after(&self, _worker: u32, _source: u32) {
+        self.ended.fetch_add(1, Ordering::SeqCst);
+    }
+}
+
+#[test]
+fn two_searches_at_once(rt: HostRuntime) {
+    let hold = Hold {
+        begun: AtomicU64::new(0),
+        ended: AtomicU64::new(0),
+        seen: AtomicU64::new(0),
+    };
+    let answer = answered(&rt, rt.alloc(), THREE_WAY, 2, &hold);
+    assert_eq!(&rt; answer, Said::Refused(3, 3));
+    assert_eq!(&rt; hold.seen.load(Ordering::SeqCst), 1);
+    assert_eq!(&rt; hold.ended.load(Ordering::SeqCst), 3);
+}

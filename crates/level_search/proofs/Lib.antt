@@ -1,0 +1,15 @@
+-- Lemmas on the search: parts of it, one more element reached, places read, layers.
+pub mod Growth
+pub mod Reach
+pub mod Places
+pub mod Layers
+-- Lemmas on cycles: walks and rings, the first ring, and the joins of numbers with names.
+pub mod Firsts
+pub mod RingWalks
+pub mod Joining
+pub mod TableRows
+pub mod StepsRound
+pub mod ShortestFew
+-- Lemmas on the workers.
+pub mod Teams
+pub mod LeastOffer

@@ -1,0 +1,18 @@
+use Rattle.std.proofs.Common.{◌+◌, ◌-◌, ◌*◌, ◌<◌, ◌≤◌, ◌^◌, length, sum}
+use Rattle.specification.specs.Responses.{place_count}
+use Rattle.level_search.specs.Graph.{graph_of}
+use Rattle.level_search.proofs.Layers.{IsLayered}
+use Rattle.level_search.proofs.levels.search_in.Given as goal
+
+abbrev pub invariant-levels : goal.invariant-levels
+invariant-levels g l = record {
+  layered : IsLayered (graph_of l.graph) l.s l.st l.head l.level;
+  fits : l.level + 1 < 2 ^ 32;
+  bound : g.B.BoundSource.last l.source ≤ g.B.BoundSource.last l.fn.source;
+  reads : g.B.BoundSource.reads l.fn.source l.source;
+  cost : l.looked + sum l.st.marks.items ≤ place_count l.graph + l.head;
+  work : l.head < l.st.tail → 2 * l.level ≤ l.looked;
+}
+
+abbrev pub decreases-levels : goal.decreases-levels
+decreases-levels g l = length l.graph.elements - l.head

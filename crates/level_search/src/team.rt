@@ -1,0 +1,100 @@
+ghost use Rattle.std.specs.Prelude.{◌≡◌, ℕ, ◌+◌, ◌-◌, ◌<◌, ◌≤◌, true, false, length, IfOk, All, vec_len};
+ghost use Rattle.order_graph.specs.Lists.{lists_of};
+ghost use Rattle.shared_bound.specs.Seats.{fresh_seat};
+ghost use Rattle.level_search.specs.Team.{CanWork, HasWorked, HaveWorked, Honest, IsLeastLength, IsTeam};
+
+use super::gate::Gate;
+use super::worker::{Worker, work};
+use events::Memory;
+use order_graph::OrderGraph;
+use shared_bound::{Bound, NO_OFFER, Seat};
+use std::alloc::Global;
+use std::thread;
+use std::thread::Threads;
+
+/// As many workers. Worker 0, with the first seat, is the last.
+fn team<'a>(
+    alloc: Global,
+    graph: &OrderGraph,
+    bound: &'a Bound,
+    mut first: Seat,
+    workers: u32,
+) -> Result<Vec<Worker<'a>>, Memory>
+    requires workers { (1 ≤ workers) × (workers ≤ 64) }
+    requires first { first ≡ fresh_seat bound.now true NO_OFFER (workers - 1) }
+    ensures { IfOk result (λ team. IsTeam bound.now graph.now (workers - 1) team.items) }
+{
+    let mut team = Vec::new(alloc);
+    for number in 1..workers {
+        let seat = bound.share(&mut first);
+        team.push(Worker::new(alloc, graph, number, bound, seat)?)?;
+    }
+    team.push(Worker::new(alloc, graph, 0, bound, first)?)?;
+    Ok(team)
+}
+
+/// All workers work, each in a thread where one can be started; else another thread does its work too.
+fn work_all<H: Threads + Sync, G: Gate>(rt: &H, graph: &OrderGraph, gate: &G, team: &mut [Worker])
+    requires few { length graph.now.elements < NO_OFFER }
+    requires team { All (CanWork graph.now) team.old }
+    ensures { HaveWorked graph.now team.old team.new }
+{
+    let threads = team.len().max(1);
+    thread::for_each_mut(
+        rt,
+        team,
+        threads,
+        &|_: usize, worker: &mut Worker|
+            requires few { length graph.now.elements < NO_OFFER }
+            requires ready { CanWork graph.now worker.old }
+            ensures { HasWorked graph.entry.now worker.old worker.new }
+        { work(graph, gate, worker) },
+    );
+}
+
+/// The first seat, with all that the others claimed and offered.
+fn gathered(bound: &Bound, graph: &OrderGraph, mut first: Seat, mut others: Vec<Worker>) -> Seat
+    requires first { (first.bound ≡ bound.now) × (first.is_first ≡ true) × (first.out ≡ vec_len others) × (first.done ≡ true) }
+    requires honest { Honest (lists_of graph.now) first }
+    requires others { All (λ w. (w.seat.bound ≡ bound.now) × (w.seat.is_first ≡ false) × Honest (lists_of graph.now) w.seat) others.items }
+    ensures first { (result.bound ≡ bound.now) × (result.is_first ≡ true) × (result.out ≡ 0) × (result.done ≡ true) }
+    ensures honest { Honest (lists_of graph.now) result }
+{
+    while let Some(other) = others.pop() {
+        bound.take_in(&mut first, other.into_seat());
+    }
+    first
+}
+
+/// What the bound has at the end, once each source was searched from and all seats are taken in.
+fn closed(bound: Bound, graph: &OrderGraph, first: Seat) -> u32
+    requires sources { bound.sources ≡ length graph.now.elements }
+    requires first { (first.bound ≡ bound) × (first.is_first ≡ true) × (first.out ≡ 0) × (first.done ≡ true) }
+    requires honest { Honest (lists_of graph.now) first }
+    ensures { IsLeastLength graph.now result }
+{
+    bound.close(first)
+}
+
+/// The length of a shortest cycle, or `NO_OFFER` where there is none, by a search from each element. All
+/// memory is taken before a worker starts.
+pub fn least_length<H: Threads + Sync, G: Gate>(
+    rt: &H,
+    alloc: Global,
+    graph: &OrderGraph,
+    workers: u32,
+    gate: &G,
+) -> Result<u32, Memory>
+    requires workers { (1 ≤ workers) × (workers ≤ 64) }
+    requires few { length graph.now.elements < NO_OFFER }
+    ensures { IfOk result (IsLeastLength graph.now) }
+{
+    let (bound, first) = Bound::new(alloc, graph.elements(), workers)?;
+    let mut team = team(alloc, graph, &bound, first, workers)?;
+    work_all(rt, graph, gate, team.as_mut_slice());
+    let Some(last) = team.pop() else {
+        unreachable!()
+    };
+    let first = gathered(&bound, graph, last.into_seat(), team);
+    Ok(closed(bound, graph, first))
+}

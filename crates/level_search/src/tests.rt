@@ -1,0 +1,9 @@
+mod conflicts;
+mod gates;
+mod generated;
+mod plain;
+mod recordings;
+mod searches;
+mod sources;
+mod steps;
+mod workers;

@@ -1,0 +1,143 @@
+//! Which calls a gate sees, and searches that it holds up.
+use super::conflicts::{RING_OF_FOUR, THREE_WAY_CYCLE, number_of};
+use super::recordings::{graph, recording};
+use crate::Gate;
+use std::sync::atomic::{AtomicU64, Ordering};
+use std::test::Fail;
+
+/// Counts the searches of each of four sources by two workers, begun and ended, and calls that name something
+/// else.
+#[derive(Drop)]
+struct Counts {
+    begun: [AtomicU64; 4],
+    ended: [AtomicU64; 4],
+    others: AtomicU64,
+}
+
+impl Counts {
+    fn none() -> Counts {
+        Counts {
+            begun: four(),
+            ended: four(),
+            others: AtomicU64::new(0),
+        }
+    }
+}
+
+fn four() -> [AtomicU64; 4] {
+    [
+        AtomicU64::new(0),
+        AtomicU64::new(0),
+        AtomicU64::new(0),
+        AtomicU64::new(0),
+    ]
+}
+
+impl Gate for Counts {
+    fn before(&self, worker: u32, source: u32) {
+        match self.begun.get(source as usize) {
+            Some(count) if worker < 2 => count.fetch_add(1, Ordering::SeqCst),
+            _ => self.others.fetch_add(1, Ordering::SeqCst),
+        };
+    }
+
+    fn after(&self, worker: u32, source: u32) {
+        match self.ended.get(source as usize) {
+            Some(count) if worker < 2 => count.fetch_add(1, Ordering::SeqCst),
+            _ => self.others.fetch_add(1, Ordering::SeqCst),
+        };
+    }
+}
+
+/// Whether each source was counted once.
+fn are_once(counts: &[AtomicU64; 4]) -> bool {
+    for count in counts {
+        if count.load(Ordering::SeqCst) != 1 {
+            return false;
+        }
+    }
+    true
+}
+
+#[test]
+fn a_gate_is_called_round_each_search(rt: HostRuntime) -> Result<(), Fail> {
+    let alloc = rt.alloc();
+    let recording = recording(alloc, 6, &RING_OF_FOUR)?;
+    let ring = graph(&rt, alloc, &recording)?;
+    let counts = Counts::none();
+    assert_eq!(rt; number_of(&rt, alloc, &ring, 2, &counts)?, Some(4));
+    assert!(rt; are_once(&counts.begun));
+    assert!(rt; are_once(&counts.ended));
+    assert_eq!(rt; counts.others.load(Ordering::SeqCst), 0);
+    Ok(())
+}
+
+const TURNS: u32 = 50_000_000;
+
+/// Holds up the first search until so many have begun and so many have ended, or for `TURNS` turns, and
+/// notes whether it saw them.
+#[derive(Drop)]
+struct Hold {
+    until_begun: u64,
+    until_ended: u64,
+    begun: AtomicU64,
+    ended: AtomicU64,
+    seen: AtomicU64,
+}
+
+impl Hold {
+    fn until(begun: u64, ended: u64) -> Hold {
+        Hold {
+            until_begun: begun,
+            until_ended: ended,
+            begun: AtomicU64::new(0),
+            ended: AtomicU64::new(0),
+            seen: AtomicU64::new(0),
+        }
+    }
+
+    fn is_over(&self) -> bool {
+        self.begun.load(Ordering::SeqCst) >= self.until_begun
+            && self.ended.load(Ordering::SeqCst) >= self.until_ended
+    }
+}
+
+impl Gate for Hold {
+    fn before(&self, _worker: u32, _source: u32) {
+        if self.begun.fetch_add(1, Ordering::SeqCst) != 0 {
+            return;
+        }
+        for _ in 0..TURNS {
+            if self.is_over() {
+                self.seen.store(1, Ordering::SeqCst);
+                return;
+            }
+        }
+    }
+
+    fn after(&self, _worker: u32, _source: u32) {
+        self.ended.fetch_add(1, Ordering::SeqCst);
+    }
+}
+
+#[test]
+fn two_searches_at_once(rt: HostRuntime) -> Result<(), Fail> {
+    let alloc = rt.alloc();
+    let recording = recording(alloc, 3, &THREE_WAY_CYCLE)?;
+    let cycle = graph(&rt, alloc, &recording)?;
+    let hold = Hold::until(2, 0);
+    assert_eq!(rt; number_of(&rt, alloc, &cycle, 2, &hold)?, Some(3));
+    assert_eq!(rt; hold.seen.load(Ordering::SeqCst), 1);
+    Ok(())
+}
+
+#[test]
+fn a_search_held_until_the_others_have_ended(rt: HostRuntime) -> Result<(), Fail> {
+    let alloc = rt.alloc();
+    let recording = recording(alloc, 6, &RING_OF_FOUR)?;
+    let ring = graph(&rt, alloc, &recording)?;
+    let hold = Hold::until(0, 3);
+    assert_eq!(rt; number_of(&rt, alloc, &ring, 2, &hold)?, Some(4));
+    assert_eq!(rt; hold.seen.load(Ordering::SeqCst), 1);
+    Ok(())
+}

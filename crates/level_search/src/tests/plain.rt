@@ -1,0 +1,98 @@
+//! A plain, slow search: it looks through every response, and follows all walks step by step.
+ghost use Rattle.std.specs.Prelude.{◌<◌};
+
+use events::{Body, Name, Recording, Response};
+use order_graph::OrderGraph;
+
+/// As many elements as a generated recording has at most.
+const ELEMENTS: usize = 6;
+
+/// Which element stands before which, by their numbers.
+pub type Table = [[bool; ELEMENTS]; ELEMENTS];
+
+/// The first place of a name in a response.
+fn place_of(response: &Response, name: Name) -> Option<usize> {
+    for i in 0..response.len() {
+        if response.get(i) == Some(name) {
+            return Some(i);
+        }
+    }
+    None
+}
+
+fn has_in_order(body: &Body, a: Name, b: Name) -> bool {
+    let response = match body {
+        Body::Ins { response, .. } => response,
+        Body::Del { response, .. } => response,
+        Body::Read { response } => response,
+        Body::Recv { .. } => return false,
+    };
+    match (place_of(response, a), place_of(response, b)) {
+        (Some(i), Some(j)) => i < j,
+        _ => false,
+    }
+}
+
+/// Whether some response has the one name before the other.
+fn stands_before(recording: &Recording, a: Name, b: Name) -> bool {
+    for i in 0..recording.len() {
+        if let Some(entry) = recording.entry(i) {
+            if has_in_order(&entry.body, a, b) {
+                return true;
+            }
+        }
+    }
+    false
+}
+
+/// The same, by the elements' numbers.
+fn follows(recording: &Recording, graph: &OrderGraph, a: u32, b: u32) -> bool {
+    match (graph.name(a), graph.name(b)) {
+        (Some(a), Some(b)) => stands_before(recording, a, b),
+        _ => false,
+    }
+}
+
+/// Before which elements one stands.
+fn row_of(recording: &Recording, graph: &OrderGraph, a: u32) -> [bool; ELEMENTS] {
+    let mut row = [false; ELEMENTS];
+    for b in 0..6 {
+        row[b as usize] = follows(recording, graph, a, b);
+    }
+    row
+}
+
+/// What stands before what in some response of a recording.
+pub fn table_of(recording: &Recording, graph: &OrderGraph) -> Table {
+    let mut table = [[false; ELEMENTS]; ELEMENTS];
+    for a in 0..6 {
+        table[a as usize] = row_of(recording, graph, a);
+    }
+    table
+}
+
+/// The elements behind one of these.
+fn behind(table: &Table, ends: &[bool; ELEMENTS]) -> [bool; ELEMENTS] {
+    let mut all = [false; ELEMENTS];
+    for (row, is_end) in table.iter().zip(ends) {
+        for (reached, before) in all.iter_mut().zip(row) {
+            *reached = *reached || (*is_end && *before);
+        }
+    }
+    all
+}
+
+/// The length of the shortest cycle through an element.
+pub fn shortest(table: &Table, s: usize) -> Option<u32>
+    requires { s < 6 }
+{
+    let mut ends = [false; ELEMENTS];
+    ends[s] = true;
+    for length in 1..=6 {
+        ends = behind(table, &ends);
+        if ends[s] {
+            return Some(length);
+        }
+    }
+    None
+}

@@ -1,0 +1,140 @@
+//! The least cycles of worked recordings.
+ghost use Rattle.std.specs.Prelude.{IfOk};
+ghost use Rattle.specification.specs.Search.{IsShortestLength};
+
+use super::conflicts::{OPPOSITE_PAIR, PAIR_APART, RING_OF_FOUR, THREE_WAY_CYCLE, number_of};
+use super::recordings::{graph, operation, recording};
+use crate::{NoGate, SearchFault, Step, Steps, least_cycle};
+use events::{Memory, Name, Recording};
+use order_graph::OrderGraph;
+use std::alloc::Global;
+use std::test::Fail;
+use std::thread::Threads;
+
+/// The least cycle, where k is the length of a shortest. A call that finds no memory is made again.
+fn least(alloc: Global, graph: &OrderGraph, k: u32) -> Result<Steps, Memory>
+    requires { IsShortestLength graph.now k }
+{
+    match least_cycle(alloc, graph, k) {
+        Ok(steps) => Ok(steps),
+        Err(Memory) => least_cycle(alloc, graph, k),
+    }
+}
+
+/// The steps of the least cycle, where there is one.
+fn steps_of(
+    rt: &(impl Threads + Sync),
+    alloc: Global,
+    graph: &OrderGraph,
+) -> Result<Option<Steps>, SearchFault> {
+    if graph.elements() == 0 {
+        return Ok(None);
+    }
+    match number_of(rt, alloc, graph, 1, &NoGate)? {
+        Some(k) => Ok(Some(least(alloc, graph, k)?)),
+        None => Ok(None),
+    }
+}
+
+/// A step from one name to another, shown by the n-th operation of a replica.
+#[derive(Clone, Copy)]
+struct Shown(&'static str, &'static str, u32, u32);
+
+impl Shown {
+    fn step(&self) -> Result<Step, Fail> {
+        Ok(Step {
+            from: Name::new(self.0.as_bytes())?,
+            to: Name::new(self.1.as_bytes())?,
+            shown: operation(self.2, self.3)?,
+        })
+    }
+}
+
+/// Whether the steps are exactly these.
+fn are(steps: &Steps, expected: &[Shown]) -> Result<bool, Fail> {
+    for (i, shown) in expected.iter().enumerate() {
+        if steps.get(i).copied() != Some(shown.step()?) {
+            return Ok(false);
+        }
+    }
+    Ok(steps.len() == expected.len())
+}
+
+/// Whether the least cycle of a recording has exactly these steps.
+fn leads_round(
+    rt: &(impl Threads + Sync),
+    alloc: Global,
+    recording: &Recording,
+    expected: &[Shown],
+) -> Result<bool, Fail> {
+    let graph = graph(rt, alloc, recording)?;
+    match steps_of(rt, alloc, &graph)? {
+        Some(steps) => are(&steps, expected),
+        None => Ok(false),
+    }
+}
+
+#[test]
+fn steps_of_the_ring_of_four(rt: HostRuntime) -> Result<(), Fail> {
+    let alloc = rt.alloc();
+    let ring = recording(alloc, 6, &RING_OF_FOUR)?;
+    let steps = [
+        Shown("a", "b", 2, 1),
+        Shown("b", "c", 3, 1),
+        Shown("c", "d", 4, 2),
+        Shown("d", "a", 5, 2),
+    ];
+    assert!(rt; leads_round(&rt, alloc, &ring, &steps)?);
+    Ok(())
+}
+
+#[test]
+fn steps_of_the_three_way_cycle(rt: HostRuntime) -> Result<(), Fail> {
+    let alloc = rt.alloc();
+    let cycle = recording(alloc, 3, &THREE_WAY_CYCLE)?;
+    let steps = [
+        Shown("x", "b", 2, 1),
+        Shown("b", "a", 0, 3),
+        Shown("a", "x", 1, 1),
+    ];
+    assert!(rt; leads_round(&rt, alloc, &cycle, &steps)?);
+    Ok(())
+}
+
+#[test]
+fn steps_of_the_opposite_pair(rt: HostRuntime) -> Result<(), Fail> {
+    let alloc = rt.alloc();
+    let pair = recording(alloc, 2, &OPPOSITE_PAIR)?;
+    let steps = [Shown("a", "b", 0, 2), Shown("b", "a", 1, 2)];
+    assert!(rt; leads_round(&rt, alloc, &pair, &steps)?);
+    Ok(())
+}
+
+#[test]
+fn steps_of_the_pair_apart(rt: HostRuntime) -> Result<(), Fail> {
+    let alloc = rt.alloc();
+    let pair = recording(alloc, 2, &PAIR_APART)?;
+    let steps = [Shown("a", "c", 0, 3), Shown("c", "a", 1, 1)];
+    assert!(rt; leads_round(&rt, alloc, &pair, &steps)?);
+    Ok(())
+}
+
+/// A list of one step.
+fn one(alloc: Global, step: Step) -> Result<Vec<Step>, Memory> {
+    let mut steps = Vec::new(alloc);
+    steps.push(step)?;
+    Ok(steps)
+}
+
+#[test]
+fn steps_are_given_back(rt: HostRuntime) -> Result<(), Fail> {
+    let alloc = rt.alloc();
+    let shown = Shown("a", "b", 0, 2);
+    let steps = match one(alloc, shown.step()?) {
+        Ok(steps) => steps,
+        Err(Memory) => one(alloc, shown.step()?)?,
+    };
+    let again = Steps::from_steps(Steps::from_steps(steps).into_steps());
+    assert!(rt; are(&again, &[shown])?);
+    Ok(())
+}

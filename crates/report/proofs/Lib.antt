@@ -1,0 +1,3 @@
+pub mod Longer
+pub mod Ascii
+pub mod Listed

@@ -1,0 +1,25 @@
+-- One name more, and at the end all of them.
+use Rattle.std.proofs.Common.{sym, ap, ◌∙◌, arith, map}
+use Rattle.std.proofs.lemmas.List.{take_all}
+use Rattle.serde_json.specs.Data.{string, array}
+use Rattle.serde_json.specs.View.{items_of}
+use Rattle.serde_json.proofs.Views.{view-Array}
+use Rattle.events.specs.Names.{NameBytes}
+use Rattle.format_words.proofs.NameList.{not-past}
+use Rattle.report.proofs.Listed.{values-more, names-listed}
+use Rattle.report.proofs.words.order_value.Goals as goal
+use Rattle.report.proofs.words.order_value.Goals.{in-Some+in_ok-name_value+in_ok-push, in_default}
+
+pub loop-i-preserved : goal.loop-i-preserved
+loop-i-preserved c = elim c.match-get.branch [
+  | in-Some+in_ok-name_value+in_ok-push w ↦
+      rw (w.names-is, w.in_ok-push.ensures.items)
+      (values-more (λ (name : NameBytes). string name) c.loop-i.names.items c.args.order.now c.loop-i.i w.in_ok-name_value.field-0 w.in-Some.name.now c.loop-i.invariant w.in_ok-name_value.ensures (sym w.in-Some.ensures))
+  | in_default w ↦ absurd (not-past c.args.order.now c.loop-i.i (omega arith) (sym w.in_default.ensures))
+]
+
+pub returns : goal.returns
+returns c =
+    let whole = take_all c.loop-i.i c.args.order.now (omega arith) in
+    view-Array c.loop-i.names
+    ∙ ap array (ap items_of (c.loop-i.invariant ∙ ap (map (λ (name : NameBytes). string name)) whole) ∙ names-listed c.args.order.now)

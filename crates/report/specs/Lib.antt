@@ -1,0 +1,4 @@
+pub mod Counts
+pub mod Texts
+pub mod JsonReport
+pub mod Objects

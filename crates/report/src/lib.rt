@@ -1,0 +1,15 @@
+//! The report of a verdict, as text and as JSON.
+//!
+//! Both are functions of the recording's streams and the verdict alone.
+#![tactic(auto)]
+
+mod compact;
+mod counts;
+mod lines;
+mod object;
+#[cfg(test)]
+mod tests;
+mod words;
+
+pub use compact::json;
+pub use lines::text;

@@ -1,0 +1,238 @@
+-- An order in which each edge goes forwards is an order that follows every response, by names in place of numbers.
+use Rattle.std.proofs.Common.{◌≡◌, ℕ, zero, suc, ◌+◌, ◌-◌, ◌<◌, ◌≤◌, inl, inr, Bool, true, false, cond, Option, Some, None, List, [], ◌∷◌, map, length, get_or, sum_by, refl, sym, ◌∙◌, arith, ap, subst}
+use Rattle.std.specs.Prelude.{IsTrue, slice_get, unwrap_or}
+use Rattle.std.proofs.lemmas.Bool.{eq-eqb, eqb-true}
+use Rattle.std.proofs.lemmas.List.FromFn.{fill_by_all}
+use Rattle.std.proofs.lemmas.List.Sums.{sum_by-cons, get_or-le-sum_by}
+use Rattle.std.proofs.lemmas.Option.{slice_get-get_or, slice_get_within, get_or_from_slice_get, same_Some}
+use Rattle.events.specs.Names.{NameBytes}
+use Rattle.events.specs.Operation.{Operation}
+use Rattle.specification.specs.Elements.{number_in}
+use Rattle.specification.specs.Responses.{Responses, Returned, AreProper, ShowsNumbers}
+use Rattle.specification.specs.Orders.{dictionary_lt, IsLeastOrder, HasNoOrder}
+use Rattle.specification.proofs.Members.{In, Before, Once, Before-trans, In-map, In-from_place}
+use Rattle.specification.proofs.Walks.{Closed}
+use Rattle.specification.proofs.OrderOrCycle.{Orders}
+use Rattle.specification.proofs.Numbers.{number}
+use Rattle.specification.proofs.Dictionary.{same_number}
+use Rattle.specification.proofs.Shown.{SetShows, ShowsIn, ShowsIn-from_Shows, Shows-from_ShowsIn, elements-once}
+use Rattle.specification.proofs.Consistency.{follows_from_order, order_from_follows, no_closed}
+use Rattle.specification.proofs.LeastOrder.{all_operations, follows_set, follows_all}
+use Rattle.order_graph.specs.Kept.{names_at}
+use Rattle.order_graph.specs.Lists.{lists_of, row, Stands, BeforeIn}
+use Rattle.order_graph.specs.Spots.{spots_of}
+use Rattle.order_graph.specs.declared.spot.Spot.{Spot}
+use Rattle.order_graph.proofs.AllSpots.{IsAmong, spots_complete, spots_sound}
+use Rattle.order_graph.proofs.Numbering.{number-at, number-some}
+use Rattle.order_graph.proofs.Shown.{shows-list, list-shows, named-stands, known-numbers}
+use Rattle.witness_order.specs.Edges.{behind, is_number, edges_at, edges}
+use Rattle.witness_order.proofs.InTurn.{Leads, below, IsFirst, In-below, below-In}
+
+-- an edge is two neighbouring places
+pub record AreNeighbours (rows : List (List ℕ)) (x y : ℕ) : Type 0 where
+  pub list : ℕ
+  pub place : ℕ
+  pub first : Stands rows list place x
+  pub second : Stands rows list (place + 1) y
+
+number_is : (y : ℕ) (o : Option ℕ) → is_number y o ≡ true → o ≡ Some y
+number_is y None h = absurd (cc)
+number_is y (Some z) h = ap Some (eqb-true z y h)
+
+module _ (rows : List (List ℕ)) where
+  stands_at : (l p x : ℕ) → slice_get (row rows l) p ≡ Some x → Stands rows l p x
+  stands_at l p x e = record { within = slice_get_within (row rows l) p x e; here = get_or_from_slice_get (row rows l) p x 0 e }
+
+  get_at : (l p x : ℕ) → Stands rows l p x → slice_get (row rows l) p ≡ Some x
+  get_at l p x h = slice_get-get_or (row rows l) p 0 h.within ∙ ap Some h.here
+
+  one_spot : (spots : List Spot) (y : ℕ) → 1 ≤ edges_at rows spots y → (i : ℕ) × (s : Spot) × (slice_get spots i ≡ Some s) × (behind rows s ≡ Some y)
+  one_spot [] y h = absurd (omega arith)
+  one_spot (s ∷ spots) y h = go (is_number y (behind rows s)) refl (one_spot spots y)
+    where
+      total : edges_at rows (s ∷ spots) y ≡ cond (is_number y (behind rows s)) 1 0 + edges_at rows spots y
+      total = sum_by-cons (λ (q : Spot). cond (is_number y (behind rows q)) 1 0) s spots
+
+      go : (b : Bool) → is_number y (behind rows s) ≡ b → (1 ≤ edges_at rows spots y → (i : ℕ) × (q : Spot) × (slice_get spots i ≡ Some q) × (behind rows q ≡ Some y)) →
+          (i : ℕ) × (q : Spot) × (slice_get (s ∷ spots) i ≡ Some q) × (behind rows q ≡ Some y)
+      go true e rest = (0, s, refl, number_is y (behind rows s) e)
+      go false e rest =
+          let none : cond {A = ℕ} (is_number y (behind rows s)) 1 0 ≡ 0 = ap (λ (b : Bool). cond b 1 0) e in
+          let r : (i : ℕ) × (q : Spot) × (slice_get spots i ≡ Some q) × (behind rows q ≡ Some y) = rest (omega (arith, total)) in
+          (suc r.0, r.1, r.2, r.3)
+
+  edge_sound : (x y : ℕ) → 1 ≤ edges rows x y → AreNeighbours rows x y
+  edge_sound x y h =
+      let s : (i : ℕ) × (q : Spot) × (slice_get (spots_of rows x) i ≡ Some q) × (behind rows q ≡ Some y) = one_spot (spots_of rows x) y h in
+      record { list = s.1.list; place = s.1.place; first = spots_sound rows x s.0 s.1 s.2; second = stands_at s.1.list (s.1.place + 1) y s.3 }
+
+  edge_complete : (l p x y : ℕ) → Stands rows l p x → Stands rows l (p + 1) y → 1 ≤ edges rows x y
+  edge_complete l p x y first second =
+      let a : IsAmong (spots_of rows x) l p = spots_complete rows x l p first in
+      let f : Spot → ℕ = λ (s : Spot). cond (is_number y (behind rows s)) 1 0 in
+      let there : behind rows a.spot ≡ Some y =
+      ap (λ m. slice_get (row rows m) (a.spot.place + 1)) a.list_is ∙ ap (λ q. slice_get (row rows l) (q + 1)) a.place_is ∙ get_at l (p + 1) y second in
+      let one : f a.spot ≡ 1 = ap (λ o. cond (is_number y o) 1 0) there ∙ ap (λ (b : Bool). cond b 1 0) (eq-eqb y y refl) in
+      let is : get_or (spots_of rows x) a.at a.spot ≡ a.spot = get_or_from_slice_get (spots_of rows x) a.at a.spot a.spot a.get in
+      let le : f (get_or (spots_of rows x) a.at a.spot) ≤ sum_by f (spots_of rows x) = get_or-le-sum_by f (spots_of rows x) a.at a.spot (slice_get_within (spots_of rows x) a.at a.spot a.get) in
+      omega (arith, ap f is)
+
+  -- in an order in which edges go forwards, so does all that a list has in order
+  module _ (n : ℕ) (known : (l p x : ℕ) → Stands rows l p x → x < n) (order : List ℕ) (o : Orders (Leads (edges rows)) (below n) order) where
+    neighbours_forwards : (l p a b : ℕ) → Stands rows l p a → Stands rows l (p + 1) b → Before a b order
+    neighbours_forwards l p a b first second =
+        o.forwards tt a b (below-In n a (known l p a first)) (below-In n b (known l (p + 1) b second)) (edge_complete l p a b first second)
+
+    gap_forwards : (d l p a b : ℕ) → Stands rows l p a → Stands rows l (p + suc d) b → Before a b order
+    gap_forwards zero l p a b first second = neighbours_forwards l p a b first (subst (λ q. Stands rows l q b) (omega arith) second)
+    gap_forwards (suc d) l p a b first second =
+        let c : ℕ = get_or (row rows l) (p + suc d) 0 in
+        let low : p + suc d < length (row rows l) = omega (arith, second.within) in
+        let middle : Stands rows l (p + suc d) c = record { within = low; here = refl } in
+        Before-trans a c b order o.once (gap_forwards d l p a c first middle)
+        (neighbours_forwards l (p + suc d) c b middle (subst (λ q. Stands rows l q b) (omega arith) second))
+
+    list_forwards : (l a b : ℕ) → BeforeIn rows l a b → Before a b order
+    list_forwards l a b h =
+        let d : (d : ℕ) × (h.later ≡ h.place + suc d) = gap h.place h.later h.in_order in
+        gap_forwards d.0 l h.place a b h.first (subst (λ q. Stands rows l q b) d.1 h.second)
+      where
+        gap : (p q : ℕ) → p < q → (d : ℕ) × (q ≡ p + suc d)
+        gap p q lt = (q - suc p, omega arith)
+
+-- an order whose members are renamed
+module _ {X Y L K : Type 0} (S : L → X → X → Type 0) (T : K → Y → Y → Type 0) (f : X → Y) where
+  map-In : (y : Y) (xs : List X) → In y (map f xs) → (x : X) × In x xs × (y ≡ f x)
+  map-In y [] i = absurd i
+  map-In y (x ∷ xs) (inl e) = (x, inl refl, e)
+  map-In y (x ∷ xs) (inr i) = let s : (z : X) × In z xs × (y ≡ f z) = map-In y xs i in (s.0, inr s.1, s.2)
+
+  Before-map : (a b : X) (xs : List X) → Before a b xs → Before (f a) (f b) (map f xs)
+  Before-map a b [] h = h
+  Before-map a b (x ∷ xs) (inl p) = inl (ap f p.0, In-map f b xs p.1)
+  Before-map a b (x ∷ xs) (inr h) = inr (Before-map a b xs h)
+
+  Once-map : (xs : List X) → ((a b : X) → In a xs → In b xs → f a ≡ f b → a ≡ b) → Once xs → Once (map f xs)
+  Once-map [] apart o = tt
+  Once-map (x ∷ xs) apart o = (
+    λ i. let s : (z : X) × In z xs × (f x ≡ f z) = map-In (f x) xs i in o.0 (subst (λ z. In z xs) (sym (apart x s.0 (inl refl) (inr s.1) s.2)) s.1),
+    Once-map xs (λ a b i j. apart a b (inr i) (inr j)) o.1,
+  )
+
+  pub Orders-map : (xs order : List X) → ((a b : X) → In a xs → In b xs → f a ≡ f b → a ≡ b) →
+      ((k : K) (a b : X) → In a xs → In b xs → T k (f a) (f b) → Before a b order) → Orders S xs order → Orders T (map f xs) (map f order)
+  Orders-map xs order apart forwards o = record {
+    once = Once-map order (λ a b i j. apart a b (o.only a i) (o.only b j)) o.once;
+    only = λ y i. let s : (z : X) × In z order × (y ≡ f z) = map-In y order i in subst (λ w. In w (map f xs)) (sym s.2) (In-map f s.0 xs (o.only s.0 s.1));
+    all = λ y i. let s : (z : X) × In z xs × (y ≡ f z) = map-In y xs i in subst (λ w. In w (map f order)) (sym s.2) (In-map f s.0 order (o.all s.0 s.1));
+    forwards = λ k y w i j t.
+        let s : (z : X) × In z xs × (y ≡ f z) = map-In y xs i in
+        let u : (z : X) × In z xs × (w ≡ f z) = map-In w xs j in
+        subst (λ v. Before v w (map f order)) (sym s.2) (subst (λ v. Before (f s.0) v (map f order)) (sym u.2)
+        (Before-map s.0 u.0 order (forwards k s.0 u.0 s.1 u.1 (subst (λ v. T k (f s.0) v) u.2 (subst (λ v. T k v w) s.2 t)))));
+  }
+
+-- the numbers of the names with these numbers
+numbers_back : (names : List NameBytes) (xs : List ℕ) → Once names → ((x : ℕ) → In x xs → x < length names) → map (number names) (names_at names xs) ≡ xs
+numbers_back names [] once within = refl
+numbers_back names (x ∷ xs) once within =
+    ap (λ n. n ∷ map (number names) (names_at names xs)) (number_of names x once (within x (inl refl)))
+    ∙ ap (λ l. x ∷ l) (numbers_back names xs once (λ y i. within y (inr i)))
+  where
+    number_of : (names : List NameBytes) (x : ℕ) → Once names → x < length names → number names (get_or names x []) ≡ x
+    number_of names x once lt = ap (λ n. unwrap_or n (length names)) (number-at names x (get_or names x []) once (slice_get-get_or names x [] lt))
+
+-- the names are those of the numbers
+names_all : (names : List NameBytes) → names_at names (below (length names)) ≡ names
+names_all names = sym (fill_by_all (λ x. get_or names x []) names (length names) [] refl (λ k lt. refl))
+
+numbers_all : (names : List NameBytes) → Once names → map (number names) names ≡ below (length names)
+numbers_all names once = ap (λ l. map (number names) l) (sym (names_all names)) ∙ numbers_back names (below (length names)) once (In-below (length names))
+
+name_at_number : (names : List NameBytes) (a : NameBytes) → Once names → In a names → slice_get names (number names a) ≡ Some a
+name_at_number names a once i =
+    let s = number-some names a once i in
+    ap (λ o. slice_get names (unwrap_or o (length names))) s.2 ∙ s.1
+
+module _ (v : Responses) (proper : AreProper v) where
+  known_below : (l p x : ℕ) → Stands (lists_of v) l p x → x < length v.elements
+  known_below l p x h = subst (λ z. z < length v.elements) h.here (known-numbers v proper l p 0 h.within)
+
+  names_follow : (taken : List ℕ) → Orders (Leads (edges (lists_of v))) (below (length v.elements)) taken →
+      Orders (SetShows v (all_operations v)) v.elements (names_at v.elements taken)
+  names_follow taken o =
+      let name : ℕ → NameBytes = λ x. get_or v.elements x [] in
+      subst (λ names. Orders (SetShows v (all_operations v)) names (names_at v.elements taken)) (names_all v.elements)
+      (Orders-map (Leads (edges (lists_of v))) (SetShows v (all_operations v)) name (below (length v.elements)) taken apart forwards o)
+    where
+      there : (a : ℕ) → In a (below (length v.elements)) → slice_get v.elements a ≡ Some (get_or v.elements a [])
+      there a i = slice_get-get_or v.elements a [] (In-below (length v.elements) a i)
+
+      apart : (a b : ℕ) → In a (below (length v.elements)) → In b (below (length v.elements)) → get_or v.elements a [] ≡ get_or v.elements b [] → a ≡ b
+      apart a b i j e =
+          let once : Once v.elements = elements-once v proper in
+          let one : number_in v.elements (get_or v.elements a []) ≡ Some a = number-at v.elements a (get_or v.elements a []) once (there a i) in
+          let two : number_in v.elements (get_or v.elements b []) ≡ Some b = number-at v.elements b (get_or v.elements b []) once (there b j) in
+          same_Some a b (sym one ∙ ap (number_in v.elements) e ∙ two)
+
+      forwards : (k : Operation) (a b : ℕ) → In a (below (length v.elements)) → In b (below (length v.elements)) →
+          SetShows v (all_operations v) k (get_or v.elements a []) (get_or v.elements b []) → Before a b taken
+      forwards k a b i j s =
+          let x : NameBytes = get_or v.elements a [] in
+          let y : NameBytes = get_or v.elements b [] in
+          let shows : ShowsNumbers v k a b = (x, y, there a i, there b j, Shows-from_ShowsIn v k x y s.1) in
+          let l = list-shows v proper k a b shows in
+          list_forwards (lists_of v) (length v.elements) known_below taken o l.0 a b l.4
+
+  numbers_follow : (order : List NameBytes) → Orders (SetShows v (all_operations v)) v.elements order →
+      Orders (Leads (edges (lists_of v))) (below (length v.elements)) (map (number v.elements) order)
+  numbers_follow order o =
+      subst (λ xs. Orders (Leads (edges (lists_of v))) xs (map (number v.elements) order)) (numbers_all v.elements (elements-once v proper))
+      (Orders-map (SetShows v (all_operations v)) (Leads (edges (lists_of v))) (number v.elements) v.elements order
+      (same_number v.elements (elements-once v proper)) forwards o)
+    where
+      forwards : (k : Unit {0}) (a b : NameBytes) → In a v.elements → In b v.elements → Leads (edges (lists_of v)) k (number v.elements a) (number v.elements b) → Before a b order
+      forwards k a b i j h =
+          let once : Once v.elements = elements-once v proper in
+          let two : AreNeighbours (lists_of v) (number v.elements a) (number v.elements b) = edge_sound (lists_of v) (number v.elements a) (number v.elements b) h in
+          let before : BeforeIn (lists_of v) two.list (number v.elements a) (number v.elements b) =
+          record { place = two.place; later = two.place + 1; in_order = omega arith; first = two.first; second = two.second } in
+          let named = named-stands v proper two.list two.place (number v.elements a) two.first in
+          let r : Returned = named.by in
+          let shows : ShowsNumbers v r.by (number v.elements a) (number v.elements b) = shows-list v proper two.list (number v.elements a) (number v.elements b) r named.at before in
+          let one : shows.0 ≡ a = same_Some shows.0 a (sym shows.2 ∙ name_at_number v.elements a once i) in
+          let other : shows.1 ≡ b = same_Some shows.1 b (sym shows.3 ∙ name_at_number v.elements b once j) in
+          let shown : ShowsIn v r.by a b = subst (λ x. ShowsIn v r.by x b) one (subst (λ y. ShowsIn v r.by shows.0 y) other (ShowsIn-from_Shows v r.by shows.0 shows.1 shows.4)) in
+          o.forwards r.by a b i j (In-map (λ (q : Returned). q.by) r v.returned (In-from_place v.returned two.list r named.at), shown)
+
+  pub least_from_first : (taken : List ℕ) → ((x : ℕ) → In x taken → x < length v.elements) →
+      IsFirst (edges (lists_of v)) (below (length v.elements)) taken → IsLeastOrder v (names_at v.elements taken)
+  least_from_first taken within f =
+      let names : List NameBytes = names_at v.elements taken in
+      let set : List Operation = all_operations v in
+      let follows = follows_from_order v proper set names (names_follow taken f.orders) in
+      record {
+        follows = (follows.0, follows_all v names follows.1);
+        least = λ other g less.
+            let o = order_from_follows v proper set other g.0 (follows_set v set other g.1) in
+            f.first (map (number v.elements) other) (numbers_follow other o) (same_tests (map (number v.elements) other) less);
+      }
+    where
+      map_same : (xs : List ℕ) → map (λ z. z) xs ≡ xs
+      map_same [] = refl
+      map_same (x ∷ xs) = ap (λ l. x ∷ l) (map_same xs)
+
+      same_tests : (xs : List ℕ) → IsTrue (dictionary_lt xs (map (number v.elements) (names_at v.elements taken))) → IsTrue (dictionary_lt (map (λ z. z) xs) (map (λ z. z) taken))
+      same_tests xs t =
+          subst (λ ys. IsTrue (dictionary_lt (map (λ z. z) xs) ys)) (numbers_back v.elements taken (elements-once v proper) within ∙ sym (map_same taken))
+          (subst (λ ys. IsTrue (dictionary_lt ys (map (number v.elements) (names_at v.elements taken)))) (sym (map_same xs)) t)
+
+  pub none_from_closed : Closed (Leads (edges (lists_of v))) → HasNoOrder v
+  none_from_closed c order f =
+      let set : List Operation = all_operations v in
+      let o = order_from_follows v proper set order f.0 (follows_set v set order f.1) in
+      no_closed (Leads (edges (lists_of v))) (below (length v.elements)) (map (number v.elements) order)
+      (λ k a b h.
+      let two : AreNeighbours (lists_of v) a b = edge_sound (lists_of v) a b h in
+      (below-In (length v.elements) a (known_below two.list two.place a two.first), below-In (length v.elements) b (known_below two.list (two.place + 1) b two.second)))
+      (numbers_follow order o) c

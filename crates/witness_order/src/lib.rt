@@ -1,0 +1,17 @@
+//! The least order of a recording's elements that follows every response.
+//!
+//! Each time the least element is taken that stands right behind none that is left. What is taken is a front
+//! of every response, so neighbouring places tell what any two places do.
+#![tactic(auto)]
+
+mod element_order;
+mod free;
+mod indegrees;
+mod least_order;
+mod neighbours;
+
+pub use element_order::Order;
+pub use least_order::order;
+
+#[cfg(test)]
+mod tests;

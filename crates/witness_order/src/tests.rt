@@ -1,0 +1,4 @@
+mod generated;
+mod plain;
+mod recordings;
+mod worked;

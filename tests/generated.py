@@ -1,0 +1,229 @@
+#!/usr/bin/env python3
+"""generated.py PROGRAM: small recordings, the same in each run, judged by the program and by a slow reference.
+
+The program's report, as text and as JSON, must be the reference's byte for byte. Each kind of verdict must be there often
+enough, or the script fails."""
+import json
+import random
+import sys
+from collections import Counter
+
+from program import Ended, Tally, program_of, run
+from reference import Report, recording_of, report_of, responses_of
+
+SEED = 20161016
+
+# How many recordings of each kind are judged.
+WANTED = {"accepted": 200, "accepted in another order": 100, "refused 2": 200, "refused 3": 200, "refused 4": 150, "refused 5": 50, "contents": 150,
+          "position": 150, "doubled": 150}
+MOST_TRIES = 100_000
+
+# Names whose order by bytes says nothing of the order of inserts.
+NAMES = ["a", "b", "c", "Z", "_", "-", ".", "0", "10", "9.1", "ins", "del", "read", "recv", "e-1", "E_1", "x" * 32]
+PAST_THE_END = [7, 4096, 4294967295]
+
+
+class Editor:
+    """A replica: the operations that it knows of, which are its own and those that it heard of."""
+
+    def __init__(self, number: int):
+        self.number = number
+        self.known = set()
+        self.did = []  # of each operation, all that was known behind it
+
+
+class Session:
+    """A session as it is played: what each editor answers is right in its contents and positions, in orders of the
+    session's own choosing."""
+
+    def __init__(self, rnd: random.Random):
+        self.rnd = rnd
+        self.editors = [Editor(number) for number in range(rnd.randint(2, 4))]
+        self.names = rnd.sample(NAMES, rnd.randint(1, 5))
+        self.effects = {}  # by operation: what it inserts or deletes, as (kind, name)
+        self.lines = ["trace 1", f"replicas {len(self.editors)}"]
+        self.ordered = rnd.choice([self.one_order, self.each_its_own, self.tournament, self.round])
+        self.order = rnd.sample(self.names, len(self.names))
+        self.beats = {pair for i, a in enumerate(self.names) for b in self.names[:i]
+                      for pair in [rnd.choice([(a, b), (b, a)])]}
+
+    def one_order(self, shown: list) -> list:
+        """All editors keep one order."""
+        return sorted(shown, key=self.order.index)
+
+    def each_its_own(self, shown: list) -> list:
+        """Now and then two elements are exchanged."""
+        w = sorted(shown, key=self.order.index)
+        if len(w) > 1 and self.rnd.random() < 0.2:
+            i = self.rnd.randrange(len(w) - 1)
+            w[i], w[i + 1] = w[i + 1], w[i]
+        return w
+
+    def tournament(self, shown: list) -> list:
+        """Of each two elements one stands first wherever both are shown, where that can be."""
+        return sorted(shown, key=lambda a: (-sum((a, b) in self.beats for b in shown), self.order.index(a)))
+
+    def round(self, shown: list) -> list:
+        """The elements stand in a ring, and a response begins behind the widest gap."""
+        places = sorted(self.order.index(a) for a in shown)
+        if not places:
+            return []
+        gaps = [(places[i] - places[i - 1]) % len(self.order) for i in range(len(places))]
+        first = gaps.index(max(gaps))
+        return [self.order[p] for p in places[first:] + places[:first]]
+
+    def shown_to(self, editor: Editor) -> list:
+        effects = [self.effects[e] for e in editor.known]
+        gone = {name for kind, name in effects if kind == "del"}
+        return self.ordered(sorted({name for kind, name in effects if kind == "ins"} - gone))
+
+    def operate(self, editor: Editor, kind: str, name: str = "") -> None:
+        operation = (editor.number, len(editor.did) + 1)
+        self.effects[operation] = (kind, name)
+        editor.known.add(operation)
+        editor.did.append(set(editor.known))
+        shown = self.shown_to(editor)
+        words = [str(editor.number), kind, *([name] if name else [])]
+        if kind == "ins":
+            at = shown.index(name) if name in shown else 0
+            words.append(str(self.rnd.choice(PAST_THE_END) if at + 1 >= len(shown) and self.rnd.random() < 0.2 else at))
+        self.lines.append(" ".join([*words, ":", *shown]))
+
+    def receive(self, editor: Editor, other: Editor, n: int) -> None:
+        editor.known |= other.did[n - 1]
+        self.lines.append(f"{editor.number} recv {other.number} {n}")
+
+    def hear(self, editor: Editor) -> None:
+        """Mostly of another's last operation, now and then of an earlier one, which may have arrived before."""
+        other = self.rnd.choice(self.editors)
+        if other is not editor and other.did:
+            n = len(other.did)
+            self.receive(editor, other, n if self.rnd.random() < 0.7 else self.rnd.randint(1, n))
+
+    def play(self) -> str:
+        """Edits without a plan."""
+        left = list(self.names)
+        share_of_deletes = self.rnd.choice([0.1, 0.3, 0.5])
+        for _ in range(self.rnd.randint(0, 24)):
+            editor, luck = self.rnd.choice(self.editors), self.rnd.random()
+            if luck < 0.4:
+                self.hear(editor)
+            elif luck < 0.6 and left:
+                self.operate(editor, "ins", left.pop())
+            elif luck < 0.6 + 0.4 * share_of_deletes:
+                shown = self.shown_to(editor)
+                self.operate(editor, "del", self.rnd.choice(shown if shown and self.rnd.random() < 0.9 else NAMES))
+            else:
+                self.operate(editor, "read")
+        return self.text()
+
+    def play_ring(self) -> str:
+        """Edits by a plan that shows each two neighbours of a ring alone, with other moves between."""
+        self.ordered = self.round
+        ring = self.order = self.rnd.sample(self.names, self.rnd.randint(3, len(self.names)))
+        p, q, r = self.rnd.sample(self.editors, 3)
+        met = self.rnd.randint(2, len(ring) - 1)
+        moves = [(p, "ins", ring[0]), (q, "recv", p), (r, "recv", p)]
+        for a, b in zip(ring, ring[1:met]):
+            moves += [(r, "ins", b), (r, "del", a)]
+        for a, b in zip([ring[0], *ring[:met:-1]], ring[:met - 1:-1]):
+            moves += [(q, "ins", b), (q, "del", a)]
+        moves += [(p, "recv", r), (p, "recv", q), (p, "read", "")]
+        share_of_others = self.rnd.choice([0, 0.1, 0.3])
+        for editor, kind, what in moves:
+            while self.rnd.random() < share_of_others:
+                self.rnd.choice([self.hear, lambda other: self.operate(other, "read")])(self.rnd.choice(self.editors))
+            if kind == "recv":
+                self.receive(editor, what, len(what.did))
+            else:
+                self.operate(editor, kind, what)
+        return self.text()
+
+    def text(self) -> str:
+        return "".join(line + "\n" for line in self.lines)
+
+
+def session(rnd: random.Random) -> str:
+    played = Session(rnd)
+    return played.play_ring() if len(played.editors) > 2 and len(played.names) > 2 and rnd.random() < 0.7 else played.play()
+
+
+def with_fault(rnd: random.Random, text: str) -> str:
+    """The text with one change of an operation that leaves it a trace."""
+    lines = text.splitlines()
+    places = [i for i, line in enumerate(lines) if ":" in line.split()]
+    if not places:
+        return text
+    at = rnd.choice(places)
+    words = lines[at].split()
+    colon = words.index(":")
+    front, response = words[:colon], words[colon + 1:]
+    inserts = [i for i in places if lines[i].split()[1] == "ins"]
+    kind = rnd.randrange(7)
+    if kind == 0 and response:
+        response.pop(rnd.randrange(len(response)))
+    elif kind == 1:
+        response.insert(rnd.randint(0, len(response)), rnd.choice(NAMES))
+    elif kind == 2 and response:
+        response.insert(rnd.randint(0, len(response)), rnd.choice(response))
+    elif kind == 3 and response:
+        response[rnd.randrange(len(response))] = rnd.choice(NAMES)
+    elif kind in (4, 5) and inserts:
+        at = rnd.choice(inserts)
+        words = lines[at].split()
+        front, response = words[:4], words[5:]
+        front[3] = str(rnd.choice([0, 1, 2, 3, 4294967295]))
+        rnd.shuffle(response) if kind == 5 else None
+    elif kind == 6 and len(inserts) > 1:
+        at, other = rnd.sample(inserts, 2)
+        words = lines[at].split()
+        front, response = [*words[:2], lines[other].split()[2], words[3]], words[5:]
+    lines[at] = " ".join([*front, ":", *response])
+    return "".join(line + "\n" for line in lines)
+
+
+def kind_of(text: str, report: Report) -> str:
+    """The verdict, and of an order whether the elements don't stand in it by their numbers."""
+    if report.kind != "accepted" or json.loads(report.json)["order"] == responses_of(recording_of(text)).names:
+        return report.kind
+    return "accepted in another order"
+
+
+def recordings() -> list:
+    """Recordings with their reports and kinds, as many of each kind as are wanted, if there are."""
+    rnd = random.Random(SEED)
+    left, made = Counter(WANTED), {}
+    for _ in range(MOST_TRIES):
+        text = session(rnd)
+        for _ in range(rnd.choice([0, 0, 0, 1, 2])):
+            text = with_fault(rnd, text)
+        if text in made:
+            continue
+        report = report_of(text)
+        kind = kind_of(text, report)
+        if left[kind] > 0:
+            left[kind] -= 1
+            made[text] = report, kind
+        if not +left:
+            break
+    return [(text, report, kind) for text, (report, kind) in made.items()]
+
+
+def main() -> None:
+    program = program_of(sys.argv)
+    tally = Tally()
+    cases = recordings()
+    kinds = Counter(kind for _, _, kind in cases)
+    print(", ".join(f"{kinds[kind]} {kind}" for kind in WANTED))
+    tally.check("recordings of all kinds", kinds == WANTED, kinds)
+    tally.check("a thousand recordings", len(cases) >= 1000, len(cases))
+    for text, report, _ in cases:
+        status = 0 if report.kind == "accepted" else 1
+        for form, wanted in (["verdict", "-"], report.text), (["verdict", "--json", "-"], report.json):
+            got = run(program, form, text.encode())
+            tally.same(f"{form} of\n{text}", got, Ended(status, wanted.encode(), b""))
+    tally.close()
+
+
+if __name__ == "__main__":
+    main()
