@@ -1,26 +1,31 @@
 use super::{push_name, push_names, push_number, push_operation};
-use events::{Name, OpName, Response};
+use events::{Memory, Name, OpName, Response};
+use std::alloc::Global;
 
-#[test]
-fn words_stand_behind_each_other(rt: HostRuntime) {
-    let alloc = rt.alloc();
-    let mut text = Vec::new(alloc);
-    let Ok(name) = Name::new(b"a-1") else {
-        return;
-    };
+/// Two names and an operation's name behind a number, by all four calls.
+fn words(alloc: Global, name: Name) -> Result<Vec<u8>, Memory> {
     let mut names = Response::new(alloc);
-    if names.push(name).is_err() || names.push(name).is_err() {
-        return;
-    }
+    names.push(name)?;
+    names.push(name)?;
     let operation = OpName {
         replica: 0,
         n: 4294967295,
     };
-    let whole = push_number(alloc, &mut text, 10).is_ok()
-        && push_operation(alloc, &mut text, operation).is_ok()
-        && push_name(&mut text, &name).is_ok()
-        && push_names(&mut text, &names).is_ok();
-    if whole {
-        assert_eq!(&rt; text.as_slice(), b"100.4294967295 a-1 a-1 a-1");
+    let mut text = Vec::new(alloc);
+    push_number(alloc, &mut text, 10)?;
+    push_operation(alloc, &mut text, operation)?;
+    push_name(&mut text, &name)?;
+    push_names(&mut text, &names)?;
+    Ok(text)
+}
+
+#[test]
+fn words_stand_behind_each_other(rt: HostRuntime) {
+    let name = Name::new(b"a-1");
+    assert!(&rt; name.is_ok());
+    if let Ok(name) = name {
+        if let Ok(text) = words(rt.alloc(), name) {
+            assert_eq!(&rt; text.as_slice(), b"100.4294967295 a-1 a-1 a-1".as_slice());
+        }
     }
 }
