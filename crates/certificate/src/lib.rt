@@ -8,9 +8,9 @@ mod judging;
 mod verdict;
 
 pub use judging::judge;
-pub use level_search::{Gate, NoGate, SearchFault, Step, Steps};
+pub use level_search::{Gate, NoGate, SearchFault};
 pub use verdict::Verdict;
-pub use witness_order::Order;
+pub use witnesses::{Order, Step, Steps};
 
 #[cfg(test)]
 mod tests;

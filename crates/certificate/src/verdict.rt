@@ -1,7 +1,6 @@
 use contents_check::Fault;
 use events::OpName;
-use level_search::Steps;
-use witness_order::Order;
+use witnesses::{Order, Steps};
 
 /// The verdict on a recording.
 #[derive(Drop)]

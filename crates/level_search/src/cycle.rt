@@ -9,10 +9,10 @@ ghost use Rattle.level_search.specs.Steps.{IsStepBetween, AreStepsOf, next_in};
 
 use super::ring::least_ring;
 use super::scratch::Scratch;
-use super::steps::{Step, Steps};
 use events::Memory;
 use order_graph::OrderGraph;
 use std::alloc::Global;
+use witnesses::{Step, Steps};
 
 /// The element behind the one at a place of a ring; behind the last stands the first.
 fn behind(ring: &[u32], i: usize) -> u32

@@ -18,7 +18,6 @@ mod scratch;
 mod search_fault;
 mod start;
 mod state;
-mod steps;
 mod sweep;
 mod tables;
 mod team;
@@ -32,7 +31,7 @@ pub use laws::least_offer_is_shortest;
 pub use plain_bound::PlainBound;
 pub use scratch::{Scratch, search};
 pub use search_fault::SearchFault;
-pub use steps::{Step, Steps};
+pub use witnesses::{Step, Steps};
 
 #[cfg(test)]
 mod tests;

@@ -5,13 +5,13 @@ ghost use Rattle.order_graph.specs.Kept.{names_at};
 ghost use Rattle.order_graph.specs.Lists.{lists_of, AreFew};
 ghost use Rattle.witness_order.specs.Edges.{indegree};
 
-use super::element_order::Order;
 use super::free::{free_elements, remove_edges, take_least};
 use super::indegrees::indegrees_of;
 use events::{Memory, Name};
 use order_graph::{Looked, OrderGraph};
 use std::alloc::Global;
 use std::collections::BTreeSet;
+use witnesses::Order;
 
 /// Takes the least free element, and frees what stood right behind it, as long as one is free.
 fn taken_in_turn(

@@ -4,14 +4,13 @@
 //! of every response, so neighbouring places tell what any two places do.
 #![tactic(auto)]
 
-mod element_order;
 mod free;
 mod indegrees;
 mod least_order;
 mod neighbours;
 
-pub use element_order::Order;
 pub use least_order::order;
+pub use witnesses::Order;
 
 #[cfg(test)]
 mod tests;

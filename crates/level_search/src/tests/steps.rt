@@ -118,23 +118,3 @@ fn steps_of_the_pair_apart(rt: HostRuntime) -> Result<(), Fail> {
     assert!(rt; leads_round(&rt, alloc, &pair, &steps)?);
     Ok(())
 }
-
-/// A list of one step.
-fn one(alloc: Global, step: Step) -> Result<Vec<Step>, Memory> {
-    let mut steps = Vec::new(alloc);
-    steps.push(step)?;
-    Ok(steps)
-}
-
-#[test]
-fn steps_are_given_back(rt: HostRuntime) -> Result<(), Fail> {
-    let alloc = rt.alloc();
-    let shown = Shown("a", "b", 0, 2);
-    let steps = match one(alloc, shown.step()?) {
-        Ok(steps) => steps,
-        Err(Memory) => one(alloc, shown.step()?)?,
-    };
-    let again = Steps::from_steps(Steps::from_steps(steps).into_steps());
-    assert!(rt; are(&again, &[shown])?);
-    Ok(())
-}

@@ -144,18 +144,3 @@ fn cycles_have_no_order(rt: HostRuntime) -> Result<(), Fail> {
     assert!(rt; gives(&rt, alloc, 7, &PAST_A_NEIGHBOUR, None)?);
     Ok(())
 }
-
-#[test]
-fn an_order_is_its_names(rt: HostRuntime) -> Result<(), Fail> {
-    let alloc = rt.alloc();
-    let mut names = Vec::new(alloc);
-    push_name(&mut names, Name::new(b"b")?)?;
-    push_name(&mut names, Name::new(b"a")?)?;
-    let order = Order::from_names(names);
-    assert_eq!(rt; order.len(), 2);
-    assert!(rt; has_texts(&order, &["b", "a"])?);
-    assert!(rt; order.get(2).is_none());
-    let back = order.into_names();
-    assert_eq!(rt; back.len(), 2);
-    Ok(())
-}

@@ -1,0 +1,23 @@
+-- The public certificates and causes as the definitions' ones.
+use Rattle.std.specs.Prelude.{Option, Some, None}
+use Rattle.specification.specs.Faults as fault
+use Rattle.specification.specs.CertificateText as format
+use Rattle.certificate_text.specs.declared.certificate.Certificate.{Certificate}
+use Rattle.certificate_text.specs.declared.certificate.Certificate.TheVariants.{Doubled, Contents, Position, Accepted, Refused}
+use Rattle.certificate_text.specs.declared.fault.CertCause.{CertCause}
+use Rattle.certificate_text.specs.declared.fault.CertCause.TheVariants as cause
+
+abbrev pub certificate_of : Certificate → format.Certificate
+certificate_of (Doubled first again) = format.names_fault (fault.doubled first again)
+certificate_of (Contents at) = format.names_fault (fault.contents at)
+certificate_of (Position at) = format.names_fault (fault.position at)
+certificate_of (Accepted order) = format.gives_order order
+certificate_of (Refused k steps layers) = format.gives_cycle k steps layers
+
+-- want of memory is no fault of the text
+abbrev pub cause_of : CertCause → Option format.CertCause
+cause_of cause.Header = Some format.header
+cause_of cause.Kind = Some format.kind
+cause_of cause.Shape = Some format.shape
+cause_of cause.Cut = Some format.cut
+cause_of cause.Memory = None
