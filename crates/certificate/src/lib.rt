@@ -4,9 +4,12 @@
 //! there is none for the conflict number and the least cycle.
 #![tactic(auto)]
 
+mod certifying;
 mod judging;
 mod verdict;
 
+pub use certificate_text::Certificate;
+pub use certifying::certify;
 pub use judging::judge;
 pub use level_search::{Gate, NoGate, SearchFault};
 pub use verdict::Verdict;

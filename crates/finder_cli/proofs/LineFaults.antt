@@ -4,8 +4,8 @@ use Rattle.specification.specs.TraceText.{Cause, IsFirstLineFault}
 use Rattle.trace_text.specs.Causes.{cause_of}
 use Rattle.trace_text.specs.declared.cause.LineFault.{LineFault}
 use Rattle.finder_cli.specs.Runs.{NamesFirstFault, IsOfText}
-use Rattle.finder_cli.specs.declared.run.RunFault.{RunFault}
-use Rattle.finder_cli.specs.declared.run.RunFault.TheVariants as run
+use Rattle.finder_cli.specs.declared.status.RunFault.{RunFault}
+use Rattle.finder_cli.specs.declared.status.RunFault.TheVariants as run
 
 -- want of memory has no line, and any other cause is the text's first fault
 pub trace_fault-names : (text : List ℕ) (fault : LineFault) (answer : RunFault) (cause : Option Cause) → cause_of fault.cause ≡ cause

@@ -1,9 +1,9 @@
 -- How the program ends: exit statuses, and its fault for that of a run.
-use Rattle.std.specs.Prelude.{◌≡◌, ℕ, List}
-use Rattle.finder_cli.specs.declared.run.Status.{Status}
-use Rattle.finder_cli.specs.declared.run.Status.TheVariants.{Good, Bad}
-use Rattle.finder_cli.specs.declared.run.RunFault.{RunFault}
-use Rattle.finder_cli.specs.declared.run.RunFault.TheVariants as run
+use Rattle.std.specs.Prelude.{◌≡◌, ◌⊎◌, ℕ, List}
+use Rattle.finder_cli.specs.declared.status.Status.{Status}
+use Rattle.finder_cli.specs.declared.status.Status.TheVariants.{Good, Bad}
+use Rattle.finder_cli.specs.declared.status.RunFault.{RunFault}
+use Rattle.finder_cli.specs.declared.status.RunFault.TheVariants as run
 use Rattle.finder_cli.specs.declared.program.ProgramFault.{ProgramFault}
 use Rattle.finder_cli.specs.declared.program.ProgramFault.TheVariants as program
 
@@ -35,6 +35,10 @@ NamesFile file program.Usage = Unit {0}
 NamesFile file (program.Trace fault) = Unit {0}
 NamesFile file program.Write = Unit {0}
 NamesFile file program.Memory = Unit {0}
+
+-- where a file can't be read, it is one of these
+abbrev pub NamesEither : List ℕ → List ℕ → ProgramFault → Type 0
+NamesEither file other fault = NamesFile file fault ⊎ NamesFile other fault
 
 -- the two faults of words that can't be had
 abbrev pub IsOfWords : ProgramFault → Type 0

@@ -11,10 +11,10 @@ use Rattle.finder_cli.specs.Streams.{AppendsFront}
 use Rattle.report.specs.JsonReport.{report_json}
 use Rattle.finder_cli.specs.declared.run.Form.{Form}
 use Rattle.finder_cli.specs.declared.run.Form.TheVariants.{Text, Json}
-use Rattle.finder_cli.specs.declared.run.Status.{Status}
-use Rattle.finder_cli.specs.declared.run.Status.TheVariants.{Good, Bad}
-use Rattle.finder_cli.specs.declared.run.RunFault.{RunFault}
-use Rattle.finder_cli.specs.declared.run.RunFault.TheVariants as run
+use Rattle.finder_cli.specs.declared.status.Status.{Status}
+use Rattle.finder_cli.specs.declared.status.Status.TheVariants.{Good, Bad}
+use Rattle.finder_cli.specs.declared.status.RunFault.{RunFault}
+use Rattle.finder_cli.specs.declared.status.RunFault.TheVariants as run
 
 -- the report in a form
 abbrev pub report_of : Form → History → Verdict → List ℕ
@@ -59,6 +59,22 @@ IsOfText run.Memory = Unit {0}
 IsOfText run.Workers = ⊥
 IsOfText run.Read = ⊥
 IsOfText run.Write = ⊥
+
+-- no fault but that of reading and want of memory
+abbrev pub IsOfReading : RunFault → Type 0
+IsOfReading run.Read = Unit {0}
+IsOfReading run.Memory = Unit {0}
+IsOfReading (run.Trace fault) = ⊥
+IsOfReading run.Workers = ⊥
+IsOfReading run.Write = ⊥
+
+-- no fault but those of reading and writing, and want of memory
+abbrev pub IsOfVerifying : RunFault → Type 0
+IsOfVerifying run.Read = Unit {0}
+IsOfVerifying run.Memory = Unit {0}
+IsOfVerifying run.Write = Unit {0}
+IsOfVerifying (run.Trace fault) = ⊥
+IsOfVerifying run.Workers = ⊥
 
 -- outside 1 to 64
 abbrev pub IsNoWorkers : ℕ → Type 0

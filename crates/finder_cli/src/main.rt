@@ -4,12 +4,17 @@
 //! them to files, standard streams and exit statuses.
 #![tactic(auto)]
 
+mod answer_line;
+mod certified;
+mod output;
 mod program;
 mod run;
+mod status;
 mod streams;
 mod task;
 #[cfg(test)]
 mod tests;
+mod verified;
 mod words;
 
 use program::finder;

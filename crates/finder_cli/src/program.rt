@@ -3,11 +3,15 @@
 ghost use Rattle.std.specs.Prelude.{◌≡◌, ◌↔◌, true, IfOk, IfErr, IfSome, IsErrOf, MatchResult};
 ghost use Rattle.std.specs.Io.KnownBytes.{Appends};
 ghost use Rattle.finder_cli.specs.Runs.{Reports, IsNoWorkers};
-ghost use Rattle.finder_cli.specs.Endings.{number_of_fault, IsFaultOfRun, NamesFile, IsOfWords};
+ghost use Rattle.finder_cli.specs.Certified.{Certifies, Verifies};
+ghost use Rattle.finder_cli.specs.Endings.{number_of_fault, IsFaultOfRun, NamesFile, NamesEither, IsOfWords};
 
-use super::run::{Form, RunFault, Status, run};
+use super::certified::run_cert;
+use super::run::{Form, run};
+use super::status::{RunFault, Status};
 use super::streams::{Sink, Source};
 use super::task::{Task, Word};
+use super::verified::run_verify;
 use super::words::{WordsFault, read_words};
 use std::alloc::Global;
 use std::env::Env;
@@ -69,6 +73,8 @@ pub fn finder<H: Env + Files + Input + Print + AllocGlobal + Threads + Sync>(
                 file,
             },
         ) => judge_file(rt, file, workers, form),
+        Ok(Task::Cert { file }) => certify_file(rt, file),
+        Ok(Task::Verify { file, cert }) => verify_files(rt, file, cert),
         Err(WordsFault::Usage) => Err(ProgramFault::Usage),
         Err(WordsFault::Memory) => Err(ProgramFault::Memory),
         Err(WordsFault::Help { text }) => show(&mut Sink::new(io::writer(rt)), text.as_bytes()),
@@ -141,6 +147,93 @@ fn judge<H: AllocGlobal + Threads + Sync, R: Read + Drop, W: Write + Drop>(
     ensures file { IfErr result (λ fault. NamesFile file fault) }
 {
     match run(rt, rt.alloc(), source, sink, workers, form) {
+        Ok(status) => Ok(status),
+        Err(fault) => Err(fault_of_run(fault, file)),
+    }
+}
+
+/// Writes the certificate of the recording that the file spells; `-` is standard input.
+fn certify_file<H: Files + Input + Print + AllocGlobal + Threads + Sync>(
+    rt: &H,
+    file: Word,
+) -> Result<Status, ProgramFault>
+    ensures { IfErr result (λ fault. NamesFile file fault) }
+{
+    let mut sink = Sink::new(io::writer(rt));
+    if file.as_str() == "-" {
+        return certify(rt, &mut Source::new(rt.reader()), &mut sink, file);
+    }
+    match fs::open(rt, file.as_str()) {
+        Ok(opened) => certify(rt, &mut Source::new(opened), &mut sink, file),
+        Err(_) => Err(ProgramFault::Read { file }),
+    }
+}
+
+/// Writes the certificate of the recording that the source spells, where it is the source of this file.
+fn certify<H: AllocGlobal + Threads + Sync, R: Read + Drop, W: Write + Drop>(
+    rt: &H,
+    source: &mut Source<R>,
+    sink: &mut Sink<W>,
+    file: Word,
+) -> Result<Status, ProgramFault>
+    ensures certificate { IfOk result (λ status. IfSome source.old.bytes (λ text. Certifies text sink.old.bytes sink.new.bytes status)) }
+    ensures file { IfErr result (λ fault. NamesFile file fault) }
+{
+    match run_cert(rt, rt.alloc(), source, sink) {
+        Ok(status) => Ok(status),
+        Err(fault) => Err(fault_of_run(fault, file)),
+    }
+}
+
+/// Writes the checker's line on the trace in the file and the certificate in the other; `-` is standard
+/// input. The trace is opened first.
+fn verify_files<H: Files + Input + Print + AllocGlobal + Threads + Sync>(
+    rt: &H,
+    file: Word,
+    cert: Word,
+) -> Result<Status, ProgramFault>
+    ensures { IfErr result (λ fault. NamesEither file cert fault) }
+{
+    if file.as_str() == "-" {
+        return verify_against(rt, &mut Source::new(rt.reader()), file, cert);
+    }
+    match fs::open(rt, file.as_str()) {
+        Ok(opened) => verify_against(rt, &mut Source::new(opened), file, cert),
+        Err(_) => Err(ProgramFault::Read { file }),
+    }
+}
+
+/// Writes the checker's line on a trace, where it is the source of this file, and the certificate in the other.
+fn verify_against<H: Files + Input + Print + AllocGlobal + Threads + Sync, T: Read + Drop>(
+    rt: &H,
+    trace: &mut Source<T>,
+    file: Word,
+    cert: Word,
+) -> Result<Status, ProgramFault>
+    ensures { IfErr result (λ fault. NamesEither file cert fault) }
+{
+    let mut sink = Sink::new(io::writer(rt));
+    if cert.as_str() == "-" {
+        return verify(rt, trace, &mut Source::new(rt.reader()), &mut sink, file);
+    }
+    match fs::open(rt, cert.as_str()) {
+        Ok(opened) => verify(rt, trace, &mut Source::new(opened), &mut sink, file),
+        Err(_) => Err(ProgramFault::Read { file: cert }),
+    }
+}
+
+/// Writes the checker's line on a trace and a certificate, where the trace is the source of this file.
+fn verify<H: AllocGlobal + Threads + Sync, T: Read + Drop, C: Read + Drop, W: Write + Drop>(
+    rt: &H,
+    trace: &mut Source<T>,
+    cert: &mut Source<C>,
+    sink: &mut Sink<W>,
+    file: Word,
+) -> Result<Status, ProgramFault>
+    ensures answer { IfOk result (λ status. IfSome trace.old.bytes (λ t. IfSome cert.old.bytes (λ c. Verifies t c sink.old.bytes sink.new.bytes status))) }
+    ensures file { IfErr result (λ fault. NamesFile file fault) }
+{
+    match run_verify(rt, rt.alloc(), trace, cert, sink) {
         Ok(status) => Ok(status),
         Err(fault) => Err(fault_of_run(fault, file)),
     }

@@ -49,4 +49,9 @@ pub enum Task {
         form: Form,
         file: Word,
     },
+    /// The certificate of the verdict on the recording that a file spells; `-` is standard input.
+    Cert { file: Word },
+    /// Whether a certificate is valid for the recording that a file spells; `-` is standard input, which
+    /// is read to its end for the trace and then again for the certificate where both are so.
+    Verify { file: Word, cert: Word },
 }

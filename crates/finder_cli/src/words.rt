@@ -43,8 +43,8 @@ impl From<AllocError> for WordsFault {
 
 /// The task that the words ask for: those behind the program's name.
 ///
-/// `verdict [--workers N] [--json] FILE` is the one command; N is 1 to 64, in digits and without leading
-/// zeros, and 4 where it is not given. No words mean `verdict -`.
+/// The commands are `verdict [--workers N] [--json] FILE`, `cert FILE` and `verify FILE CERT`; N is 1 to 64, in
+/// digits and without leading zeros, and 4 where it is not given. No words mean `verdict -`.
 pub fn read_words(alloc: Global, words: &[String]) -> Result<Task, WordsFault>
     ensures workers { IfOk result HasWorkers }
     ensures none { words.now ≡ [] → MatchResult result IsDefault (λ fault. fault ≡ WordsFault.Memory) }
@@ -74,7 +74,9 @@ fn finder_command<'a>(alloc: Global) -> Result<Command<'a>, AllocError> {
     Command::new(alloc, "finder")
         .no_binary_name(true)
         .subcommand_required(true)
-        .subcommand(verdict_command(alloc)?)
+        .subcommand(verdict_command(alloc)?)?
+        .subcommand(cert_command(alloc)?)?
+        .subcommand(verify_command(alloc)?)
 }
 
 fn verdict_command<'a>(alloc: Global) -> Result<Command<'a>, AllocError> {
@@ -87,17 +89,37 @@ fn verdict_command<'a>(alloc: Global) -> Result<Command<'a>, AllocError> {
         .long("json")
         .help("Writes the report as JSON")
         .action(ArgAction::SetTrue);
-    let file = Arg::new(alloc, "FILE")
-        .help("The trace; - is standard input")
-        .required(true)
-        .action(ArgAction::Set);
     Command::new(alloc, "verdict")
         .about(
             "Judges a recording: its first fault, the order that all responses follow, or the least conflict",
         )
         .arg(workers)?
         .arg(json)?
-        .arg(file)
+        .arg(trace_word(alloc))
+}
+
+fn cert_command<'a>(alloc: Global) -> Result<Command<'a>, AllocError> {
+    Command::new(alloc, "cert")
+        .about("Writes the certificate of the verdict, which shows why it is right")
+        .arg(trace_word(alloc))
+}
+
+fn verify_command<'a>(alloc: Global) -> Result<Command<'a>, AllocError> {
+    let cert = Arg::new(alloc, "CERT")
+        .help("The certificate; - is standard input")
+        .required(true)
+        .action(ArgAction::Set);
+    Command::new(alloc, "verify")
+        .about("Says whether a certificate is valid for a recording, without a search")
+        .arg(trace_word(alloc))?
+        .arg(cert)
+}
+
+fn trace_word<'a>(alloc: Global) -> Arg<'a> {
+    Arg::new(alloc, "FILE")
+        .help("The trace; - is standard input")
+        .required(true)
+        .action(ArgAction::Set)
 }
 
 /// The task of words that `clap` has read.
@@ -109,7 +131,14 @@ fn task_of(alloc: Global, matches: &ArgMatches<'_>) -> Result<Task, WordsFault>
         "verdict" => Ok(Task::Verdict {
             workers: workers_of(given)?,
             form: form_of(given),
-            file: file_of(alloc, given)?,
+            file: word_of(alloc, given, "FILE")?,
+        }),
+        "cert" => Ok(Task::Cert {
+            file: word_of(alloc, given, "FILE")?,
+        }),
+        "verify" => Ok(Task::Verify {
+            file: word_of(alloc, given, "FILE")?,
+            cert: word_of(alloc, given, "CERT")?,
         }),
         _ => Err(WordsFault::Usage),
     }
@@ -150,11 +179,11 @@ fn number_of(word: &str) -> Option<u32>
     word.parse().ok()
 }
 
-/// The file that was given.
-fn file_of(alloc: Global, given: &ArgMatches<'_>) -> Result<Word, WordsFault>
-    ensures { IfOk result (λ word. first_value (found_of given.now) (codes "FILE") ≡ Some word) }
+/// The word that was given for this argument.
+fn word_of(alloc: Global, given: &ArgMatches<'_>, name: &str) -> Result<Word, WordsFault>
+    ensures { IfOk result (λ word. first_value (found_of given.now) name.now ≡ Some word) }
 {
-    let word = given.get_str("FILE").ok_or(WordsFault::Usage)?;
+    let word = given.get_str(name).ok_or(WordsFault::Usage)?;
     Ok(Word::new(alloc, word)?)
 }
 

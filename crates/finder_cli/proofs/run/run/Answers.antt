@@ -1,20 +1,17 @@
-use Rattle.finder_cli.proofs.Reported.{whole-report, front-report}
+use Rattle.finder_cli.proofs.Reported.{written-of-read, front-of-read}
+use Rattle.finder_cli.specs.Runs.{IsReportOf}
 use Rattle.finder_cli.proofs.run.run.Goals as goal
 
-pub returns-in-Ok-write_whole-clause-report : goal.returns-in-Ok-write_whole-clause-report
-returns-in-Ok-write_whole-clause-report g c =
-    let read = c.in-Ok.ensures.ok in
-    whole-report c.args.form _ _ _ _ c.deref.result.now c.in-Ok.text.items c.deref-2.result.now c.in_ok-report.report.bytes.items c.in_ok-report.report.status
+pub returns-clause-report : goal.returns-clause-report
+returns-clause-report g c =
+    let read = c.in_ok-text.ensures.ok in
+    written-of-read (λ t o s. IsReportOf t c.args.form o s) _ _ _ _ c.deref.result.now c.in_ok-text.text.items c.in_ok-report.report.bytes.items c.in_ok-report.report.status c.write_output.result
     record { consumed = read.0; ended = read.1; same = c.deref.ensures.value }
-    c.in_ok-report.ensures.ok c.deref-2.ensures.value c.in-Ok-write_whole.ensures.ok.0
+    c.in_ok-report.ensures.ok c.write_output.ensures.ok
 
 pub returns-clause-write : goal.returns-clause-write
 returns-clause-write g c =
-    let read = c.in-Ok.ensures.ok in
-    let wrote = c.in-Err.ensures.err in
-    λ _. (
-      wrote.1,
-      front-report c.args.form _ _ _ _ c.deref.result.now c.in-Ok.text.items c.deref-2.result.now c.in_ok-report.report.bytes.items c.in_ok-report.report.status
-          record { consumed = read.0; ended = read.1; same = c.deref.ensures.value }
-          c.in_ok-report.ensures.ok c.deref-2.ensures.value wrote.0,
-    )
+    let read = c.in_ok-text.ensures.ok in
+    front-of-read (λ t o s. IsReportOf t c.args.form o s) _ _ _ _ _ c.deref.result.now c.in_ok-text.text.items c.in_ok-report.report.bytes.items c.in_ok-report.report.status c.write_output.result
+    record { consumed = read.0; ended = read.1; same = c.deref.ensures.value }
+    c.in_ok-report.ensures.ok c.write_output.ensures.err

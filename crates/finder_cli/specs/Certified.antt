@@ -1,0 +1,48 @@
+-- What is written and answered where a certificate is asked for, and where one is checked.
+use Rattle.std.specs.Prelude.{◌≡◌, ℕ, Option, List}
+use Rattle.std.specs.Io.KnownBytes.{Appends}
+use Rattle.events.specs.History.{History}
+use Rattle.specification.specs.Verdict.{Verdict, IsVerdict}
+use Rattle.specification.specs.TraceText.{Spells}
+use Rattle.specification.specs.CertificateText.{Certificate, certificate_text}
+use Rattle.specification.specs.ExactRows.{IsCertificateOf}
+use Rattle.cert_check.specs.AnswerOf.{IsAnswer}
+use Rattle.cert_check.specs.declared.answer.Answer.{Answer}
+use Rattle.cert_check.specs.declared.answer.Answer.TheVariants.{Yes, No}
+use Rattle.finder_cli.specs.Streams.{AppendsFront}
+use Rattle.finder_cli.specs.Lines.{answer_line}
+use Rattle.finder_cli.specs.Runs.{status_of}
+use Rattle.finder_cli.specs.declared.status.Status.{Status}
+use Rattle.finder_cli.specs.declared.status.Status.TheVariants.{Good, Bad}
+
+-- the text of the certificate of the verdict on the recording that the text spells, and the status of that verdict
+abbrev pub IsCertificateOn : List ℕ → List ℕ → Status → Type 0
+IsCertificateOn text output status =
+    (h : History) × (v : Verdict) × (c : Certificate) × Spells text h × IsVerdict h v × IsCertificateOf h v c
+    × (output ≡ certificate_text c) × (status ≡ status_of v)
+
+-- exactly that text was appended
+abbrev pub Certifies : List ℕ → Option (List ℕ) → Option (List ℕ) → Status → Type 0
+Certifies text old new status = (output : List ℕ) × IsCertificateOn text output status × Appends old new output
+
+-- a front of it was appended
+abbrev pub CertifiesFront : List ℕ → Option (List ℕ) → Option (List ℕ) → Type 0
+CertifiesFront text old new = (output : List ℕ) × (status : Status) × IsCertificateOn text output status × AppendsFront old new output
+
+-- good exactly for a yes
+abbrev pub status_of_answer : Answer → Status
+status_of_answer (Yes kind) = Good
+status_of_answer (No why) = Bad
+
+-- the line of the checker's answer on the two texts, and the status that goes with it
+abbrev pub IsLineOn : List ℕ → List ℕ → List ℕ → Status → Type 0
+IsLineOn trace cert output status =
+    (a : Answer) × IsAnswer trace cert a × (output ≡ answer_line a) × (status ≡ status_of_answer a)
+
+-- exactly that line was appended
+abbrev pub Verifies : List ℕ → List ℕ → Option (List ℕ) → Option (List ℕ) → Status → Type 0
+Verifies trace cert old new status = (output : List ℕ) × IsLineOn trace cert output status × Appends old new output
+
+-- a front of it was appended
+abbrev pub VerifiesFront : List ℕ → List ℕ → Option (List ℕ) → Option (List ℕ) → Type 0
+VerifiesFront trace cert old new = (output : List ℕ) × (status : Status) × IsLineOn trace cert output status × AppendsFront old new output

@@ -1,0 +1,59 @@
+//! A trace in, the certificate of its verdict out.
+
+ghost use Rattle.std.specs.Prelude.{◌≡◌, ◌≢◌, true, false, IfOk, IfErr, IfSome, OnOk, IsErrOf};
+ghost use Rattle.std.specs.Io.KnownBytes.{IsAtEnd};
+ghost use Rattle.finder_cli.specs.Streams.{IsClosed};
+ghost use Rattle.finder_cli.specs.Runs.{NamesFirstFault, IsOfText};
+ghost use Rattle.finder_cli.specs.Certified.{IsCertificateOn, Certifies, CertifiesFront};
+
+use super::output::{Output, recording_on, status_of, verdict_on, whole_text, write_output};
+use super::status::{RunFault, Status};
+use super::streams::{Sink, Source};
+use super::words::WORKERS;
+use certificate::certify;
+use std::alloc::Global;
+use std::io::{Read, Write};
+use std::thread::Threads;
+
+/// Reads a trace to its end, and writes the certificate of its verdict. Four workers search.
+///
+/// Nothing is written before the whole text is made. A trace line that is refused for want of memory is
+/// `Memory`.
+pub fn run_cert<H: Threads + Sync, R: Read + Drop, W: Write + Drop>(
+    rt: &H,
+    alloc: Global,
+    source: &mut Source<R>,
+    sink: &mut Sink<W>,
+) -> Result<Status, RunFault>
+    ensures certificate { IfOk result (λ status. IfSome source.old.bytes (λ text. Certifies text sink.old.bytes sink.new.bytes status)) }
+    ensures end { OnOk result (IsAtEnd source.new.bytes) }
+    ensures workers { ¬ IsErrOf result RunFault.Workers }
+    ensures read { IfErr result (λ fault. fault ≡ RunFault.Read → IsClosed source.new) }
+    ensures memory { IfErr result (λ fault. fault ≡ RunFault.Memory → source.new.failed ≡ false) }
+    ensures trace { IfErr result (λ fault. IfSome source.old.bytes (λ text. NamesFirstFault text fault)) }
+    ensures write { IfErr result (λ fault. fault ≡ RunFault.Write → (sink.new.failed ≡ true) × IfSome source.old.bytes (λ text. CertifiesFront text sink.old.bytes sink.new.bytes)) }
+    ensures unwritten { IfErr result (λ fault. fault ≢ RunFault.Write → sink.new ≡ sink.old) }
+{
+    let text = whole_text(alloc, source)?;
+    let output = certificate_on(rt, alloc, &text)?;
+    write_output(sink, &output)
+}
+
+/// The text of the certificate of the recording that the text spells.
+fn certificate_on<H: Threads + Sync>(
+    rt: &H,
+    alloc: Global,
+    text: &[u8],
+) -> Result<Output, RunFault>
+    ensures ok { IfOk result (λ output. IsCertificateOn text.now output.bytes.items output.status) }
+    ensures trace { IfErr result (λ fault. NamesFirstFault text.now fault × IsOfText fault) }
+{
+    let recording = recording_on(alloc, text)?;
+    let verdict = verdict_on(rt, alloc, &recording, WORKERS)?;
+    let certificate = certify(alloc, &recording, &verdict)?;
+    let bytes = certificate.write(alloc)?;
+    Ok(Output {
+        bytes,
+        status: status_of(&verdict),
+    })
+}

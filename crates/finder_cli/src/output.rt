@@ -1,0 +1,102 @@
+//! What the engines share: a whole text in, an output out.
+
+ghost use Rattle.std.specs.Prelude.{◌≡◌, ◌≤◌, true, false, IfOk, IfErr, MatchOption};
+ghost use Rattle.std.specs.Io.KnownBytes.{Appends, Consumes, IsAtEnd};
+ghost use Rattle.specification.specs.TraceText.{Spells};
+ghost use Rattle.specification.specs.Verdict.{IsVerdict};
+ghost use Rattle.trace_text.specs.Causes.{cause_of};
+ghost use Rattle.certificate.specs.VerdictOf.{verdict_of};
+ghost use Rattle.finder_cli.specs.Streams.{AppendsFront, IsClosed};
+ghost use Rattle.finder_cli.specs.Runs.{NamesFirstFault, IsOfText, IsOfReading, status_of};
+
+use super::status::{RunFault, Status};
+use super::streams::{ReadFault, Sink, Source};
+use certificate::{NoGate, SearchFault, Verdict, judge};
+use events::{Memory, Recording, Refusal};
+use std::alloc::Global;
+use std::io::{Read, Write};
+use std::thread::Threads;
+use trace_text::{Cause, LineFault};
+
+/// What an engine writes, and the status that goes with it.
+#[derive(Drop)]
+pub struct Output {
+    pub bytes: Vec<u8>,
+    pub status: Status,
+}
+
+/// The text of a source, to its end.
+pub fn whole_text<R: Read + Drop>(
+    alloc: Global,
+    source: &mut Source<R>,
+) -> Result<Vec<u8>, RunFault>
+    ensures ok { IfOk result (λ text. Consumes source.old.bytes source.new.bytes text.items × IsAtEnd source.new.bytes × (source.new.failed ≡ false)) }
+    ensures read { IfErr result (λ fault. fault ≡ RunFault.Read → IsClosed source.new) }
+    ensures memory { IfErr result (λ fault. fault ≡ RunFault.Memory → source.new.failed ≡ false) }
+    ensures reading { IfErr result IsOfReading }
+{
+    match source.whole(alloc) {
+        Ok(text) => Ok(text),
+        Err(ReadFault::Read) => Err(RunFault::Read),
+        Err(ReadFault::Memory) => Err(RunFault::Memory),
+    }
+}
+
+/// Writes an output, and answers its status.
+pub fn write_output<W: Write + Drop>(sink: &mut Sink<W>, output: &Output) -> Result<Status, RunFault>
+    ensures ok { IfOk result (λ status. (status ≡ output.now.status) × Appends sink.old.bytes sink.new.bytes output.now.bytes.items) }
+    ensures err { IfErr result (λ fault. (fault ≡ RunFault.Write) × (sink.new.failed ≡ true) × AppendsFront sink.old.bytes sink.new.bytes output.now.bytes.items) }
+{
+    match sink.write_whole(&output.bytes) {
+        Ok(()) => Ok(output.status),
+        Err(_) => Err(RunFault::Write),
+    }
+}
+
+/// The recording that the text spells.
+pub fn recording_on(alloc: Global, text: &[u8]) -> Result<Recording, RunFault>
+    ensures ok { IfOk result (λ h. Spells text.now h) }
+    ensures trace { IfErr result (λ fault. NamesFirstFault text.now fault × IsOfText fault) }
+{
+    match trace_text::read(alloc, text) {
+        Ok(recording) => Ok(recording),
+        Err(fault) => Err(trace_fault(fault)),
+    }
+}
+
+/// The run's fault for a text's: want of memory has no line.
+fn trace_fault(fault: LineFault) -> RunFault
+    ensures { MatchOption (cause_of fault.cause) (result ≡ RunFault.Memory) (λ _. result ≡ RunFault.Trace fault) }
+{
+    match fault.cause {
+        Cause::Refused(Refusal::Memory) => RunFault::Memory,
+        _ => RunFault::Trace(fault),
+    }
+}
+
+/// The verdict on the recording.
+pub fn verdict_on<H: Threads + Sync>(
+    rt: &H,
+    alloc: Global,
+    recording: &Recording,
+    workers: u32,
+) -> Result<Verdict, Memory>
+    requires workers { (1 ≤ workers) × (workers ≤ 64) }
+    ensures { IfOk result (λ v. IsVerdict recording.now (verdict_of v)) }
+{
+    match judge(rt, alloc, recording, workers, &NoGate) {
+        Ok(verdict) => Ok(verdict),
+        Err(SearchFault::Memory) => Err(Memory),
+        Err(SearchFault::Workers) => unreachable!(),
+    }
+}
+
+/// Good exactly where the verdict accepts.
+pub fn status_of(verdict: &Verdict) -> Status
+    ensures { result ≡ status_of (verdict_of verdict.now) }
+{
+    match verdict {
+        Verdict::Accepted(_) => Status::Good,
+        _ => Status::Bad,
+    }
+}
