@@ -1,13 +1,15 @@
 #!/usr/bin/env python3
 """generated.py PROGRAM: small recordings, the same in each run, judged by the program and by a slow reference.
 
-The program's report, as text and as JSON, must be the reference's byte for byte. Each kind of verdict must be there often
+The program's report, as text and as JSON, must be the reference's byte for byte, and so must the certificate of some of them
+and the checker's answers to it and to forged ones. Each kind of verdict must be there often
 enough, or the script fails."""
 import json
 import random
 import sys
 from collections import Counter
 
+from certificates import from_generated
 from program import Ended, Tally, program_of, run
 from reference import Report, recording_of, report_of, responses_of
 
@@ -222,6 +224,7 @@ def main() -> None:
         for form, wanted in (["verdict", "-"], report.text), (["verdict", "--json", "-"], report.json):
             got = run(program, form, text.encode())
             tally.same(f"{form} of\n{text}", got, Ended(status, wanted.encode(), b""))
+    from_generated(tally, program, cases)
     tally.close()
 
 

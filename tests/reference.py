@@ -1,4 +1,4 @@
-"""A slow reader of the definitions: the report of a small recording, by trying everything.
+"""A slow reader of the definitions: the report and the certificate of a small recording, by trying everything.
 
 It is written from docs/definitions.md and docs/formats.md, and shares nothing with the program: visibility by adding
 pairs until none is new, orders and conflicts by all permutations of the elements, cycles by all lists of elements."""
@@ -180,11 +180,12 @@ def meets_weak(responses: Responses) -> bool:
 
 
 class Report(NamedTuple):
-    """The report in both forms."""
+    """The report in both forms, and the certificate."""
 
     kind: str  # the verdict's word, with the number of a refusal
     text: str
     json: str
+    certificate: str
 
 
 def dotted(e: tuple) -> str:
@@ -204,26 +205,30 @@ def report_of(text: str) -> Report:
     fault = first_fault(recording)
     if fault is not None and fault.word == "doubled":
         said |= {"verdict": "doubled", "first": dotted(fault.at), "again": dotted(fault.again)}
-        return written("doubled", [*lines, f"doubled {dotted(fault.at)} {dotted(fault.again)}"], said)
+        named = f"doubled {dotted(fault.at)} {dotted(fault.again)}"
+        return written("doubled", [*lines, named], said, [named])
     if fault is not None:
         said |= {"verdict": fault.word, "at": dotted(fault.at), "strong": False, "weak": False}
-        return written(fault.word, [*lines, f"{fault.word} {dotted(fault.at)}", "strong no", "weak no"], said)
+        named = f"{fault.word} {dotted(fault.at)}"
+        return written(fault.word, [*lines, named, "strong no", "weak no"], said, [named])
     responses = responses_of(recording)
     weak = meets_weak(responses)
     all_orders = orders(responses, tuple(responses.returned))
     if all_orders:
         order = [responses.names[a] for a in min(all_orders)]
         said |= {"verdict": "accepted", "strong": True, "weak": weak, "order": order}
-        return written("accepted", [*lines, "accepted", "strong yes", yes("weak", weak), with_names("order", order)], said)
+        order_line = with_names("order", order)
+        return written("accepted", [*lines, "accepted", "strong yes", yes("weak", weak), order_line], said, ["accepted", order_line])
     k, steps = conflict_number(responses), least_steps(responses)
     lines += [f"refused {k}", "strong no", yes("weak", weak)]
-    told = []
+    told, shown = [], []
     for a, b, e in steps:
         response = list(recording.operations[e].response)
-        lines.append(with_names(f"step {a} {b} {dotted(e)}", response))
+        shown.append(f"step {a} {b} {dotted(e)}")
+        lines.append(with_names(shown[-1], response))
         told.append({"from": a, "to": b, "shown": dotted(e), "response": response})
     said |= {"verdict": "refused", "strong": False, "weak": weak, "k": k, "steps": told}
-    return written(f"refused {k}", lines, said)
+    return written(f"refused {k}", lines, said, [f"refused {k}", *shown, *rows(responses, k)])
 
 
 def yes(word: str, holds: bool) -> str:
@@ -234,5 +239,26 @@ def with_names(words: str, names: list) -> str:
     return f"{words} :" + "".join(" " + name for name in names)
 
 
-def written(kind: str, lines: list, said: dict) -> Report:
-    return Report(kind, "".join(line + "\n" for line in lines), json.dumps(said, sort_keys=True, separators=(",", ":")) + "\n")
+def rows(responses: Responses, k: int) -> list:
+    """For k of 3 and more a row for each element: the elements by their distance from it, up to k - 2."""
+    if k < 3:
+        return []
+    return [row_line(responses, layers(responses, source, k - 1)) for source in range(len(responses.names))]
+
+
+def layers(responses: Responses, source: int, many: int) -> list:
+    """The elements whose shortest way from the source, along what stands before what, has 0 steps, 1 step and so on."""
+    pairs = {pair for w in responses.returned.values() for pair in combinations(w, 2)}
+    found = [{source}]
+    while len(found) < many:
+        found.append({b for a, b in pairs if a in found[-1]} - set().union(*found))
+    return found
+
+
+def row_line(responses: Responses, found: list) -> str:
+    return "layers" + " /".join("".join(" " + responses.names[a] for a in sorted(layer)) for layer in found)
+
+
+def written(kind: str, lines: list, said: dict, certificate: list) -> Report:
+    text, certified = ("".join(line + "\n" for line in all_lines) for all_lines in (lines, ["cert 1", *certificate]))
+    return Report(kind, text, json.dumps(said, sort_keys=True, separators=(",", ":")) + "\n", certified)

@@ -2,73 +2,31 @@
 ghost use Rattle.std.specs.Prelude.{IfOk};
 ghost use Rattle.specification.specs.Conflict.{IsConflictNumber};
 
-use super::recordings::{Act, Line, graph, recording};
+use super::recordings::{graph, recording};
 use crate::{Gate, NoGate, SearchFault, conflict_number};
 use order_graph::OrderGraph;
 use std::alloc::Global;
 use std::test::Fail;
 use std::thread::Threads;
 
-pub const RING_OF_FOUR: [Line; 14] = [
-    Line(0, Act::Ins("a", 0), &["a"]),
-    Line(1, Act::Ins("b", 0), &["b"]),
-    Line(2, Act::Recv(0, 1), &[]),
-    Line(2, Act::Recv(1, 1), &[]),
-    Line(2, Act::Read, &["a", "b"]),
-    Line(3, Act::Recv(1, 1), &[]),
-    Line(3, Act::Ins("c", 1), &["b", "c"]),
-    Line(4, Act::Recv(3, 1), &[]),
-    Line(4, Act::Del("b"), &["c"]),
-    Line(4, Act::Ins("d", 1), &["c", "d"]),
-    Line(5, Act::Recv(4, 2), &[]),
-    Line(5, Act::Del("c"), &["d"]),
-    Line(5, Act::Recv(0, 1), &[]),
-    Line(5, Act::Read, &["d", "a"]),
-];
+pub const RING_OF_FOUR: &str =
+    "trace 1\nreplicas 6\n0 ins a 0 : a\n1 ins b 0 : b\n2 recv 0 1\n2 recv 1 1\n2 read : a b\n3 recv 1 1\n3 ins c 1 : b c\n4 recv 3 1\n4 del b : c\n4 ins d 1 : c d\n5 recv 4 2\n5 del c : d\n5 recv 0 1\n5 read : d a\n";
 
-pub const THREE_WAY_CYCLE: [Line; 9] = [
-    Line(0, Act::Ins("x", 0), &["x"]),
-    Line(1, Act::Recv(0, 1), &[]),
-    Line(2, Act::Recv(0, 1), &[]),
-    Line(1, Act::Ins("a", 0), &["a", "x"]),
-    Line(2, Act::Ins("b", 1), &["x", "b"]),
-    Line(0, Act::Del("x"), &[]),
-    Line(0, Act::Recv(1, 1), &[]),
-    Line(0, Act::Recv(2, 1), &[]),
-    Line(0, Act::Read, &["b", "a"]),
-];
+pub const THREE_WAY_CYCLE: &str =
+    "trace 1\nreplicas 3\n0 ins x 0 : x\n1 recv 0 1\n2 recv 0 1\n1 ins a 0 : a x\n2 ins b 1 : x b\n0 del x :\n0 recv 1 1\n0 recv 2 1\n0 read : b a\n";
 
-pub const OPPOSITE_PAIR: [Line; 6] = [
-    Line(0, Act::Ins("a", 0), &["a"]),
-    Line(1, Act::Ins("b", 0), &["b"]),
-    Line(0, Act::Recv(1, 1), &[]),
-    Line(1, Act::Recv(0, 1), &[]),
-    Line(0, Act::Read, &["a", "b"]),
-    Line(1, Act::Read, &["b", "a"]),
-];
+pub const OPPOSITE_PAIR: &str =
+    "trace 1\nreplicas 2\n0 ins a 0 : a\n1 ins b 0 : b\n0 recv 1 1\n1 recv 0 1\n0 read : a b\n1 read : b a\n";
 
 /// Only neighbours taken as steps, the shortest cycle would have three elements.
-pub const PAIR_APART: [Line; 5] = [
-    Line(0, Act::Ins("a", 0), &["a"]),
-    Line(0, Act::Ins("b", 1), &["a", "b"]),
-    Line(0, Act::Ins("c", 2), &["a", "b", "c"]),
-    Line(1, Act::Recv(0, 3), &[]),
-    Line(1, Act::Del("b"), &["c", "a"]),
-];
+pub const PAIR_APART: &str =
+    "trace 1\nreplicas 2\n0 ins a 0 : a\n0 ins b 1 : a b\n0 ins c 2 : a b c\n1 recv 0 3\n1 del b : c a\n";
 
-/// The responses of the ring of four without the last, which closes it.
-const ACCEPTED: [Line; 10] = [
-    Line(0, Act::Ins("a", 0), &["a"]),
-    Line(1, Act::Ins("b", 0), &["b"]),
-    Line(2, Act::Recv(0, 1), &[]),
-    Line(2, Act::Recv(1, 1), &[]),
-    Line(2, Act::Read, &["a", "b"]),
-    Line(3, Act::Recv(1, 1), &[]),
-    Line(3, Act::Ins("c", 1), &["b", "c"]),
-    Line(4, Act::Recv(3, 1), &[]),
-    Line(4, Act::Del("b"), &["c"]),
-    Line(4, Act::Ins("d", 1), &["c", "d"]),
-];
+/// The ring of four without the response that closes it.
+const ACCEPTED: &str =
+    "trace 1\nreplicas 5\n0 ins a 0 : a\n1 ins b 0 : b\n2 recv 0 1\n2 recv 1 1\n2 read : a b\n3 recv 1 1\n3 ins c 1 : b c\n4 recv 3 1\n4 del b : c\n4 ins d 1 : c d\n";
+
+const EMPTY: &str = "trace 1\nreplicas 1\n";
 
 /// The conflict number of a graph. A call that finds no memory is made again.
 pub fn number_of<H: Threads + Sync, G: Gate>(
@@ -112,57 +70,35 @@ fn all_refuse(rt: &(impl Threads + Sync), alloc: Global, graph: &OrderGraph) -> 
     true
 }
 
-#[test]
-fn a_ring_of_four(rt: HostRuntime) -> Result<(), Fail> {
-    let alloc = rt.alloc();
-    let recording = recording(alloc, 6, &RING_OF_FOUR)?;
-    let ring = graph(&rt, alloc, &recording)?;
-    assert!(rt; all_find(&rt, alloc, &ring, Some(4))?);
-    Ok(())
+/// What is found of the recording that a text spells.
+pub fn number_on<H: Threads + Sync, G: Gate>(
+    rt: &H,
+    alloc: Global,
+    text: &str,
+    workers: u32,
+    gate: &G,
+) -> Result<Option<u32>, Fail> {
+    let recording = recording(alloc, text)?;
+    let graph = graph(rt, alloc, &recording)?;
+    Ok(number_of(rt, alloc, &graph, workers, gate)?)
 }
 
 #[test]
-fn a_three_way_cycle(rt: HostRuntime) -> Result<(), Fail> {
+fn worked_recordings_for_any_number_of_workers(rt: HostRuntime) -> Result<(), Fail> {
     let alloc = rt.alloc();
-    let recording = recording(alloc, 3, &THREE_WAY_CYCLE)?;
-    let cycle = graph(&rt, alloc, &recording)?;
-    assert!(rt; all_find(&rt, alloc, &cycle, Some(3))?);
-    Ok(())
-}
-
-#[test]
-fn an_opposite_pair(rt: HostRuntime) -> Result<(), Fail> {
-    let alloc = rt.alloc();
-    let recording = recording(alloc, 2, &OPPOSITE_PAIR)?;
-    let pair = graph(&rt, alloc, &recording)?;
-    assert!(rt; all_find(&rt, alloc, &pair, Some(2))?);
-    assert!(rt; all_refuse(&rt, alloc, &pair));
-    Ok(())
-}
-
-#[test]
-fn an_opposite_pair_apart(rt: HostRuntime) -> Result<(), Fail> {
-    let alloc = rt.alloc();
-    let recording = recording(alloc, 2, &PAIR_APART)?;
-    let pair = graph(&rt, alloc, &recording)?;
-    assert!(rt; all_find(&rt, alloc, &pair, Some(2))?);
-    Ok(())
-}
-
-#[test]
-fn no_conflict(rt: HostRuntime) -> Result<(), Fail> {
-    let alloc = rt.alloc();
-    let recording = recording(alloc, 5, &ACCEPTED)?;
-    let accepted = graph(&rt, alloc, &recording)?;
-    assert!(rt; all_find(&rt, alloc, &accepted, None)?);
-    Ok(())
-}
-
-#[test]
-fn no_elements(rt: HostRuntime) -> Result<(), Fail> {
-    let alloc = rt.alloc();
-    let recording = recording(alloc, 1, &[])?;
-    let empty = graph(&rt, alloc, &recording)?;
-    assert!(rt; all_find(&rt, alloc, &empty, None)?);
+    let rows = [
+        (RING_OF_FOUR, Some(4)),
+        (THREE_WAY_CYCLE, Some(3)),
+        (OPPOSITE_PAIR, Some(2)),
+        (PAIR_APART, Some(2)),
+        (ACCEPTED, None),
+        (EMPTY, None),
+    ];
+    for (text, number) in rows {
+        let recording = recording(alloc, text)?;
+        let graph = graph(&rt, alloc, &recording)?;
+        assert!(rt; all_find(&rt, alloc, &graph, number)?);
+        assert!(rt; all_refuse(&rt, alloc, &graph));
+    }
     Ok(())
 }

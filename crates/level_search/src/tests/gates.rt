@@ -1,6 +1,5 @@
 //! Which calls a gate sees, and searches that it holds up.
-use super::conflicts::{RING_OF_FOUR, THREE_WAY_CYCLE, number_of};
-use super::recordings::{graph, recording};
+use super::conflicts::{RING_OF_FOUR, THREE_WAY_CYCLE, number_on};
 use crate::Gate;
 use std::sync::atomic::{AtomicU64, Ordering};
 use std::test::Fail;
@@ -61,11 +60,9 @@ fn are_once(counts: &[AtomicU64; 4]) -> bool {
 
 #[test]
 fn a_gate_is_called_round_each_search(rt: HostRuntime) -> Result<(), Fail> {
-    let alloc = rt.alloc();
-    let recording = recording(alloc, 6, &RING_OF_FOUR)?;
-    let ring = graph(&rt, alloc, &recording)?;
     let counts = Counts::none();
-    assert_eq!(rt; number_of(&rt, alloc, &ring, 2, &counts)?, Some(4));
+    let found = number_on(&rt, rt.alloc(), RING_OF_FOUR, 2, &counts)?;
+    assert_eq!(rt; found, Some(4));
     assert!(rt; are_once(&counts.begun));
     assert!(rt; are_once(&counts.ended));
     assert_eq!(rt; counts.others.load(Ordering::SeqCst), 0);
@@ -122,22 +119,18 @@ impl Gate for Hold {
 
 #[test]
 fn two_searches_at_once(rt: HostRuntime) -> Result<(), Fail> {
-    let alloc = rt.alloc();
-    let recording = recording(alloc, 3, &THREE_WAY_CYCLE)?;
-    let cycle = graph(&rt, alloc, &recording)?;
     let hold = Hold::until(2, 0);
-    assert_eq!(rt; number_of(&rt, alloc, &cycle, 2, &hold)?, Some(3));
+    let found = number_on(&rt, rt.alloc(), THREE_WAY_CYCLE, 2, &hold)?;
+    assert_eq!(rt; found, Some(3));
     assert_eq!(rt; hold.seen.load(Ordering::SeqCst), 1);
     Ok(())
 }
 
 #[test]
 fn a_search_held_until_the_others_have_ended(rt: HostRuntime) -> Result<(), Fail> {
-    let alloc = rt.alloc();
-    let recording = recording(alloc, 6, &RING_OF_FOUR)?;
-    let ring = graph(&rt, alloc, &recording)?;
     let hold = Hold::until(0, 3);
-    assert_eq!(rt; number_of(&rt, alloc, &ring, 2, &hold)?, Some(4));
+    let found = number_on(&rt, rt.alloc(), RING_OF_FOUR, 2, &hold)?;
+    assert_eq!(rt; found, Some(4));
     assert_eq!(rt; hold.seen.load(Ordering::SeqCst), 1);
     Ok(())
 }

@@ -44,7 +44,7 @@ fn searched_below(
 #[test]
 fn a_search_of_the_ring_of_four_under_bounds(rt: HostRuntime) -> Result<(), Fail> {
     let alloc = rt.alloc();
-    let recording = recording(alloc, 6, &RING_OF_FOUR)?;
+    let recording = recording(alloc, RING_OF_FOUR)?;
     let ring = graph(&rt, alloc, &recording)?;
     let mut scratch = scratch(alloc, &ring)?;
     assert_eq!(rt; scratch.looked(), 0);
@@ -61,7 +61,7 @@ fn a_search_of_the_ring_of_four_under_bounds(rt: HostRuntime) -> Result<(), Fail
 #[test]
 fn a_search_reads_its_bound_again(rt: HostRuntime) -> Result<(), Fail> {
     let alloc = rt.alloc();
-    let recording = recording(alloc, 6, &RING_OF_FOUR)?;
+    let recording = recording(alloc, RING_OF_FOUR)?;
     let ring = graph(&rt, alloc, &recording)?;
     let mut scratch = scratch(alloc, &ring)?;
     let mut falling = FallingBound::new(5, 3);
@@ -72,9 +72,9 @@ fn a_search_reads_its_bound_again(rt: HostRuntime) -> Result<(), Fail> {
 #[test]
 fn a_scratch_fits_its_graph_alone(rt: HostRuntime) -> Result<(), Fail> {
     let alloc = rt.alloc();
-    let four = recording(alloc, 6, &RING_OF_FOUR)?;
+    let four = recording(alloc, RING_OF_FOUR)?;
     let ring = graph(&rt, alloc, &four)?;
-    let two = recording(alloc, 2, &OPPOSITE_PAIR)?;
+    let two = recording(alloc, OPPOSITE_PAIR)?;
     let pair = graph(&rt, alloc, &two)?;
     let scratch = scratch(alloc, &ring)?;
     assert!(rt; scratch.fits(&ring));

@@ -5,7 +5,7 @@ ghost use Rattle.specification.specs.Search.{IsShortestLength};
 use super::conflicts::{OPPOSITE_PAIR, PAIR_APART, RING_OF_FOUR, THREE_WAY_CYCLE, number_of};
 use super::recordings::{graph, operation, recording};
 use crate::{NoGate, SearchFault, Step, Steps, least_cycle};
-use events::{Memory, Name, Recording};
+use events::{Memory, Name};
 use order_graph::OrderGraph;
 use std::alloc::Global;
 use std::test::Fail;
@@ -60,14 +60,15 @@ fn are(steps: &Steps, expected: &[Shown]) -> Result<bool, Fail> {
     Ok(steps.len() == expected.len())
 }
 
-/// Whether the least cycle of a recording has exactly these steps.
+/// Whether the least cycle of the recording that a text spells has exactly these steps.
 fn leads_round(
     rt: &(impl Threads + Sync),
     alloc: Global,
-    recording: &Recording,
+    text: &str,
     expected: &[Shown],
 ) -> Result<bool, Fail> {
-    let graph = graph(rt, alloc, recording)?;
+    let recording = recording(alloc, text)?;
+    let graph = graph(rt, alloc, &recording)?;
     match steps_of(rt, alloc, &graph)? {
         Some(steps) => are(&steps, expected),
         None => Ok(false),
@@ -75,46 +76,24 @@ fn leads_round(
 }
 
 #[test]
-fn steps_of_the_ring_of_four(rt: HostRuntime) -> Result<(), Fail> {
+fn steps_of_worked_recordings(rt: HostRuntime) -> Result<(), Fail> {
     let alloc = rt.alloc();
-    let ring = recording(alloc, 6, &RING_OF_FOUR)?;
-    let steps = [
+    let ring = [
         Shown("a", "b", 2, 1),
         Shown("b", "c", 3, 1),
         Shown("c", "d", 4, 2),
         Shown("d", "a", 5, 2),
     ];
-    assert!(rt; leads_round(&rt, alloc, &ring, &steps)?);
-    Ok(())
-}
-
-#[test]
-fn steps_of_the_three_way_cycle(rt: HostRuntime) -> Result<(), Fail> {
-    let alloc = rt.alloc();
-    let cycle = recording(alloc, 3, &THREE_WAY_CYCLE)?;
-    let steps = [
+    assert!(rt; leads_round(&rt, alloc, RING_OF_FOUR, &ring)?);
+    let cycle = [
         Shown("x", "b", 2, 1),
         Shown("b", "a", 0, 3),
         Shown("a", "x", 1, 1),
     ];
-    assert!(rt; leads_round(&rt, alloc, &cycle, &steps)?);
-    Ok(())
-}
-
-#[test]
-fn steps_of_the_opposite_pair(rt: HostRuntime) -> Result<(), Fail> {
-    let alloc = rt.alloc();
-    let pair = recording(alloc, 2, &OPPOSITE_PAIR)?;
-    let steps = [Shown("a", "b", 0, 2), Shown("b", "a", 1, 2)];
-    assert!(rt; leads_round(&rt, alloc, &pair, &steps)?);
-    Ok(())
-}
-
-#[test]
-fn steps_of_the_pair_apart(rt: HostRuntime) -> Result<(), Fail> {
-    let alloc = rt.alloc();
-    let pair = recording(alloc, 2, &PAIR_APART)?;
-    let steps = [Shown("a", "c", 0, 3), Shown("c", "a", 1, 1)];
-    assert!(rt; leads_round(&rt, alloc, &pair, &steps)?);
+    assert!(rt; leads_round(&rt, alloc, THREE_WAY_CYCLE, &cycle)?);
+    let pair = [Shown("a", "b", 0, 2), Shown("b", "a", 1, 2)];
+    assert!(rt; leads_round(&rt, alloc, OPPOSITE_PAIR, &pair)?);
+    let apart = [Shown("a", "c", 0, 3), Shown("c", "a", 1, 1)];
+    assert!(rt; leads_round(&rt, alloc, PAIR_APART, &apart)?);
     Ok(())
 }
