@@ -9,6 +9,7 @@ use events::{Body, Entry, Memory, Name, OpName, Recording, Response};
 use std::alloc::Global;
 use std::test::Fail;
 use std::thread::Threads;
+use trace_text::read;
 use visibility::Sight;
 
 /// What a replica did.
@@ -19,10 +20,6 @@ pub enum Act {
     Read,
     Recv(u32, u32),
 }
-
-/// What a replica did, with the names of its response.
-#[derive(Clone, Copy)]
-pub struct Line(pub u32, pub Act, pub &'static [&'static str]);
 
 /// A recording with no entry. A call that finds no memory is made again, here and below.
 pub fn empty(alloc: Global, replicas: u32) -> Result<Recording, Fail> {
@@ -76,17 +73,12 @@ pub fn operation(replica: u32, n: u32) -> Result<OpName, Fail> {
     Ok(OpName::new(replica, n).ok_or("no operation")?)
 }
 
-/// The recording of these lines.
-pub fn recording(alloc: Global, replicas: u32, lines: &[Line]) -> Result<Recording, Fail> {
-    let mut made = empty(alloc, replicas)?;
-    for line in lines {
-        let mut response = Response::new(alloc);
-        for text in line.2 {
-            push(&mut response, text)?;
-        }
-        add(&mut made, line.0, body(line.1, response)?)?;
+/// The recording that a text spells.
+pub fn recording(alloc: Global, text: &str) -> Result<Recording, Fail> {
+    match read(alloc, text.as_bytes()) {
+        Ok(recording) => Ok(recording),
+        Err(_) => Ok(read(alloc, text.as_bytes())?),
     }
-    Ok(made)
 }
 
 fn sight_of(alloc: Global, recording: &Recording) -> Result<Sight, Memory>

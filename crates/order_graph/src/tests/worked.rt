@@ -1,51 +1,22 @@
 use super::plain::agrees;
-use super::recordings::{Act, Line, graph, operation, recording};
+use super::recordings::{graph, operation, recording};
 use crate::{Looked, Spot};
 use events::Name;
 use std::test::Fail;
 
-const RING_OF_FOUR: [Line; 14] = [
-    Line(0, Act::Ins("a", 0), &["a"]),
-    Line(1, Act::Ins("b", 0), &["b"]),
-    Line(2, Act::Recv(0, 1), &[]),
-    Line(2, Act::Recv(1, 1), &[]),
-    Line(2, Act::Read, &["a", "b"]),
-    Line(3, Act::Recv(1, 1), &[]),
-    Line(3, Act::Ins("c", 1), &["b", "c"]),
-    Line(4, Act::Recv(3, 1), &[]),
-    Line(4, Act::Del("b"), &["c"]),
-    Line(4, Act::Ins("d", 1), &["c", "d"]),
-    Line(5, Act::Recv(4, 2), &[]),
-    Line(5, Act::Del("c"), &["d"]),
-    Line(5, Act::Recv(0, 1), &[]),
-    Line(5, Act::Read, &["d", "a"]),
-];
+const RING_OF_FOUR: &str =
+    "trace 1\nreplicas 6\n0 ins a 0 : a\n1 ins b 0 : b\n2 recv 0 1\n2 recv 1 1\n2 read : a b\n3 recv 1 1\n3 ins c 1 : b c\n4 recv 3 1\n4 del b : c\n4 ins d 1 : c d\n5 recv 4 2\n5 del c : d\n5 recv 0 1\n5 read : d a\n";
 
-const THREE_WAY_CYCLE: [Line; 9] = [
-    Line(0, Act::Ins("x", 0), &["x"]),
-    Line(1, Act::Recv(0, 1), &[]),
-    Line(2, Act::Recv(0, 1), &[]),
-    Line(1, Act::Ins("a", 0), &["a", "x"]),
-    Line(2, Act::Ins("b", 1), &["x", "b"]),
-    Line(0, Act::Del("x"), &[]),
-    Line(0, Act::Recv(1, 1), &[]),
-    Line(0, Act::Recv(2, 1), &[]),
-    Line(0, Act::Read, &["b", "a"]),
-];
+const THREE_WAY_CYCLE: &str =
+    "trace 1\nreplicas 3\n0 ins x 0 : x\n1 recv 0 1\n2 recv 0 1\n1 ins a 0 : a x\n2 ins b 1 : x b\n0 del x :\n0 recv 1 1\n0 recv 2 1\n0 read : b a\n";
 
-const OPPOSITE_PAIR: [Line; 6] = [
-    Line(0, Act::Ins("a", 0), &["a"]),
-    Line(1, Act::Ins("b", 0), &["b"]),
-    Line(0, Act::Recv(1, 1), &[]),
-    Line(1, Act::Recv(0, 1), &[]),
-    Line(0, Act::Read, &["a", "b"]),
-    Line(1, Act::Read, &["b", "a"]),
-];
+const OPPOSITE_PAIR: &str =
+    "trace 1\nreplicas 2\n0 ins a 0 : a\n1 ins b 0 : b\n0 recv 1 1\n1 recv 0 1\n0 read : a b\n1 read : b a\n";
 
 #[test]
 fn marks_of_the_ring_of_four(rt: HostRuntime) -> Result<(), Fail> {
     let alloc = rt.alloc();
-    let recording = recording(alloc, 6, &RING_OF_FOUR)?;
+    let recording = recording(alloc, RING_OF_FOUR)?;
     let ring = graph(&rt, alloc, &recording)?;
     assert_eq!(rt; ring.elements(), 4);
     assert_eq!(rt; ring.lists(), 8);
@@ -68,7 +39,7 @@ fn marks_of_the_ring_of_four(rt: HostRuntime) -> Result<(), Fail> {
 #[test]
 fn steps_of_the_three_way_cycle(rt: HostRuntime) -> Result<(), Fail> {
     let alloc = rt.alloc();
-    let recording = recording(alloc, 3, &THREE_WAY_CYCLE)?;
+    let recording = recording(alloc, THREE_WAY_CYCLE)?;
     let cycle = graph(&rt, alloc, &recording)?;
     // x, a and b have the numbers 0, 1 and 2.
     assert_eq!(rt; cycle.before(0, 2), Some(operation(2, 1)?));
@@ -82,7 +53,7 @@ fn steps_of_the_three_way_cycle(rt: HostRuntime) -> Result<(), Fail> {
 #[test]
 fn steps_of_the_opposite_pair(rt: HostRuntime) -> Result<(), Fail> {
     let alloc = rt.alloc();
-    let recording = recording(alloc, 2, &OPPOSITE_PAIR)?;
+    let recording = recording(alloc, OPPOSITE_PAIR)?;
     let pair = graph(&rt, alloc, &recording)?;
     assert_eq!(rt; pair.before(0, 1), Some(operation(0, 2)?));
     assert_eq!(rt; pair.before(1, 0), Some(operation(1, 2)?));
@@ -94,15 +65,9 @@ fn steps_of_the_opposite_pair(rt: HostRuntime) -> Result<(), Fail> {
 #[test]
 fn the_least_operation_is_shown(rt: HostRuntime) -> Result<(), Fail> {
     let alloc = rt.alloc();
-    let lines = [
-        Line(1, Act::Ins("b", 0), &["b"]),
-        Line(1, Act::Ins("c", 1), &["b", "c"]),
-        Line(0, Act::Recv(1, 2), &[]),
-        Line(0, Act::Read, &["c", "b"]),
-        Line(0, Act::Read, &["c", "b"]),
-        Line(1, Act::Read, &["b", "c"]),
-    ];
-    let recording = recording(alloc, 2, &lines)?;
+    let lines =
+        "trace 1\nreplicas 2\n1 ins b 0 : b\n1 ins c 1 : b c\n0 recv 1 2\n0 read : c b\n0 read : c b\n1 read : b c\n";
+    let recording = recording(alloc, lines)?;
     let graph = graph(&rt, alloc, &recording)?;
     assert_eq!(rt; graph.before(0, 1), Some(operation(1, 2)?));
     assert_eq!(rt; graph.before(1, 0), Some(operation(0, 1)?));
@@ -113,11 +78,8 @@ fn the_least_operation_is_shown(rt: HostRuntime) -> Result<(), Fail> {
 #[test]
 fn elements_are_numbered_by_operations_and_not_by_arrival(rt: HostRuntime) -> Result<(), Fail> {
     let alloc = rt.alloc();
-    let lines = [
-        Line(1, Act::Ins("a", 0), &["a"]),
-        Line(0, Act::Ins("b", 0), &["b"]),
-    ];
-    let recording = recording(alloc, 2, &lines)?;
+    let lines = "trace 1\nreplicas 2\n1 ins a 0 : a\n0 ins b 0 : b\n";
+    let recording = recording(alloc, lines)?;
     let graph = graph(&rt, alloc, &recording)?;
     assert_eq!(rt; graph.name(0), Some(Name::new(b"b")?));
     assert_eq!(rt; graph.number(&Name::new(b"a")?), Some(1));
@@ -129,18 +91,19 @@ fn elements_are_numbered_by_operations_and_not_by_arrival(rt: HostRuntime) -> Re
 #[test]
 fn an_element_that_no_response_shows(rt: HostRuntime) -> Result<(), Fail> {
     let alloc = rt.alloc();
-    let nothing = recording(alloc, 1, &[])?;
+    let nothing = recording(
+        alloc,
+        "trace 1
+replicas 1
+",
+    )?;
     let none = graph(&rt, alloc, &nothing)?;
     assert_eq!(rt; none.elements(), 0);
     assert_eq!(rt; none.lists(), 0);
     assert!(rt; agrees(&nothing, &none));
     // Deleted where nobody else sees it, before anybody reads.
-    let lines = [
-        Line(0, Act::Ins("a", 0), &["a"]),
-        Line(0, Act::Del("a"), &[]),
-        Line(0, Act::Read, &[]),
-    ];
-    let deleted = recording(alloc, 1, &lines)?;
+    let lines = "trace 1\nreplicas 1\n0 ins a 0 : a\n0 del a :\n0 read :\n";
+    let deleted = recording(alloc, lines)?;
     let shown = graph(&rt, alloc, &deleted)?;
     assert_eq!(rt; shown.lists(), 3);
     assert_eq!(rt; shown.length(1), 0);

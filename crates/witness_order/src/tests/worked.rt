@@ -1,98 +1,42 @@
 use super::plain::first_order;
-use super::recordings::{Act, Line, least_order, push_name, recording};
+use super::recordings::{least_order, push_name, recording};
 use crate::Order;
 use events::Name;
 use std::alloc::Global;
 use std::test::Fail;
 use std::thread::Threads;
 
-const RING_OF_FOUR: [Line; 14] = [
-    Line(0, Act::Ins("a", 0), &["a"]),
-    Line(1, Act::Ins("b", 0), &["b"]),
-    Line(2, Act::Recv(0, 1), &[]),
-    Line(2, Act::Recv(1, 1), &[]),
-    Line(2, Act::Read, &["a", "b"]),
-    Line(3, Act::Recv(1, 1), &[]),
-    Line(3, Act::Ins("c", 1), &["b", "c"]),
-    Line(4, Act::Recv(3, 1), &[]),
-    Line(4, Act::Del("b"), &["c"]),
-    Line(4, Act::Ins("d", 1), &["c", "d"]),
-    Line(5, Act::Recv(4, 2), &[]),
-    Line(5, Act::Del("c"), &["d"]),
-    Line(5, Act::Recv(0, 1), &[]),
-    Line(5, Act::Read, &["d", "a"]),
-];
+const RING_OF_FOUR: &str =
+    "trace 1\nreplicas 6\n0 ins a 0 : a\n1 ins b 0 : b\n2 recv 0 1\n2 recv 1 1\n2 read : a b\n3 recv 1 1\n3 ins c 1 : b c\n4 recv 3 1\n4 del b : c\n4 ins d 1 : c d\n5 recv 4 2\n5 del c : d\n5 recv 0 1\n5 read : d a\n";
 
-const THREE_WAY_CYCLE: [Line; 9] = [
-    Line(0, Act::Ins("x", 0), &["x"]),
-    Line(1, Act::Recv(0, 1), &[]),
-    Line(2, Act::Recv(0, 1), &[]),
-    Line(1, Act::Ins("a", 0), &["a", "x"]),
-    Line(2, Act::Ins("b", 1), &["x", "b"]),
-    Line(0, Act::Del("x"), &[]),
-    Line(0, Act::Recv(1, 1), &[]),
-    Line(0, Act::Recv(2, 1), &[]),
-    Line(0, Act::Read, &["b", "a"]),
-];
+const THREE_WAY_CYCLE: &str =
+    "trace 1\nreplicas 3\n0 ins x 0 : x\n1 recv 0 1\n2 recv 0 1\n1 ins a 0 : a x\n2 ins b 1 : x b\n0 del x :\n0 recv 1 1\n0 recv 2 1\n0 read : b a\n";
 
-const OPPOSITE_PAIR: [Line; 6] = [
-    Line(0, Act::Ins("a", 0), &["a"]),
-    Line(1, Act::Ins("b", 0), &["b"]),
-    Line(0, Act::Recv(1, 1), &[]),
-    Line(1, Act::Recv(0, 1), &[]),
-    Line(0, Act::Read, &["a", "b"]),
-    Line(1, Act::Read, &["b", "a"]),
-];
+const OPPOSITE_PAIR: &str =
+    "trace 1\nreplicas 2\n0 ins a 0 : a\n1 ins b 0 : b\n0 recv 1 1\n1 recv 0 1\n0 read : a b\n1 read : b a\n";
 
-const TWO_REPLICAS: [Line; 2] = [
-    Line(0, Act::Ins("a", 0), &["a"]),
-    Line(1, Act::Ins("b", 0), &["b"]),
-];
+const TWO_REPLICAS: &str = "trace 1\nreplicas 2\n0 ins a 0 : a\n1 ins b 0 : b\n";
 
-const READ_THE_OTHER_WAY: [Line; 4] = [
-    Line(0, Act::Ins("a", 0), &["a"]),
-    Line(1, Act::Ins("b", 0), &["b"]),
-    Line(0, Act::Recv(1, 1), &[]),
-    Line(0, Act::Read, &["b", "a"]),
-];
+const READ_THE_OTHER_WAY: &str =
+    "trace 1\nreplicas 2\n0 ins a 0 : a\n1 ins b 0 : b\n0 recv 1 1\n0 read : b a\n";
 
 /// A response shows a before c past b, so the cycle of three is no cycle of neighbours alone.
-const PAST_A_NEIGHBOUR: [Line; 14] = [
-    Line(0, Act::Ins("a", 0), &["a"]),
-    Line(1, Act::Ins("b", 0), &["b"]),
-    Line(2, Act::Ins("c", 0), &["c"]),
-    Line(3, Act::Ins("d", 0), &["d"]),
-    Line(4, Act::Recv(0, 1), &[]),
-    Line(4, Act::Recv(1, 1), &[]),
-    Line(4, Act::Recv(2, 1), &[]),
-    Line(4, Act::Read, &["a", "b", "c"]),
-    Line(5, Act::Recv(2, 1), &[]),
-    Line(5, Act::Recv(3, 1), &[]),
-    Line(5, Act::Read, &["c", "d"]),
-    Line(6, Act::Recv(3, 1), &[]),
-    Line(6, Act::Recv(0, 1), &[]),
-    Line(6, Act::Read, &["d", "a"]),
-];
+const PAST_A_NEIGHBOUR: &str =
+    "trace 1\nreplicas 7\n0 ins a 0 : a\n1 ins b 0 : b\n2 ins c 0 : c\n3 ins d 0 : d\n4 recv 0 1\n4 recv 1 1\n4 recv 2 1\n4 read : a b c\n5 recv 2 1\n5 recv 3 1\n5 read : c d\n6 recv 3 1\n6 recv 0 1\n6 read : d a\n";
 
 /// Nobody else sees a, and nobody reads before it is deleted.
-const SHOWN_BESIDE_NONE: [Line; 5] = [
-    Line(0, Act::Ins("a", 0), &["a"]),
-    Line(0, Act::Del("a"), &[]),
-    Line(1, Act::Ins("c", 0), &["c"]),
-    Line(1, Act::Ins("b", 0), &["b", "c"]),
-    Line(0, Act::Read, &[]),
-];
+const SHOWN_BESIDE_NONE: &str =
+    "trace 1\nreplicas 2\n0 ins a 0 : a\n0 del a :\n1 ins c 0 : c\n1 ins b 0 : b c\n0 read :\n";
 
-/// Whether the least order of the recording of these lines is the expected one, or is expected to be none;
+/// Whether the least order of the recording that a text spells is the expected one, or is expected to be none;
 /// and whether the plain program says so too.
 fn gives(
     rt: &(impl Threads + Sync),
     alloc: Global,
-    replicas: u32,
-    lines: &[Line],
+    text: &str,
     expected: Option<&[&str]>,
 ) -> Result<bool, Fail> {
-    let recording = recording(alloc, replicas, lines)?;
+    let recording = recording(alloc, text)?;
     let found = least_order(rt, alloc, &recording)?;
     let plain = first_order(alloc, &recording)?;
     match (expected, found, plain) {
@@ -128,19 +72,19 @@ pub fn is_same(order: &Order, names: &[Name]) -> bool {
 #[test]
 fn the_least_of_several_orders(rt: HostRuntime) -> Result<(), Fail> {
     let alloc = rt.alloc();
-    assert!(rt; gives(&rt, alloc, 2, &TWO_REPLICAS, Some(&["a", "b"]))?);
-    assert!(rt; gives(&rt, alloc, 2, &READ_THE_OTHER_WAY, Some(&["b", "a"]))?);
-    assert!(rt; gives(&rt, alloc, 1, &[], Some(&[]))?);
-    assert!(rt; gives(&rt, alloc, 2, &SHOWN_BESIDE_NONE, Some(&["a", "b", "c"]))?);
+    assert!(rt; gives(&rt, alloc, TWO_REPLICAS, Some(&["a", "b"]))?);
+    assert!(rt; gives(&rt, alloc, READ_THE_OTHER_WAY, Some(&["b", "a"]))?);
+    assert!(rt; gives(&rt, alloc, "trace 1\nreplicas 1\n", Some(&[]))?);
+    assert!(rt; gives(&rt, alloc, SHOWN_BESIDE_NONE, Some(&["a", "b", "c"]))?);
     Ok(())
 }
 
 #[test]
 fn cycles_have_no_order(rt: HostRuntime) -> Result<(), Fail> {
     let alloc = rt.alloc();
-    assert!(rt; gives(&rt, alloc, 3, &THREE_WAY_CYCLE, None)?);
-    assert!(rt; gives(&rt, alloc, 2, &OPPOSITE_PAIR, None)?);
-    assert!(rt; gives(&rt, alloc, 6, &RING_OF_FOUR, None)?);
-    assert!(rt; gives(&rt, alloc, 7, &PAST_A_NEIGHBOUR, None)?);
+    assert!(rt; gives(&rt, alloc, THREE_WAY_CYCLE, None)?);
+    assert!(rt; gives(&rt, alloc, OPPOSITE_PAIR, None)?);
+    assert!(rt; gives(&rt, alloc, RING_OF_FOUR, None)?);
+    assert!(rt; gives(&rt, alloc, PAST_A_NEIGHBOUR, None)?);
     Ok(())
 }
