@@ -1,12 +1,12 @@
-//! The fields of a line: numbers and names.
+//! The fields of a line: numbers, names and operations' names.
 
 ghost use Rattle.std.specs.Prelude.{◌≡◌};
-ghost use Rattle.trace_text.specs.Words.{words_behind};
-ghost use Rattle.trace_text.specs.Reading.{Gives, number_of, number_at, name_of, after_word, no_more};
+ghost use Rattle.format_words.specs.Words.{words_behind};
+ghost use Rattle.format_words.specs.Reading.{Gives, number_of, number_at, name_of, name_at, operation_of, operation_at, after_word, no_more};
 
 use crate::stop::Stop;
-use crate::words::next_word;
-use events::Name;
+use crate::words::{next_word, place_of};
+use events::{Name, OpName};
 use std::str;
 
 /// The number below 2^32 that the word is: digits, without leading zeros.
@@ -42,6 +42,39 @@ pub fn name_of(word: &[u8]) -> Result<Name, Stop>
     match Name::new(word) {
         Ok(name) => Ok(name),
         Err(_) => Err(Stop::Shape),
+    }
+}
+
+/// The next word as a name, and the rest behind it.
+#[tactic(auto, unfolding(crate::specs::Reading::name_at))]
+pub fn next_name(rest: &[u8]) -> Result<(Name, &[u8]), Stop>
+    ensures { Gives (λ x. (x.0, words_behind x.1.now)) result (name_at (words_behind rest.now)) }
+{
+    let (word, rest) = next_word(rest)?;
+    let name = name_of(word)?;
+    Ok((name, rest))
+}
+
+/// The operation that the word names as `r.n`, counted from 1.
+#[tactic(auto, unfolding(crate::specs::Reading::operation_of))]
+pub fn operation_of(word: &[u8]) -> Option<OpName>
+    ensures { result ≡ operation_of word.now }
+{
+    let dot = place_of(word, b'.')?;
+    let replica = number_of(&word[..dot])?;
+    let n = number_of(&word[dot + 1..])?;
+    OpName::new(replica, n)
+}
+
+/// The next word as the name of an operation, and the rest behind it.
+#[tactic(auto, unfolding(crate::specs::Reading::operation_at))]
+pub fn next_operation(rest: &[u8]) -> Result<(OpName, &[u8]), Stop>
+    ensures { Gives (λ x. (x.0, words_behind x.1.now)) result (operation_at (words_behind rest.now)) }
+{
+    let (word, rest) = next_word(rest)?;
+    match operation_of(word) {
+        Some(operation) => Ok((operation, rest)),
+        None => Err(Stop::Shape),
     }
 }
 

@@ -4,8 +4,8 @@ use Rattle.std.specs.List.{onto_first, position_or_len}
 use Rattle.std.proofs.Math.Numerals.{one-add}
 use Rattle.std.proofs.lemmas.List.Sums.{prefix_len-le-length}
 use Rattle.std.proofs.lemmas.Bool.Decides.{nat_tests}
-use Rattle.trace_text.specs.Words.{words_of, words_behind}
-use Rattle.trace_text.specs.Reading.{no_more}
+use Rattle.format_words.specs.Words.{words_of, words_behind}
+use Rattle.format_words.specs.Reading.{no_more}
 
 abbrev is_space : ℕ → Bool
 is_space b = b == 32

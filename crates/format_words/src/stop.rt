@@ -12,7 +12,7 @@ pub enum Stop {
 
 impl From<AllocError> for Stop {
     ghost use Rattle.std.specs.Prelude.{◌≡◌};
-    ghost use Rattle.trace_text.specs.declared.stop.Stop.{Stop};
+    ghost use Rattle.format_words.specs.declared.stop.Stop.{Stop};
 
     ghost from_gives = { λ _ stop. stop ≡ Stop.Memory };
 
@@ -23,7 +23,7 @@ impl From<AllocError> for Stop {
 
 impl<T: Drop> From<AllocFailed<T>> for Stop {
     ghost use Rattle.std.specs.Prelude.{◌≡◌};
-    ghost use Rattle.trace_text.specs.declared.stop.Stop.{Stop};
+    ghost use Rattle.format_words.specs.declared.stop.Stop.{Stop};
 
     ghost from_gives = { λ _ stop. stop ≡ Stop.Memory };
 
@@ -34,7 +34,7 @@ impl<T: Drop> From<AllocFailed<T>> for Stop {
 
 impl From<Memory> for Stop {
     ghost use Rattle.std.specs.Prelude.{◌≡◌};
-    ghost use Rattle.trace_text.specs.declared.stop.Stop.{Stop};
+    ghost use Rattle.format_words.specs.declared.stop.Stop.{Stop};
 
     ghost from_gives = { λ _ stop. stop ≡ Stop.Memory };
 

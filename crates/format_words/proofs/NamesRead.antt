@@ -3,11 +3,11 @@ use Rattle.std.proofs.Common.{◌≡◌, ℕ, ◌<◌, List, [], ◌∷◌, ◌+
 use Rattle.std.proofs.lemmas.List.{append-nil, append_assoc}
 use Rattle.std.proofs.lemmas.Option.{some_pair_parts}
 use Rattle.events.specs.Names.{NameBytes}
-use Rattle.trace_text.specs.Words.{Word, words_behind}
-use Rattle.trace_text.specs.Reading.{Fails, word_at, no_more, name_of, names_at}
-use Rattle.trace_text.specs.declared.stop.Stop.{Stop}
-use Rattle.trace_text.specs.declared.stop.Stop.TheVariants.{Shape, Memory}
-use Rattle.trace_text.proofs.FirstWord.{some-word}
+use Rattle.format_words.specs.Words.{Word, words_behind}
+use Rattle.format_words.specs.Reading.{Fails, word_at, no_more, name_of, names_at}
+use Rattle.format_words.specs.declared.stop.Stop.{Stop}
+use Rattle.format_words.specs.declared.stop.Stop.TheVariants.{Shape, Memory}
+use Rattle.format_words.proofs.FirstWord.{some-word}
 
 -- the names so far, and those that words say
 abbrev pub onto : List NameBytes → Option (List NameBytes) → Option (List NameBytes)

@@ -1,7 +1,7 @@
 use Rattle.std.proofs.Common.{◌+◌, ◌∷◌, ◌++◌, List, ℕ, take, sym, ap, ◌∙◌}
 use Rattle.std.proofs.lemmas.List.{take_rest}
-use Rattle.trace_text.proofs.FirstLine.{line-before, line-parts, no-line}
-use Rattle.trace_text.proofs.whole.split_line.Goals as goal
+use Rattle.format_words.proofs.FirstLine.{line-before, line-parts, no-line}
+use Rattle.format_words.proofs.lines.split_line.Goals as goal
 
 pub returns-in_err-end : goal.returns-in_err-end
 returns-in_err-end c = rw c.from_residual.ensures (no-line c.args.text.now (sym c.in_err-end.ensures))

@@ -1,5 +1,5 @@
-use Rattle.trace_text.proofs.FirstWord.{some-word}
-use Rattle.trace_text.proofs.fields.end.Goals as goal
+use Rattle.format_words.proofs.FirstWord.{some-word}
+use Rattle.format_words.proofs.fields.end.Goals as goal
 use Rattle.std.proofs.Common.{◌<◌, length, arith}
 use Rattle.std.proofs.lemmas.Grind.{common_steps}
 

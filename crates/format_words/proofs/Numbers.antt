@@ -11,8 +11,8 @@ use Rattle.std.proofs.lemmas.Fmt.{first_decimal, IsAscii-decimal, digits_value-d
 use Rattle.std.proofs.lemmas.Slice.Eq.{bytes_eq-Decides}
 use Rattle.std.proofs.lemmas.Option.{cond_some, same_Some}
 use Rattle.std.proofs.lemmas.Bool.Decides.{Decides-ltb}
-use Rattle.trace_text.specs.Words.{Word}
-use Rattle.trace_text.specs.Reading.{number_of}
+use Rattle.format_words.specs.Words.{Word}
+use Rattle.format_words.specs.Reading.{number_of}
 
 own : IsNumeralModel (AllDigits 10) (digits_value 10)
 own = numerals_by_value _ tells_digits

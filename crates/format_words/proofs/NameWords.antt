@@ -7,8 +7,8 @@ use Rattle.events.specs.Names.{NameBytes, IsName, is_name_byte}
 use Rattle.events.specs.NameFaults.{name_fault}
 use Rattle.events.specs.declared.name.NameFault.{NameFault}
 use Rattle.events.specs.declared.name.NameFault.TheVariants.{Long, BadByte}
-use Rattle.trace_text.specs.Words.{Word}
-use Rattle.trace_text.specs.Reading.{unless_fault, name_of}
+use Rattle.format_words.specs.Words.{Word}
+use Rattle.format_words.specs.Reading.{unless_fault, name_of}
 
 good-at : (t : Bool) (i : ℕ) (rest : Option ℕ) (all : Bool) → cond (not t) (Some i) rest ≡ None → (rest ≡ None → all ≡ true) → (t && all) ≡ true
 good-at true i rest all e h = h e

@@ -1,11 +1,11 @@
 use Rattle.std.proofs.Common.{◌≡◌, ◌<◌, length, arith}
 use Rattle.std.proofs.lemmas.Grind.{common_steps}
 use Rattle.std.proofs.lemmas.Result.{err_from_is_err_and}
-use Rattle.trace_text.specs.Words.{words_behind}
-use Rattle.trace_text.specs.Reading.{word_at, name_of}
-use Rattle.trace_text.proofs.FirstWord.{none-behind}
-use Rattle.trace_text.proofs.NameList.{fails-by, some-word-at, names-end, names-more, names-stop}
-use Rattle.trace_text.proofs.entry.names.Goals as goal
+use Rattle.format_words.specs.Words.{words_behind}
+use Rattle.format_words.specs.Reading.{word_at, name_of}
+use Rattle.format_words.proofs.FirstWord.{none-behind}
+use Rattle.format_words.proofs.NamesRead.{fails-by, some-word-at, names-end, names-more, names-stop}
+use Rattle.format_words.proofs.name_list.names.Goals as goal
 
 pub returns-in_err-word : goal.returns-in_err-word
 returns-in_err-word c =

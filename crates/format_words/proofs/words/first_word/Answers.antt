@@ -1,5 +1,5 @@
-use Rattle.trace_text.proofs.FirstWord.{first-word}
-use Rattle.trace_text.proofs.words.first_word.Goals as goal
+use Rattle.format_words.proofs.FirstWord.{first-word}
+use Rattle.format_words.proofs.words.first_word.Goals as goal
 
 pub returns-clause-words : goal.returns-clause-words
 returns-clause-words c =

@@ -1,8 +1,8 @@
 //! The words of a line, taken one by one.
 
 ghost use Rattle.std.specs.Prelude.{◌≡◌, ◌∷◌, ◌==◌, ◌<◌, ◌≤◌, length, position, IfOk};
-ghost use Rattle.trace_text.specs.Words.{words_of, words_behind};
-ghost use Rattle.trace_text.specs.Reading.{Gives, word_at};
+ghost use Rattle.format_words.specs.Words.{words_of, words_behind};
+ghost use Rattle.format_words.specs.Reading.{Gives, word_at};
 
 use crate::stop::Stop;
 

@@ -2,9 +2,9 @@ use Rattle.std.proofs.Common.{◌≢◌, ℕ, List, [], ◌∷◌, arith, sym, a
 use Rattle.std.proofs.lemmas.Slice.Eq.{slice_eq-Decides}
 use Rattle.std.proofs.lemmas.Bool.Decides.{Decides-eqb}
 use Rattle.std.proofs.lemmas.Bool.{false≢true}
-use Rattle.trace_text.specs.Reading.{number_of}
-use Rattle.trace_text.proofs.Numbers.{zero-number, empty-word, low-word, high-word, no-text, parsed-number, kept-ok, kept-none}
-use Rattle.trace_text.proofs.fields.number_of.Goals as goal
+use Rattle.format_words.specs.Reading.{number_of}
+use Rattle.format_words.proofs.Numbers.{zero-number, empty-word, low-word, high-word, no-text, parsed-number, kept-ok, kept-none}
+use Rattle.format_words.proofs.fields.number_of.Goals as goal
 
 pub returns-then-eq : goal.returns-then-eq
 returns-then-eq c =
