@@ -9,7 +9,11 @@
 #![tactic(auto)]
 
 mod certificate;
+mod cycle;
+mod entries;
 mod fault;
+mod kind;
+mod progress;
 mod reading;
 mod writing;
 

@@ -2,7 +2,7 @@
 
 ghost use Rattle.std.specs.Prelude.{◌≡◌};
 ghost use Rattle.format_words.specs.Words.{words_behind};
-ghost use Rattle.format_words.specs.Reading.{Gives, number_of, number_at, name_of, name_at, operation_of, operation_at, after_word, no_more};
+ghost use Rattle.format_words.specs.Reading.{Gives, number_of, number_at, name_of, operation_of, after_word, no_more};
 
 use crate::stop::Stop;
 use crate::words::{next_word, place_of};
@@ -45,19 +45,9 @@ pub fn name_of(word: &[u8]) -> Result<Name, Stop>
     }
 }
 
-/// The next word as a name, and the rest behind it.
-#[tactic(auto, unfolding(crate::specs::Reading::name_at))]
-pub fn next_name(rest: &[u8]) -> Result<(Name, &[u8]), Stop>
-    ensures { Gives (λ x. (x.0, words_behind x.1.now)) result (name_at (words_behind rest.now)) }
-{
-    let (word, rest) = next_word(rest)?;
-    let name = name_of(word)?;
-    Ok((name, rest))
-}
-
-/// The operation that the word names as `r.n`, counted from 1.
+/// The operation whose name is `r.n` with these bytes, where there is one.
 #[tactic(auto, unfolding(crate::specs::Reading::operation_of))]
-pub fn operation_of(word: &[u8]) -> Option<OpName>
+fn operation_named(word: &[u8]) -> Option<OpName>
     ensures { result ≡ operation_of word.now }
 {
     let dot = place_of(word, b'.')?;
@@ -66,14 +56,12 @@ pub fn operation_of(word: &[u8]) -> Option<OpName>
     OpName::new(replica, n)
 }
 
-/// The next word as the name of an operation, and the rest behind it.
-#[tactic(auto, unfolding(crate::specs::Reading::operation_at))]
-pub fn next_operation(rest: &[u8]) -> Result<(OpName, &[u8]), Stop>
-    ensures { Gives (λ x. (x.0, words_behind x.1.now)) result (operation_at (words_behind rest.now)) }
+/// The word as the name of an operation: `r.n`, counted from 1.
+pub fn operation_of(word: &[u8]) -> Result<OpName, Stop>
+    ensures { Gives (λ operation. operation) result (operation_of word.now) }
 {
-    let (word, rest) = next_word(rest)?;
-    match operation_of(word) {
-        Some(operation) => Ok((operation, rest)),
+    match operation_named(word) {
+        Some(operation) => Ok(operation),
         None => Err(Stop::Shape),
     }
 }

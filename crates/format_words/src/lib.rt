@@ -17,9 +17,7 @@ mod name_list;
 mod stop;
 mod words;
 
-pub use fields::{
-    end, name_of, next_name, next_number, next_operation, number_of, operation_of, skip_word,
-};
+pub use fields::{end, name_of, next_number, number_of, operation_of, skip_word};
 pub use lines::split_line;
 pub use name_list::names;
 pub use stop::Stop;
