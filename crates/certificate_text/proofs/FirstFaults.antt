@@ -5,6 +5,7 @@ use Rattle.specification.specs.Lines.{Line, text_of, IsOneLine}
 use Rattle.specification.specs.CertificateText as format
 use Rattle.specification.specs.CertificateText.{BeginsCertificate, HasWrongLine, LacksCertificateLine, IsFirstCertFault, cause_behind}
 use Rattle.certificate_text.specs.Progress.{IsWrongBehind, LacksMore}
+use Rattle.certificate_text.specs.Place.{IsBehindRightLines}
 
 never-cut : (lines : List Line) → format.cut ≡ cause_behind lines → ⊥
 never-cut [] e = cc
@@ -50,3 +51,6 @@ lacking-fault text number lines (Some cause) whole is begins lacks =
 pub nothing-left : (text front rest : List ℕ) → text ≡ front ++ rest → length rest ≡ 0 → text ≡ front
 nothing-left text front [] is none = is ∙ append-nil front
 nothing-left text front (b ∷ rest) is none = absurd (omega arith)
+
+pub behind-right : (text : List ℕ) (number : ℕ) (lines : List Line) (rest : List ℕ) → text ≡ text_of lines ++ rest → number ≡ length lines + 1 → BeginsCertificate lines → IsBehindRightLines text number
+behind-right text number lines rest whole is begins = record { good = lines; begins = begins; rest = rest; text_is = whole; number = is }

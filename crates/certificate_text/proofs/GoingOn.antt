@@ -198,7 +198,7 @@ step-more k steps [] s line part less h is = (
     each_row = All-nil (IsRow k);
   },
   ap (λ (l : List Line). codes "cert 1" ∷ (codes "refused " ++ decimal k) ∷ l)
-    (append-nil (map step_line (steps ++ s ∷ [])) ∙ map_push step_line steps s ∙ ap (λ l. map step_line steps ++ l ∷ []) (sym is) ∙ ap (λ (l : List Line). l ++ line ∷ []) (sym (append-nil (map step_line steps)))),
+      (append-nil (map step_line (steps ++ s ∷ [])) ∙ map_push step_line steps s ∙ ap (λ l. map step_line steps ++ l ∷ []) (sym is) ∙ ap (λ (l : List Line). l ++ line ∷ []) (sym (append-nil (map step_line steps)))),
 )
 
 -- one row more is one line more
@@ -215,7 +215,7 @@ row-more k steps rows r line part whole long h is = (
     each_row = All-push (IsRow k) rows r part.each_row h;
   },
   ap (λ (l : List Line). codes "cert 1" ∷ (codes "refused " ++ decimal k) ∷ l)
-    (ap (λ (l : List Line). map step_line steps ++ l) (map_push row_line rows r ∙ ap (λ l. map row_line rows ++ l ∷ []) (sym is)) ∙ sym (append_assoc (map step_line steps) (map row_line rows) (line ∷ []))),
+      (ap (λ (l : List Line). map step_line steps ++ l) (map_push row_line rows r ∙ ap (λ l. map row_line rows ++ l ∷ []) (sym is)) ∙ sym (append_assoc (map step_line steps) (map row_line rows) (line ∷ []))),
 )
 
 pub refused-alone : (kd : Kind) (k : ℕ) → IsKind kd → kd ≡ kind.Refused k → ¬ IsWholeCertificate (codes "cert 1" ∷ kind_line kd ∷ [])

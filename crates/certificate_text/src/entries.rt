@@ -6,9 +6,7 @@ ghost use Rattle.format_words.specs.Reading.{Gives};
 ghost use Rattle.certificate_text.specs.Reading.{order_at, step_at, layers_at, onto_layers, has_form, row_at};
 
 use events::Name;
-use format_words::{
-    Stop, end, first_word, name_of, names, next_word, operation_of, skip_word,
-};
+use format_words::{Stop, end, first_word, name_of, names, next_word, operation_of, skip_word};
 use std::alloc::Global;
 use witnesses::{Layer, Order, Row, Step};
 

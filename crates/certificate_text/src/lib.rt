@@ -20,3 +20,6 @@ mod writing;
 pub use certificate::Certificate;
 pub use fault::{CertCause, CertFault};
 pub use witnesses::{Layer, Layers, Order, Row, Step, Steps};
+
+#[cfg(test)]
+mod tests;

@@ -4,7 +4,7 @@ use Rattle.specification.specs.Lines.{text_of}
 use Rattle.certificate_text.specs.CertificateOf.{cause_of}
 use Rattle.certificate_text.specs.Progress.{good}
 use Rattle.certificate_text.proofs.Begins.{right-begins}
-use Rattle.certificate_text.proofs.FirstFaults.{wrong-fault, lacking-fault, nothing-left}
+use Rattle.certificate_text.proofs.FirstFaults.{wrong-fault, lacking-fault, nothing-left, behind-right}
 use Rattle.certificate_text.proofs.reading.read_lines.Goals as goal
 
 pub returns-in_default-clause-fault : goal.returns-in_default-clause-fault
@@ -32,3 +32,15 @@ returns-in-Err-end-clause-fault c =
     lacking-fault c.args.bytes.now c.loop-rest.line (good c.loop-rest.progress) (cause_of c.in-Err-end.cause)
     (nothing-left c.args.bytes.now (text_of (good c.loop-rest.progress)) c.loop-rest.rest.now c.loop-rest.invariant.text none)
     c.loop-rest.invariant.number (right-begins c.loop-rest.progress c.loop-rest.invariant.right) c.in-Err-end.ensures.fault
+
+pub returns-in_default-clause-place : goal.returns-in_default-clause-place
+returns-in_default-clause-place c =
+    behind-right c.args.bytes.now c.loop-rest.line (good c.loop-rest.progress) c.loop-rest.rest.now c.loop-rest.invariant.text c.loop-rest.invariant.number (right-begins c.loop-rest.progress c.loop-rest.invariant.right)
+
+pub returns-in-Err-clause-place : goal.returns-in-Err-clause-place
+returns-in-Err-clause-place c =
+    behind-right c.args.bytes.now c.loop-rest.line (good c.loop-rest.progress) c.loop-rest.rest.now c.loop-rest.invariant.text c.loop-rest.invariant.number (right-begins c.loop-rest.progress c.loop-rest.invariant.right)
+
+pub returns-in-Err-end-clause-place : goal.returns-in-Err-end-clause-place
+returns-in-Err-end-clause-place c =
+    behind-right c.args.bytes.now c.loop-rest.line (good c.loop-rest.progress) c.loop-rest.rest.now c.loop-rest.invariant.text c.loop-rest.invariant.number (right-begins c.loop-rest.progress c.loop-rest.invariant.right)
