@@ -1,1 +1,5 @@
 pub mod CertificateOf
+pub mod Texts
+pub mod Reading
+pub mod Progress
+pub mod Place

@@ -9,10 +9,17 @@
 #![tactic(auto)]
 
 mod certificate;
+mod cycle;
+mod entries;
 mod fault;
+mod kind;
+mod progress;
 mod reading;
 mod writing;
 
 pub use certificate::Certificate;
 pub use fault::{CertCause, CertFault};
 pub use witnesses::{Layer, Layers, Order, Row, Step, Steps};
+
+#[cfg(test)]
+mod tests;

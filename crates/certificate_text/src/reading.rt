@@ -1,24 +1,58 @@
+//! A whole text, line by line.
+
 ghost use Rattle.std.specs.Prelude.{◌≡◌, IfOk, IfErr, IfSome, MatchResult};
 ghost use Rattle.specification.specs.CertificateText as format;
 ghost use Rattle.certificate_text.specs.CertificateOf.{certificate_of, cause_of};
+ghost use Rattle.certificate_text.specs.Place.{IsBehindRightLines};
 
 use super::certificate::Certificate;
 use super::fault::{CertCause, CertFault};
+use super::progress::Progress;
+use format_words::split_line;
 use std::alloc::Global;
 
 impl Certificate {
     /// The certificate that the text spells, or the text's first faulty line with its cause.
     ///
+    /// `Memory` stands at the line whose reading found none: behind right lines, and no contract can say more.
     /// Nothing is reserved by a `k` that is merely claimed. It takes time and memory in proportion to the text.
-    pub fn read(_alloc: Global, _bytes: &[u8]) -> Result<Certificate, CertFault>
-        ensures ok { IfOk result (λ c. format.SpellsCertificate _bytes.now (certificate_of c)) }
-        ensures fault { IfErr result (λ fault. IfSome (cause_of fault.cause) (λ cause. format.IsFirstCertFault _bytes.now fault.line cause)) }
+    pub fn read(alloc: Global, bytes: &[u8]) -> Result<Certificate, CertFault>
+        ensures ok { IfOk result (λ c. format.SpellsCertificate bytes.now (certificate_of c)) }
+        ensures fault { IfErr result (λ fault. IfSome (cause_of fault.cause) (λ cause. format.IsFirstCertFault bytes.now fault.line cause)) }
+        // Want of memory too is answered at a line behind right lines.
+        ensures place { IfErr result (λ fault. IsBehindRightLines bytes.now fault.line) }
         // What is spelled is read, unless memory runs out.
-        ensures spelled { (c : format.Certificate) → format.SpellsCertificate _bytes.now c → MatchResult result (λ d. certificate_of d ≡ c) (λ fault. fault.cause ≡ CertCause.Memory) }
+        ensures spelled { (c : format.Certificate) → format.SpellsCertificate bytes.now c → MatchResult result (λ d. certificate_of d ≡ c) (λ fault. fault.cause ≡ CertCause.Memory) }
     {
-        Err(CertFault {
-            line: 1,
-            cause: CertCause::Memory,
-        })
+        read_lines(alloc, bytes)
+    }
+}
+
+/// The certificate that the text spells, or the first faulty line.
+fn read_lines(alloc: Global, bytes: &[u8]) -> Result<Certificate, CertFault>
+    ensures ok { IfOk result (λ c. format.SpellsCertificate bytes.now (certificate_of c)) }
+    ensures fault { IfErr result (λ fault. IfSome (cause_of fault.cause) (λ cause. format.IsFirstCertFault bytes.now fault.line cause)) }
+    ensures place { IfErr result (λ fault. IsBehindRightLines bytes.now fault.line) }
+{
+    let mut progress = Progress::Start;
+    let mut line = 1u64;
+    let mut rest = bytes;
+    while !rest.is_empty() {
+        let Some((next, behind)) = split_line(rest) else {
+            return Err(CertFault {
+                line,
+                cause: CertCause::Cut,
+            });
+        };
+        match progress.with_line(alloc, next) {
+            Ok(longer) => progress = longer,
+            Err(cause) => return Err(CertFault { line, cause }),
+        }
+        line += 1;
+        rest = behind;
+    }
+    match progress.end() {
+        Ok(certificate) => Ok(certificate),
+        Err(cause) => Err(CertFault { line, cause }),
     }
 }

@@ -1,19 +1,189 @@
-ghost use Rattle.std.specs.Prelude.{◌≡◌, IfOk};
-ghost use Rattle.specification.specs.CertificateText.{IsSpellable, certificate_text};
+//! The text of a certificate, line by line.
+
+ghost use Rattle.std.specs.Prelude.{◌≡◌, ◌==◌, ◌++◌, ◌∷◌, [], if◌then◌else◌, codes, map, IfOk, OnOk};
+ghost use Rattle.specification.specs.Lines.{text_of, names_text, operation_text, order_line};
+ghost use Rattle.specification.specs.Faults as spec;
+ghost use Rattle.specification.specs.CertificateText.{IsSpellable, certificate_text, kind_lines, layers_text, row_line, step_line};
+ghost use Rattle.specification.specs.CertificateText as format;
 ghost use Rattle.certificate_text.specs.CertificateOf.{certificate_of};
+ghost use Rattle.certificate_text.specs.Texts.{accepted_text, fault_text};
 
 use super::certificate::Certificate;
-use events::Memory;
+use events::{Memory, OpName};
+use format_words::{push_name, push_number, push_operation};
 use std::alloc::Global;
+use witnesses::{Layer, Layers, Order, Row, Step, Steps};
 
 impl Certificate {
     /// The text that spells the certificate.
     ///
     /// It takes memory and time in proportion to the text.
-    pub fn write(&self, _alloc: Global) -> Result<Vec<u8>, Memory>
+    pub fn write(&self, alloc: Global) -> Result<Vec<u8>, Memory>
         requires spellable { IsSpellable (certificate_of self.now) }
         ensures { IfOk result (λ bytes. bytes.items ≡ certificate_text (certificate_of self.now)) }
     {
-        Err(Memory)
+        let mut text = Vec::from_slice(alloc, b"cert 1\n")?;
+        push_kind(alloc, &mut text, self)?;
+        Ok(text)
     }
+}
+
+/// Adds the lines behind the first.
+fn push_kind(alloc: Global, text: &mut Vec<u8>, certificate: &Certificate) -> Result<(), Memory>
+    ensures { OnOk result (text.new.items ≡ text.old.items ++ text_of (kind_lines (certificate_of certificate.now))) }
+{
+    match certificate {
+        Certificate::Doubled { first, again } => push_doubled(alloc, text, *first, *again),
+        Certificate::Contents { at } => push_fault(alloc, text, b"contents ", *at),
+        Certificate::Position { at } => push_fault(alloc, text, b"position ", *at),
+        Certificate::Accepted(order) => push_accepted(text, order),
+        Certificate::Refused { k, steps, layers } => push_refused(alloc, text, *k, steps, layers),
+    }
+}
+
+/// Adds the line of a doubled name.
+fn push_doubled(
+    alloc: Global,
+    text: &mut Vec<u8>,
+    first: OpName,
+    again: OpName,
+) -> Result<(), Memory>
+    ensures { OnOk result (text.new.items ≡ text.old.items ++ text_of (kind_lines (format.names_fault (spec.doubled first again)))) }
+{
+    text.extend_from_slice(b"doubled ")?;
+    push_operation(alloc, text, first)?;
+    text.push(b' ')?;
+    push_operation(alloc, text, again)?;
+    text.push(b'\n')?;
+    Ok(())
+}
+
+/// Adds the line of an operation that is wrong, behind this word.
+fn push_fault(alloc: Global, text: &mut Vec<u8>, word: &[u8], at: OpName) -> Result<(), Memory>
+    ensures { OnOk result (text.new.items ≡ text.old.items ++ fault_text word.now at) }
+{
+    text.extend_from_slice(word)?;
+    push_operation(alloc, text, at)?;
+    text.push(b'\n')?;
+    Ok(())
+}
+
+/// Adds the lines of an acceptance.
+fn push_accepted(text: &mut Vec<u8>, order: &Order) -> Result<(), Memory>
+    ensures { OnOk result (text.new.items ≡ text.old.items ++ accepted_text order.now) }
+{
+    text.extend_from_slice(b"accepted\norder :")?;
+    push_order(text, order)?;
+    text.push(b'\n')?;
+    Ok(())
+}
+
+/// Adds the names of an order, each behind a space.
+fn push_order(text: &mut Vec<u8>, order: &Order) -> Result<(), Memory>
+    ensures { OnOk result (text.new.items ≡ text.old.items ++ names_text order.now) }
+{
+    for i in 0..order.len() {
+        if let Some(name) = order.get(i) {
+            push_name(text, name)?;
+        }
+    }
+    Ok(())
+}
+
+/// Adds the lines of a refusal.
+fn push_refused(
+    alloc: Global,
+    text: &mut Vec<u8>,
+    k: u32,
+    steps: &Steps,
+    layers: &Layers,
+) -> Result<(), Memory>
+    ensures { OnOk result (text.new.items ≡ text.old.items ++ text_of (kind_lines (format.gives_cycle k steps.now layers.now))) }
+{
+    text.extend_from_slice(b"refused ")?;
+    push_number(alloc, text, k)?;
+    text.push(b'\n')?;
+    push_steps(alloc, text, steps)?;
+    push_rows(text, layers)
+}
+
+/// Adds the lines of steps.
+fn push_steps(alloc: Global, text: &mut Vec<u8>, steps: &Steps) -> Result<(), Memory>
+    ensures { OnOk result (text.new.items ≡ text.old.items ++ text_of (map step_line steps.now)) }
+{
+    for i in 0..steps.len() {
+        if let Some(step) = steps.get(i) {
+            push_step(alloc, text, step)?;
+        }
+    }
+    Ok(())
+}
+
+/// Adds a step's line: the two elements, and the operation that shows them.
+fn push_step(alloc: Global, text: &mut Vec<u8>, step: &Step) -> Result<(), Memory>
+    ensures { OnOk result (text.new.items ≡ text.old.items ++ (step_line step.now ++ 10 ∷ [])) }
+{
+    text.extend_from_slice(b"step")?;
+    push_name(text, &step.from)?;
+    push_name(text, &step.to)?;
+    text.push(b' ')?;
+    push_operation(alloc, text, step.shown)?;
+    text.push(b'\n')?;
+    Ok(())
+}
+
+/// Adds the lines of rows.
+fn push_rows(text: &mut Vec<u8>, layers: &Layers) -> Result<(), Memory>
+    ensures { OnOk result (text.new.items ≡ text.old.items ++ text_of (map row_line layers.now)) }
+{
+    for i in 0..layers.len() {
+        if let Some(row) = layers.get(i) {
+            push_row(text, row)?;
+        }
+    }
+    Ok(())
+}
+
+/// Adds a row's line.
+fn push_row(text: &mut Vec<u8>, row: &Row) -> Result<(), Memory>
+    ensures { OnOk result (text.new.items ≡ text.old.items ++ (row_line row.now ++ 10 ∷ [])) }
+{
+    text.extend_from_slice(b"layers")?;
+    push_layers(text, row)?;
+    text.push(b'\n')?;
+    Ok(())
+}
+
+/// Adds a row's layers, with ` /` between two of them.
+fn push_layers(text: &mut Vec<u8>, row: &Row) -> Result<(), Memory>
+    ensures { OnOk result (text.new.items ≡ text.old.items ++ layers_text row.now) }
+{
+    for i in 0..row.len() {
+        if let Some(layer) = row.get(i) {
+            push_layer_at(text, i, layer)?;
+        }
+    }
+    Ok(())
+}
+
+/// Adds the layer at a place of its row, behind ` /` where another stands before it.
+fn push_layer_at(text: &mut Vec<u8>, place: usize, layer: &Layer) -> Result<(), Memory>
+    ensures { OnOk result (text.new.items ≡ text.old.items ++ ((if place == 0 then [] else codes " /") ++ names_text layer.now)) }
+{
+    if place > 0 {
+        text.extend_from_slice(b" /")?;
+    }
+    push_layer(text, layer)
+}
+
+/// Adds the names of a layer, each behind a space.
+fn push_layer(text: &mut Vec<u8>, layer: &Layer) -> Result<(), Memory>
+    ensures { OnOk result (text.new.items ≡ text.old.items ++ names_text layer.now) }
+{
+    for i in 0..layer.len() {
+        if let Some(name) = layer.get(i) {
+            push_name(text, name)?;
+        }
+    }
+    Ok(())
 }

@@ -3,8 +3,8 @@ use Rattle.std.proofs.Common.{◌≡◌, ◌≢◌, ℕ, ◌<◌, ◌≤◌, ◌
 use Rattle.std.proofs.lemmas.Option.{same_Some}
 use Rattle.std.proofs.lemmas.Fmt.{first_decimal, decimal_is_IsNumeral, decimal_nonempty, decimal_digit}
 use Rattle.std.proofs.lemmas.Str.Parse.{digit_at}
-use Rattle.trace_text.specs.Reading.{number_of}
-use Rattle.trace_text.proofs.Numbers.{number_of-decimal, number_of-is}
+use Rattle.format_words.specs.Reading.{number_of}
+use Rattle.format_words.proofs.Numbers.{number_of-decimal, number_of-is}
 use Rattle.finder_cli.specs.Workers.{IsPositiveOf, IsWorkersOf}
 use Rattle.finder_cli.specs.declared.words.WordsFault.TheVariants.{Usage}
 

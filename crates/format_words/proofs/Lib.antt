@@ -1,1 +1,12 @@
 pub mod NameList
+pub mod Bytes
+pub mod FirstWord
+pub mod FirstLine
+pub mod Numbers
+pub mod NameWords
+pub mod NamesRead
+pub mod LineWords
+pub mod WordsBack
+pub mod TextLines
+pub mod Operations
+pub mod Spaced

@@ -1,7 +1,8 @@
-//! The words that the formats share, added to a text: numbers, names, operations' names.
+//! The words that the formats share, added to a text and read: numbers, names, operations' names.
 //!
 //! All texts are ASCII. A number is decimal without leading zeros; the name of an operation is `r.n`; names
-//! in a list stand each behind one space.
+//! in a list stand each behind one space. What is read is read word by word: the rest of a line, behind the
+//! words that were read, is empty or begins with the space before its next word.
 #![tactic(auto)]
 
 ghost use Rattle.std.specs.Prelude.{◌≡◌, ◌++◌, ◌∷◌, decimal, OnOk};
@@ -9,6 +10,18 @@ ghost use Rattle.specification.specs.Lines.{names_text, operation_text};
 
 use events::{Memory, Name, OpName, Response};
 use std::alloc::Global;
+
+mod fields;
+mod lines;
+mod name_list;
+mod stop;
+mod words;
+
+pub use fields::{end, name_of, next_number, number_of, operation_of, skip_word};
+pub use lines::split_line;
+pub use name_list::names;
+pub use stop::Stop;
+pub use words::{first_word, next_word};
 
 #[cfg(test)]
 mod tests;

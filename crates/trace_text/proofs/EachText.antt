@@ -16,7 +16,7 @@ use Rattle.events.proofs.Legal.{legal_more}
 use Rattle.specification.specs.Lines.{Line, text_of, IsOneLine}
 use Rattle.specification.specs.TraceText as format
 use Rattle.specification.specs.TraceText.{HEADER, entry_line, replicas_line, trace_lines, trace_text, Spells, IsEntry, IsFaultyLine, IsMissingLine, BeginsSpelling, IsFirstLineFault}
-use Rattle.trace_text.specs.Words.{words_of}
+use Rattle.format_words.specs.Words.{words_of}
 use Rattle.trace_text.specs.Reading.{entry_at, replicas_at}
 use Rattle.trace_text.proofs.Spelled.{line-spells, line-spells-none}
 use Rattle.trace_text.proofs.SecondLine.{replicas-spells, replicas-none, replicas-same}

@@ -1,13 +1,7 @@
-pub mod Bytes
-pub mod FirstWord
-pub mod NameList
-pub mod Numbers
-pub mod NameWords
 pub mod LineWords
 pub mod Spelled
 pub mod SecondLine
 pub mod FaultyLines
-pub mod FirstLine
 pub mod Faults
 pub mod Written
 pub mod TextLines

@@ -1,9 +1,8 @@
 -- An entry's line, as its words.
-use Rattle.std.proofs.Common.{◌≡◌, ℕ, ◌<◌, ◌^◌, ◌==◌, List, [], ◌∷◌, ◌++◌, refl, sym, ap, ◌∙◌, arith, decimal, codes}
+use Rattle.std.proofs.Common.{◌≡◌, ℕ, List, [], ◌∷◌, ◌++◌, refl, sym, ap, ◌∙◌, decimal, codes}
 use Rattle.std.specs.List.{All, join_with_byte}
-use Rattle.std.proofs.lemmas.List.{append-nil, append_assoc}
-use Rattle.std.proofs.lemmas.List.Splits.{slice_split_none, slice_split_at, join_with_byte-slice_split}
-use Rattle.std.proofs.lemmas.List.Elements.{All-head, All-tail, All-weaker}
+use Rattle.std.proofs.lemmas.List.{append_assoc}
+use Rattle.std.proofs.lemmas.List.Splits.{join_with_byte-slice_split}
 use Rattle.events.specs.History.{IsWellFormed}
 use Rattle.events.specs.Names.{NameBytes, IsName}
 use Rattle.events.specs.declared.recording.Entry.{Entry}
@@ -11,12 +10,9 @@ use Rattle.events.specs.declared.recording.Body.{Body}
 use Rattle.events.specs.declared.recording.Body.TheVariants.{Ins, Del, Read, Recv}
 use Rattle.specification.specs.Lines.{names_text}
 use Rattle.specification.specs.TraceText.{entry_line, body_text, IsEntry}
-use Rattle.trace_text.specs.Words.{Word, words_of}
-use Rattle.trace_text.proofs.Bytes.{Lacks, lacks-name, lacks-number, lacks-literal}
-
--- no space stands in it
-abbrev pub LacksSpace : Word → Type 0
-LacksSpace w = Lacks 32 w
+use Rattle.format_words.specs.Words.{Word, words_of}
+use Rattle.format_words.proofs.Bytes.{lacks-literal}
+use Rattle.format_words.proofs.LineWords.{LacksSpace, join-names, name-lacks, names-lack, number-lacks, word-then, last-word, names-words}
 
 abbrev pub body_words : Body → List Word
 body_words (Ins name at response) = codes "ins" ∷ name ∷ decimal at ∷ codes ":" ∷ response
@@ -26,11 +22,6 @@ body_words (Recv seen) = codes "recv" ∷ decimal seen.replica ∷ decimal seen.
 
 abbrev pub entry_words : Entry → List Word
 entry_words e = decimal e.replica ∷ body_words e.body
-
--- names behind a word, put together
-join-names : (w : Word) (names : List NameBytes) → join_with_byte 32 (w ∷ names) ≡ w ++ names_text names
-join-names w [] = sym (append-nil w)
-join-names w (a ∷ names) = ap (λ l. w ++ 32 ∷ l) (join-names a names)
 
 place-and-names : (name place names : List ℕ) → name ++ 32 ∷ (place ++ 32 ∷ 58 ∷ names) ≡ ((name ++ 32 ∷ place) ++ codes " :") ++ names
 place-and-names name place names = sym (append_assoc (name ++ 32 ∷ place) (codes " :") names ∙ append_assoc name (32 ∷ place) (codes " :" ++ names))
@@ -48,26 +39,6 @@ body-join r (Recv seen) = refl
 -- a line with an entry's words is the entry's line
 pub line-by-words : (line : List ℕ) (e : Entry) → words_of line ≡ entry_words e → line ≡ entry_line e
 line-by-words line e h = sym (join_with_byte-slice_split 32 line) ∙ ap (join_with_byte 32) h ∙ body-join (decimal e.replica) e.body
-
-pub name-lacks : (a : NameBytes) → IsName a → LacksSpace a
-name-lacks a h = lacks-name 32 a refl h
-
-names-lack : (names : List NameBytes) → All IsName names → All LacksSpace names
-names-lack names h = All-weaker IsName LacksSpace name-lacks names h
-
-pub number-lacks : (n : ℕ) → n < 2 ^ 32 → LacksSpace (decimal n)
-number-lacks n small = lacks-number 32 n (omega arith) small
-
-word-then : (w : Word) (rest : List ℕ) → LacksSpace w → words_of (w ++ 32 ∷ rest) ≡ w ∷ words_of rest
-word-then w rest h = slice_split_at (λ b. b == 32) w 32 rest h refl
-
-pub last-word : (w : Word) → LacksSpace w → words_of w ≡ w ∷ []
-last-word w h = slice_split_none (λ b. b == 32) w h
-
-names-words : (w : Word) (names : List NameBytes) → LacksSpace w → All LacksSpace names → words_of (w ++ names_text names) ≡ w ∷ names
-names-words w [] h k = ap words_of (append-nil w) ∙ last-word w h
-names-words w (a ∷ names) h k =
-    word-then w (a ++ names_text names) h ∙ ap (λ l. w ∷ l) (names-words a names (All-head LacksSpace a names k) (All-tail LacksSpace a names k))
 
 colon-lacks : LacksSpace (codes ":")
 colon-lacks = lacks-literal 32 (codes ":") refl

@@ -10,9 +10,11 @@ use Rattle.events.specs.declared.recording.Entry.{Entry}
 use Rattle.specification.specs.Lines.{Line, text_of}
 use Rattle.specification.specs.TraceText as format
 use Rattle.specification.specs.TraceText.{entry_line, trace_lines, IsEntry, IsFaultyLine, IsMissingLine, BeginsSpelling, HasWholeFault, IsCutAt, LacksLine, IsFirstLineFault}
-use Rattle.trace_text.proofs.TextLines.{lines_of, lacks-lf, lines-then, one-line, line-then, beginning-lacks}
+use Rattle.format_words.proofs.TextLines.{lines_of, lacks-lf, lines-then, one-line, line-then}
+use Rattle.trace_text.proofs.TextLines.{beginning-lacks}
 use Rattle.trace_text.proofs.Spelled.{one-spelling}
-use Rattle.trace_text.proofs.OneReading.{same-history, line-right, some-line}
+use Rattle.trace_text.proofs.OneReading.{same-history, line-right}
+use Rattle.format_words.proofs.TextLines.{some-line}
 
 -- a fault as it shows in the text's lines: right ones, the one that is named, and those behind it; the last is what no LF ends
 record Shows (text : List ℕ) (number : ℕ) : Type 0 where

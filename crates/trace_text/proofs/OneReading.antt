@@ -1,10 +1,9 @@
 -- A text that spells a recording spells no other, and has no fault.
-use Rattle.std.proofs.Common.{◌≡◌, ℕ, ◌<◌, ◌≤◌, ◌^◌, List, [], ◌∷◌, ◌++◌, length, map, refl, sym, ap, ◌∙◌, subst, arith, Some, inl, inr, ◌==◌, length-append}
+use Rattle.std.proofs.Common.{◌≡◌, ℕ, ◌<◌, ◌^◌, List, [], ◌∷◌, ◌++◌, length, map, refl, sym, ap, ◌∙◌, subst, arith, Some, inl, inr}
 use Rattle.std.specs.List.{All}
 use Rattle.std.proofs.lemmas.List.{append_assoc, append-nil, append_cancel_right, same_from_push}
 use Rattle.std.proofs.lemmas.Option.{none-some}
 use Rattle.std.proofs.lemmas.List.Elements.{All-head, All-tail, All-cons, All-nil}
-use Rattle.std.proofs.lemmas.List.Splits.{length-slice_split}
 use Rattle.events.specs.History.{History, IsLegal}
 use Rattle.events.specs.Session.{first_refusal}
 use Rattle.events.specs.declared.refusal.Refusal.{Refusal}
@@ -12,10 +11,12 @@ use Rattle.events.specs.declared.recording.Entry.{Entry}
 use Rattle.specification.specs.Lines.{Line, text_of, IsOneLine}
 use Rattle.specification.specs.TraceText as format
 use Rattle.specification.specs.TraceText.{HEADER, entry_line, replicas_line, trace_lines, trace_text, Spells, IsEntry, IsFaultyLine, IsMissingLine, BeginsSpelling, HasWholeFault, IsCutAt, LacksLine, IsFirstLineFault}
-use Rattle.trace_text.proofs.TextLines.{lines_of, lacks-lf, lines-then, one-line, line-then, lines-lack, beginning-lacks, legal-entries}
+use Rattle.format_words.proofs.TextLines.{lines_of, lacks-lf, lines-then, one-line, line-then}
+use Rattle.trace_text.proofs.TextLines.{lines-lack, beginning-lacks, legal-entries}
 use Rattle.trace_text.proofs.Spelled.{one-spelling}
 use Rattle.trace_text.proofs.SecondLine.{replicas-line-again, replicas-same}
 use Rattle.trace_text.proofs.Accepted.{accepted}
+use Rattle.format_words.proofs.TextLines.{front-of-push, some-line}
 
 -- a recording's lines, from its text
 trace-lines-are : (h : History) → IsLegal h → lines_of (trace_text h) ≡ trace_lines h ++ [] ∷ []
@@ -51,21 +52,6 @@ pub one-recording : (text : List ℕ) (g h : History) → Spells text g → Spel
 one-recording text g h (legal, is) (good, spelled) =
     let lines : trace_lines g ++ [] ∷ [] ≡ trace_lines h ++ [] ∷ [] = sym (trace-lines-are g legal) ∙ ap lines_of (sym is ∙ spelled) ∙ trace-lines-are h good in
     same-history g h legal good (append_cancel_right (trace_lines g) (trace_lines h) ([] ∷ []) lines)
-
--- of a list with one element more, what stands before another element stands in the list itself
-front-of-push : {X : Type 0} (xs good more : List X) (z f : X) → 1 ≤ length more → xs ++ z ∷ [] ≡ good ++ f ∷ more → (rest : List X) × (xs ≡ good ++ f ∷ rest)
-front-of-push [] [] [] z f some is = absurd (omega arith)
-front-of-push [] [] (m ∷ more) z f some is = absurd (cc)
-front-of-push [] (g ∷ good) more z f some is = absurd (omega (arith, ap length is, length-append good (f ∷ more)))
-front-of-push (x ∷ xs) [] more z f some is = (xs, cc)
-front-of-push (x ∷ xs) (g ∷ good) more z f some is =
-    let head : x ≡ g = cc in
-    let tail : xs ++ z ∷ [] ≡ good ++ f ∷ more = cc in
-    let p = front-of-push xs good more z f some tail in
-    (p.0, ap (λ y. y ∷ xs) head ∙ ap (λ l. g ∷ l) p.1)
-
-pub some-line : (text : List ℕ) → 1 ≤ length (lines_of text)
-some-line text = omega (arith, length-slice_split (λ b. b == 10) text)
 
 -- right lines and one more stand first among a recording's lines
 lines-stand : (h : History) (good : List Line) (line : Line) (more : List ℕ) → IsLegal h → BeginsSpelling good → IsOneLine line → trace_text h ≡ text_of good ++ line ++ 10 ∷ more →

@@ -4,13 +4,14 @@ use Rattle.std.proofs.lemmas.Option.{same_Some, none-some}
 use Rattle.std.proofs.lemmas.List.Splits.{join_with_byte-slice_split}
 use Rattle.std.specs.List.{join_with_byte}
 use Rattle.specification.specs.TraceText.{replicas_line}
-use Rattle.trace_text.specs.Words.{Word, words_of}
+use Rattle.format_words.specs.Words.{Word, words_of}
 use Rattle.events.specs.declared.TheConstants.{MOST_REPLICAS}
-use Rattle.trace_text.specs.declared.stop.Stop.{Stop}
-use Rattle.trace_text.specs.declared.stop.Stop.TheVariants.{Shape, Memory}
-use Rattle.trace_text.specs.Reading.{◌>>=◌, Fails, number_at, no_more, after_word, replicas_at}
-use Rattle.trace_text.proofs.LineWords.{number-lacks, last-word}
-use Rattle.trace_text.proofs.Spelled.{bind-some, number-at-is, after-word-is, no-more-is, number-again, word-again}
+use Rattle.format_words.specs.declared.stop.Stop.{Stop}
+use Rattle.format_words.specs.declared.stop.Stop.TheVariants.{Shape, Memory}
+use Rattle.format_words.specs.Reading.{◌>>=◌, Fails, number_at, no_more, after_word}
+use Rattle.trace_text.specs.Reading.{replicas_at}
+use Rattle.format_words.proofs.LineWords.{number-lacks, last-word}
+use Rattle.format_words.proofs.WordsBack.{bind-some, number-at-is, after-word-is, no-more-is, number-again, word-again}
 
 replicas-are : (ws : List Word) (n : ℕ) → replicas_at ws ≡ Some n → ws ≡ codes "replicas" ∷ decimal n ∷ []
 unfolding replicas_at

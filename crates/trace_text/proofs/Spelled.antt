@@ -1,10 +1,9 @@
 -- Reading an entry's words gives the entry, and no other words give one.
-use Rattle.std.proofs.Common.{◌≡◌, ◌≢◌, ℕ, ◌<◌, ◌^◌, Bool, true, false, cond, nat_le, List, [], ◌∷◌, refl, sym, ap, ◌∙◌, subst, decimal, codes, Option, Some, None, ◌⊎◌, inl, inr}
+use Rattle.std.proofs.Common.{◌≡◌, ◌≢◌, ℕ, Bool, true, false, cond, nat_le, List, [], ◌∷◌, refl, sym, ap, ◌∙◌, subst, decimal, codes, Option, Some, None, ◌⊎◌, inl, inr}
 use Rattle.std.specs.Str.{bytes_eq}
 use Rattle.std.specs.List.{All}
 use Rattle.std.proofs.lemmas.Slice.Eq.{bytes_eq-Decides}
-use Rattle.std.proofs.lemmas.Option.{same_Some, cond_some, some_pair_parts, none-some}
-use Rattle.std.proofs.lemmas.List.Elements.{All-head, All-tail, All-cons, All-nil}
+use Rattle.std.proofs.lemmas.Option.{same_Some, cond_some, none-some}
 use Rattle.std.proofs.lemmas.Bool.{leb-true, le-leb}
 use Rattle.events.specs.Names.{NameBytes, IsName}
 use Rattle.events.specs.History.{IsWellFormed}
@@ -12,44 +11,14 @@ use Rattle.events.specs.declared.recording.Entry.{Entry}
 use Rattle.events.specs.declared.recording.Body.{Body}
 use Rattle.events.specs.declared.recording.Body.TheVariants.{Ins, Del, Read, Recv}
 use Rattle.specification.specs.TraceText.{entry_line, IsEntry}
-use Rattle.trace_text.specs.Words.{Word, words_of}
-use Rattle.trace_text.specs.Reading.{◌>>=◌, word_at, no_more, number_of, name_of, number_at, after_word, names_at, response_at, insert_at, delete_at, read_at, receipt_at, body_of_kind, body_at, entry_at}
-use Rattle.trace_text.proofs.Numbers.{number_of-is, number_of-decimal}
-use Rattle.trace_text.proofs.NameWords.{name-is, name_of-name}
-use Rattle.trace_text.proofs.NameList.{word-at-some}
+use Rattle.format_words.specs.Words.{Word, words_of}
+use Rattle.format_words.specs.Reading.{◌>>=◌, word_at, no_more, number_of, name_of, number_at, after_word, names_at}
+use Rattle.trace_text.specs.Reading.{response_at, insert_at, delete_at, read_at, receipt_at, body_of_kind, body_at, entry_at}
+use Rattle.format_words.proofs.Numbers.{number_of-is, number_of-decimal}
+use Rattle.format_words.proofs.NameWords.{name-is, name_of-name}
+use Rattle.format_words.proofs.NamesRead.{word-at-some}
 use Rattle.trace_text.proofs.LineWords.{body_words, entry_words, line-by-words, words-of-line}
-
-pub bind-some : {A B : Type 0} (o : Option A) (f : A → Option B) (y : B) → (o >>= f) ≡ Some y → (x : A) × (o ≡ Some x) × (f x ≡ Some y)
-bind-some None f y e = absurd (cc)
-bind-some (Some x) f y e = (x, refl, e)
-
-pub number-at-is : (ws : List Word) (n : ℕ) (more : List Word) → number_at ws ≡ Some (n, more) → (ws ≡ decimal n ∷ more) × (n < 2 ^ 32)
-unfolding number_at
-number-at-is [] n more e = absurd (cc)
-number-at-is (w ∷ ws) n more e =
-    let p = bind-some (number_of w) (λ m. Some (m, ws)) (n, more) e in
-    let parts = some_pair_parts p.0 n ws more p.2 in
-    let is = number_of-is w p.0 p.1 in
-    (cc, rw (← parts.0) is.1)
-
-pub after-word-is : (wanted : Word) (ws more : List Word) → after_word wanted ws ≡ Some more → ws ≡ wanted ∷ more
-unfolding after_word
-after-word-is wanted [] more e = absurd (cc)
-after-word-is wanted (w ∷ ws) more e =
-    let parts = cond_some (bytes_eq w wanted) ws more e in
-    let same = (bytes_eq-Decides w wanted).0 parts.0 in
-    cc
-
-names-are : (ws : List Word) (names : List NameBytes) → names_at ws ≡ Some names → (ws ≡ names) × All IsName names
-unfolding names_at
-names-are [] names e = let same = same_Some [] names e in (same, subst (All IsName) same (All-nil IsName))
-names-are (w ∷ ws) names e =
-    let p = bind-some (name_of w) (λ name. names_at ws >>= λ more. Some (name ∷ more)) names e in
-    let q = bind-some (names_at ws) (λ more. Some (p.0 ∷ more)) names p.2 in
-    let same = same_Some (p.0 ∷ q.0) names q.2 in
-    let first = name-is w p.0 p.1 in
-    let others = names-are ws q.0 q.1 in
-    (cc, subst (All IsName) same (All-cons IsName p.0 q.0 first.1 others.1))
+use Rattle.format_words.proofs.WordsBack.{bind-some, number-at-is, after-word-is, names-are, no-more-is, number-again, word-again, names-again}
 
 response-is : (ws : List Word) (names : List NameBytes) → response_at ws ≡ Some names → (ws ≡ codes ":" ∷ names) × All IsName names
 unfolding response_at
@@ -93,10 +62,6 @@ read-is ws b e =
     let body : Read response.0 ≡ b = same_Some (Read response.0) b response.2 in
     let third = response-is ws response.0 response.1 in
     (subst IsWellFormed body third.1, ap (λ l. codes "read" ∷ l) third.0 ∙ ap body_words body)
-
-pub no-more-is : (ws : List Word) (x : Unit {0}) → no_more ws ≡ Some x → ws ≡ []
-no-more-is [] x e = refl
-no-more-is (w ∷ ws) x e = absurd (cc)
 
 receipt-is : (ws : List Word) (b : Body) → receipt_at ws ≡ Some b → IsWellFormed b × (codes "recv" ∷ ws ≡ body_words b)
 unfolding receipt_at
@@ -153,19 +118,6 @@ entry-is (w ∷ ws) e h =
     let first = number_of-is w replica.0 replica.1 in
     let second = body-is ws body.0 body.1 in
     (subst IsEntry same (first.1, second.0), ap (λ l. l ∷ ws) first.0 ∙ ap (λ l. decimal replica.0 ∷ l) second.1 ∙ ap entry_words same)
-
-pub number-again : (n : ℕ) (ws : List Word) → n < 2 ^ 32 → number_at (decimal n ∷ ws) ≡ Some (n, ws)
-unfolding number_at
-number-again n ws small = rw (number_of-decimal n small) refl
-
-pub word-again : (wanted : Word) (ws : List Word) → after_word wanted (wanted ∷ ws) ≡ Some ws
-unfolding after_word
-word-again wanted ws = rw ((bytes_eq-Decides wanted wanted).1 refl) refl
-
-names-again : (names : List NameBytes) → All IsName names → names_at names ≡ Some names
-unfolding names_at
-names-again [] h = refl
-names-again (a ∷ names) h = rw (name_of-name a (All-head IsName a names h), names-again names (All-tail IsName a names h)) refl
 
 response-again : (names : List NameBytes) → All IsName names → response_at (codes ":" ∷ names) ≡ Some names
 unfolding response_at

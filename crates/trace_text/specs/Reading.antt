@@ -1,70 +1,11 @@
 -- What words say: a number, a name, a response, an entry. Nothing, where they say none.
-use Rattle.std.specs.Prelude.{◌≡◌, ℕ, ◌^◌, ◌&&◌, nat_lt, nat_le, if◌then◌else◌, Option, Some, None, option_and_then, Result, Ok, Err, List, [], ◌∷◌, decimal, codes, bytes_eq}
-use Rattle.std.specs.Str.Parse.{digits_value}
+use Rattle.std.specs.Prelude.{ℕ, nat_le, if◌then◌else◌, Option, Some, None, List, [], ◌∷◌, codes, bytes_eq}
 use Rattle.events.specs.Names.{NameBytes}
-use Rattle.events.specs.NameFaults.{name_fault}
-use Rattle.events.specs.declared.name.NameFault.{NameFault}
 use Rattle.events.specs.declared.recording.Entry.{Entry}
 use Rattle.events.specs.declared.recording.Body.{Body}
 use Rattle.events.specs.declared.recording.Body.TheVariants.{Ins, Del, Read, Recv}
-use Rattle.trace_text.specs.Words.{Word}
-use Rattle.trace_text.specs.declared.stop.Stop.{Stop}
-use Rattle.trace_text.specs.declared.stop.Stop.TheVariants.{Shape, Memory}
-
-infixl 10 ◌>>=◌
-abbrev pub ◌>>=◌ : {A B : Type 0} → Option A → (A → Option B) → Option B
-o >>= f = option_and_then f o
-
--- a reader gives, seen by view, what reading gives, unless it finds no memory
-abbrev pub Fails : {Y : Type 0} → Stop → Option Y → Type 0
-Fails Shape read = read ≡ None
-Fails Memory read = Unit {0}
-
-abbrev pub Gives : {X Y : Type 0} → (X → Y) → Result X Stop → Option Y → Type 0
-Gives view (Ok x) read = read ≡ Some (view x)
-Gives view (Err e) read = Fails e read
-
--- the number below 2 ^ 32 whose decimal text the word is
-unfoldable pub number_of : Word → Option ℕ
-number_of w = if bytes_eq w (decimal (digits_value 10 w)) && nat_lt (digits_value 10 w) (2 ^ 32) then Some (digits_value 10 w) else None
-
-abbrev pub unless_fault : Option NameFault → Word → Option NameBytes
-unless_fault None w = Some w
-unless_fault (Some fault) w = None
-
--- the word as a name
-unfoldable pub name_of : Word → Option NameBytes
-name_of w = unless_fault (name_fault w) w
-
--- a word, and the words behind it
-abbrev pub word_at : List Word → Option (Word × List Word)
-word_at [] = None
-word_at (w ∷ ws) = Some (w, ws)
-
-unfoldable pub number_at : List Word → Option (ℕ × List Word)
-number_at ws = do
-  word ← word_at ws
-  n ← number_of word.0
-  Some (n, word.1)
-
--- the words behind one that must be there
-unfoldable pub after_word : List ℕ → List Word → Option (List Word)
-after_word wanted ws = do
-  word ← word_at ws
-  if bytes_eq word.0 wanted then Some word.1 else None
-
--- no more words
-abbrev pub no_more : List Word → Option (Unit {0})
-no_more [] = Some tt
-no_more (w ∷ ws) = None
-
--- all words as names
-unfoldable pub names_at : List Word → Option (List NameBytes)
-names_at [] = Some []
-names_at (w ∷ ws) = do
-  name ← name_of w
-  names ← names_at ws
-  Some (name ∷ names)
+use Rattle.format_words.specs.Words.{Word}
+use Rattle.format_words.specs.Reading.{◌>>=◌, number_of, name_of, word_at, number_at, after_word, no_more, names_at}
 
 -- `:` and names
 unfoldable pub response_at : List Word → Option (List NameBytes)

@@ -1,34 +1,15 @@
 //! One line's entry.
 
 ghost use Rattle.std.specs.Prelude.{◌≡◌};
-ghost use Rattle.trace_text.specs.Words.{words_of, words_behind};
-ghost use Rattle.trace_text.specs.Reading.{Gives, names_at, response_at, insert_at, delete_at, read_at, receipt_at, body_of_kind, body_at, entry_at};
+ghost use Rattle.format_words.specs.Words.{words_of, words_behind};
+ghost use Rattle.format_words.specs.Reading.{Gives, names_at};
+ghost use Rattle.trace_text.specs.Reading.{response_at, insert_at, delete_at, read_at, receipt_at, body_of_kind, body_at, entry_at};
 
-use crate::fields::{end, name_of, next_number, number_of, skip_word};
-use crate::stop::Stop;
-use crate::words::{first_word, next_word};
-use events::{Body, Entry, MOST_NAMES, Name, OpName, Response};
+use events::{Body, Entry, OpName, Response};
+use format_words::{
+    Stop, end, first_word, name_of, names, next_number, next_word, number_of, skip_word,
+};
 use std::alloc::Global;
-
-/// How many names to make room for: one for each space, and no more than one above what a response may have.
-fn names_room(rest: &[u8]) -> usize {
-    let spaces = rest.iter().filter(|byte| **byte == b' ').count();
-    spaces.min(MOST_NAMES as usize + 1)
-}
-
-/// The words of the rest, each as a name.
-fn names(alloc: Global, rest: &[u8]) -> Result<Vec<Name>, Stop>
-    ensures { Gives (λ names. names.items) result (names_at (words_behind rest.now)) }
-{
-    let mut names = Vec::with_capacity(alloc, names_room(rest))?;
-    let mut rest = rest;
-    while !rest.is_empty() {
-        let (word, behind) = next_word(rest)?;
-        names.push(name_of(word)?)?;
-        rest = behind;
-    }
-    Ok(names)
-}
 
 /// `:` and names.
 #[tactic(auto, unfolding(crate::specs::Reading::response_at))]

@@ -8,12 +8,9 @@
 
 mod cause;
 mod entry;
-mod fields;
 mod laws;
 mod reading;
-mod stop;
 mod whole;
-mod words;
 mod writing;
 
 pub use cause::{Cause, LineFault};

@@ -3,16 +3,15 @@
 ghost use Rattle.std.specs.Prelude.{◌≡◌, ◌≢◌, ◌+◌, ◌≤◌, ℕ, [], ◌∷◌, ◌++◌, length, IfOk, IfErr, IfSome, OnOk};
 ghost use Rattle.events.specs.History.{IsLegal};
 ghost use Rattle.specification.specs.TraceText.{HEADER, replicas_line, trace_lines, IsFaultyLine, IsMissingLine, BeginsSpelling};
-ghost use Rattle.trace_text.specs.Words.{words_of};
-ghost use Rattle.trace_text.specs.Reading.{Gives, replicas_at};
+ghost use Rattle.format_words.specs.Words.{words_of};
+ghost use Rattle.format_words.specs.Reading.{Gives};
+ghost use Rattle.trace_text.specs.Reading.{replicas_at};
 ghost use Rattle.trace_text.specs.Causes.{cause_of};
 
 use crate::cause::{Cause, LineFault};
 use crate::entry::entry_of;
-use crate::fields::{end, next_number};
-use crate::stop::Stop;
-use crate::words::first_word;
 use events::{MOST_REPLICAS, NewFault, Recording, Refusal};
+use format_words::{Stop, end, first_word, next_number};
 use std::alloc::Global;
 
 /// What the right lines so far say.
@@ -35,7 +34,7 @@ fn number_behind(recording: &Recording) -> u32
 }
 
 /// The number of `replicas R`.
-#[tactic(auto, unfolding(crate::specs::Reading::replicas_at, crate::specs::Reading::after_word))]
+#[tactic(auto, unfolding(crate::specs::Reading::replicas_at, format_words::specs::Reading::after_word))]
 fn replicas_of(line: &[u8]) -> Result<u32, Stop>
     ensures { Gives (λ n. n) result (replicas_at (words_of line.now)) }
 {

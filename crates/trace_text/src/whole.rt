@@ -9,17 +9,9 @@ ghost use Rattle.trace_text.specs.Place.{IsBehindRightLines};
 
 use crate::cause::{Cause, LineFault};
 use crate::reading::Reading;
-use crate::words::place_of;
 use events::{Recording, Refusal};
+use format_words::split_line;
 use std::alloc::Global;
-
-/// The first line of a text without its LF, and what follows that LF; none where the text has no LF.
-fn split_line(text: &[u8]) -> Option<(&[u8], &[u8])>
-    ensures { MatchOption result (IsOneLine text.now) (λ x. IsOneLine x.0.now × (text.now ≡ x.0.now ++ 10 ∷ x.1.now)) }
-{
-    let end = place_of(text, b'\n')?;
-    Some((&text[..end], &text[end + 1..]))
-}
 
 /// The recording that the text spells, or the first faulty line.
 fn read_lines(alloc: Global, bytes: &[u8]) -> Result<Recording, LineFault>

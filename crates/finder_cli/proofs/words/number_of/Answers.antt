@@ -1,5 +1,5 @@
 use Rattle.std.proofs.Common.{List, ℕ, ◌<◌, ◌≤◌, get_or, length, arith, ◌∙◌, subst}
-use Rattle.trace_text.proofs.Numbers.{parsed-number}
+use Rattle.format_words.proofs.Numbers.{parsed-number}
 use Rattle.finder_cli.proofs.Positives.{IsNoPositive, empty-word, low-word, high-word, read-positive}
 use Rattle.finder_cli.proofs.words.number_of.Goals as goal
 

@@ -1,8 +1,9 @@
 use Rattle.std.proofs.Common.{ap, ◌∙◌, subst}
 use Rattle.specification.specs.TraceText.{trace_lines}
-use Rattle.trace_text.specs.Reading.{Fails, entry_at}
-use Rattle.trace_text.specs.Words.{words_of}
-use Rattle.trace_text.specs.declared.stop.Stop.{Stop}
+use Rattle.format_words.specs.Reading.{Fails}
+use Rattle.trace_text.specs.Reading.{entry_at}
+use Rattle.format_words.specs.Words.{words_of}
+use Rattle.format_words.specs.declared.stop.Stop.{Stop}
 use Rattle.trace_text.proofs.Spelled.{line-spells, line-spells-none}
 use Rattle.trace_text.proofs.FaultyLines.{one-line-more, refused-line}
 use Rattle.trace_text.proofs.reading.add_entry.Goals as goal

@@ -1,0 +1,56 @@
+-- The first fault of a text, from what its right lines are and what follows them.
+use Rattle.std.proofs.Common.{◌≡◌, ℕ, ◌+◌, List, [], ◌∷◌, ◌++◌, length, sym, ap, ◌∙◌, Option, Some, None, IfSome, inl, inr, arith}
+use Rattle.std.proofs.lemmas.List.{append_assoc, append-nil}
+use Rattle.specification.specs.Lines.{Line, text_of, IsOneLine}
+use Rattle.specification.specs.CertificateText as format
+use Rattle.specification.specs.CertificateText.{BeginsCertificate, HasWrongLine, LacksCertificateLine, IsFirstCertFault, cause_behind}
+use Rattle.certificate_text.specs.Progress.{IsWrongBehind, LacksMore}
+use Rattle.certificate_text.specs.Place.{IsBehindRightLines}
+
+never-cut : (lines : List Line) → format.cut ≡ cause_behind lines → ⊥
+never-cut [] e = cc
+never-cut (a ∷ []) e = cc
+never-cut (a ∷ b ∷ lines) e = cc
+
+first-of-wrong : (text : List ℕ) (number : ℕ) (lines : List Line) (cause : format.CertCause) → cause ≡ cause_behind lines → HasWrongLine text number cause → IsFirstCertFault text number cause
+first-of-wrong text number lines format.header e wrong = inl wrong
+first-of-wrong text number lines format.kind e wrong = inl wrong
+first-of-wrong text number lines format.shape e wrong = inl wrong
+first-of-wrong text number lines format.cut e wrong = absurd (never-cut lines e)
+
+first-of-lacking : (text : List ℕ) (number : ℕ) (lines : List Line) (cause : format.CertCause) → cause ≡ cause_behind lines → LacksCertificateLine text number cause → IsFirstCertFault text number cause
+first-of-lacking text number lines format.header e lacks = inr lacks
+first-of-lacking text number lines format.kind e lacks = inr lacks
+first-of-lacking text number lines format.shape e lacks = inr lacks
+first-of-lacking text number lines format.cut e lacks = absurd (never-cut lines e)
+
+-- a wrong line behind right ones
+pub wrong-fault : (text : List ℕ) (number : ℕ) (lines : List Line) (line rest behind : List ℕ) (cause : Option format.CertCause) →
+    text ≡ text_of lines ++ rest → rest ≡ line ++ 10 ∷ behind → IsOneLine line → number ≡ length lines + 1 → BeginsCertificate lines → IfSome cause (IsWrongBehind lines line) → IfSome cause (IsFirstCertFault text number)
+wrong-fault text number lines line rest behind None whole cut one is begins wrong = tt
+wrong-fault text number lines line rest behind (Some cause) whole cut one is begins wrong =
+    first-of-wrong text number lines cause wrong.0 (record {
+      good = lines;
+      begins = begins;
+      faulty = line;
+      one_line = one;
+      more = behind;
+      text_is = whole ∙ ap (λ l. text_of lines ++ l) cut ∙ sym (append_assoc (text_of lines) line (10 ∷ behind));
+      number = is;
+      wrong = wrong.1;
+      cause_is = wrong.0;
+    })
+
+-- a line is missing behind right ones
+pub lacking-fault : (text : List ℕ) (number : ℕ) (lines : List Line) (cause : Option format.CertCause) →
+    text ≡ text_of lines → number ≡ length lines + 1 → BeginsCertificate lines → IfSome cause (LacksMore lines) → IfSome cause (IsFirstCertFault text number)
+lacking-fault text number lines None whole is begins lacks = tt
+lacking-fault text number lines (Some cause) whole is begins lacks =
+    first-of-lacking text number lines cause lacks.0 (record { good = lines; begins = begins; text_is = whole; not_whole = lacks.1; number = is; cause_is = lacks.0 })
+
+pub nothing-left : (text front rest : List ℕ) → text ≡ front ++ rest → length rest ≡ 0 → text ≡ front
+nothing-left text front [] is none = is ∙ append-nil front
+nothing-left text front (b ∷ rest) is none = absurd (omega arith)
+
+pub behind-right : (text : List ℕ) (number : ℕ) (lines : List Line) (rest : List ℕ) → text ≡ text_of lines ++ rest → number ≡ length lines + 1 → BeginsCertificate lines → IsBehindRightLines text number
+behind-right text number lines rest whole is begins = record { good = lines; begins = begins; rest = rest; text_is = whole; number = is }

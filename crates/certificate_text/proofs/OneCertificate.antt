@@ -1,0 +1,167 @@
+-- A text that spells a certificate spells no other, and has no fault.
+use Rattle.std.proofs.Common.{◌≡◌, ℕ, List, [], ◌∷◌, ◌++◌, length, map, codes, refl, sym, ap, ◌∙◌, subst, arith, inl, inr, append_assoc, Result, Ok, Err, MatchResult, IfOk, IfErr, IfSome}
+use Rattle.std.specs.List.{All}
+use Rattle.std.proofs.lemmas.List.{append-nil, append_cancel_right, same_from_push}
+use Rattle.std.proofs.lemmas.List.Elements.{All-head, All-tail, All-cons, All-nil, All-append, All-map, All-weaker}
+use Rattle.specification.specs.Conflict.{Step}
+use Rattle.specification.specs.Faults.{doubled, contents, position}
+use Rattle.specification.specs.LayerRule.{Row}
+use Rattle.specification.specs.Lines.{Line, text_of, order_line}
+use Rattle.specification.specs.CertificateText as format
+use Rattle.specification.specs.CertificateText.{Certificate, names_fault, gives_order, gives_cycle, certificate_lines, certificate_text, step_line, row_line, IsSpellable, IsStep, IsRow, SpellsCertificate, BeginsCertificate, HasWrongLine, LacksCertificateLine, IsCertificateCut, IsFirstCertFault}
+use Rattle.format_words.proofs.Bytes.{lacks-literal}
+use Rattle.format_words.proofs.Spaced.{spaced-lacks}
+use Rattle.format_words.proofs.TextLines.{lines_of, LacksLf, lacks-lf, lines-then, one-line, line-then, all-front, front-of-push, some-line}
+use Rattle.certificate_text.specs.CertificateOf.{certificate_of, cause_of}
+use Rattle.certificate_text.specs.Progress.{kind_line}
+use Rattle.certificate_text.specs.declared.certificate.Certificate as declared
+use Rattle.certificate_text.specs.declared.fault.CertCause.{CertCause}
+use Rattle.certificate_text.specs.declared.fault.CertCause.TheVariants as cause
+use Rattle.certificate_text.specs.declared.fault.CertFault.{CertFault}
+use Rattle.certificate_text.specs.declared.kind.Kind.{Kind}
+use Rattle.certificate_text.proofs.KindLines.{kind_word, kind_more, kind-spaced, kind-word-plain, kind-more-plain}
+use Rattle.certificate_text.proofs.StepLines.{step_words, step-spaced, plain-step, step-plain, one-step, order-plain, plain-order, one-order}
+use Rattle.certificate_text.proofs.RowLines.{layers_words, row-spaced, plain-layers, row-plain, one-row}
+use Rattle.certificate_text.proofs.GoingOn.{kind_of, rest_lines, lines-parts, kind-good, kind-behind}
+
+-- no LF stands in a spelling's lines
+
+step-lacks : (s : Step) → IsStep s → LacksLf (step_line s)
+step-lacks s h = subst LacksLf (sym (step-spaced s)) (spaced-lacks (codes "step") (step_words s) plain-step (step-plain s h))
+
+row-lacks : (k : ℕ) (r : Row) → IsRow k r → LacksLf (row_line r)
+row-lacks k r h = subst LacksLf (sym (row-spaced r)) (spaced-lacks (codes "layers") (layers_words r) plain-layers (row-plain r h.names))
+
+rest-lack : (c : Certificate) → IsSpellable c → All LacksLf (rest_lines c)
+rest-lack (names_fault fault) h = All-nil LacksLf
+rest-lack (gives_order order) h = All-cons LacksLf (order_line order) [] (spaced-lacks (codes "order") (codes ":" ∷ order) plain-order (order-plain order h)) (All-nil LacksLf)
+rest-lack (gives_cycle k steps rows) h =
+    All-append LacksLf (map step_line steps) (map row_line rows)
+    (All-map LacksLf step_line steps (All-weaker IsStep (λ s. LacksLf (step_line s)) step-lacks steps h.3))
+    (All-map LacksLf row_line rows (All-weaker (IsRow k) (λ r. LacksLf (row_line r)) (row-lacks k) rows h.5))
+
+kind-lacks : (k : Kind) → (c : Certificate) → IsSpellable c → kind_of c ≡ k → LacksLf (kind_line (kind_of c))
+kind-lacks k c h e = subst LacksLf (sym (kind-spaced (kind_of c))) (spaced-lacks (kind_word (kind_of c)) (kind_more (kind_of c)) (kind-word-plain (kind_of c)) (kind-more-plain (kind_of c) (kind-good c h)))
+
+lines-lack : (c : Certificate) → IsSpellable c → All LacksLf (certificate_lines c)
+lines-lack c h =
+    subst (All LacksLf) (sym (lines-parts c))
+    (All-cons LacksLf (codes "cert 1") (kind_line (kind_of c) ∷ rest_lines c) (lacks-literal 10 (codes "cert 1") refl)
+    (All-cons LacksLf (kind_line (kind_of c)) (rest_lines c) (kind-lacks (kind_of c) c h refl) (rest-lack c h)))
+
+beginning-lacks : (lines : List Line) → BeginsCertificate lines → All LacksLf lines
+beginning-lacks lines (c, spellable, more, is) = all-front LacksLf lines more (subst (All LacksLf) (sym is) (lines-lack c spellable))
+
+-- a spelling's lines, from its text
+lines-are : (c : Certificate) → IsSpellable c → lines_of (certificate_text c) ≡ certificate_lines c ++ [] ∷ []
+lines-are c h = ap lines_of (sym (append-nil (certificate_text c))) ∙ lines-then (certificate_lines c) [] (lines-lack c h)
+
+-- the lines tell the certificate
+
+module _ {X : Type 0} (f : X → Line) (P : X → Type 0) (one : (x y : X) → P x → P y → f x ≡ f y → x ≡ y) where
+  same-list : (xs ys : List X) (more rest : List Line) → length xs ≡ length ys → All P xs → All P ys → map f xs ++ more ≡ map f ys ++ rest → (xs ≡ ys) × (more ≡ rest)
+  same-list [] [] more rest n h k is = (refl, is)
+  same-list [] (y ∷ ys) more rest n h k is = absurd (omega arith)
+  same-list (x ∷ xs) [] more rest n h k is = absurd (omega arith)
+  same-list (x ∷ xs) (y ∷ ys) more rest n h k is =
+      let head : f x ≡ f y = cc in
+      let tail : map f xs ++ more ≡ map f ys ++ rest = cc in
+      let first = one x y (All-head P x xs h) (All-head P y ys k) head in
+      let others = same-list xs ys more rest (omega arith) (All-tail P x xs h) (All-tail P y ys k) tail in
+      (ap (λ z. z ∷ xs) first ∙ ap (λ l. y ∷ l) others.0, others.1)
+
+  same-all : (xs ys : List X) → All P xs → All P ys → map f xs ≡ map f ys → xs ≡ ys
+  same-all [] [] h k is = refl
+  same-all [] (y ∷ ys) h k is = absurd (cc)
+  same-all (x ∷ xs) [] h k is = absurd (cc)
+  same-all (x ∷ xs) (y ∷ ys) h k is =
+      let head : f x ≡ f y = cc in
+      let tail : map f xs ≡ map f ys = cc in
+      let first = one x y (All-head P x xs h) (All-head P y ys k) head in
+      let others = same-all xs ys (All-tail P x xs h) (All-tail P y ys k) tail in
+      ap (λ z. z ∷ xs) first ∙ ap (λ l. y ∷ l) others
+
+of-kind : (c d : Certificate) → IsSpellable c → IsSpellable d → kind_of c ≡ kind_of d → rest_lines c ≡ rest_lines d → c ≡ d
+of-kind (names_fault (doubled a b)) (names_fault (doubled f g)) h k e is = cc
+of-kind (names_fault (doubled a b)) (names_fault (contents at)) h k e is = absurd (cc)
+of-kind (names_fault (doubled a b)) (names_fault (position at)) h k e is = absurd (cc)
+of-kind (names_fault (doubled a b)) (gives_order order) h k e is = absurd (cc)
+of-kind (names_fault (doubled a b)) (gives_cycle n steps rows) h k e is = absurd (cc)
+of-kind (names_fault (contents o)) (names_fault (doubled f g)) h k e is = absurd (cc)
+of-kind (names_fault (contents o)) (names_fault (contents at)) h k e is = cc
+of-kind (names_fault (contents o)) (names_fault (position at)) h k e is = absurd (cc)
+of-kind (names_fault (contents o)) (gives_order order) h k e is = absurd (cc)
+of-kind (names_fault (contents o)) (gives_cycle n steps rows) h k e is = absurd (cc)
+of-kind (names_fault (position o)) (names_fault (doubled f g)) h k e is = absurd (cc)
+of-kind (names_fault (position o)) (names_fault (contents at)) h k e is = absurd (cc)
+of-kind (names_fault (position o)) (names_fault (position at)) h k e is = cc
+of-kind (names_fault (position o)) (gives_order order) h k e is = absurd (cc)
+of-kind (names_fault (position o)) (gives_cycle n steps rows) h k e is = absurd (cc)
+of-kind (gives_order o) (names_fault (doubled f g)) h k e is = absurd (cc)
+of-kind (gives_order o) (names_fault (contents at)) h k e is = absurd (cc)
+of-kind (gives_order o) (names_fault (position at)) h k e is = absurd (cc)
+of-kind (gives_order o) (gives_order order) h k e is = let line : order_line o ≡ order_line order = cc in ap gives_order (one-order o order h k line)
+of-kind (gives_order o) (gives_cycle n steps rows) h k e is = absurd (cc)
+of-kind (gives_cycle m ss rs) (names_fault (doubled f g)) h k e is = absurd (cc)
+of-kind (gives_cycle m ss rs) (names_fault (contents at)) h k e is = absurd (cc)
+of-kind (gives_cycle m ss rs) (names_fault (position at)) h k e is = absurd (cc)
+of-kind (gives_cycle m ss rs) (gives_order order) h k e is = absurd (cc)
+of-kind (gives_cycle m ss rs) (gives_cycle n steps rows) h k e is =
+    let number : m ≡ n = cc in
+    let many : length ss ≡ length steps = h.2 ∙ number ∙ sym k.2 in
+    let both = same-list step_line IsStep one-step ss steps (map row_line rs) (map row_line rows) many h.3 k.3 is in
+    let others = same-all row_line (IsRow n) (one-row n) rs rows (subst (λ (m : ℕ). All (IsRow m) rs) number h.5) k.5 both.1 in
+    ap (λ (i : ℕ). gives_cycle i ss rs) number ∙ ap (λ (l : List Step). gives_cycle n l rs) both.0 ∙ ap (λ (l : List Row). gives_cycle n steps l) others
+
+same-certificate : (c d : Certificate) → IsSpellable c → IsSpellable d → certificate_lines c ≡ certificate_lines d → c ≡ d
+same-certificate c d h k is =
+    let p = kind-behind d (kind_of c) (rest_lines c) k (kind-good c h) (sym (lines-parts c) ∙ is) in
+    of-kind c d h k (sym p.0) p.1
+
+-- a text spells at most one certificate
+one-certificate : (text : List ℕ) (c d : Certificate) → SpellsCertificate text c → SpellsCertificate text d → c ≡ d
+one-certificate text c d (h, is) (k, also) =
+    same-certificate c d h k (append_cancel_right (certificate_lines c) (certificate_lines d) ([] ∷ []) (sym (lines-are c h) ∙ ap lines_of (sym is ∙ also) ∙ lines-are d k))
+
+no-wrong-line : (c : Certificate) (text : List ℕ) (line : ℕ) (cause : format.CertCause) → SpellsCertificate text c → HasWrongLine text line cause → ⊥
+no-wrong-line c text line cause (h, is) fault =
+    let lines : certificate_lines c ++ [] ∷ [] ≡ fault.good ++ fault.faulty ∷ lines_of fault.more =
+    sym (lines-are c h) ∙ ap lines_of (sym is ∙ fault.text_is ∙ append_assoc (text_of fault.good) fault.faulty (10 ∷ fault.more))
+    ∙ lines-then fault.good (fault.faulty ++ 10 ∷ fault.more) (beginning-lacks fault.good fault.begins) ∙ ap (λ ls. fault.good ++ ls) (line-then fault.faulty fault.more (lacks-lf fault.faulty fault.one_line)) in
+    let stands = front-of-push (certificate_lines c) fault.good (lines_of fault.more) [] fault.faulty (some-line fault.more) lines in
+    fault.wrong (c, h, stands.0, append_assoc fault.good (fault.faulty ∷ []) stands.0 ∙ sym stands.1)
+
+none-lacking : (c : Certificate) (text : List ℕ) (line : ℕ) (cause : format.CertCause) → SpellsCertificate text c → LacksCertificateLine text line cause → ⊥
+none-lacking c text line cause (h, is) lacks =
+    let lines : certificate_lines c ++ [] ∷ [] ≡ lacks.good ++ [] ∷ [] =
+    sym (lines-are c h) ∙ ap lines_of (sym is ∙ lacks.text_is ∙ sym (append-nil (text_of lacks.good))) ∙ lines-then lacks.good [] (beginning-lacks lacks.good lacks.begins) in
+    lacks.not_whole (c, h, sym (append_cancel_right (certificate_lines c) lacks.good ([] ∷ []) lines))
+
+not-cut : (c : Certificate) (text : List ℕ) (line : ℕ) → SpellsCertificate text c → IsCertificateCut text line → ⊥
+not-cut c text line (h, is) cut =
+    let lines : certificate_lines c ++ [] ∷ [] ≡ cut.good ++ cut.rest ∷ [] =
+    sym (lines-are c h) ∙ ap lines_of (sym is ∙ cut.text_is) ∙ lines-then cut.good cut.rest (beginning-lacks cut.good cut.begins) ∙ ap (λ ls. cut.good ++ ls) (one-line cut.rest (lacks-lf cut.rest cut.one_line)) in
+    let empty : [] ≡ cut.rest = (same_from_push (certificate_lines c) cut.good [] cut.rest lines).1 in
+    absurd (omega (arith, ap length empty, cut.some_byte))
+
+no-fault : (c : Certificate) (text : List ℕ) (line : ℕ) (why : format.CertCause) → SpellsCertificate text c → IsFirstCertFault text line why → ⊥
+no-fault c text line format.header s (inl wrong) = no-wrong-line c text line format.header s wrong
+no-fault c text line format.header s (inr lacks) = none-lacking c text line format.header s lacks
+no-fault c text line format.kind s (inl wrong) = no-wrong-line c text line format.kind s wrong
+no-fault c text line format.kind s (inr lacks) = none-lacking c text line format.kind s lacks
+no-fault c text line format.shape s (inl wrong) = no-wrong-line c text line format.shape s wrong
+no-fault c text line format.shape s (inr lacks) = none-lacking c text line format.shape s lacks
+no-fault c text line format.cut s cut = not-cut c text line s cut
+
+only-memory : (text : List ℕ) (c : Certificate) → SpellsCertificate text c → (line : ℕ) (why : CertCause) → IfSome (cause_of why) (IsFirstCertFault text line) → why ≡ cause.Memory
+only-memory text c s line cause.Header fault = absurd (no-fault c text line format.header s fault)
+only-memory text c s line cause.Kind fault = absurd (no-fault c text line format.kind s fault)
+only-memory text c s line cause.Shape fault = absurd (no-fault c text line format.shape s fault)
+only-memory text c s line cause.Cut fault = absurd (no-fault c text line format.cut s fault)
+only-memory text c s line cause.Memory fault = refl
+
+-- what is spelled is read, unless memory runs out
+pub read-back : (text : List ℕ) (result : Result declared.Certificate CertFault) → IfOk result (λ c. SpellsCertificate text (certificate_of c)) → IfErr result (λ fault. IfSome (cause_of fault.cause) (IsFirstCertFault text fault.line)) →
+    (c : Certificate) → SpellsCertificate text c → MatchResult result (λ d. certificate_of d ≡ c) (λ fault. fault.cause ≡ cause.Memory)
+read-back text (Ok d) ok fault c spelled = one-certificate text (certificate_of d) c ok spelled
+read-back text (Err e) ok fault c spelled = only-memory text c spelled e.line e.cause fault

@@ -1,0 +1,26 @@
+use Rattle.std.proofs.Common.{◌≡◌, List, [], ◌∷◌, ◌++◌, refl, sym, subst}
+use Rattle.format_words.specs.Words.{words_of}
+use Rattle.format_words.specs.Reading.{Fails}
+use Rattle.format_words.specs.declared.stop.Stop.{Stop}
+use Rattle.specification.specs.LayerRule.{Row}
+use Rattle.specification.specs.CertificateText.{certificate_lines, gives_cycle}
+use Rattle.certificate_text.specs.Progress.{IsPartOfCycle}
+use Rattle.certificate_text.specs.Reading.{row_at}
+use Rattle.certificate_text.proofs.RowLines.{row-spells}
+use Rattle.certificate_text.proofs.GoingOn.{no-row, row-more}
+use Rattle.certificate_text.proofs.cycle.Cycle.with_row.Goals as goal
+
+pub returns-in-Ok-push-clause-ok : goal.returns-in-Ok-push-clause-ok
+returns-in-Ok-push-clause-ok c =
+    let cycle = c.args.self in
+    let line = c.args.line.now in
+    let p = row-spells cycle.k line c.in-Ok.row c.in-Ok.ensures in
+    subst (λ (rows : List Row). IsPartOfCycle cycle.k cycle.steps.items rows × (certificate_lines (gives_cycle cycle.k cycle.steps.items rows) ≡ certificate_lines (gives_cycle cycle.k cycle.steps.items cycle.rows.items) ++ line ∷ []))
+    (sym c.in-Ok-push.ensures.items)
+    (row-more cycle.k cycle.steps.items cycle.rows.items c.in-Ok.row line c.requires.right c.requires.steps c.requires.long p.0 p.1)
+
+pub returns-in-Err-Shape-clause-fault : goal.returns-in-Err-Shape-clause-fault
+returns-in-Err-Shape-clause-fault c =
+    let cycle = c.args.self in
+    let none = subst (λ (e : Stop). Fails e (row_at cycle.k (words_of c.args.line.now))) c.in-Err-Shape.field-0-is c.in-Err-Shape.ensures in
+    (refl, no-row cycle.k cycle.steps.items cycle.rows.items c.args.line.now c.requires.right c.requires.steps none)

@@ -1,0 +1,26 @@
+use Rattle.std.proofs.Common.{◌≡◌, List, [], ◌∷◌, ◌++◌, refl, sym, subst}
+use Rattle.format_words.specs.Words.{words_of}
+use Rattle.format_words.specs.Reading.{Fails}
+use Rattle.format_words.specs.declared.stop.Stop.{Stop}
+use Rattle.specification.specs.Conflict.{Step}
+use Rattle.specification.specs.CertificateText.{certificate_lines, gives_cycle}
+use Rattle.certificate_text.specs.Progress.{IsPartOfCycle}
+use Rattle.certificate_text.specs.Reading.{step_at}
+use Rattle.certificate_text.proofs.StepLines.{step-spells}
+use Rattle.certificate_text.proofs.GoingOn.{no-step, step-more}
+use Rattle.certificate_text.proofs.cycle.Cycle.with_step.Goals as goal
+
+pub returns-in-Ok-push-clause-ok : goal.returns-in-Ok-push-clause-ok
+returns-in-Ok-push-clause-ok c =
+    let cycle = c.args.self in
+    let line = c.args.line.now in
+    let p = step-spells line c.in-Ok.step c.in-Ok.ensures in
+    subst (λ (steps : List Step). IsPartOfCycle cycle.k steps cycle.rows.items × (certificate_lines (gives_cycle cycle.k steps cycle.rows.items) ≡ certificate_lines (gives_cycle cycle.k cycle.steps.items cycle.rows.items) ++ line ∷ []))
+    (sym c.in-Ok-push.ensures.items)
+    (step-more cycle.k cycle.steps.items cycle.rows.items c.in-Ok.step line c.requires.right c.requires.more p.0 p.1)
+
+pub returns-in-Err-Shape-clause-fault : goal.returns-in-Err-Shape-clause-fault
+returns-in-Err-Shape-clause-fault c =
+    let cycle = c.args.self in
+    let none = subst (λ (e : Stop). Fails e (step_at (words_of c.args.line.now))) c.in-Err-Shape.field-0-is c.in-Err-Shape.ensures in
+    (refl, no-step cycle.k cycle.steps.items cycle.rows.items c.args.line.now c.requires.right c.requires.more none)

@@ -1,0 +1,46 @@
+use Rattle.std.proofs.Common.{◌≡◌, ◌≤◌, length, arith}
+use Rattle.std.proofs.lemmas.Grind.{common_steps}
+use Rattle.specification.specs.Lines.{text_of}
+use Rattle.certificate_text.specs.CertificateOf.{cause_of}
+use Rattle.certificate_text.specs.Progress.{good}
+use Rattle.certificate_text.proofs.Begins.{right-begins}
+use Rattle.certificate_text.proofs.FirstFaults.{wrong-fault, lacking-fault, nothing-left, behind-right}
+use Rattle.certificate_text.proofs.reading.read_lines.Goals as goal
+
+pub returns-in_default-clause-fault : goal.returns-in_default-clause-fault
+returns-in_default-clause-fault c =
+    let some : 1 ≤ length c.loop-rest.rest.now = grind (arith, common_steps) in
+    record {
+      good = good c.loop-rest.progress;
+      begins = right-begins c.loop-rest.progress c.loop-rest.invariant.right;
+      rest = c.loop-rest.rest.now;
+      some_byte = some;
+      one_line = c.in_default.ensures;
+      text_is = c.loop-rest.invariant.text;
+      number = c.loop-rest.invariant.number;
+    }
+
+pub returns-in-Err-clause-fault : goal.returns-in-Err-clause-fault
+returns-in-Err-clause-fault c =
+    let cut = c.in-Some.ensures in
+    wrong-fault c.args.bytes.now c.loop-rest.line (good c.loop-rest.progress) c.in-Some.next.now c.loop-rest.rest.now c.in-Some.behind.now (cause_of c.in-Err.cause)
+    c.loop-rest.invariant.text cut.1 cut.0 c.loop-rest.invariant.number (right-begins c.loop-rest.progress c.loop-rest.invariant.right) c.in-Err.ensures.fault
+
+pub returns-in-Err-end-clause-fault : goal.returns-in-Err-end-clause-fault
+returns-in-Err-end-clause-fault c =
+    let none : length c.loop-rest.rest.now ≡ 0 = grind (arith, common_steps) in
+    lacking-fault c.args.bytes.now c.loop-rest.line (good c.loop-rest.progress) (cause_of c.in-Err-end.cause)
+    (nothing-left c.args.bytes.now (text_of (good c.loop-rest.progress)) c.loop-rest.rest.now c.loop-rest.invariant.text none)
+    c.loop-rest.invariant.number (right-begins c.loop-rest.progress c.loop-rest.invariant.right) c.in-Err-end.ensures.fault
+
+pub returns-in_default-clause-place : goal.returns-in_default-clause-place
+returns-in_default-clause-place c =
+    behind-right c.args.bytes.now c.loop-rest.line (good c.loop-rest.progress) c.loop-rest.rest.now c.loop-rest.invariant.text c.loop-rest.invariant.number (right-begins c.loop-rest.progress c.loop-rest.invariant.right)
+
+pub returns-in-Err-clause-place : goal.returns-in-Err-clause-place
+returns-in-Err-clause-place c =
+    behind-right c.args.bytes.now c.loop-rest.line (good c.loop-rest.progress) c.loop-rest.rest.now c.loop-rest.invariant.text c.loop-rest.invariant.number (right-begins c.loop-rest.progress c.loop-rest.invariant.right)
+
+pub returns-in-Err-end-clause-place : goal.returns-in-Err-end-clause-place
+returns-in-Err-end-clause-place c =
+    behind-right c.args.bytes.now c.loop-rest.line (good c.loop-rest.progress) c.loop-rest.rest.now c.loop-rest.invariant.text c.loop-rest.invariant.number (right-begins c.loop-rest.progress c.loop-rest.invariant.right)

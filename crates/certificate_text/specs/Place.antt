@@ -1,0 +1,12 @@
+-- Where a fault stands, whatever its cause.
+use Rattle.std.specs.Prelude.{◌≡◌, ℕ, ◌+◌, List, ◌++◌, length}
+use Rattle.specification.specs.Lines.{Line, text_of}
+use Rattle.specification.specs.CertificateText.{BeginsCertificate}
+
+-- the lines before the one of this number are the first ones of some certificate's spelling
+pub record IsBehindRightLines (text : List ℕ) (line : ℕ) : Type 0 where
+  pub good : List Line
+  pub begins : BeginsCertificate good
+  pub rest : List ℕ
+  pub text_is : text ≡ text_of good ++ rest
+  pub number : line ≡ length good + 1

@@ -1,0 +1,68 @@
+-- How far a certificate's text is read: the right lines so far.
+use Rattle.std.specs.Prelude.{◌≡◌, ℕ, ◌<◌, ◌≤◌, ◌^◌, List, [], ◌∷◌, ◌++◌, length, All, decimal, codes}
+use Rattle.specification.specs.Conflict.{Step}
+use Rattle.specification.specs.LayerRule.{Row}
+use Rattle.specification.specs.Lines.{Line, operation_text}
+use Rattle.specification.specs.CertificateText as format
+use Rattle.specification.specs.CertificateText.{certificate_lines, IsOperationName, IsStep, IsRow, BeginsCertificate, IsWholeCertificate, cause_behind}
+use Rattle.events.specs.Names.{IsName}
+use Rattle.certificate_text.specs.declared.kind.Kind.{Kind}
+use Rattle.certificate_text.specs.declared.kind.Kind.TheVariants as kind
+use Rattle.certificate_text.specs.declared.cycle.Cycle.{Cycle}
+use Rattle.certificate_text.specs.declared.progress.Progress.{Progress}
+use Rattle.certificate_text.specs.declared.progress.Progress.TheVariants as progress
+
+abbrev pub kind_line : Kind → Line
+kind_line (kind.Doubled first again) = codes "doubled " ++ operation_text first ++ 32 ∷ operation_text again
+kind_line (kind.Contents at) = codes "contents " ++ operation_text at
+kind_line (kind.Position at) = codes "position " ++ operation_text at
+kind_line kind.Accepted = codes "accepted"
+kind_line (kind.Refused k) = codes "refused " ++ decimal k
+
+-- a line can spell it
+abbrev pub IsKind : Kind → Type 0
+IsKind (kind.Doubled first again) = IsOperationName first × IsOperationName again
+IsKind (kind.Contents at) = IsOperationName at
+IsKind (kind.Position at) = IsOperationName at
+IsKind kind.Accepted = Unit {0}
+IsKind (kind.Refused k) = (2 ≤ k) × (k < 2 ^ 32)
+
+-- a cycle of which some last lines may be missing
+pub record IsPartOfCycle (k : ℕ) (steps : List Step) (rows : List Row) : Type 0 where
+  pub low : 2 ≤ k
+  pub high : k < 2 ^ 32
+  pub few : length steps ≤ k
+  pub each_step : All IsStep steps
+  pub short : k ≡ 2 → rows ≡ []
+  pub early : length steps < k → rows ≡ []
+  pub each_row : All (IsRow k) rows
+
+abbrev pub IsRightCycle : Cycle → Type 0
+IsRightCycle c = IsPartOfCycle c.k c.steps.items c.rows.items
+
+abbrev pub cycle_lines : Cycle → List Line
+cycle_lines c = certificate_lines (format.gives_cycle c.k c.steps.items c.rows.items)
+
+-- the lines so far
+abbrev pub good : Progress → List Line
+good progress.Start = []
+good progress.Headed = codes "cert 1" ∷ []
+good (progress.Kind k) = codes "cert 1" ∷ kind_line k ∷ []
+good (progress.Ordered order) = certificate_lines (format.gives_order order)
+good (progress.Cycle c) = cycle_lines c
+
+-- they are right
+abbrev pub IsRight : Progress → Type 0
+IsRight progress.Start = Unit {0}
+IsRight progress.Headed = Unit {0}
+IsRight (progress.Kind k) = IsKind k
+IsRight (progress.Ordered order) = All IsName order
+IsRight (progress.Cycle c) = IsRightCycle c
+
+-- behind these lines, this line goes on no spelling, for this cause
+abbrev pub IsWrongBehind : List Line → Line → format.CertCause → Type 0
+IsWrongBehind lines line cause = (cause ≡ cause_behind lines) × (¬ BeginsCertificate (lines ++ line ∷ []))
+
+-- behind these lines another must stand
+abbrev pub LacksMore : List Line → format.CertCause → Type 0
+LacksMore lines cause = (cause ≡ cause_behind lines) × (¬ IsWholeCertificate lines)

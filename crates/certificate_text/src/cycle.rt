@@ -1,0 +1,100 @@
+//! A cycle's lines: its steps, then its rows.
+
+ghost use Rattle.std.specs.Prelude.{◌≡◌, ◌∷◌, [], ◌++◌, ◌<◌, ◌≤◌, ◌^◌, length, IfOk, IfErr, IfSome};
+ghost use Rattle.specification.specs.CertificateText.{IsSpellable, certificate_lines};
+ghost use Rattle.certificate_text.specs.CertificateOf.{certificate_of, cause_of};
+ghost use Rattle.certificate_text.specs.Progress.{IsRightCycle, IsWrongBehind, LacksMore, cycle_lines};
+
+use super::certificate::Certificate;
+use super::entries::{row_of, step_of};
+use super::fault::CertCause;
+use format_words::Stop;
+use std::alloc::Global;
+use witnesses::{Layers, Row, Step, Steps};
+
+/// The steps and rows so far of a cycle of `k` steps.
+#[derive(Drop)]
+pub struct Cycle {
+    pub k: u32,
+    pub steps: Vec<Step>,
+    pub rows: Vec<Row>,
+}
+
+impl Cycle {
+    /// The cycle of which no step is there yet.
+    pub fn new(alloc: Global, k: u32) -> Cycle
+        ensures { (result.k ≡ k) × (result.steps.items ≡ []) × (result.rows.items ≡ []) }
+    {
+        Cycle {
+            k,
+            steps: Vec::new(alloc),
+            rows: Vec::new(alloc),
+        }
+    }
+
+    /// Takes the next line.
+    pub fn with_line(self, alloc: Global, line: &[u8]) -> Result<Cycle, CertCause>
+        requires { IsRightCycle self }
+        ensures ok { IfOk result (λ c. IsRightCycle c × (cycle_lines c ≡ cycle_lines self ++ line.now ∷ [])) }
+        ensures fault { IfErr result (λ cause. IfSome (cause_of cause) (IsWrongBehind (cycle_lines self) line.now)) }
+    {
+        if self.steps.len() < self.k as usize {
+            self.with_step(line)
+        } else if self.k == 2 {
+            Err(CertCause::Shape)
+        } else {
+            self.with_row(alloc, line)
+        }
+    }
+
+    /// Takes a step's line.
+    fn with_step(mut self, line: &[u8]) -> Result<Cycle, CertCause>
+        requires right { IsRightCycle self }
+        requires more { length self.steps.items < self.k }
+        ensures ok { IfOk result (λ c. IsRightCycle c × (cycle_lines c ≡ cycle_lines self ++ line.now ∷ [])) }
+        ensures fault { IfErr result (λ cause. IfSome (cause_of cause) (IsWrongBehind (cycle_lines self) line.now)) }
+    {
+        match step_of(line) {
+            Ok(step) => match self.steps.push(step) {
+                Ok(()) => Ok(self),
+                Err(_) => Err(CertCause::Memory),
+            },
+            Err(Stop::Shape) => Err(CertCause::Shape),
+            Err(Stop::Memory) => Err(CertCause::Memory),
+        }
+    }
+
+    /// Takes a row's line, behind all steps.
+    fn with_row(mut self, alloc: Global, line: &[u8]) -> Result<Cycle, CertCause>
+        requires right { IsRightCycle self }
+        requires steps { length self.steps.items ≡ self.k }
+        requires long { 3 ≤ self.k }
+        ensures ok { IfOk result (λ c. IsRightCycle c × (cycle_lines c ≡ cycle_lines self ++ line.now ∷ [])) }
+        ensures fault { IfErr result (λ cause. IfSome (cause_of cause) (IsWrongBehind (cycle_lines self) line.now)) }
+    {
+        match row_of(alloc, self.k, line) {
+            Ok(row) => match self.rows.push(row) {
+                Ok(()) => Ok(self),
+                Err(_) => Err(CertCause::Memory),
+            },
+            Err(Stop::Shape) => Err(CertCause::Shape),
+            Err(Stop::Memory) => Err(CertCause::Memory),
+        }
+    }
+
+    /// The certificate, where no step is missing.
+    pub fn end(self) -> Result<Certificate, CertCause>
+        requires { IsRightCycle self }
+        ensures ok { IfOk result (λ c. IsSpellable (certificate_of c) × (cycle_lines self ≡ certificate_lines (certificate_of c))) }
+        ensures fault { IfErr result (λ cause. IfSome (cause_of cause) (LacksMore (cycle_lines self))) }
+    {
+        if self.steps.len() < self.k as usize {
+            return Err(CertCause::Shape);
+        }
+        Ok(Certificate::Refused {
+            k: self.k,
+            steps: Steps::from_steps(self.steps),
+            layers: Layers::from_rows(self.rows),
+        })
+    }
+}

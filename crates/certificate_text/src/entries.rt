@@ -1,0 +1,107 @@
+//! The lines behind the second: an order, steps and rows.
+
+ghost use Rattle.std.specs.Prelude.{◌≡◌, ◌∷◌, [], List, None, IfOk, IfErr};
+ghost use Rattle.format_words.specs.Words.{Word, words_of, words_behind};
+ghost use Rattle.format_words.specs.Reading.{Gives};
+ghost use Rattle.certificate_text.specs.Reading.{order_at, step_at, layers_at, onto_layers, has_form, row_at};
+
+use events::Name;
+use format_words::{Stop, end, first_word, name_of, names, next_word, operation_of, skip_word};
+use std::alloc::Global;
+use witnesses::{Layer, Order, Row, Step};
+
+/// `order :` and names.
+#[tactic(auto, unfolding(crate::specs::Reading::order_at, format_words::specs::Reading::after_word))]
+pub fn order_of(alloc: Global, line: &[u8]) -> Result<Order, Stop>
+    ensures { Gives (λ order. order) result (order_at (words_of line.now)) }
+{
+    let (word, rest) = first_word(line);
+    if word != b"order".as_slice() {
+        return Err(Stop::Shape);
+    }
+    let rest = skip_word(rest, b":")?;
+    let names = names(alloc, rest)?;
+    Ok(Order::from_names(names))
+}
+
+/// `step`, two names and an operation.
+#[tactic(auto, unfolding(crate::specs::Reading::step_at, format_words::specs::Reading::after_word, format_words::specs::Reading::name_at, format_words::specs::Reading::operation_at))]
+pub fn step_of(line: &[u8]) -> Result<Step, Stop>
+    ensures { Gives (λ step. step) result (step_at (words_of line.now)) }
+{
+    let (word, rest) = first_word(line);
+    if word != b"step".as_slice() {
+        return Err(Stop::Shape);
+    }
+    let (word, rest) = next_word(rest)?;
+    let from = name_of(word)?;
+    let (word, rest) = next_word(rest)?;
+    let to = name_of(word)?;
+    let (word, rest) = next_word(rest)?;
+    let shown = operation_of(word)?;
+    end(rest)?;
+    Ok(Step { from, to, shown })
+}
+
+/// Goes on by one word: `/` ends a layer, a name is added to it. What it gives is the layer from then on.
+#[tactic(auto, unfolding(crate::specs::Reading::layers_at))]
+fn with_word(
+    alloc: Global,
+    row: &mut Vec<Layer>,
+    mut layer: Vec<Name>,
+    word: &[u8],
+) -> Result<Vec<Name>, Stop>
+    ensures ok { IfOk result (λ next. (ws : List Word) → onto_layers row.old.items (layers_at layer.items (word.now ∷ ws)) ≡ onto_layers row.new.items (layers_at next.items ws)) }
+    ensures shape { IfErr result (λ stop. stop ≡ Stop.Shape → (ws : List Word) → layers_at layer.items (word.now ∷ ws) ≡ None) }
+{
+    if word == b"/".as_slice() {
+        row.push(Layer::from_names(layer))?;
+        return Ok(Vec::new(alloc));
+    }
+    let name = name_of(word)?;
+    layer.push(name)?;
+    Ok(layer)
+}
+
+/// The layers that a row's words say, with `/` between two of them.
+fn layers(alloc: Global, rest: &[u8]) -> Result<Vec<Layer>, Stop>
+    ensures { Gives (λ row. row.items) result (layers_at [] (words_behind rest.now)) }
+{
+    let mut row = Vec::new(alloc);
+    let mut layer = Vec::new(alloc);
+    let mut rest = rest;
+    while !rest.is_empty() {
+        let (word, behind) = next_word(rest)?;
+        layer = with_word(alloc, &mut row, layer, word)?;
+        rest = behind;
+    }
+    row.push(Layer::from_names(layer))?;
+    Ok(row)
+}
+
+/// Whether these are `k - 1` layers, the first of them with one name.
+fn has_form(k: u32, layers: &[Layer]) -> bool
+    ensures { result ≡ has_form k layers.now }
+{
+    match layers.first() {
+        Some(source) => source.len() == 1 && layers.len() as u64 + 1 == u64::from(k),
+        None => false,
+    }
+}
+
+/// `layers` and `k - 1` layers, the first of them with one name.
+#[tactic(auto, unfolding(crate::specs::Reading::row_at, format_words::specs::Reading::after_word))]
+pub fn row_of(alloc: Global, k: u32, line: &[u8]) -> Result<Row, Stop>
+    ensures { Gives (λ row. row) result (row_at k (words_of line.now)) }
+{
+    let (word, rest) = first_word(line);
+    if word != b"layers".as_slice() {
+        return Err(Stop::Shape);
+    }
+    let layers = layers(alloc, rest)?;
+    if has_form(k, &layers) {
+        Ok(Row::from_layers(layers))
+    } else {
+        Err(Stop::Shape)
+    }
+}

@@ -1,0 +1,105 @@
+//! The second line of a certificate's text.
+
+ghost use Rattle.format_words.specs.Words.{words_of, words_behind};
+ghost use Rattle.format_words.specs.Reading.{Gives};
+ghost use Rattle.certificate_text.specs.Reading.{doubled_at, contents_at, position_at, accepted_at, refused_at, kind_by, kind_at};
+
+use events::OpName;
+use format_words::{Stop, end, first_word, next_number, next_word, operation_of};
+
+/// What the second line says.
+#[derive(Clone, Copy)]
+pub enum Kind {
+    /// A name is inserted twice.
+    Doubled { first: OpName, again: OpName },
+    /// The contents of an operation are wrong.
+    Contents { at: OpName },
+    /// An insertion's place is wrong.
+    Position { at: OpName },
+    /// An order follows.
+    Accepted,
+    /// So many steps follow, 2 or more, and rows.
+    Refused { k: u32 },
+}
+
+/// What follows `doubled`.
+#[tactic(auto, unfolding(crate::specs::Reading::doubled_at, format_words::specs::Reading::operation_at))]
+fn doubled(rest: &[u8]) -> Result<Kind, Stop>
+    ensures { Gives (λ kind. kind) result (doubled_at (words_behind rest.now)) }
+{
+    let (word, rest) = next_word(rest)?;
+    let first = operation_of(word)?;
+    let (word, rest) = next_word(rest)?;
+    let again = operation_of(word)?;
+    end(rest)?;
+    Ok(Kind::Doubled { first, again })
+}
+
+/// What follows `contents`.
+#[tactic(auto, unfolding(crate::specs::Reading::contents_at, format_words::specs::Reading::operation_at))]
+fn contents(rest: &[u8]) -> Result<Kind, Stop>
+    ensures { Gives (λ kind. kind) result (contents_at (words_behind rest.now)) }
+{
+    let (word, rest) = next_word(rest)?;
+    let at = operation_of(word)?;
+    end(rest)?;
+    Ok(Kind::Contents { at })
+}
+
+/// What follows `position`.
+#[tactic(auto, unfolding(crate::specs::Reading::position_at, format_words::specs::Reading::operation_at))]
+fn position(rest: &[u8]) -> Result<Kind, Stop>
+    ensures { Gives (λ kind. kind) result (position_at (words_behind rest.now)) }
+{
+    let (word, rest) = next_word(rest)?;
+    let at = operation_of(word)?;
+    end(rest)?;
+    Ok(Kind::Position { at })
+}
+
+/// What follows `accepted`.
+#[tactic(auto, unfolding(crate::specs::Reading::accepted_at))]
+fn accepted(rest: &[u8]) -> Result<Kind, Stop>
+    ensures { Gives (λ kind. kind) result (accepted_at (words_behind rest.now)) }
+{
+    end(rest)?;
+    Ok(Kind::Accepted)
+}
+
+/// What follows `refused`.
+#[tactic(auto, unfolding(crate::specs::Reading::refused_at))]
+fn refused(rest: &[u8]) -> Result<Kind, Stop>
+    ensures { Gives (λ kind. kind) result (refused_at (words_behind rest.now)) }
+{
+    let (k, rest) = next_number(rest)?;
+    end(rest)?;
+    if k >= 2 {
+        Ok(Kind::Refused { k })
+    } else {
+        Err(Stop::Shape)
+    }
+}
+
+/// What the second line says.
+#[tactic(auto, unfolding(crate::specs::Reading::kind_at, crate::specs::Reading::kind_by))]
+pub fn kind_of(line: &[u8]) -> Result<Kind, Stop>
+    ensures { Gives (λ kind. kind) result (kind_at (words_of line.now)) }
+{
+    let (word, rest) = first_word(line);
+    if word == b"doubled".as_slice() {
+        return doubled(rest);
+    }
+    if word == b"contents".as_slice() {
+        return contents(rest);
+    }
+    if word == b"position".as_slice() {
+        return position(rest);
+    }
+    if word == b"accepted".as_slice() {
+        return accepted(rest);
+    }
+    if word == b"refused".as_slice() {
+        return refused(rest);
+    }
+    Err(Stop::Shape)
+}

@@ -1,0 +1,196 @@
+ghost use Rattle.specification.specs.CertificateText.{IsSpellable};
+ghost use Rattle.certificate_text.specs.CertificateOf.{certificate_of};
+
+use super::{CertCause, CertFault, Certificate};
+use events::Memory;
+use std::alloc::{AllocError, Global};
+use std::test::Fail;
+
+/// What reading says; where the first call finds no memory, what the second says.
+fn reading(alloc: Global, text: &[u8]) -> Result<Certificate, CertFault> {
+    match Certificate::read(alloc, text) {
+        Err(
+            CertFault {
+                cause: CertCause::Memory,
+                line: _,
+            },
+        ) => Certificate::read(alloc, text),
+        answer => answer,
+    }
+}
+
+/// The certificate's text; where the first call finds no memory, what the second gives.
+fn writing(alloc: Global, certificate: &Certificate) -> Result<Vec<u8>, Memory>
+    requires { IsSpellable (certificate_of certificate.now) }
+{
+    match certificate.write(alloc) {
+        Err(Memory) => certificate.write(alloc),
+        text => text,
+    }
+}
+
+/// The fault's text; where the first call finds no memory, what the second gives.
+fn text_of(alloc: Global, fault: &CertFault) -> Result<String, AllocError> {
+    match fault.to_string(alloc) {
+        Err(_) => fault.to_string(alloc),
+        text => text,
+    }
+}
+
+#[test]
+fn certificates_are_read_and_written_again(rt: HostRuntime) -> Result<(), Fail> {
+    let texts = [
+        "cert 1\ndoubled 0.2 15.4294967295\n",
+        "cert 1\ncontents 2.1\n",
+        "cert 1\nposition 4294967295.2\n",
+        "cert 1\naccepted\norder :\n",
+        "cert 1\naccepted\norder : b a\n",
+        "cert 1\naccepted\norder : order nnnnnnnnnnnnnnnnnnnnnnnnnnnnnnnn .-_ 0.1\n",
+        "cert 1\nrefused 2\nstep a b 0.2\nstep b a 1.2\n",
+        // The three-way cycle.
+        "cert 1\nrefused 3\nstep x b 2.1\nstep b a 0.3\nstep a x 1.1\nlayers x / b\nlayers a / x\nlayers b / a\n",
+        // Without a row, and with empty layers.
+        "cert 1\nrefused 3\nstep x b 2.1\nstep b a 0.3\nstep a x 1.1\n",
+        "cert 1\nrefused 4\nstep a b 0.2\nstep b a 1.2\nstep a b 0.2\nstep b a 1.2\nlayers z / /\nlayers a / / b c\n",
+    ];
+    for text in texts {
+        let certificate = reading(rt.alloc(), text.as_bytes())?;
+        let again = writing(rt.alloc(), &certificate)?;
+        assert_eq!(rt; again.as_slice(), text.as_bytes(), "at {text}");
+    }
+    Ok(())
+}
+
+#[test]
+fn a_text_gives_its_cycle(rt: HostRuntime) -> Result<(), Fail> {
+    let text =
+        "cert 1\nrefused 4\nstep a b 0.2\nstep b c 1.2\nstep c d 3.4\nstep d a 1.2\nlayers z / / b a\n";
+    match reading(rt.alloc(), text.as_bytes())? {
+        Certificate::Refused { k, steps, layers } => {
+            assert_eq!(rt; k, 4);
+            assert_eq!(rt; steps.len(), 4);
+            let third = steps.get(2).ok_or("no third step")?;
+            assert_eq!(rt; third.from.bytes(), b"c".as_slice());
+            assert_eq!(rt; third.to.bytes(), b"d".as_slice());
+            assert_eq!(rt; third.shown.replica, 3);
+            assert_eq!(rt; third.shown.n, 4);
+            assert_eq!(rt; layers.len(), 1);
+            let row = layers.get(0).ok_or("no row")?;
+            assert_eq!(rt; row.len(), 3);
+            assert_eq!(rt; row.get(1).ok_or("no second layer")?.len(), 0);
+            let last = row.get(2).ok_or("no third layer")?;
+            assert_eq!(rt; last.get(0).ok_or("no name")?.bytes(), b"b".as_slice());
+        }
+        _ => assert!(rt; false, "no refusal"),
+    }
+    Ok(())
+}
+
+#[test]
+fn faults_of_the_first_two_lines(rt: HostRuntime) -> Result<(), Fail> {
+    let rows = [
+        ("", 1, CertCause::Header),
+        ("\n", 1, CertCause::Header),
+        ("cert 1", 1, CertCause::Cut),
+        ("cert 2", 1, CertCause::Cut),
+        ("cert 2\ncontents 0.1\n", 1, CertCause::Header),
+        ("cert 2\ncontents", 1, CertCause::Header),
+        ("cert 1 \ncontents 0.1\n", 1, CertCause::Header),
+        ("cert 1\r\ncontents 0.1\r\n", 1, CertCause::Header),
+        ("trace 1\ncontents 0.1\n", 1, CertCause::Header),
+        ("cert 1\n", 2, CertCause::Kind),
+        ("cert 1\n\n", 2, CertCause::Kind),
+        ("cert 1\ncontents 0.1", 2, CertCause::Cut),
+        ("cert 1\ncontents  0.1\n", 2, CertCause::Kind),
+        ("cert 1\nposition 0.1 \n", 2, CertCause::Kind),
+        ("cert 1\ncontents 0.0\n", 2, CertCause::Kind),
+        ("cert 1\ncontents 01.1\n", 2, CertCause::Kind),
+        ("cert 1\ncontents 0.1.1\n", 2, CertCause::Kind),
+        ("cert 1\ncontents 0 1\n", 2, CertCause::Kind),
+        ("cert 1\ncontents 0.4294967296\n", 2, CertCause::Kind),
+        ("cert 1\ndoubled 0.1\n", 2, CertCause::Kind),
+        ("cert 1\ndoubled 0.1 0.2 0.3\n", 2, CertCause::Kind),
+        ("cert 1\naccepted :\norder :\n", 2, CertCause::Kind),
+        ("cert 1\naccepted\r\norder :\r\n", 2, CertCause::Kind),
+        ("cert 1\nrefused 0\n", 2, CertCause::Kind),
+        ("cert 1\nrefused 1\n", 2, CertCause::Kind),
+        ("cert 1\nrefused 03\n", 2, CertCause::Kind),
+        ("cert 1\nrefused 4294967296\n", 2, CertCause::Kind),
+        ("cert 1\nrefused\n", 2, CertCause::Kind),
+    ];
+    for (text, line, cause) in rows {
+        let answer = reading(rt.alloc(), text.as_bytes()).err();
+        assert_eq!(rt; answer, Some(CertFault { line, cause }), "at {text}");
+    }
+    Ok(())
+}
+
+#[test]
+fn faults_of_later_lines(rt: HostRuntime) -> Result<(), Fail> {
+    let rows = [
+        ("cert 1\ncontents 0.1\ncontents 0.1\n", 3),
+        ("cert 1\naccepted\n", 3),
+        ("cert 1\naccepted\norder\n", 3),
+        ("cert 1\naccepted\norder : \n", 3),
+        ("cert 1\naccepted\norder :  a\n", 3),
+        (
+            "cert 1\naccepted\norder : nnnnnnnnnnnnnnnnnnnnnnnnnnnnnnnnn\n",
+            3,
+        ),
+        ("cert 1\naccepted\norder : a\norder : a\n", 4),
+        // Claimed steps are missing.
+        ("cert 1\nrefused 4294967295\n", 3),
+        ("cert 1\nrefused 2\nstep a b 0.2\n", 4),
+        ("cert 1\nrefused 2\nstep a b 0.2 \n", 3),
+        ("cert 1\nrefused 2\nstep a b\n", 3),
+        ("cert 1\nrefused 2\nstep a b 0.2 :\n", 3),
+        ("cert 1\nrefused 3\nstep a b 0.2\nlayers a / b\n", 4),
+        // A cycle of two steps has no rows.
+        (
+            "cert 1\nrefused 2\nstep a b 0.2\nstep b a 1.2\nlayers a\n",
+            5,
+        ),
+        (
+            "cert 1\nrefused 2\nstep a b 0.2\nstep b a 1.2\nstep a b 0.2\n",
+            5,
+        ),
+        // Rows with too few and too many layers, and with more or less than one source.
+        (
+            "cert 1\nrefused 3\nstep a b 0.2\nstep b c 1.2\nstep c a 2.2\nlayers a\n",
+            6,
+        ),
+        (
+            "cert 1\nrefused 3\nstep a b 0.2\nstep b c 1.2\nstep c a 2.2\nlayers a / b /\n",
+            6,
+        ),
+        (
+            "cert 1\nrefused 3\nstep a b 0.2\nstep b c 1.2\nstep c a 2.2\nlayers a b / c\n",
+            6,
+        ),
+        (
+            "cert 1\nrefused 3\nstep a b 0.2\nstep b c 1.2\nstep c a 2.2\nlayers / a\n",
+            6,
+        ),
+        (
+            "cert 1\nrefused 3\nstep a b 0.2\nstep b c 1.2\nstep c a 2.2\nlayers a / b\nlayers b/ c\n",
+            7,
+        ),
+    ];
+    for (text, line) in rows {
+        let fault = CertFault {
+            line,
+            cause: CertCause::Shape,
+        };
+        let answer = reading(rt.alloc(), text.as_bytes()).err();
+        assert_eq!(rt; answer, Some(fault), "at {text}");
+    }
+    // A last line without LF is cut, whatever it holds.
+    let cut = reading(rt.alloc(), b"cert 1\naccepted\norder :\nx").err();
+    let fault = CertFault {
+        line: 4,
+        cause: CertCause::Cut,
+    };
+    assert_eq!(rt; cut, Some(fault));
+    assert_eq!(rt; text_of(rt.alloc(), &fault)?.as_str(), "line 4: cut");
+    Ok(())
+}

@@ -1,0 +1,63 @@
+-- Names, one word after another.
+use Rattle.std.proofs.Common.{◌≡◌, ℕ, ◌<◌, List, [], ◌∷◌, ◌++◌, length, refl, sym, ap, ◌∙◌, Option, Some, None, option_map, option_and_then}
+use Rattle.std.proofs.lemmas.List.{append-nil, append_assoc}
+use Rattle.std.proofs.lemmas.Option.{some_pair_parts}
+use Rattle.events.specs.Names.{NameBytes}
+use Rattle.format_words.specs.Words.{Word, words_behind}
+use Rattle.format_words.specs.Reading.{Fails, word_at, no_more, name_of, names_at}
+use Rattle.format_words.specs.declared.stop.Stop.{Stop}
+use Rattle.format_words.specs.declared.stop.Stop.TheVariants.{Shape, Memory}
+use Rattle.format_words.proofs.FirstWord.{some-word}
+
+-- the names so far, and those that words say
+abbrev pub onto : List NameBytes → Option (List NameBytes) → Option (List NameBytes)
+onto front names = option_map (λ (more : List NameBytes). front ++ more) names
+
+-- where one reading says nothing, another says nothing
+pub fails-by : {Y Z : Type 0} → (e : Stop) (o : Option Y) (p : Option Z) → (o ≡ None → p ≡ None) → Fails e o → Fails e p
+fails-by Shape o p f h = f h
+fails-by Memory o p f h = tt
+
+pub word-at-some : (ws : List Word) (w : Word) (more : List Word) → word_at ws ≡ Some (w, more) → ws ≡ w ∷ more
+word-at-some [] w more e = absurd (cc)
+word-at-some (v ∷ vs) w more e = let parts = some_pair_parts v w vs more e in cc
+
+word-there : (ws : List Word) → no_more ws ≡ None → word_at ws ≡ None → ⊥
+word-there [] h e = cc
+word-there (w ∷ ws) h e = cc
+
+pub some-word-at : (rest : List ℕ) → 0 < length rest → word_at (words_behind rest) ≡ None → ⊥
+some-word-at rest h e = word-there (words_behind rest) (some-word rest h) e
+
+names-cons-none : (w : Word) (ws : List Word) → name_of w ≡ None → names_at (w ∷ ws) ≡ None
+unfolding names_at
+names-cons-none w ws e = rw e refl
+
+and-then-onto : (name : NameBytes) (o : Option (List NameBytes)) → option_and_then (λ names. Some (name ∷ names)) o ≡ onto (name ∷ []) o
+and-then-onto name None = refl
+and-then-onto name (Some names) = refl
+
+pub names-cons-some : (w : Word) (ws : List Word) (name : NameBytes) → name_of w ≡ Some name → names_at (w ∷ ws) ≡ onto (name ∷ []) (names_at ws)
+unfolding names_at
+names-cons-some w ws name e = rw e (and-then-onto name (names_at ws))
+
+onto-onto : (front back : List NameBytes) (o : Option (List NameBytes)) → onto front (onto back o) ≡ onto (front ++ back) o
+onto-onto front back None = refl
+onto-onto front back (Some names) = ap Some (sym (append_assoc front back names))
+
+-- no words are no names
+pub names-end : (front : List NameBytes) (ws all : List Word) → names_at all ≡ onto front (names_at ws) → ws ≡ [] → names_at all ≡ Some front
+unfolding names_at
+names-end front ws all h e = h ∙ ap (λ (l : List Word). onto front (names_at l)) e ∙ ap Some (append-nil front)
+
+-- one name more
+pub names-more : (front : List NameBytes) (ws all : List Word) (w : Word) (more : List Word) (name : NameBytes) →
+    names_at all ≡ onto front (names_at ws) → word_at ws ≡ Some (w, more) → name_of w ≡ Some name → names_at all ≡ onto (front ++ name ∷ []) (names_at more)
+names-more front ws all w more name h e n =
+    h ∙ ap (λ (l : List Word). onto front (names_at l)) (word-at-some ws w more e) ∙ ap (onto front) (names-cons-some w more name n) ∙ onto-onto front (name ∷ []) (names_at more)
+
+-- a word that is no name
+pub names-stop : (front : List NameBytes) (ws all : List Word) (w : Word) (more : List Word) →
+    names_at all ≡ onto front (names_at ws) → word_at ws ≡ Some (w, more) → name_of w ≡ None → names_at all ≡ None
+names-stop front ws all w more h e n =
+    h ∙ ap (λ (l : List Word). onto front (names_at l)) (word-at-some ws w more e) ∙ ap (onto front) (names-cons-none w more n)

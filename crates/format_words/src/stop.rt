@@ -1,0 +1,44 @@
+use events::Memory;
+use std::alloc::{AllocError, AllocFailed};
+
+/// Why a line's reading stopped.
+#[derive(Clone, Copy, Debug, PartialEq, Eq)]
+pub enum Stop {
+    /// The line says no such thing.
+    Shape,
+    /// A growth was refused.
+    Memory,
+}
+
+impl From<AllocError> for Stop {
+    ghost use Rattle.std.specs.Prelude.{◌≡◌};
+    ghost use Rattle.format_words.specs.declared.stop.Stop.{Stop};
+
+    ghost from_gives = { λ _ stop. stop ≡ Stop.Memory };
+
+    fn from(_error: AllocError) -> Stop {
+        Stop::Memory
+    }
+}
+
+impl<T: Drop> From<AllocFailed<T>> for Stop {
+    ghost use Rattle.std.specs.Prelude.{◌≡◌};
+    ghost use Rattle.format_words.specs.declared.stop.Stop.{Stop};
+
+    ghost from_gives = { λ _ stop. stop ≡ Stop.Memory };
+
+    fn from(_error: AllocFailed<T>) -> Stop {
+        Stop::Memory
+    }
+}
+
+impl From<Memory> for Stop {
+    ghost use Rattle.std.specs.Prelude.{◌≡◌};
+    ghost use Rattle.format_words.specs.declared.stop.Stop.{Stop};
+
+    ghost from_gives = { λ _ stop. stop ≡ Stop.Memory };
+
+    fn from(_error: Memory) -> Stop {
+        Stop::Memory
+    }
+}
