@@ -1,1 +1,2 @@
 pub mod CertificateOf
+pub mod Laws

@@ -10,9 +10,11 @@
 
 mod certificate;
 mod fault;
+mod laws;
 mod reading;
 mod writing;
 
 pub use certificate::Certificate;
 pub use fault::{CertCause, CertFault};
+pub use laws::{certificates_are_of_streams, certificates_are_unique, certificates_are_valid};
 pub use witnesses::{Layer, Layers, Order, Row, Step, Steps};
