@@ -1,1 +1,3 @@
 pub mod Refusals
+pub mod DeepNames
+pub mod DistanceRows
