@@ -1,9 +1,10 @@
 -- Names beside their depths: those at one depth, with one more at the end, as members, and in rising order.
-use Rattle.std.proofs.Common.{◌≡◌, ◌≢◌, ℕ, zero, suc, ◌+◌, ◌<◌, ◌≤◌, ◌⊎◌, inl, inr, Bool, true, false, cond, eqb, Some, List, [], ◌∷◌, ◌++◌, map, set, get_or, length, Vec, Global, refl, sym, ◌∙◌, arith, ap, subst, get_or-set_same, get_or-set_other}
+use Rattle.std.proofs.Common.{◌≡◌, ◌≢◌, ℕ, zero, suc, ◌+◌, ◌<◌, ◌≤◌, ◌⊎◌, inl, inr, Bool, true, false, cond, eqb, Some, List, [], ◌∷◌, ◌++◌, map, set, take, get_or, length, Vec, Global, refl, sym, ◌∙◌, arith, ap, subst, get_or-set_same, get_or-set_other}
 use Rattle.std.specs.Prelude.{slice_get}
 use Rattle.std.specs.List.Sorted.{IsStrictlyIncreasing}
 use Rattle.std.proofs.lemmas.Bool.Decides.{eqb_tells}
-use Rattle.std.proofs.lemmas.List.{map-set, get_or-map, append-nil, length-map}
+use Rattle.std.proofs.lemmas.List.{map-set, get_or-map, append-nil, length-map, take_more, length-take-le}
+use Rattle.std.proofs.lemmas.Option.{slice_get_within, get_or_from_slice_get}
 use Rattle.events.specs.Names.{NameBytes}
 use Rattle.specification.proofs.Members.{In, Once, Before}
 use Rattle.specification.proofs.Numbers.{number, number-rises}
@@ -110,3 +111,15 @@ deep_ascending names once d depths =
     let pairs = AllPairs-from_Rising (λ a b. a < b) (map (number names) layer)
     (Rising-map (λ a b. number names a < number names b) (λ a b. a < b) (number names) (λ a b lt. lt) layer rises) in
     λ k lt. pairs k (k + 1) 0 (omega arith) lt
+
+-- one name more, by its place
+pub deep_more : (d : ℕ) (names : List NameBytes) (depths : List ℕ) (i : ℕ) (a : NameBytes) → length names ≡ length depths → slice_get names i ≡ Some a
+    → names_deep d (take (i + 1) names) (take (i + 1) depths) ≡ names_deep d (take i names) (take i depths) ++ cond (eqb (get_or depths i 0) d) (a ∷ []) []
+deep_more d names depths i a same at =
+    let within : i < length names = slice_get_within names i a at in
+    let there : i < length depths = omega arith in
+    let here : get_or names i a ≡ a = get_or_from_slice_get names i a a at in
+    let sizes : length (take i names) ≡ length (take i depths) = omega (arith, length-take-le i names, length-take-le i depths) in
+    ap (λ l. names_deep d l (take (i + 1) depths)) (take_more names i a within ∙ ap (λ b. take i names ++ b ∷ []) here)
+    ∙ ap (λ l. names_deep d (take i names ++ a ∷ []) l) (take_more depths i 0 there)
+    ∙ deep_push d (take i names) (take i depths) a (get_or depths i 0) sizes

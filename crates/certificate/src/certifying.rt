@@ -1,4 +1,4 @@
-ghost use Rattle.std.specs.Prelude.{◌≡◌, ℕ, ◌<◌, ◌≤◌, IfOk, [], length, map, replicate, slice_index_or, vec_len};
+ghost use Rattle.std.specs.Prelude.{◌≡◌, ℕ, ◌==◌, ◌<◌, ◌≤◌, ◌++◌, if◌then◌else◌, IfOk, OnOk, [], ◌∷◌, length, map, replicate, slice_index_or, vec_len};
 ghost use Rattle.specification.specs.CertificateText.{IsSpellable};
 ghost use Rattle.specification.specs.ExactRows.{IsExactRow, AreExactRows, IsCertificateOf};
 ghost use Rattle.specification.specs.Faults.{IsSound};
@@ -70,9 +70,10 @@ fn copied_order(alloc: Global, order: &Order) -> Result<Order, Memory>
 {
     let mut names = Vec::new(alloc);
     for i in 0..order.len() {
-        if let Some(name) = order.get(i) {
-            names.push(*name)?;
-        }
+        let Some(name) = order.get(i) else {
+            unreachable!()
+        };
+        names.push(*name)?;
     }
     Ok(Order::from_names(names))
 }
@@ -83,9 +84,10 @@ fn copied_steps(alloc: Global, steps: &Steps) -> Result<Steps, Memory>
 {
     let mut copies = Vec::new(alloc);
     for i in 0..steps.len() {
-        if let Some(step) = steps.get(i) {
-            copies.push(*step)?;
-        }
+        let Some(step) = steps.get(i) else {
+            unreachable!()
+        };
+        copies.push(*step)?;
     }
     Ok(Steps::from_steps(copies))
 }
@@ -103,17 +105,17 @@ fn refusal(
     // Its contract has that the recording is legal.
     let _ = recording.replicas();
     let steps = copied_steps(alloc, steps)?;
-    let rows = if k < 3 {
-        Vec::new(alloc)
-    } else {
-        let graph = OrderGraph::of(alloc, recording)?;
-        rows_of_layers(alloc, &graph, k)?
-    };
-    Ok(Certificate::Refused {
-        k,
-        steps,
-        layers: Layers::from_rows(rows),
-    })
+    if k < 3 {
+        return Ok(Certificate::Refused {
+            k,
+            steps,
+            layers: Layers::from_rows(Vec::new(alloc)),
+        });
+    }
+    let graph = OrderGraph::of(alloc, recording)?;
+    let rows = rows_of_layers(alloc, &graph, k)?;
+    let layers = Layers::from_rows(rows);
+    Ok(Certificate::Refused { k, steps, layers })
 }
 
 /// One row of k - 1 layers for each element.
@@ -174,6 +176,18 @@ fn no_names(alloc: Global, count: u32) -> Result<Vec<Vec<Name>>, Memory>
     Ok(out)
 }
 
+/// Adds a name at its depth, if there is a list of this depth.
+fn add_at_depth(names: &mut Vec<Vec<Name>>, depth: u32, name: Name) -> Result<(), Memory>
+    ensures count { vec_len names.new ≡ vec_len names.old }
+    ensures names { OnOk result ((d : ℕ) → d < vec_len names.old
+        → slice_index_or (map (λ l. l.items) names.new.items) d [] ≡ slice_index_or (map (λ l. l.items) names.old.items) d [] ++ (if depth == d then name ∷ [] else [])) }
+{
+    if (depth as usize) < names.len() {
+        names[depth as usize].push(name)?;
+    }
+    Ok(())
+}
+
 /// The names of the elements at each depth below the limit, in order of numbers.
 fn names_by_depth(
     alloc: Global,
@@ -187,12 +201,10 @@ fn names_by_depth(
 {
     let mut names = no_names(alloc, limit)?;
     for x in 0..graph.elements() {
-        let depth = depths[x as usize];
-        if let Some(name) = graph.name(x)
-            && depth < limit
-        {
-            names[depth as usize].push(name)?;
-        }
+        let Some(name) = graph.name(x) else {
+            unreachable!()
+        };
+        add_at_depth(&mut names, depths[x as usize], name)?;
     }
     Ok(names)
 }
