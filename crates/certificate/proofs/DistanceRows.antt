@@ -1,6 +1,6 @@
 -- Distances by numbers are distances by names, so the layers of names at each depth are the layers of an exact row.
-use Rattle.std.proofs.Common.{◌≡◌, ℕ, zero, suc, ◌+◌, ◌-◌, ◌<◌, ◌≤◌, ◌⊎◌, inl, inr, Some, List, [], ◌∷◌, ◌++◌, map, take, get_or, length, refl, sym, ◌∙◌, arith, ap, subst}
-use Rattle.std.specs.Prelude.{Contains, slice_get, slice_index}
+use Rattle.std.proofs.Common.{◌≡◌, ℕ, zero, suc, ◌-◌, ◌<◌, ◌≤◌, ◌⊎◌, inl, inr, Some, List, [], ◌∷◌, ◌++◌, get_or, length, refl, sym, ◌∙◌, arith, ap, subst}
+use Rattle.std.specs.Prelude.{slice_get, slice_index}
 use Rattle.std.proofs.lemmas.Bool.{cases_lt}
 use Rattle.std.proofs.lemmas.Option.{slice_get_within, slice_get-get_or, get_or_from_slice_get}
 use Rattle.events.specs.Names.{NameBytes}
@@ -8,16 +8,15 @@ use Rattle.specification.specs.Responses.{Responses, AreProper}
 use Rattle.specification.specs.LayerRule.{Row}
 use Rattle.specification.specs.ExactRows.{Way, IsDistance, IsLayer, IsExactRow, AreExactRows}
 use Rattle.specification.specs.Conflict.{Step}
-use Rattle.specification.specs.Verdict.{Verdict, refused}
+use Rattle.specification.specs.Verdict.{refused}
 use Rattle.specification.specs.CertificateText.{gives_cycle}
 use Rattle.specification.specs.ExactRows.{IsCertificateOf}
 use Rattle.specification.specs.Responses.{responses_of}
 use Rattle.events.specs.History.{History}
-use Rattle.specification.proofs.Members.{In, In-from_Contains, Contains-from_In, In-from_place, place_of_In}
+use Rattle.specification.proofs.Members.{In-from_Contains, Contains-from_In, In-from_place, place_of_In}
 use Rattle.specification.proofs.Numbers.{number}
 use Rattle.specification.proofs.Shown.{elements-once}
 use Rattle.order_graph.specs.Lists.{lists_of}
-use Rattle.order_graph.proofs.Numbering.{number-at}
 use Rattle.level_search.specs.Distances.{IsDistanceBelow, AreDistances}
 use Rattle.level_search.specs.Walks.{Walk}
 use Rattle.level_search.proofs.Joining.{name, number-name, stands-names, stands-numbers}
@@ -48,11 +47,11 @@ module _ (v : Responses) (proper : AreProper v) where
         let is : IsDistanceBelow (lists_of v) s limit i d = subst (λ n. IsDistanceBelow (lists_of v) s limit i n) same (are i within) in (
           subst (λ y. Way v d (name v s) y) (named i x at) (way_of_walk s d i (is.walk below)),
           λ fewer lt w.
-          let walk : Walk (lists_of v) (number v.elements (name v s)) fewer (number v.elements x) = walk_of_way fewer (name v s) x w in
-          let back : Walk (lists_of v) s fewer i = subst (λ j. Walk (lists_of v) s fewer j) (numbered i x at)
-          (subst (λ t. Walk (lists_of v) t fewer (number v.elements x)) (number-name v proper s known) walk) in
-          let least : d ≤ fewer = is.least fewer back in
-          omega arith,
+              let walk : Walk (lists_of v) (number v.elements (name v s)) fewer (number v.elements x) = walk_of_way fewer (name v s) x w in
+              let back : Walk (lists_of v) s fewer i = subst (λ j. Walk (lists_of v) s fewer j) (numbered i x at)
+              (subst (λ t. Walk (lists_of v) t fewer (number v.elements x)) (number-name v proper s known) walk) in
+              let least : d ≤ fewer = is.least fewer back in
+              omega arith,
         )
 
     depth_of : (i d : ℕ) (x : NameBytes) → slice_get v.elements i ≡ Some x → IsDistance v d (name v s) x → d < limit → slice_get depths i ≡ Some d

@@ -34,7 +34,7 @@ pub fn certify(
     recording: &Recording,
     verdict: &Verdict,
 ) -> Result<Certificate, Memory>
-    requires { IsVerdict recording.now (verdict_of verdict.now) }
+    requires verdict { IsVerdict recording.now (verdict_of verdict.now) }
     ensures exact { IfOk result (λ c. IsCertificateOf recording.now (verdict_of verdict.now) (certificate_of c)) }
     ensures valid { IfOk result (λ c. IsValid recording.now (certificate_of c) × IsSpellable (certificate_of c)) }
 {
@@ -49,7 +49,7 @@ fn certificate_for(
     recording: &Recording,
     verdict: &Verdict,
 ) -> Result<Certificate, Memory>
-    requires { IsVerdict recording.now (verdict_of verdict.now) }
+    requires verdict { IsVerdict recording.now (verdict_of verdict.now) }
     ensures { IfOk result (λ c. IsCertificateOf recording.now (verdict_of verdict.now) (certificate_of c)) }
 {
     match verdict {
@@ -128,14 +128,7 @@ fn rows_of_layers(alloc: Global, graph: &OrderGraph, k: u32) -> Result<Vec<Row>,
     let mut depths = Vec::from_elem(alloc, 0, elements as usize)?;
     let mut rows = Vec::new(alloc);
     for source in 0..elements {
-        let row = row_of_layers(
-            alloc,
-            graph,
-            source,
-            k,
-            &mut scratch,
-            depths.as_mut_slice(),
-        )?;
+        let row = row_of_layers(alloc, graph, source, k, &mut scratch, depths.as_mut_slice())?;
         rows.push(row)?;
     }
     Ok(rows)

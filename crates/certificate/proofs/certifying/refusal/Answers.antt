@@ -1,4 +1,4 @@
-use Rattle.std.proofs.Common.{◌≡◌, ℕ, ◌≤◌, List, [], sym, ap, ◌∙◌, subst, arith}
+use Rattle.std.proofs.Common.{◌≡◌, ℕ, ◌≤◌, List, [], sym, ◌∙◌, subst}
 use Rattle.specification.specs.Conflict.{Step}
 use Rattle.specification.specs.CertificateText.{gives_cycle}
 use Rattle.specification.specs.ExactRows.{AreExactRows, IsCertificateOf}
