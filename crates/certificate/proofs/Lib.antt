@@ -1,1 +1,4 @@
 pub mod Refusals
+pub mod Copies
+pub mod DeepNames
+pub mod DistanceRows

@@ -1,1 +1,2 @@
 pub mod VerdictOf
+pub mod Depths

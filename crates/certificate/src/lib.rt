@@ -1,14 +1,14 @@
 //! The verdict on a recording.
 //!
 //! `judge` looks for the first fault, then for the least order that every response follows, and only where
-//! there is none for the conflict number and the least cycle.
+//! there is none for the conflict number and the least cycle. `certify` shows why a verdict is right.
 #![tactic(auto)]
 
 mod certifying;
 mod judging;
 mod verdict;
 
-pub use certificate_text::Certificate;
+pub use certificate_text::{Certificate, Layer, Layers, Row};
 pub use certifying::certify;
 pub use judging::judge;
 pub use level_search::{Gate, NoGate, SearchFault};

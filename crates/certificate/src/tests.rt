@@ -1,3 +1,5 @@
+mod certificates;
+
 use super::{Gate, NoGate, SearchFault, Verdict, judge};
 use events::Recording;
 use std::alloc::Global;

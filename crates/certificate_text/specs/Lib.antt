@@ -3,3 +3,4 @@ pub mod Texts
 pub mod Reading
 pub mod Progress
 pub mod Place
+pub mod Laws

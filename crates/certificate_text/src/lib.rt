@@ -13,12 +13,14 @@ mod cycle;
 mod entries;
 mod fault;
 mod kind;
+mod laws;
 mod progress;
 mod reading;
 mod writing;
 
 pub use certificate::Certificate;
 pub use fault::{CertCause, CertFault};
+pub use laws::{certificates_are_of_streams, certificates_are_unique, certificates_are_valid};
 pub use witnesses::{Layer, Layers, Order, Row, Step, Steps};
 
 #[cfg(test)]

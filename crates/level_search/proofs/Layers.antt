@@ -1,74 +1,40 @@
--- Where a search by levels is between two layers, and what follows from it.
-use Rattle.std.proofs.Common.{◌≡◌, ℕ, zero, suc, ◌+◌, ◌<◌, ◌≤◌, true, false, slice_index, sym, ◌∙◌, subst, arith, inl, inr, add-one}
+-- Where a search for a cycle is between two layers, and what follows from it.
+use Rattle.std.proofs.Common.{◌≡◌, ℕ, zero, suc, ◌+◌, ◌<◌, ◌≤◌, true, false, slice_index, arith, inl, inr}
 use Rattle.std.proofs.lemmas.Bool.{cases_lt}
 use Rattle.level_search.specs.Graph.{Graph, Before}
-use Rattle.level_search.specs.Progress.{FollowsLayer, Grows, IsExpanded, IsGood, IsReached}
-use Rattle.level_search.specs.Walks.{HasCycle, Walk}
+use Rattle.level_search.specs.Progress.{FollowsLayer, Grows, IsExpanded, IsGood}
+use Rattle.level_search.specs.Walks.{HasCycle}
 use Rattle.level_search.specs.declared.state.State.{State}
-use Rattle.level_search.proofs.Growth.{still_expanded}
+use Rattle.level_search.proofs.Levelled.{IsLevelled, walk_expanded, walk_follows, levelled_next}
 
--- the queue before `head` is expanded, the rest of it is the layer of this level, and s was not reached again
+-- the search is at this level, and s was not reached again
 pub record IsLayered (g : Graph) (s : ℕ) (st : State) (head level : ℕ) : Type 0 where
-  pub good : IsGood g s st
+  pub levelled : IsLevelled g s st head level
   pub unfound : st.found ≡ false
-  pub first : slice_index st.queue.items 0 ≡ s
-  pub some : 0 < st.tail
-  pub head_in : head ≤ st.tail
-  pub level_in : level ≤ head
-  pub done : (k : ℕ) → k < head → IsExpanded g.rows st.marks.items (slice_index st.queue.items k)
-  pub walks : (k : ℕ) → head ≤ k → k < st.tail → Walk g.rows s level (slice_index st.queue.items k)
-  pub near : (n x : ℕ) → n < level → Walk g.rows s n x → IsExpanded g.rows st.marks.items x
 
--- what stands behind an expanded element is reached, and is not s
-pub after_expanded : (g : Graph) (s : ℕ) (st : State) → IsGood g s st → (c x : ℕ) → IsExpanded g.rows st.marks.items c → Before g.rows c x → IsReached st.queue.items st.tail x
-after_expanded g s st good c x expanded leads =
-    good.covered leads.list leads.later x (let h = expanded leads.list leads.place leads.first in let k = leads.in_order in omega arith) leads.second
-
+-- what stands behind an expanded element is not s
 pub source_not_after : (g : Graph) (s : ℕ) (st : State) → IsGood g s st → st.found ≡ false → (c : ℕ) → IsExpanded g.rows st.marks.items c → ¬ Before g.rows c s
 source_not_after g s st good unfound c expanded leads =
     good.unfound unfound leads.list leads.later (let h = expanded leads.list leads.place leads.first in let k = leads.in_order in omega arith) leads.second
-
--- a walk of at most `level` steps ends at an element that is reached
-pub walk_reached : (g : Graph) (s head level : ℕ) (st : State) → IsLayered g s st head level → (n x : ℕ) → n ≤ level → Walk g.rows s n x → IsReached st.queue.items st.tail x
-walk_reached g s head level st at zero x h walk = record { at = 0; early = at.some; here = at.first ∙ sym walk }
-walk_reached g s head level st at (suc n) x h walk =
-    after_expanded g s st at.good walk.0 x (at.near n walk.0 (omega arith) walk.1) walk.2
 
 -- no cycle through s is as short as the level
 pub cycle_long : (g : Graph) (s head level : ℕ) (st : State) → IsLayered g s st head level → (n : ℕ) → HasCycle g.rows s n → level + 1 ≤ n
 cycle_long g s head level st at zero cycle = absurd (let h = cycle.0 in omega arith)
 cycle_long g s head level st at (suc n) cycle = elim (cases_lt n level) [
-  | inl early ↦ absurd (source_not_after g s st at.good at.unfound cycle.1.0 (at.near n cycle.1.0 early cycle.1.1) cycle.1.2)
+  | inl early ↦ absurd (source_not_after g s st at.levelled.good at.unfound cycle.1.0 (at.levelled.near n cycle.1.0 early cycle.1.1) cycle.1.2)
   | inr late ↦ omega arith
 ]
-
--- where the layer is empty every walk ends at an expanded element
-reached_expanded : (g : Graph) (s head level : ℕ) (st : State) → IsLayered g s st head level → st.tail ≤ head → (x : ℕ) → IsReached st.queue.items st.tail x → IsExpanded g.rows st.marks.items x
-reached_expanded g s head level st at empty x reached =
-    subst (λ y. IsExpanded g.rows st.marks.items y) reached.here (at.done reached.at (let h = reached.early in omega arith))
-
-pub walk_expanded : (g : Graph) (s head level : ℕ) (st : State) → IsLayered g s st head level → st.tail ≤ head → (n x : ℕ) → Walk g.rows s n x → IsExpanded g.rows st.marks.items x
-walk_expanded g s head level st at empty zero x walk =
-    reached_expanded g s head level st at empty x (record { at = 0; early = at.some; here = at.first ∙ sym walk })
-walk_expanded g s head level st at empty (suc n) x walk =
-    reached_expanded g s head level st at empty x
-    (after_expanded g s st at.good walk.0 x (walk_expanded g s head level st at empty n walk.0 walk.1) walk.2)
 
 pub no_cycle : (g : Graph) (s head level : ℕ) (st : State) → IsLayered g s st head level → st.tail ≤ head → (n : ℕ) → ¬ HasCycle g.rows s n
 no_cycle g s head level st at empty zero cycle = let h = cycle.0 in omega arith
 no_cycle g s head level st at empty (suc n) cycle =
-    source_not_after g s st at.good at.unfound cycle.1.0 (walk_expanded g s head level st at empty n cycle.1.0 cycle.1.1) cycle.1.2
-
--- what follows the layer has a walk of one step more
-pub walk_follows : (g : Graph) (s head level x : ℕ) (st : State) → IsLayered g s st head level → FollowsLayer g.rows st.queue.items head st.tail x → Walk g.rows s (level + 1) x
-walk_follows g s head level x st at leads =
-    subst (λ n. Walk g.rows s n x) (sym (add-one level)) (slice_index st.queue.items leads.at, at.walks leads.at leads.from leads.to, leads.before)
+    source_not_after g s st at.levelled.good at.unfound cycle.1.0 (walk_expanded g s head level st at.levelled empty n cycle.1.0 cycle.1.1) cycle.1.2
 
 pub cycle_found : (g : Graph) (s head level : ℕ) (a b : State) → IsLayered g s a head level
     → Grows (FollowsLayer g.rows a.queue.items head a.tail) s a b → b.found ≡ true → HasCycle g.rows s (level + 1)
 cycle_found g s head level a b at grows found = elim (grows.found found) [
   | inl old ↦ absurd (let h = at.unfound in cc)
-  | inr leads ↦ (omega arith, walk_follows g s head level s a at leads)
+  | inr leads ↦ (omega arith, walk_follows g s head level s a at.levelled leads)
 ]
 
 -- the next layer
@@ -77,24 +43,4 @@ pub layered_next : (g : Graph) (s head level : ℕ) (a b : State) → IsLayered 
     → ((k : ℕ) → head ≤ k → k < a.tail → IsExpanded g.rows b.marks.items (slice_index b.queue.items k))
     → b.found ≡ false → IsLayered g s b a.tail (level + 1)
 layered_next g s head level a b at some good grows expanded unfound =
-    let P : ℕ → Type 0 = FollowsLayer g.rows a.queue.items head a.tail in
-    let done : (k : ℕ) → k < a.tail → IsExpanded g.rows b.marks.items (slice_index b.queue.items k) =
-    λ k h. elim (cases_lt k head) [
-      | inl early ↦ subst (λ y. IsExpanded g.rows b.marks.items y) (sym (grows.kept k h))
-          (still_expanded P s a b g.rows (slice_index a.queue.items k) grows (at.done k early))
-      | inr late ↦ expanded k late h
-    ] in
-    record {
-      good = good;
-      unfound = unfound;
-      first = grows.kept 0 at.some ∙ at.first;
-      some = let h = at.some in let k = grows.tail in omega arith;
-      head_in = grows.tail;
-      level_in = let h = at.level_in in omega arith;
-      done = done;
-      walks = λ k low high. walk_follows g s head level (slice_index b.queue.items k) a at (grows.fresh k low high);
-      near = λ n x h walk.
-          let reached = walk_reached g s head level a at n x (omega arith) walk in
-          let early : reached.at < a.tail = reached.early in
-          subst (λ y. IsExpanded g.rows b.marks.items y) (grows.kept reached.at early ∙ reached.here) (done reached.at early);
-    }
+    record { levelled = levelled_next g s head level a b at.levelled some good grows expanded; unfound = unfound }

@@ -1,5 +1,6 @@
 pub mod Graph
 pub mod Walks
+pub mod Distances
 pub mod Rings
 pub mod Progress
 pub mod ScratchView

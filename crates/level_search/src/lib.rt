@@ -7,6 +7,7 @@ mod bound_source;
 mod choose;
 mod conflict;
 mod cycle;
+mod distance;
 mod expand;
 mod gate;
 mod laws;
@@ -29,7 +30,7 @@ pub use cycle::least_cycle;
 pub use gate::{Gate, NoGate};
 pub use laws::least_offer_is_shortest;
 pub use plain_bound::PlainBound;
-pub use scratch::{Scratch, search};
+pub use scratch::{Scratch, distances, search};
 pub use search_fault::SearchFault;
 pub use witnesses::{Step, Steps};
 

@@ -5,6 +5,7 @@ ghost use Rattle.specification.specs.Search.{IsCycleThrough, IsSearchAnswer};
 ghost use Rattle.level_search.specs.Walks as by_number;
 
 use super::bound_source::BoundSource;
+use super::distance::distances_in;
 use super::levels::search_in;
 use super::state::State;
 use events::Memory;
@@ -122,4 +123,30 @@ pub fn search<B: BoundSource>(
     let elements = graph.elements();
     prove!(s < elements);
     search_by_number(graph, s, scratch, source)
+}
+
+ghost use Rattle.std.specs.Prelude.{None};
+ghost use Rattle.level_search.specs.Distances.{AreDistances};
+
+/// Writes at each element's number how many steps lead to it from the element s, at the least, each step from an
+/// element to one that some response shows behind it; the limit, where so few steps don't lead to it.
+///
+/// It takes no memory. It sets back a mark for each list and element, and then looks at no more places and
+/// elements, together, than there are.
+pub fn distances(graph: &OrderGraph, s: u32, limit: u32, scratch: &mut Scratch, depths: &mut [u32])
+    requires element { s < length graph.now.elements }
+    requires fits { Fits scratch.old graph.now }
+    requires places { length depths.old ≡ length graph.now.elements }
+    ensures distances { AreDistances (lists_of graph.now) s limit depths.new }
+    ensures fits { Fits scratch.new graph.now }
+    ensures looked { LooksWithin graph.now scratch.new.looked None }
+{
+    distances_in(
+        graph,
+        s,
+        limit,
+        &mut scratch.state,
+        &mut scratch.looked,
+        depths,
+    )
 }

@@ -3,7 +3,7 @@ use super::generated::{Random, generated};
 use super::plain::{Table, shortest, table_of};
 use super::recordings::{graph, recording};
 use super::sources::FallingBound;
-use crate::{BoundSource, PlainBound, Scratch, search};
+use crate::{BoundSource, PlainBound, Scratch, distances, search};
 use events::Memory;
 use order_graph::OrderGraph;
 use std::alloc::Global;
@@ -128,6 +128,28 @@ fn searches_of_generated_recordings_agree_with_the_plain_search(
         let graph = graph(&rt, alloc, &recording)?;
         let table = table_of(&recording, &graph);
         assert!(rt; agrees(alloc, &table, &graph)?);
+    }
+    Ok(())
+}
+
+#[test]
+fn distances_in_the_ring_of_four(rt: HostRuntime) -> Result<(), Fail> {
+    let alloc = rt.alloc();
+    let recording = recording(alloc, 6, &RING_OF_FOUR)?;
+    let ring = graph(&rt, alloc, &recording)?;
+    let mut scratch = scratch(alloc, &ring)?;
+    let rows = [
+        (0, 9, [0, 1, 2, 3]),
+        (3, 9, [1, 2, 3, 0]),
+        (0, 2, [0, 1, 2, 2]),
+        (0, 0, [0, 0, 0, 0]),
+    ];
+    for (s, limit, wanted) in rows {
+        let mut depths = [7; 4];
+        if s < ring.elements() && ring.elements() == 4 && scratch.fits(&ring) {
+            distances(&ring, s, limit, &mut scratch, &mut depths);
+        }
+        assert_eq!(rt; depths, wanted);
     }
     Ok(())
 }

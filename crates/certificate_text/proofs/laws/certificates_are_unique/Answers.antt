@@ -1,0 +1,5 @@
+use Rattle.certificate_text.proofs.laws.certificates_are_unique.Goals as goal
+use Rattle.certificate_text.proofs.VerdictCertificates as law
+
+pub returns : goal.returns
+returns c = law.certificates_are_unique

@@ -1,0 +1,22 @@
+-- The laws over certificates: those of verdicts are valid and have a spelling, each verdict has one at most, and merges of
+-- the same streams have the same.
+use Rattle.std.specs.Prelude.{◌≡◌}
+use Rattle.events.specs.History.{History, IsLegal, SameStreams}
+use Rattle.specification.specs.Verdict.{Verdict, IsVerdict}
+use Rattle.specification.specs.CertificateText.{Certificate, IsSpellable}
+use Rattle.specification.specs.ValidCertificate.{IsValid}
+use Rattle.specification.specs.ExactRows.{IsCertificateOf}
+
+-- the certificate of a verdict on a legal recording is valid, and has a spelling
+abbrev pub CertificatesAreValid : Type 0
+CertificatesAreValid = (h : History) (v : Verdict) (c : Certificate) → IsLegal h → IsVerdict h v → IsCertificateOf h v c → IsValid h c × IsSpellable c
+
+-- a legal recording has one certificate at most
+abbrev pub CertificatesAreUnique : Type 0
+CertificatesAreUnique =
+    (h : History) (v w : Verdict) (c d : Certificate) → IsLegal h → IsVerdict h v → IsVerdict h w → IsCertificateOf h v c → IsCertificateOf h w d → c ≡ d
+
+-- merges of the same streams have the same
+abbrev pub CertificatesAreOfStreams : Type 0
+CertificatesAreOfStreams =
+    (g h : History) (v : Verdict) (c : Certificate) → SameStreams g h → IsVerdict g v → IsCertificateOf g v c → IsVerdict h v × IsCertificateOf h v c

@@ -1,0 +1,23 @@
+//! The laws over certificates, each as the contract of a function with an empty body: there is nothing to run, and the
+//! gate asks for the proof.
+
+ghost use Rattle.certificate_text.specs.Laws.{CertificatesAreValid, CertificatesAreUnique, CertificatesAreOfStreams};
+
+/// The certificate of a verdict on a legal recording is valid, so a checker accepts it, and it has a spelling, so it
+/// can be written. Where k is 3 or more its rows give the distances from each element, which meet the layer rule: what
+/// stands behind an element is at most one step farther, and what stands before the source is k - 1 steps away or more,
+/// since otherwise a cycle would be shorter than k.
+pub fn certificates_are_valid()
+    ensures { CertificatesAreValid }
+{}
+
+/// A legal recording has at most one certificate: one verdict, and one row of distances for each element.
+pub fn certificates_are_unique()
+    ensures { CertificatesAreUnique }
+{}
+
+/// Two recordings with as many replicas and with the same streams have the same certificates, however their entries
+/// were merged.
+pub fn certificates_are_of_streams()
+    ensures { CertificatesAreOfStreams }
+{}
