@@ -181,12 +181,14 @@ def runs_shown(page: Path) -> list:
 
 
 def readme(tally: Tally, program: str) -> None:
-    """Each report that the README shows is what the program prints."""
+    """Each report, certificate and line of the checker that the README shows is what the program prints."""
     runs = runs_shown(ROOT / "README.md")
-    tally.check("README: runs", len(runs) >= 2, runs)
+    tally.check("README: runs", {words[1] for words, _ in runs} == {"verdict", "cert", "verify"}, runs)
     for words, printed in runs:
-        tally.check(f"README: {words}", words[:-1] == ["crates/finder_cli/out/finder_cli", "verdict"])
-        tally.same(f"README: {words[-1]}", run(program, ["verdict", str(ROOT / words[-1])]), report(printed))
+        tally.check(f"README: {words}", words[0] == "crates/finder_cli/out/finder_cli")
+        is_good = printed.split(b"\n")[1] == b"accepted" or printed.startswith(b"yes ")
+        got = run(program, [words[1], *(str(ROOT / word) for word in words[2:])])
+        tally.same(f"README: {words}", got, Ended(0 if is_good else 1, printed, b""))
 
 
 def gallery(tally: Tally, program: str) -> None:
