@@ -5,6 +5,16 @@
 
 mod answer;
 mod checking;
+mod cycle;
+mod faults;
+mod judging;
+mod names;
+mod numbered;
+mod order;
+mod places;
+mod rows;
+mod steps;
+mod values;
 
 pub use answer::{Answer, Kind, Reason};
 pub use checking::check;

@@ -1,0 +1,5 @@
+-- The lemmas.
+pub mod OneMore
+pub mod NameNumbers
+pub mod ValueTests
+pub mod NotedNames
