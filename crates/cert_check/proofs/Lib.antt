@@ -3,3 +3,4 @@ pub mod OneMore
 pub mod NameNumbers
 pub mod ValueTests
 pub mod NotedNames
+pub mod FaultReasons

@@ -1,5 +1,5 @@
 -- The elements with their numbers, and the responses as lists of them.
-use Rattle.std.specs.Prelude.{◌≡◌, ℕ, ◌<◌, ◌==◌, ◌^◌, Option, List, [], All, length, map, slice_index_or}
+use Rattle.std.specs.Prelude.{◌≡◌, ℕ, ◌<◌, ◌==◌, ◌^◌, Option, List, [], All, length, map, slice_index, slice_index_or}
 use Rattle.std.specs.Cmp.Lexicographic.{pointwise}
 use Rattle.indexmap.specs.IndexMap.{get}
 use Rattle.events.specs.Names.{NameBytes}
@@ -8,6 +8,7 @@ use Rattle.events.specs.Operations.{operation_names, response}
 use Rattle.specification.specs.Faults.{IsSound}
 use Rattle.specification.specs.Elements.{elements, number_in, numbers_in}
 use Rattle.specification.proofs.Members.{Once}
+use Rattle.cert_check.specs.Values.{IsGradual, IsDeepBefore}
 use Rattle.cert_check.specs.declared.numbered.Numbered.{Numbered}
 
 -- the number of a name
@@ -21,6 +22,10 @@ lists_of t = map (λ list. list.items) t.places.items
 -- the places of the operation with this number
 abbrev pub places_at : Numbered → ℕ → List ℕ
 places_at t i = slice_index_or (lists_of t) i []
+
+-- along these places the values are gradual, and deep before the source
+abbrev pub AreDeepAt : Numbered → List ℕ → ℕ → ℕ → ℕ → Type 0
+AreDeepAt t depths source bound j = IsGradual (map (slice_index depths) (places_at t j)) × IsDeepBefore depths source bound (places_at t j)
 
 -- the names differ, and their numbers are their places
 pub record IsNumbering (t : Numbered) : Type 0 where

@@ -1,40 +1,48 @@
-ghost use Rattle.std.specs.Prelude.{◌≡◌};
+ghost use Rattle.std.specs.Prelude.{◌≡◌, ◌↔◌, IsTrue};
 ghost use Rattle.events.specs.History.{History};
 ghost use Rattle.specification.specs.Faults.{IsFirstFault};
+ghost use Rattle.specification.specs.CertificateText.{names_fault};
 ghost use Rattle.contents_check.specs.FaultOf.{fault_of};
 ghost use Rattle.certificate_text.specs.CertificateOf.{certificate_of};
+ghost use Rattle.cert_check.specs.AnswerOf.{kind_of};
 ghost use Rattle.cert_check.specs.Judged.{IsJudged};
 
 use super::answer::{Answer, Kind, Reason};
 use certificate_text::Certificate;
 use contents_check::Fault;
 
+/// Whether a certificate names this fault.
+fn names(certificate: &Certificate, fault: Fault) -> bool
+    ensures { IsTrue result ↔ (certificate_of certificate.now ≡ names_fault (fault_of fault)) }
+{
+    match (certificate, fault) {
+        (Certificate::Doubled { first, again }, Fault::Doubled { first: f, again: e }) => {
+            *first == f && *again == e
+        }
+        (Certificate::Contents { at }, Fault::Contents { at: e }) => *at == e,
+        (Certificate::Position { at }, Fault::Position { at: e }) => *at == e,
+        _ => false,
+    }
+}
+
+/// What a certificate shows that names this fault.
+fn kind(fault: Fault) -> Kind
+    ensures { result ≡ kind_of (names_fault (fault_of fault)) }
+{
+    match fault {
+        Fault::Doubled { .. } => Kind::Doubled,
+        Fault::Contents { .. } => Kind::Contents,
+        Fault::Position { .. } => Kind::Position,
+    }
+}
+
 /// Whether a certificate names the first fault of a recording.
 pub fn judge_fault(certificate: &Certificate, fault: Fault) -> Answer
     ensures { (h : History) → IsFirstFault h (fault_of fault) → IsJudged h (certificate_of certificate.now) result }
 {
-    match (certificate, fault) {
-        (Certificate::Doubled { first, again }, Fault::Doubled { first: f, again: e }) => {
-            if *first == f && *again == e {
-                Answer::Yes(Kind::Doubled)
-            } else {
-                Answer::No(Reason::WrongFault)
-            }
-        }
-        (Certificate::Contents { at }, Fault::Contents { at: e }) => {
-            if *at == e {
-                Answer::Yes(Kind::Contents)
-            } else {
-                Answer::No(Reason::WrongFault)
-            }
-        }
-        (Certificate::Position { at }, Fault::Position { at: e }) => {
-            if *at == e {
-                Answer::Yes(Kind::Position)
-            } else {
-                Answer::No(Reason::WrongFault)
-            }
-        }
-        _ => Answer::No(Reason::WrongFault),
+    if names(certificate, fault) {
+        Answer::Yes(kind(fault))
+    } else {
+        Answer::No(Reason::WrongFault)
     }
 }

@@ -21,9 +21,9 @@ pub struct Numbered {
 
 ghost use Rattle.std.specs.Prelude.{◌≡◌, ◌+◌, ◌-◌, ◌<◌, ◌∷◌, ◌++◌, ◌↔◌, ◌^◌, [], ℕ, List, All, IfOk, IsPermutation, IsTrue, MatchBool, MatchOption, length, map, slice_index, slice_get, Some};
 ghost use Rattle.specification.specs.Faults.{IsSound};
-ghost use Rattle.cert_check.specs.Numbering.{IsNumbering, IsOf, AreWithin, places_at};
+ghost use Rattle.cert_check.specs.Numbering.{IsNumbering, IsOf, AreWithin, AreDeepAt, places_at};
 ghost use Rattle.cert_check.specs.Noted.{Noted, Holds, CanBeNoted, at_depth, pairs_from, placed_from};
-ghost use Rattle.cert_check.specs.Values.{IsRising, IsGradual, IsDeepBefore};
+ghost use Rattle.cert_check.specs.Values.{IsRising};
 
 impl Numbered {
     /// The elements and places of a recording that has no fault. It takes memory and time linear in the
@@ -127,7 +127,7 @@ impl Numbered {
     /// The first list of places along which these values do not rise.
     pub fn first_not_rising(&self, values: &[u32]) -> Option<usize>
         requires { AreWithin (length values.now) self.now }
-        ensures { MatchOption result (All (λ list. IsRising (map (slice_index values.now) list.items)) self.now.places.items)
+        ensures { MatchOption result ((j : ℕ) → j < length self.now.places.items → IsRising (map (slice_index values.now) (places_at self.now j)))
             (λ i. (i < length self.now.places.items) × (¬ IsRising (map (slice_index values.now) (places_at self.now i)))
                 × ((j : ℕ) → j < i → IsRising (map (slice_index values.now) (places_at self.now j)))) }
     {
@@ -142,7 +142,7 @@ impl Numbered {
     /// Whether these depths meet the layer rule for a source along each list of places.
     pub fn are_deep(&self, depths: &[u32], source: u32, bound: u32) -> bool
         requires { AreWithin (length depths.now) self.now }
-        ensures { IsTrue result ↔ All (λ list. IsGradual (map (slice_index depths.now) list.items) × IsDeepBefore depths.now source bound list.items) self.now.places.items }
+        ensures { IsTrue result ↔ ((j : ℕ) → j < length self.now.places.items → AreDeepAt self.now depths.now source bound j) }
     {
         for list in &self.places {
             if !is_gradual(depths, list) || !is_deep_before(depths, source, bound, list) {

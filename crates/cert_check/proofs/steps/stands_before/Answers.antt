@@ -50,4 +50,35 @@ returns-then-eq c =
     (λ t. there, λ b. refl)
 
 pub loop-i-preserved : goal.loop-i-preserved
-loop-i-preserved c = ?
+loop-i-preserved c =
+    let xs : List NameBytes = c.args.response.now in
+    let i : ℕ = c.loop-i.i in
+    let from : NameBytes = c.args.from.now in
+    let to : NameBytes = c.args.to.now in
+    let has : Bool = c.loop-i.has_from in
+    let new : Bool = c.match-get.has_from in
+    let lt : i < length xs = omega (arith, c.len-i-end.ensures.value) in
+    let so_far : IsFront from to (take i xs) has = (c.loop-i.invariant.has, c.loop-i.invariant.none) in
+    elim c.match-get.branch [
+      | in-Some+else-has_from+then-eq-2 w ↦
+          (let x : NameBytes = w.in-Some.name in
+          let next : take (i + 1) xs ≡ take i xs ++ x ∷ [] = take_next xs i x (sym w.in-Some.ensures) in
+          let apart : ((has ≡ true) × (x ≢ to)) ⊎ (has ≡ false) = elim w.else-has_from.branch [
+            | else-has_from-via-then-has_from+else-eq v ↦ inl (v.if-has_from.true, (λ e. false≢true (v.if-eq.ensures ∙ (bytes_decides x to).1 e)))
+            | else-has_from-via-else-has_from v ↦ inr v.if-has_from.false
+          ] in
+          let same : x ≡ from = (bytes_decides x from).0 (sym w.if-eq-2.ensures) in
+          let all = subst (λ (front : List NameBytes). IsFront from to front new) (sym next) (more from to x (take i xs) has new so_far apart (inl (same, w.has_from-is))) in
+          record { has = all.0; none = all.1 })
+      | in-Some+else-has_from+else-eq-2 w ↦
+          (let x : NameBytes = w.in-Some.name in
+          let next : take (i + 1) xs ≡ take i xs ++ x ∷ [] = take_next xs i x (sym w.in-Some.ensures) in
+          let apart : ((has ≡ true) × (x ≢ to)) ⊎ (has ≡ false) = elim w.else-has_from.branch [
+            | else-has_from-via-then-has_from+else-eq v ↦ inl (v.if-has_from.true, (λ e. false≢true (v.if-eq.ensures ∙ (bytes_decides x to).1 e)))
+            | else-has_from-via-else-has_from v ↦ inr v.if-has_from.false
+          ] in
+          let other : x ≢ from = λ e. false≢true (w.if-eq-2.ensures ∙ (bytes_decides x from).1 e) in
+          let all = subst (λ (front : List NameBytes). IsFront from to front new) (sym next) (more from to x (take i xs) has new so_far apart (inr (other, w.has_from-is))) in
+          record { has = all.0; none = all.1 })
+      | in_default w ↦ absurd (w.in_default.not-Some (get_or xs i []) (c.get.ensures ∙ slice_get-get_or xs i [] lt))
+    ]

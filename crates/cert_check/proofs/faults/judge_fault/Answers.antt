@@ -1,0 +1,16 @@
+-- The certificate names the first fault, or is wrong about it.
+use Rattle.std.proofs.Common.{refl, sym, ap, subst, ◌∙◌, ◌≡◌}
+use Rattle.specification.specs.CertificateText.{Certificate, names_fault}
+use Rattle.specification.specs.ValidCertificate.{IsValid}
+use Rattle.contents_check.specs.FaultOf.{fault_of}
+use Rattle.cert_check.specs.AnswerOf.{kind_of}
+use Rattle.cert_check.proofs.FaultReasons.{wrong_fault}
+use Rattle.std.proofs.lemmas.Bool.{false≢true}
+use Rattle.certificate_text.specs.CertificateOf.{certificate_of}
+use Rattle.cert_check.proofs.faults.judge_fault.Goals as goal
+
+pub returns-then-names : goal.returns-then-names
+returns-then-names c = λ h first. ?
+
+pub returns-else-names : goal.returns-else-names
+returns-else-names c = λ h first. wrong_fault h (certificate_of c.args.certificate.now) (fault_of c.args.fault) first (λ e. ?)
