@@ -4,3 +4,6 @@ pub mod NameNumbers
 pub mod ValueTests
 pub mod NotedNames
 pub mod FaultReasons
+pub mod Listed
+pub mod Ranks
+pub mod Depths

@@ -12,22 +12,22 @@ use certificate_text::Certificate;
 use contents_check::Fault;
 
 /// Whether a certificate names this fault.
-fn names(certificate: &Certificate, fault: Fault) -> bool
-    ensures { IsTrue result ↔ (certificate_of certificate.now ≡ names_fault (fault_of fault)) }
+fn names(certificate: &Certificate, fault: &Fault) -> bool
+    ensures { IsTrue result ↔ (certificate_of certificate.now ≡ names_fault (fault_of fault.now)) }
 {
     match (certificate, fault) {
         (Certificate::Doubled { first, again }, Fault::Doubled { first: f, again: e }) => {
-            *first == f && *again == e
+            *first == *f && *again == *e
         }
-        (Certificate::Contents { at }, Fault::Contents { at: e }) => *at == e,
-        (Certificate::Position { at }, Fault::Position { at: e }) => *at == e,
+        (Certificate::Contents { at }, Fault::Contents { at: e }) => *at == *e,
+        (Certificate::Position { at }, Fault::Position { at: e }) => *at == *e,
         _ => false,
     }
 }
 
 /// What a certificate shows that names this fault.
-fn kind(fault: Fault) -> Kind
-    ensures { result ≡ kind_of (names_fault (fault_of fault)) }
+fn kind(fault: &Fault) -> Kind
+    ensures { result ≡ kind_of (names_fault (fault_of fault.now)) }
 {
     match fault {
         Fault::Doubled { .. } => Kind::Doubled,
@@ -37,8 +37,8 @@ fn kind(fault: Fault) -> Kind
 }
 
 /// Whether a certificate names the first fault of a recording.
-pub fn judge_fault(certificate: &Certificate, fault: Fault) -> Answer
-    ensures { (h : History) → IsFirstFault h (fault_of fault) → IsJudged h (certificate_of certificate.now) result }
+pub fn judge_fault(certificate: &Certificate, fault: &Fault) -> Answer
+    ensures { (h : History) → IsFirstFault h (fault_of fault.now) → IsJudged h (certificate_of certificate.now) result }
 {
     if names(certificate, fault) {
         Answer::Yes(kind(fault))

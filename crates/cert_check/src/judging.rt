@@ -29,7 +29,7 @@ pub fn judge<H: Threads + Sync>(
 {
     let sight = Sight::of(alloc, recording)?;
     match first_fault(rt, alloc, recording, &sight)? {
-        Some(fault) => Ok(judge_fault(certificate, fault)),
+        Some(fault) => Ok(judge_fault(certificate, &fault)),
         None => judge_sound(alloc, recording, certificate),
     }
 }
