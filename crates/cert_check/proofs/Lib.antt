@@ -7,3 +7,6 @@ pub mod FaultReasons
 pub mod Listed
 pub mod Ranks
 pub mod Depths
+pub mod Rings
+pub mod StepsRight
+pub mod OrderJudged

@@ -1,7 +1,11 @@
-ghost use Rattle.std.specs.Prelude.{IfOk};
+ghost use Rattle.std.specs.Prelude.{IfOk, IsPermutation, List, length};
+ghost use Rattle.events.specs.Names.{NameBytes};
+ghost use Rattle.events.specs.History.{History};
 ghost use Rattle.specification.specs.Faults.{IsSound};
 ghost use Rattle.specification.specs.CertificateText.{gives_order};
 ghost use Rattle.cert_check.specs.Judged.{IsJudged};
+ghost use Rattle.cert_check.specs.Noted.{Holds, placed_from};
+ghost use Rattle.cert_check.specs.Numbering.{IsOf, AreWithin};
 
 use super::answer::{Answer, Kind, Reason};
 use super::numbered::Numbered;
@@ -19,13 +23,24 @@ pub fn judge_order(
     ensures { IfOk result (λ answer. IsJudged recording.now (gives_order order.now) answer) }
 {
     let numbered = Numbered::of(alloc, recording)?;
-    match numbered.ranks_of(alloc, order)? {
+    let found = numbered.ranks_of(alloc, order)?;
+    match found {
         None => Ok(Answer::No(Reason::NotOrder)),
-        Some(ranks) => match numbered.first_not_rising(&ranks) {
-            None => Ok(Answer::Yes(Kind::Accepted)),
-            Some(i) => Ok(Answer::No(Reason::NotFollowed {
-                at: numbered.operations[i],
-            })),
+        Some(ranks) => Ok(judge_ranks(&numbered, &ranks)),
+    }
+}
+
+/// The same by the places of the elements in a permutation of them.
+fn judge_ranks(numbered: &Numbered, ranks: &[u32]) -> Answer
+    requires { AreWithin (length ranks.now) numbered.now }
+    ensures { (h : History) (order : List NameBytes) → IsOf h numbered.now → IsPermutation numbered.now.names.items order →
+        Holds numbered.now.names.items (length numbered.now.names.items) (placed_from 0 order) ranks.now → IsJudged h (gives_order order) result }
+{
+    match numbered.first_not_rising(ranks) {
+        None => Answer::Yes(Kind::Accepted),
+        Some(i) => match numbered.operations.get(i) {
+            None => Answer::Yes(Kind::Accepted),
+            Some(at) => Answer::No(Reason::NotFollowed { at: *at }),
         },
     }
 }

@@ -43,7 +43,8 @@ fn meets_rule(
     ensures { IfOk result (λ meets. (h : History) (a : NameBytes) → IsOf h numbered.now → slice_get (elements h) source ≡ Some a →
         IsTrue meets ↔ MeetsLayerRule (responses_of h) k a row.now) }
 {
-    match numbered.depths_of(alloc, k, row)? {
+    let found = numbered.depths_of(alloc, k, row)?;
+    match found {
         None => Ok(false),
         Some(depths) => Ok(numbered.are_deep(&depths, source, k - 1)),
     }

@@ -2,6 +2,7 @@
 use Rattle.std.proofs.Common.{◌≡◌, ℕ, ◌+◌, ◌-◌, ◌<◌, ◌≤◌, ◌∙◌, Some, Vec, Global, List, [], ◌∷◌, ◌++◌, length, take, sym, ap, subst, arith}
 use Rattle.std.specs.Prelude.{slice_get, option_copied}
 use Rattle.std.proofs.lemmas.List.{take_all}
+use Rattle.std.proofs.lemmas.List.{with_items_is}
 use Rattle.events.specs.Names.{NameBytes}
 use Rattle.specification.specs.LayerRule.{Row}
 use Rattle.cert_check.specs.Noted.{Noted, Holds, CanBeNoted, pairs_from}
@@ -24,6 +25,9 @@ returns-then-not-note_layer c = λ can.
     c.if-not-note_layer.ensures so_far (subst (Holds names (c.args.k - 1) so_far) (sym c.deref_mut.ensures.value) c.loop-i.invariant)
     (subst (CanBeNoted names) (row_next row i c.in-Some.layer.now at) (can_row names row (i + 1) can))
 
+more_size : {names : List NameBytes} {unset : ℕ} {ps : List Noted} {values : List ℕ} → Holds names unset ps values → length values ≡ length names
+more_size holds = holds.size
+
 pub loop-i-preserved : goal.loop-i-preserved
 loop-i-preserved c =
     let names : List NameBytes = c.args.self.now.names.items in
@@ -36,7 +40,8 @@ loop-i-preserved c =
       | in-Some+else-not-note_layer w ↦
           (let at : slice_get row i ≡ Some w.in-Some.layer.now = sym w.in-Some.ensures in
           let more = w.if-not-note_layer.ensures so_far (subst (Holds names (c.args.k - 1) so_far) (sym w.deref_mut.ensures.value) c.loop-i.invariant) in
-          subst (λ (v : Vec ℕ Global). Holds names (c.args.k - 1) next v.items) (sym w.depths-is)
+          let items : c.match-get.depths.items ≡ w.note_layer.new.values = ap (λ (v : Vec ℕ Global). v.items) w.depths-is ∙ with_items_is c.loop-i.depths w.note_layer.new.values (omega (arith, more_size more, c.loop-i.invariant.size, c.loop-i.depths.ok)) in
+          subst (Holds names (c.args.k - 1) next) (sym items)
           (subst (λ (ps : List Noted). Holds names (c.args.k - 1) ps w.note_layer.new.values) (sym (row_next row i w.in-Some.layer.now at)) more))
       | in_default w ↦ absurd (nothing_there row i (option_copied c.get.result) c.get.ensures (ap option_copied w.in_default.is) lt)
     ]

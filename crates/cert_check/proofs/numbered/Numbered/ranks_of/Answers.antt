@@ -2,6 +2,7 @@
 use Rattle.std.proofs.Common.{◌≡◌, ℕ, ◌+◌, ◌<◌, ◌≤◌, ◌∙◌, Some, Vec, Global, List, [], ◌∷◌, ◌++◌, length, take, get_or, sym, ap, subst, arith}
 use Rattle.std.specs.Prelude.{slice_get, IsPermutation, option_copied}
 use Rattle.std.proofs.lemmas.List.Sorted.{length_permutation}
+use Rattle.std.proofs.lemmas.List.{with_items_is}
 use Rattle.events.specs.Names.{NameBytes}
 use Rattle.cert_check.specs.Noted.{Noted, Holds, CanBeNoted, placed_from}
 use Rattle.cert_check.proofs.NotedNames.{placed_next, can_placed, hold_unset, nothing_there}
@@ -29,6 +30,9 @@ returns-then-not-note c = λ perm.
     c.if-not-note.ensures (placed_from 0 (take i order)) holds
     (subst (CanBeNoted names) (placed_next order i a at) (can_placed names order (i + 1) (can_permutation names order c.requires.numbering.once perm)))
 
+more_size : {names : List NameBytes} {unset : ℕ} {ps : List Noted} {values : List ℕ} → Holds names unset ps values → length values ≡ length names
+more_size holds = holds.size
+
 pub loop-i-preserved : goal.loop-i-preserved
 loop-i-preserved c =
     let names : List NameBytes = c.args.self.now.names.items in
@@ -41,7 +45,8 @@ loop-i-preserved c =
       | in-Some+else-not-note w ↦
           (let at : slice_get order i ≡ Some w.in-Some.name.now = sym w.in-Some.ensures in
           let more = w.if-not-note.ensures so_far (subst (Holds names c.len-count.result so_far) (sym w.deref_mut.ensures.value) c.loop-i.invariant) in
-          subst (λ (v : Vec ℕ Global). Holds names c.len-count.result next v.items) (sym w.ranks-is)
+          let items : c.match-get.ranks.items ≡ w.note.new.values = ap (λ (v : Vec ℕ Global). v.items) w.ranks-is ∙ with_items_is c.loop-i.ranks w.note.new.values (omega (arith, more_size more, c.loop-i.invariant.size, c.loop-i.ranks.ok)) in
+          subst (Holds names c.len-count.result next) (sym items)
           (subst (λ (ps : List Noted). Holds names c.len-count.result ps w.note.new.values) (sym (placed_next order i w.in-Some.name.now at)) more))
       | in_default w ↦ absurd (nothing_there order i (option_copied c.get.result) c.get.ensures (ap option_copied w.in_default.is) lt)
     ]
