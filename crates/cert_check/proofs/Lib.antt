@@ -10,3 +10,5 @@ pub mod Depths
 pub mod Rings
 pub mod StepsRight
 pub mod OrderJudged
+pub mod RowsJudged
+pub mod Implied

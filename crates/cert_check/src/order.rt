@@ -1,4 +1,4 @@
-ghost use Rattle.std.specs.Prelude.{IfOk, IsPermutation, List, length};
+ghost use Rattle.std.specs.Prelude.{◌≡◌, IfOk, IsPermutation, List, length};
 ghost use Rattle.events.specs.Names.{NameBytes};
 ghost use Rattle.events.specs.History.{History};
 ghost use Rattle.specification.specs.Faults.{IsSound};
@@ -32,15 +32,15 @@ pub fn judge_order(
 
 /// The same by the places of the elements in a permutation of them.
 fn judge_ranks(numbered: &Numbered, ranks: &[u32]) -> Answer
-    requires { AreWithin (length ranks.now) numbered.now }
+    requires within { AreWithin (length ranks.now) numbered.now }
+    requires operations { length numbered.now.operations.items ≡ length numbered.now.places.items }
     ensures { (h : History) (order : List NameBytes) → IsOf h numbered.now → IsPermutation numbered.now.names.items order →
         Holds numbered.now.names.items (length numbered.now.names.items) (placed_from 0 order) ranks.now → IsJudged h (gives_order order) result }
 {
     match numbered.first_not_rising(ranks) {
         None => Answer::Yes(Kind::Accepted),
-        Some(i) => match numbered.operations.get(i) {
-            None => Answer::Yes(Kind::Accepted),
-            Some(at) => Answer::No(Reason::NotFollowed { at: *at }),
-        },
+        Some(i) => Answer::No(Reason::NotFollowed {
+            at: numbered.operations[i],
+        }),
     }
 }

@@ -28,6 +28,16 @@ fn source_of(row: &Row) -> Option<Name>
     layer.get(0).copied()
 }
 
+/// Whether a row has this source.
+fn has_source(row: &Row, source: &Name) -> bool
+    ensures { IsTrue result ↔ HasSource row.now source.now }
+{
+    match source_of(row) {
+        None => false,
+        Some(name) => name == *source,
+    }
+}
+
 /// Whether the row of the element with this number meets the layer rule. It costs the places of all
 /// responses, the elements and the names of the row.
 fn meets_rule(
@@ -68,7 +78,7 @@ fn row_fault(
     match rows.get(i as usize) {
         None => Ok(Some(Reason::MissingLayer { source })),
         Some(row) => {
-            if source_of(row) != Some(source) {
+            if !has_source(row, &source) {
                 Ok(Some(Reason::MissingLayer { source }))
             } else if meets_rule(alloc, numbered, k, i, row)? {
                 Ok(None)
@@ -100,6 +110,9 @@ pub fn rows_fault(
     }
     match rows.get(numbered.names.len()) {
         None => Ok(None),
-        Some(row) => Ok(source_of(row).map(|source| Reason::ExtraLayer { source })),
+        Some(row) => match source_of(row) {
+            None => Ok(None),
+            Some(source) => Ok(Some(Reason::ExtraLayer { source })),
+        },
     }
 }

@@ -1,8 +1,20 @@
 -- The first response along which the places do not rise.
-use Rattle.std.proofs.Common.{◌≡◌, ◌∙◌, sym, ap, arith}
-use Rattle.std.specs.Prelude.{option_copied, slice_get}
+use Rattle.std.proofs.Common.{◌≡◌, ◌∙◌, ℕ, Some, List, sym, ap, arith, refl, subst}
+use Rattle.std.specs.Prelude.{slice_get, IsPermutation}
+use Rattle.events.proofs.Places.{slice_get-within}
+use Rattle.events.specs.Names.{NameBytes}
+use Rattle.events.specs.Operation.{Operation}
+use Rattle.events.specs.Operations.{operation_names}
 use Rattle.cert_check.proofs.OrderJudged.{order_valid, first_not_followed}
 use Rattle.cert_check.proofs.order.judge_ranks.Goals as goal
 
 pub returns-in-None : goal.returns-in-None
-returns-in-None c = λ h order of perm holds. ?
+returns-in-None c = λ h order of perm holds. (order_valid h c.args.numbered.now of order c.args.ranks.now perm holds c.in-None.ensures, refl)
+
+pub returns : goal.returns
+returns c = λ h order of perm holds.
+    let i : ℕ = c.in-Some.i in
+    let o : Operation = ? in
+    let at : slice_get (operation_names h) i ≡ Some o = ? in
+    (of.sound, subst (λ (ns : List NameBytes). IsPermutation ns order) of.names perm,
+     first_not_followed h c.args.numbered.now of order c.args.ranks.now perm holds i o at c.in-Some.ensures.1 c.in-Some.ensures.2)
