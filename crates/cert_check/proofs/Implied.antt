@@ -22,7 +22,14 @@ use Rattle.specification.proofs.Layers.{layers_bound_cycles}
 use Rattle.specification.proofs.Weak.{two_or_more}
 use Rattle.cert_check.proofs.Listed.{In-map_back}
 use Rattle.cert_check.proofs.Rings.{ends, begin}
-use Rattle.cert_check.specs.AnswerOf.{Implies}
+use Rattle.std.specs.Prelude.{Result, Ok, Err, IfOk}
+use Rattle.specification.specs.TraceText.{Spells}
+use Rattle.specification.specs.CertificateText.{SpellsCertificate}
+use Rattle.events.specs.declared.memory.Memory.{Memory}
+use Rattle.cert_check.specs.Judged.{IsJudged}
+use Rattle.cert_check.specs.declared.answer.Answer.{Answer}
+use Rattle.cert_check.specs.declared.answer.Answer.TheVariants.{Yes, No}
+use Rattle.cert_check.specs.AnswerOf.{Implies, ImpliesOfTexts}
 
 -- the row of an element
 row_of : (v : Responses) (k : ℕ) (sources : List NameBytes) (rows : List Row) → RowsMeetRule v k sources rows → (a : NameBytes) → In a sources → (row : Row) × HasSource row a × MeetsLayerRule v k a row
@@ -63,3 +70,11 @@ implied h (names_fault fault) legal spellable valid = valid
 implied h (gives_order order) legal spellable valid = (strong_is_an_order h legal valid.0).1 (order, valid.1)
 implied h (gives_cycle k steps rows) legal spellable valid =
     cycle_implies (responses_of h) (sound_responses_are_proper h legal valid.0) k steps spellable.0 valid.2 valid.1 rows valid.3
+
+-- what was read is what is spelled
+pub implied_texts : (trace cert : List ℕ) (g : History) (d : Certificate) (result : Result Answer Memory) → IsLegal g → IsSpellable d → ((h : History) → Spells trace h → g ≡ h) →
+    ((c : Certificate) → SpellsCertificate cert c → d ≡ c) → IfOk result (λ a. IsJudged g d a) → IfOk result (λ a. ImpliesOfTexts trace cert a)
+implied_texts trace cert g d (Ok (Yes k)) legal spellable one_h one_c judged = λ h c reads.
+    subst (λ (z : History). Implies z c) (one_h h reads.0) (subst (λ (z : Certificate). Implies g z) (one_c c reads.1) (implied g d legal spellable judged.0))
+implied_texts trace cert g d (Ok (No why)) legal spellable one_h one_c judged = tt
+implied_texts trace cert g d (Err e) legal spellable one_h one_c judged = tt

@@ -1,4 +1,4 @@
-ghost use Rattle.std.specs.Prelude.{IfOk};
+ghost use Rattle.std.specs.Prelude.{◌≡◌, ◌↔◌, IfOk, IsTrue};
 ghost use Rattle.cert_check.specs.AnswerOf.{IsAnswer, ImpliesOfTexts};
 
 use super::answer::{Answer, Reason};
@@ -27,9 +27,10 @@ pub fn check<H: Threads + Sync>(
     let recording = match read(alloc, trace) {
         Ok(recording) => recording,
         Err(fault) => {
-            return match fault.cause {
-                Cause::Refused(Refusal::Memory) => Err(Memory),
-                _ => Ok(Answer::No(Reason::Trace)),
+            return if is_want_of_memory(fault.cause) {
+                Err(Memory)
+            } else {
+                Ok(Answer::No(Reason::Trace))
             };
         }
     };
@@ -43,4 +44,24 @@ pub fn check<H: Threads + Sync>(
         }
     };
     judge(rt, alloc, &recording, &certificate)
+}
+
+/// Whether the reading of a trace found no memory.
+fn is_want_of_memory(cause: Cause) -> bool
+    ensures { IsTrue result ↔ (cause ≡ Cause.Refused Refusal.Memory) }
+{
+    match cause {
+        Cause::Refused(why) => is_memory(why),
+        _ => false,
+    }
+}
+
+/// Whether it is want of memory that a recording refuses an entry for.
+fn is_memory(why: Refusal) -> bool
+    ensures { IsTrue result ↔ (why ≡ Refusal.Memory) }
+{
+    match why {
+        Refusal::Memory => true,
+        _ => false,
+    }
 }

@@ -17,10 +17,10 @@ element_at names all i a lt is same = ap (λ (ns : List NameBytes). slice_get ns
 
 pub returns-then-not-has_source : goal.returns-then-not-has_source
 returns-then-not-has_source c = λ h of.
-    let a : NameBytes = c.index-source.result.now in
+    let a : NameBytes = c.index.result.now in
     let row : Row = c.in-Some.row.now in
     let there : slice_get c.args.rows.now c.args.i ≡ Some row = sym c.in-Some.ensures in
-    (element_at c.args.numbered.now.names.items (elements h) c.args.i a c.requires.element c.index-source.ensures of.names,
+    (element_at c.args.numbered.now.names.items (elements h) c.args.i a c.requires.element c.index.ensures of.names,
      λ r at has.
      let e : Some r ≡ Some row = sym at ∙ there in
      let same : r ≡ row = Prim.cc in
@@ -28,9 +28,9 @@ returns-then-not-has_source c = λ h of.
 
 pub returns-then-branch : goal.returns-then-branch
 returns-then-branch c = λ h of source at.
-    let a : NameBytes = c.index-source.result.now in
+    let a : NameBytes = c.index.result.now in
     let row : Row = c.in-Some.row.now in
-    let here : slice_get (elements h) c.args.i ≡ Some a = element_at c.args.numbered.now.names.items (elements h) c.args.i a c.requires.element c.index-source.ensures of.names in
+    let here : slice_get (elements h) c.args.i ≡ Some a = element_at c.args.numbered.now.names.items (elements h) c.args.i a c.requires.element c.index.ensures of.names in
     let e : Some a ≡ Some source = sym here ∙ at in
     let same : a ≡ source = Prim.cc in
     let rule : MeetsLayerRule (responses_of h) c.args.k a row = (c.in_ok-meets_rule-in-Some.ensures h a of here).0 c.if-branch.true in
@@ -38,7 +38,7 @@ returns-then-branch c = λ h of source at.
 
 pub returns-else-branch : goal.returns-else-branch
 returns-else-branch c = λ h of.
-    let a : NameBytes = c.index-source.result.now in
+    let a : NameBytes = c.index.result.now in
     let row : Row = c.in-Some.row.now in
-    let here : slice_get (elements h) c.args.i ≡ Some a = element_at c.args.numbered.now.names.items (elements h) c.args.i a c.requires.element c.index-source.ensures of.names in
+    let here : slice_get (elements h) c.args.i ≡ Some a = element_at c.args.numbered.now.names.items (elements h) c.args.i a c.requires.element c.index.ensures of.names in
     (here, row, sym c.in-Some.ensures, c.if-not-has_source.ensures.0 refl, (λ rule. false≢true (sym c.if-branch.false ∙ (c.in_ok-meets_rule-in-Some.ensures h a of here).1 rule)))

@@ -23,7 +23,17 @@ returns-in-None c = λ h of.
     (omega (arith, c.len.ensures, c.len-count.ensures))
 
 pub returns-in-None-source_of : goal.returns-in-None-source_of
-returns-in-None-source_of c = ?
+returns-in-None-source_of c = λ h of.
+    let row : Row = c.in-Some-get.row.now in
+    let at : slice_get c.args.rows.now c.len.result ≡ Some row = sym c.in-Some-get.ensures in
+    let source = row_source c.args.k row (All-member (IsRow c.args.k) c.args.rows.now row c.requires.rows (In-from_place c.args.rows.now c.len.result row at)) in
+    absurd (c.in-None-source_of.ensures source.0 source.1)
 
 pub returns-in-Some-source_of : goal.returns-in-Some-source_of
-returns-in-Some-source_of c = ?
+returns-in-Some-source_of c = λ h of.
+    let row : Row = c.in-Some-get.row.now in
+    let at : slice_get c.args.rows.now c.len.result ≡ Some row = sym c.in-Some-get.ensures in
+    let names : length (elements h) ≡ length c.args.numbered.now.names.items = ap (λ (l : List NameBytes). length l) (sym of.names) in
+    let size : length (elements h) ≡ c.len.result = omega (arith, c.len.ensures) in
+    let passed : length (elements h) ≤ c.loop-i.i = omega (arith, c.len-count.ensures, c.loop-i-test.false) in
+    ((λ j source lt there. c.loop-i.invariant h of j source (omega arith) there), row, ap (slice_get c.args.rows.now) size ∙ at, c.in-Some-source_of.ensures)
