@@ -5,3 +5,4 @@ pub mod Numbering
 pub mod Noted
 pub mod Ring
 pub mod Judged
+pub mod Laws

@@ -8,6 +8,7 @@ mod checking;
 mod cycle;
 mod faults;
 mod judging;
+mod laws;
 mod names;
 mod numbered;
 mod order;
@@ -18,3 +19,4 @@ mod values;
 
 pub use answer::{Answer, Kind, Reason};
 pub use checking::check;
+pub use laws::{layers_bound_cycles, valid_certificates_imply};
