@@ -241,12 +241,12 @@ module _ (h : History) (t : Numbered) (of : IsOf h t) (k : ℕ) (row : Row) (dep
 
   pub lists_from_rule : MeetsLayerRule (responses_of h) k a row → (j : ℕ) → j < length t.places.items → AreDeepAt t depths source (k - 1) j
   lists_from_rule rule j lt = (
-      each_list h t of (λ (l : List ℕ). IsGradual (map (slice_index depths) l)) (λ o i.
-          gradual_numbers (elements h) k row depths size once holds (response h o) (known-response h of.legal of.sound o i)
-          (All-member (λ (r : Returned). (x y : NameBytes) → HasInOrder r.names x y → depth_in k row y ≤ depth_in k row x + 1) (responses_of h).returned
-          (record { by = o; names = response h o }) rule.gradual (returned_of h o of.legal (listed-operation h o i)))) j lt,
-      each_list h t of (IsDeepBefore depths source (k - 1)) (λ o i.
-          deep_numbers (elements h) k row depths size once holds (response h o) (known-response h of.legal of.sound o i) source a at
-          (All-member (λ (r : Returned). (x : NameBytes) → HasInOrder r.names x a → k - 1 ≤ depth_in k row x) (responses_of h).returned
-          (record { by = o; names = response h o }) rule.deep (returned_of h o of.legal (listed-operation h o i)))) j lt,
+    each_list h t of (λ (l : List ℕ). IsGradual (map (slice_index depths) l)) (λ o i.
+        gradual_numbers (elements h) k row depths size once holds (response h o) (known-response h of.legal of.sound o i)
+        (All-member (λ (r : Returned). (x y : NameBytes) → HasInOrder r.names x y → depth_in k row y ≤ depth_in k row x + 1) (responses_of h).returned
+        (record { by = o; names = response h o }) rule.gradual (returned_of h o of.legal (listed-operation h o i)))) j lt,
+    each_list h t of (IsDeepBefore depths source (k - 1)) (λ o i.
+        deep_numbers (elements h) k row depths size once holds (response h o) (known-response h of.legal of.sound o i) source a at
+        (All-member (λ (r : Returned). (x : NameBytes) → HasInOrder r.names x a → k - 1 ≤ depth_in k row x) (responses_of h).returned
+        (record { by = o; names = response h o }) rule.deep (returned_of h o of.legal (listed-operation h o i)))) j lt,
   )

@@ -13,7 +13,6 @@ use Rattle.specification.specs.Elements.{number_in, numbers_in}
 use Rattle.specification.proofs.Members.{In, Once, In-from_place, place_of_In, In-append_cases, In-append_left}
 use Rattle.specification.proofs.Shown.{same_name}
 
-
 found-here : (a x : NameBytes) (xs : List NameBytes) → a ≡ x → position_or_len (bytes_eq a) (x ∷ xs) ≡ 0
 found-here a x xs e = rw ((bytes_decides a x).1 e) refl
 

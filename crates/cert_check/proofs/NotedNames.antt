@@ -27,9 +27,10 @@ noted_name a (p ∷ ps) (inr i) = let r = noted_name a ps i in (r.0, inr r.1)
 
 pub Once-push : {X : Type 0} (xs : List X) (x : X) → Once xs → (In x xs → ⊥) → Once (xs ++ x ∷ [])
 Once-push [] x once none = (λ i. i, tt)
-Once-push (y ∷ ys) x once none =
-    (λ i. elim (In-push y x ys i) [ inl j ↦ once.0 j | inr e ↦ none (inl (sym e)) ],
-     Once-push ys x once.1 (λ i. none (inr i)))
+Once-push (y ∷ ys) x once none = (
+  λ i. elim (In-push y x ys i) [ inl j ↦ once.0 j | inr e ↦ none (inl (sym e)) ],
+  Once-push ys x once.1 (λ i. none (inr i)),
+)
 
 -- a front of what can be noted can be noted
 pub can_front : (names : List NameBytes) (ps qs : List Noted) → CanBeNoted names (ps ++ qs) → CanBeNoted names ps

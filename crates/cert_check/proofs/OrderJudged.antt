@@ -35,11 +35,17 @@ module _ (h : History) (t : Numbered) (of : IsOf h t) (order : List NameBytes) (
   holds = subst (λ (ns : List NameBytes). Holds ns (length ns) (placed_from 0 order) ranks) of.names holds_t
 
   pub order_valid : ((j : ℕ) → j < length t.places.items → RisesAt j) → IsValid h (gives_order order)
-  order_valid all = (of.sound, (perm, All-from_members (λ (r : Returned). IsSubsequence r.names order) (responses_of h).returned (λ r i.
-      let s = each_response h t of (λ (l : List ℕ). IsRising (map (slice_index ranks) l)) all r i in
-      subst (λ (w : List NameBytes). IsSubsequence w order) (sym s.1)
-      (follows_from_rising (elements h) order ranks (length (elements h)) (once-elements h of.legal of.sound) perm holds (response h r.by)
-      (once-response h of.legal of.sound r.by s.0) (known-response h of.legal of.sound r.by s.0) s.2))))
+  order_valid all = (
+    of.sound,
+    (
+      perm,
+      All-from_members (λ (r : Returned). IsSubsequence r.names order) (responses_of h).returned (λ r i.
+          let s = each_response h t of (λ (l : List ℕ). IsRising (map (slice_index ranks) l)) all r i in
+          subst (λ (w : List NameBytes). IsSubsequence w order) (sym s.1)
+          (follows_from_rising (elements h) order ranks (length (elements h)) (once-elements h of.legal of.sound) perm holds (response h r.by)
+          (once-response h of.legal of.sound r.by s.0) (known-response h of.legal of.sound r.by s.0) s.2)),
+    ),
+  )
 
   followed_at : (j : ℕ) (o : Operation) → slice_get (operation_names h) j ≡ Some o → RisesAt j → IsSubsequence (response h o) order
   followed_at j o at rising =

@@ -63,10 +63,11 @@ begin s = s.from
 pub meets-at : (steps : List Step) (i : ℕ) (s next : Step) → i < length steps → slice_get steps i ≡ Some s → slice_get steps (next_place (length steps) i) ≡ Some next →
     (slice_get (map ends steps) i ≡ Some (s.from, s.to)) × (slice_get (ring (map begin steps)) i ≡ Some (s.from, next.from))
 meets-at steps i s next lt at behind =
-    let size : length (map begin steps) ≡ length steps = length-map {B = NameBytes} steps begin in
-    (slice_get-map ends steps i s at,
-     ring-at (map begin steps) i s.from next.from (slice_get-map begin steps i s at) (omega arith)
-     (ap (λ (n : ℕ). slice_get (map begin steps) (next_place n i)) size ∙ slice_get-map begin steps (next_place (length steps) i) next behind))
+    let size : length (map begin steps) ≡ length steps = length-map {B = NameBytes} steps begin in (
+      slice_get-map ends steps i s at,
+      ring-at (map begin steps) i s.from next.from (slice_get-map begin steps i s at) (omega arith)
+          (ap (λ (n : ℕ). slice_get (map begin steps) (next_place n i)) size ∙ slice_get-map begin steps (next_place (length steps) i) next behind),
+    )
 
 pub next-within : (count i : ℕ) → i < count → next_place count i < count
 next-within count i lt = elim (next_is count i lt) [

@@ -22,9 +22,11 @@ rows_meet v k (source ∷ sources) [] right le =
 rows_meet v k (source ∷ sources) (row ∷ rows) right le =
     let r = right 0 source refl in
     let e : Some row ≡ Some r.0 = r.1 in
-    let same : r.0 ≡ row = Prim.cc in
-    (subst (λ (z : Row). HasSource z source) same r.2, subst (λ (z : Row). MeetsLayerRule v k source z) same r.3,
-     rows_meet v k sources rows (λ j s at. right (suc j) s at) (omega arith))
+    let same : r.0 ≡ row = Prim.cc in (
+      subst (λ (z : Row). HasSource z source) same r.2,
+      subst (λ (z : Row). MeetsLayerRule v k source z) same r.3,
+      rows_meet v k sources rows (λ j s at. right (suc j) s at) (omega arith),
+    )
 
 -- the first layer of a row has its source alone
 pub row_source : (k : ℕ) (row : Row) → IsRow k row → (a : NameBytes) × HasSource row a

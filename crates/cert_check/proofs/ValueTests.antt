@@ -85,9 +85,9 @@ go_on ds most v next g le which = record {
   ];
   tight = elim which [
     | inl w ↦ elim g.tight [
-        | inl big ↦ inl (let f : next ≡ most = w.0 in omega arith)
-        | inr k ↦ inr (k.0, In-append_left k.0 ds (v ∷ []) k.1, (let f : next ≡ most = w.0 in let e : k.0 + 1 ≡ most = k.2 in omega arith))
-      ]
+      | inl big ↦ inl (let f : next ≡ most = w.0 in omega arith)
+      | inr k ↦ inr (k.0, In-append_left k.0 ds (v ∷ []) k.1, (let f : next ≡ most = w.0 in let e : k.0 + 1 ≡ most = k.2 in omega arith))
+    ]
     | inr w ↦ inr (v, In-append_right v ds (v ∷ []) (inl refl), sym w.0)
   ];
 }

@@ -1,10 +1,9 @@
-use events::{Memory, Name, OpName, Recording};
-use indexmap::IndexMap;
-use std::alloc::Global;
-
 use super::names::inserted_names;
 use super::places::{numbers_of, places_of};
 use super::values::{is_deep_before, is_gradual, is_rising};
+use events::{Memory, Name, OpName, Recording};
+use indexmap::IndexMap;
+use std::alloc::Global;
 use witnesses::{Layer, Order, Row};
 
 /// The elements of a recording with their numbers, and each operation's response as numbers.
@@ -129,7 +128,7 @@ impl Numbered {
         requires { AreWithin (length values.now) self.now }
         ensures { MatchOption result ((j : ℕ) → j < length self.now.places.items → IsRising (map (slice_index values.now) (places_at self.now j)))
             (λ i. (i < length self.now.places.items) × (¬ IsRising (map (slice_index values.now) (places_at self.now i)))
-                × ((j : ℕ) → j < i → IsRising (map (slice_index values.now) (places_at self.now j)))) }
+            × ((j : ℕ) → j < i → IsRising (map (slice_index values.now) (places_at self.now j)))) }
     {
         for (i, list) in self.places.iter().enumerate() {
             if !is_rising(values, list) {

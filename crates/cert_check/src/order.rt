@@ -14,11 +14,7 @@ use std::alloc::Global;
 use witnesses::Order;
 
 /// Whether each response of a sound recording follows the order, and that is one of all elements.
-pub fn judge_order(
-    alloc: Global,
-    recording: &Recording,
-    order: &Order,
-) -> Result<Answer, Memory>
+pub fn judge_order(alloc: Global, recording: &Recording, order: &Order) -> Result<Answer, Memory>
     requires { IsSound recording.now }
     ensures { IfOk result (λ answer. IsJudged recording.now (gives_order order.now) answer) }
 {

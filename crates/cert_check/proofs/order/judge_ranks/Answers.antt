@@ -16,6 +16,8 @@ returns-in-Some c = λ h order of perm holds.
     let i : ℕ = c.in-Some.i in
     let o : Operation = c.index.result.now in
     let lt : i < length c.args.numbered.now.operations.items = omega (arith, c.in-Some.ensures.0, c.requires.operations) in
-    let at : slice_get (operation_names h) i ≡ Some o = ap (λ (os : List Operation). slice_get os i) (sym of.operations) ∙ slice_get-within c.args.numbered.now.operations.items i o lt c.index.ensures in
-    (of.sound, subst (λ (ns : List NameBytes). IsPermutation ns order) of.names perm,
-     first_not_followed h c.args.numbered.now of order c.args.ranks.now perm holds i o at c.in-Some.ensures.1 c.in-Some.ensures.2)
+    let at : slice_get (operation_names h) i ≡ Some o = ap (λ (os : List Operation). slice_get os i) (sym of.operations) ∙ slice_get-within c.args.numbered.now.operations.items i o lt c.index.ensures in (
+      of.sound,
+      subst (λ (ns : List NameBytes). IsPermutation ns order) of.names perm,
+      first_not_followed h c.args.numbered.now of order c.args.ranks.now perm holds i o at c.in-Some.ensures.1 c.in-Some.ensures.2,
+    )

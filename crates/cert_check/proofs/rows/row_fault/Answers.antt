@@ -19,12 +19,13 @@ pub returns-then-not-has_source : goal.returns-then-not-has_source
 returns-then-not-has_source c = λ h of.
     let a : NameBytes = c.index.result.now in
     let row : Row = c.in-Some.row.now in
-    let there : slice_get c.args.rows.now c.args.i ≡ Some row = sym c.in-Some.ensures in
-    (element_at c.args.numbered.now.names.items (elements h) c.args.i a c.requires.element c.index.ensures of.names,
-     λ r at has.
-     let e : Some r ≡ Some row = sym at ∙ there in
-     let same : r ≡ row = Prim.cc in
-     false≢true (c.if-not-has_source.ensures.1 (subst (λ (z : Row). HasSource z a) same has)))
+    let there : slice_get c.args.rows.now c.args.i ≡ Some row = sym c.in-Some.ensures in (
+      element_at c.args.numbered.now.names.items (elements h) c.args.i a c.requires.element c.index.ensures of.names,
+      λ r at has.
+          let e : Some r ≡ Some row = sym at ∙ there in
+          let same : r ≡ row = Prim.cc in
+          false≢true (c.if-not-has_source.ensures.1 (subst (λ (z : Row). HasSource z a) same has)),
+    )
 
 pub returns-then-branch : goal.returns-then-branch
 returns-then-branch c = λ h of source at.

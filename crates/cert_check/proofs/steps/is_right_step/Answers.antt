@@ -23,11 +23,12 @@ returns-then-eq c =
     let at : slice_get steps c.args.i ≡ Some s = sym c.in-Some-Some.ensures in
     let behind : slice_get steps (next_place (length steps) c.args.i) ≡ Some n = sym c.in-Some-Some.ensures' in
     let same : c.step.inside.to ≡ c.next.inside.from = (bytes_decides c.step.inside.to c.next.inside.from).0 (sym c.if-eq.ensures) in
-    let joins : s.to ≡ n.from = sym (ap (λ (z : Step). z.to) c.step.view_is) ∙ same ∙ ap (λ (z : Step). z.from) c.next.view_is in
-    (λ t. right_step h c.requires.legal steps c.args.i s n c.requires.within at behind joins
-         (subst (λ (z : Step). Before z.from z.to (response h z.shown)) c.step.view_is (c.shows.ensures.0 t)),
-     λ right. c.shows.ensures.1 (subst (λ (z : Step). Before z.from z.to (response h z.shown)) (sym c.step.view_is)
-         (right_shows h c.requires.legal steps c.args.i s n c.requires.within at behind right)))
+    let joins : s.to ≡ n.from = sym (ap (λ (z : Step). z.to) c.step.view_is) ∙ same ∙ ap (λ (z : Step). z.from) c.next.view_is in (
+      λ t. right_step h c.requires.legal steps c.args.i s n c.requires.within at behind joins
+          (subst (λ (z : Step). Before z.from z.to (response h z.shown)) c.step.view_is (c.shows.ensures.0 t)),
+      λ right. c.shows.ensures.1 (subst (λ (z : Step). Before z.from z.to (response h z.shown)) (sym c.step.view_is)
+          (right_shows h c.requires.legal steps c.args.i s n c.requires.within at behind right)),
+    )
 
 pub returns-else-eq : goal.returns-else-eq
 returns-else-eq c =
@@ -36,12 +37,13 @@ returns-else-eq c =
     let s : Step = c.in-Some-Some.step.now in
     let n : Step = c.in-Some-Some.next.now in
     let at : slice_get steps c.args.i ≡ Some s = sym c.in-Some-Some.ensures in
-    let behind : slice_get steps (next_place (length steps) c.args.i) ≡ Some n = sym c.in-Some-Some.ensures' in
-    (λ t. absurd (false≢true (sym c.if-eq.false ∙ t)),
-     λ right.
-     let joins : s.to ≡ n.from = right_joins h c.requires.legal steps c.args.i s n c.requires.within at behind right in
-     let same : c.step.inside.to ≡ c.next.inside.from = ap (λ (z : Step). z.to) c.step.view_is ∙ joins ∙ sym (ap (λ (z : Step). z.from) c.next.view_is) in
-     absurd (false≢true (c.if-eq.ensures ∙ (bytes_decides c.step.inside.to c.next.inside.from).1 same)))
+    let behind : slice_get steps (next_place (length steps) c.args.i) ≡ Some n = sym c.in-Some-Some.ensures' in (
+      λ t. absurd (false≢true (sym c.if-eq.false ∙ t)),
+      λ right.
+          let joins : s.to ≡ n.from = right_joins h c.requires.legal steps c.args.i s n c.requires.within at behind right in
+          let same : c.step.inside.to ≡ c.next.inside.from = ap (λ (z : Step). z.to) c.step.view_is ∙ joins ∙ sym (ap (λ (z : Step). z.from) c.next.view_is) in
+          absurd (false≢true (c.if-eq.ensures ∙ (bytes_decides c.step.inside.to c.next.inside.from).1 same)),
+    )
 
 pub returns-in_default : goal.returns-in_default
 returns-in_default c =

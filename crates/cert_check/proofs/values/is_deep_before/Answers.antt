@@ -16,10 +16,11 @@ returns-then-not-is_deep c =
     let lt : i < length xs = c.loop-place-test.true in
     let same : get_or xs i 0 ≡ c.args.source = c.if-place-source.true in
     let split : xs ≡ take i xs ++ c.args.source ∷ drop (suc i) xs = split_at xs i (get_or xs i 0) (slice_get-get_or xs i 0 lt) ∙ ap (λ x. take i xs ++ x ∷ drop (suc i) xs) same in
-    let far = subst (λ (b : Bool). IsDeepSoFar c.args.values.now c.args.bound b (take i xs)) c.if-not-is_deep.true c.loop-place.invariant.deep in
-    (λ t. absurd (Prim.cc),
-     λ deep. absurd (deep_stop c.args.values.now c.args.source c.args.bound (take i xs) (drop (suc i) xs) far
-         (subst (IsDeepBefore c.args.values.now c.args.source c.args.bound) split deep)))
+    let far = subst (λ (b : Bool). IsDeepSoFar c.args.values.now c.args.bound b (take i xs)) c.if-not-is_deep.true c.loop-place.invariant.deep in (
+      λ t. absurd (Prim.cc),
+      λ deep. absurd (deep_stop c.args.values.now c.args.source c.args.bound (take i xs) (drop (suc i) xs) far
+          (subst (IsDeepBefore c.args.values.now c.args.source c.args.bound) split deep)),
+    )
 
 pub loop-place-preserved : goal.loop-place-preserved
 loop-place-preserved c =

@@ -13,10 +13,11 @@ returns-then-value-most c =
     let i : ℕ = c.loop-place.place-index in
     let lt : i < length xs = c.loop-place-test.true in
     let value : c.from-value.result ≡ f (get_or xs i 0) = c.from-value.ensures in
-    let small : f (get_or xs i 0) < 2 ^ 32 = omega (arith, c.type_inv.values (get_or xs i 0)) in
-    (λ t. absurd (Prim.cc),
-     λ gradual. absurd (go_stop (map f (take i xs)) c.loop-place.most (f (get_or xs i 0)) (map f (drop (suc i) xs)) small c.loop-place.invariant
-         (omega (arith, value, c.if-value-most.true)) (subst IsGradual (map-split f xs i lt) gradual)))
+    let small : f (get_or xs i 0) < 2 ^ 32 = omega (arith, c.type_inv.values (get_or xs i 0)) in (
+      λ t. absurd (Prim.cc),
+      λ gradual. absurd (go_stop (map f (take i xs)) c.loop-place.most (f (get_or xs i 0)) (map f (drop (suc i) xs)) small c.loop-place.invariant
+          (omega (arith, value, c.if-value-most.true)) (subst IsGradual (map-split f xs i lt) gradual)),
+    )
 
 pub loop-place-preserved : goal.loop-place-preserved
 loop-place-preserved c =

@@ -10,10 +10,11 @@ returns-then-value-least c =
     let f : ℕ → ℕ = slice_index c.args.values.now in
     let xs : List ℕ = c.args.places.now in
     let i : ℕ = c.loop-place.place-index in
-    let lt : i < length xs = c.loop-place-test.true in
-    (λ t. absurd (Prim.cc),
-     λ rising. absurd (rise_stop (map f (take i xs)) c.loop-place.least (f (get_or xs i 0)) (map f (drop (suc i) xs)) c.loop-place.invariant
-         (omega (arith, c.from-value.ensures, c.if-value-least.true)) (subst IsRising (map-split f xs i lt) rising)))
+    let lt : i < length xs = c.loop-place-test.true in (
+      λ t. absurd (Prim.cc),
+      λ rising. absurd (rise_stop (map f (take i xs)) c.loop-place.least (f (get_or xs i 0)) (map f (drop (suc i) xs)) c.loop-place.invariant
+          (omega (arith, c.from-value.ensures, c.if-value-least.true)) (subst IsRising (map-split f xs i lt) rising)),
+    )
 
 pub loop-place-preserved : goal.loop-place-preserved
 loop-place-preserved c =
