@@ -1,1 +1,8 @@
+-- What contracts of this crate see: the answer, elements by their numbers, and values noted for them.
 pub mod AnswerOf
+pub mod Values
+pub mod Numbering
+pub mod Noted
+pub mod Ring
+pub mod Judged
+pub mod Laws

@@ -1,15 +1,22 @@
-ghost use Rattle.std.specs.Prelude.{IfOk};
+ghost use Rattle.std.specs.Prelude.{◌≡◌, ◌↔◌, IfOk, IsTrue};
 ghost use Rattle.cert_check.specs.AnswerOf.{IsAnswer, ImpliesOfTexts};
 
-use super::answer::Answer;
-use events::Memory;
+use super::answer::{Answer, Reason};
+use super::judging::judge;
+use certificate_text::{CertCause, Certificate};
+use events::{Memory, Refusal};
 use std::alloc::Global;
 use std::thread::Threads;
+use trace_text::{Cause, read};
 
 /// Whether the certificate is valid for the recording that the trace spells; where not, the first reason.
+///
+/// It searches nothing: beyond reading the texts and looking for a fault, a row of a certificate costs the
+/// places of all responses and the elements, and a step the response of its operation. Its memory is linear in
+/// the texts.
 pub fn check<H: Threads + Sync>(
-    _rt: &H,
-    _alloc: Global,
+    rt: &H,
+    alloc: Global,
     trace: &[u8],
     cert: &[u8],
 ) -> Result<Answer, Memory>
@@ -17,5 +24,44 @@ pub fn check<H: Threads + Sync>(
     // What a yes says of the recording.
     ensures implies { IfOk result (λ a. ImpliesOfTexts trace.now cert.now a) }
 {
-    Err(Memory)
+    let recording = match read(alloc, trace) {
+        Ok(recording) => recording,
+        Err(fault) => {
+            return if is_want_of_memory(fault.cause) {
+                Err(Memory)
+            } else {
+                Ok(Answer::No(Reason::Trace))
+            };
+        }
+    };
+    let certificate = match Certificate::read(alloc, cert) {
+        Ok(certificate) => certificate,
+        Err(fault) => {
+            return match fault.cause {
+                CertCause::Memory => Err(Memory),
+                _ => Ok(Answer::No(Reason::CertText)),
+            };
+        }
+    };
+    judge(rt, alloc, &recording, &certificate)
+}
+
+/// Whether the reading of a trace found no memory.
+fn is_want_of_memory(cause: Cause) -> bool
+    ensures { IsTrue result ↔ (cause ≡ Cause.Refused Refusal.Memory) }
+{
+    match cause {
+        Cause::Refused(why) => is_memory(why),
+        _ => false,
+    }
+}
+
+/// Whether it is want of memory that a recording refuses an entry for.
+fn is_memory(why: Refusal) -> bool
+    ensures { IsTrue result ↔ (why ≡ Refusal.Memory) }
+{
+    match why {
+        Refusal::Memory => true,
+        _ => false,
+    }
 }

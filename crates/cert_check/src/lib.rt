@@ -5,6 +5,18 @@
 
 mod answer;
 mod checking;
+mod cycle;
+mod faults;
+mod judging;
+mod laws;
+mod names;
+mod numbered;
+mod order;
+mod places;
+mod rows;
+mod steps;
+mod values;
 
 pub use answer::{Answer, Kind, Reason};
 pub use checking::check;
+pub use laws::{layers_bound_cycles, valid_certificates_imply};

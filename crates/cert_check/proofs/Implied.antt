@@ -1,0 +1,80 @@
+-- What a valid certificate implies.
+use Rattle.std.proofs.Common.{◌≡◌, ◌≢◌, ◌⊎◌, inl, inr, ℕ, ◌+◌, ◌<◌, ◌≤◌, List, [], ◌∷◌, Some, None, length, map, refl, sym, ◌∙◌, ap, subst, arith}
+use Rattle.std.specs.Prelude.{Contains, slice_get, All}
+use Rattle.std.proofs.lemmas.Bool.{cases_lt}
+use Rattle.std.proofs.lemmas.List.{length-map}
+use Rattle.events.specs.Names.{NameBytes}
+use Rattle.events.specs.History.{History, IsLegal}
+use Rattle.specification.specs.Faults.{IsSound}
+use Rattle.specification.specs.Responses.{Responses, responses_of, StandsBefore, Shows, AreProper}
+use Rattle.specification.specs.Conflict.{ring, IsCycle, Step, AreShownSteps, HasConflictNumber}
+use Rattle.specification.specs.Search.{IsCycleLength, IsShortestLength}
+use Rattle.specification.specs.LayerRule.{Row, MeetsLayerRule}
+use Rattle.specification.specs.Verdict.{ProvesConflict}
+use Rattle.specification.specs.CertificateText.{Certificate, names_fault, gives_order, gives_cycle, IsSpellable}
+use Rattle.specification.specs.ValidCertificate.{IsValid, RowsMeetRule, HasSource}
+use Rattle.specification.proofs.Members.{In, In-from_Contains, All-from_members, All-member}
+use Rattle.specification.proofs.SoundResponses.{sound_responses_are_proper}
+use Rattle.specification.proofs.ConflictNumber.{number_from_shortest}
+use Rattle.specification.proofs.StepOperations.{step_operations_conflict}
+use Rattle.specification.proofs.Strong.{strong_is_an_order}
+use Rattle.specification.proofs.Layers.{layers_bound_cycles}
+use Rattle.specification.proofs.Weak.{two_or_more}
+use Rattle.cert_check.proofs.Listed.{In-map_back}
+use Rattle.cert_check.proofs.Rings.{ends, begin}
+use Rattle.std.specs.Prelude.{Result, Ok, Err, IfOk}
+use Rattle.specification.specs.TraceText.{Spells}
+use Rattle.specification.specs.CertificateText.{SpellsCertificate}
+use Rattle.events.specs.declared.memory.Memory.{Memory}
+use Rattle.cert_check.specs.Judged.{IsJudged}
+use Rattle.cert_check.specs.declared.answer.Answer.{Answer}
+use Rattle.cert_check.specs.declared.answer.Answer.TheVariants.{Yes, No}
+use Rattle.cert_check.specs.AnswerOf.{Implies, ImpliesOfTexts}
+
+-- the row of an element
+row_of : (v : Responses) (k : ℕ) (sources : List NameBytes) (rows : List Row) → RowsMeetRule v k sources rows → (a : NameBytes) → In a sources → (row : Row) × HasSource row a × MeetsLayerRule v k a row
+row_of v k [] rows meet a i = absurd i
+row_of v k (source ∷ sources) [] meet a i = absurd meet
+row_of v k (source ∷ sources) (row ∷ rows) meet a (inl e) =
+    (row, subst (HasSource row) (sym e) meet.0, subst (λ (s : NameBytes). MeetsLayerRule v k s row) (sym e) meet.1)
+row_of v k (source ∷ sources) (row ∷ rows) meet a (inr i) = row_of v k sources rows meet.2 a i
+
+module _ (v : Responses) (proper : AreProper v) (k : ℕ) (steps : List Step) (two : 2 ≤ k) (size : length steps ≡ k) (shown : AreShownSteps v steps) where
+  -- the steps go round a cycle
+  cycle : IsCycle v (map begin steps)
+  cycle = record {
+    some = omega (arith, length-map {B = NameBytes} steps begin);
+    shown = subst (λ (ps : List (NameBytes × NameBytes)). All (λ p. StandsBefore v p.0 p.1) ps) shown.joined
+        (All-from_members (λ (p : NameBytes × NameBytes). StandsBefore v p.0 p.1) (map ends steps) (λ p i.
+        let s = In-map_back ends p steps i in
+        subst (λ (q : NameBytes × NameBytes). StandsBefore v q.0 q.1) s.2 (s.0.shown, All-member (λ (s : Step). Shows v s.shown s.from s.to) steps s.0 shown.shown s.1)));
+  }
+
+  shortest : (rows : List Row) → (3 ≤ k → RowsMeetRule v k v.elements rows) → IsShortestLength v k
+  shortest rows rule = ((map begin steps, cycle, length-map {B = NameBytes} steps begin ∙ size), (λ c is. go c is (cases_lt k 3)))
+    where
+      go : (c : List NameBytes) → IsCycle v c → (k < 3) ⊎ (3 ≤ k) → k ≤ length c
+      go c is (inl lt) = let n : 2 ≤ length c = two_or_more v proper c is in omega arith
+      go c is (inr le) =
+          layers_bound_cycles v k proper (λ source i. row_of v k v.elements rows (rule le) source (In-from_Contains v.elements source i)) (length c) (c, is, refl)
+
+  pub cycle_implies : (rows : List Row) → (3 ≤ k → RowsMeetRule v k v.elements rows) → HasConflictNumber v k × ProvesConflict v k steps
+  cycle_implies rows rule =
+      let short : IsShortestLength v k = shortest rows rule in
+      let has : HasConflictNumber v k = number_from_shortest v proper k short in
+      let both = step_operations_conflict v steps proper shown (subst (IsShortestLength v) (sym size) short) in
+      (has, record { set = both.0; size = size; inconsistent = both.1; fewer = has.least })
+
+pub implied : (h : History) (c : Certificate) → IsLegal h → IsSpellable c → IsValid h c → Implies h c
+implied h (names_fault fault) legal spellable valid = valid
+implied h (gives_order order) legal spellable valid = (strong_is_an_order h legal valid.0).1 (order, valid.1)
+implied h (gives_cycle k steps rows) legal spellable valid =
+    cycle_implies (responses_of h) (sound_responses_are_proper h legal valid.0) k steps spellable.0 valid.2 valid.1 rows valid.3
+
+-- what was read is what is spelled
+pub implied_texts : (trace cert : List ℕ) (g : History) (d : Certificate) (result : Result Answer Memory) → IsLegal g → IsSpellable d → ((h : History) → Spells trace h → g ≡ h) →
+    ((c : Certificate) → SpellsCertificate cert c → d ≡ c) → IfOk result (λ a. IsJudged g d a) → IfOk result (λ a. ImpliesOfTexts trace cert a)
+implied_texts trace cert g d (Ok (Yes k)) legal spellable one_h one_c judged = λ h c reads.
+    subst (λ (z : History). Implies z c) (one_h h reads.0) (subst (λ (z : Certificate). Implies g z) (one_c c reads.1) (implied g d legal spellable judged.0))
+implied_texts trace cert g d (Ok (No why)) legal spellable one_h one_c judged = tt
+implied_texts trace cert g d (Err e) legal spellable one_h one_c judged = tt

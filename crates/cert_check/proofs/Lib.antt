@@ -1,0 +1,14 @@
+-- The lemmas.
+pub mod OneMore
+pub mod NameNumbers
+pub mod ValueTests
+pub mod NotedNames
+pub mod FaultReasons
+pub mod Listed
+pub mod Ranks
+pub mod Depths
+pub mod Rings
+pub mod StepsRight
+pub mod OrderJudged
+pub mod RowsJudged
+pub mod Implied

@@ -1,0 +1,107 @@
+-- What stands before what under a function, and the responses of a sound recording as lists of numbers.
+use Rattle.std.proofs.Common.{◌≡◌, ◌≢◌, ℕ, suc, ◌+◌, ◌<◌, ◌≤◌, ◌⊎◌, inl, inr, Some, None, List, [], ◌∷◌, ◌++◌, map, length, get_or, Vec, Global, refl, sym, ◌∙◌, ap, subst, arith}
+use Rattle.std.specs.Prelude.{All, unwrap_or, slice_get, slice_index_or}
+use Rattle.std.proofs.lemmas.List.{get_or-map, length-map}
+use Rattle.std.proofs.lemmas.Option.{slice_get-get_or, get_or_from_slice_get, slice_get_within}
+use Rattle.events.specs.Names.{NameBytes}
+use Rattle.events.specs.Operation.{Operation}
+use Rattle.events.specs.History.{History, IsLegal}
+use Rattle.events.specs.Operations.{operation_names, response, IsOperation}
+use Rattle.specification.specs.Faults.{IsSound}
+use Rattle.specification.specs.Elements.{elements, number_in, numbers_in}
+use Rattle.specification.specs.Responses.{Returned, responses_of}
+use Rattle.specification.proofs.Members.{In, Before, Once, In-map, All-from_members, All-member, Once-from_AllPairs, place_of_In, In-from_place}
+use Rattle.specification.proofs.Numbers.{number}
+use Rattle.specification.proofs.OperationNames.{listed-operation, operation-listed}
+use Rattle.specification.proofs.SoundResponses.{response-elements, elements-differ}
+use Rattle.specification.proofs.Strong.{returned_by, returned_of}
+use Rattle.cert_check.proofs.NameNumbers.{number-some, number-at, name-at}
+use Rattle.cert_check.specs.Numbering.{IsOf, lists_of, places_at, AreWithin}
+use Rattle.cert_check.specs.declared.numbered.Numbered.{Numbered}
+
+module _ {X Y : Type 0} (f : X → Y) where
+  pub In-map_back : (y : Y) (xs : List X) → In y (map f xs) → (x : X) × In x xs × (f x ≡ y)
+  In-map_back y [] i = absurd i
+  In-map_back y (x ∷ xs) (inl e) = (x, inl refl, sym e)
+  In-map_back y (x ∷ xs) (inr i) = let r = In-map_back y xs i in (r.0, inr r.1, r.2)
+
+  pub Before-map : (a b : X) (xs : List X) → Before a b xs → Before (f a) (f b) (map f xs)
+  Before-map a b [] h = absurd h
+  Before-map a b (x ∷ xs) (inl h) = inl (ap f h.0, In-map f b xs h.1)
+  Before-map a b (x ∷ xs) (inr h) = inr (Before-map a b xs h)
+
+  pub Before-map_back : (c d : Y) (xs : List X) → Before c d (map f xs) → (a : X) × (b : X) × Before a b xs × (f a ≡ c) × (f b ≡ d)
+  Before-map_back c d [] h = absurd h
+  Before-map_back c d (x ∷ xs) (inl h) = let r = In-map_back d xs h.1 in (x, r.0, inl (refl, r.1), sym h.0, r.2)
+  Before-map_back c d (x ∷ xs) (inr h) = let r = Before-map_back c d xs h in (r.0, r.1, inr r.2, r.3, r.4)
+
+pub map-twice : {X Y Z : Type 0} (g : Y → Z) (f : X → Y) (xs : List X) → map g (map f xs) ≡ map (λ x. g (f x)) xs
+map-twice g f [] = refl
+map-twice g f (x ∷ xs) = ap (λ l. g (f x) ∷ l) (map-twice g f xs)
+
+-- the number of a member is its place
+pub number_of_member : (names : List NameBytes) (a : NameBytes) → Once names → In a names → slice_get names (number names a) ≡ Some a
+number_of_member names a once i =
+    let s = number-some names a once i in
+    ap (λ o. slice_get names (unwrap_or o (length names))) s.2 ∙ s.1
+
+pub numbers-within : (names w : List NameBytes) → Once names → ((a : NameBytes) → In a w → In a names) → All (λ x. x < length names) (numbers_in names w)
+numbers-within names w once known =
+    All-from_members (λ (x : ℕ). x < length names) (numbers_in names w) (λ x i.
+    let s = In-map_back (number names) x w i in
+    let lt : number names s.0 < length names = slice_get_within names (number names s.0) s.0 (number_of_member names s.0 once (known s.0 s.1)) in
+    let e : number names s.0 ≡ x = s.2 in omega arith)
+
+module _ (h : History) (legal : IsLegal h) (sound : IsSound h) where
+  pub once-elements : Once (elements h)
+  once-elements = elements-differ h sound.names
+
+  pub known-response : (o : Operation) → In o (operation_names h) → (a : NameBytes) → In a (response h o) → In a (elements h)
+  known-response o i = response-elements h o legal (sound.right o (listed-operation h o i)).contents
+
+  pub once-response : (o : Operation) → In o (operation_names h) → Once (response h o)
+  once-response o i = Once-from_AllPairs (response h o) (sound.right o (listed-operation h o i)).contents.once
+
+-- the lists of numbers, of operations whose responses have elements alone
+pub lists-within : (h : History) (legal : IsLegal h) (sound : IsSound h) (places : List (Vec ℕ Global)) →
+    map (λ (v : Vec ℕ Global). v.items) places ≡ map (λ o. numbers_in (elements h) (response h o)) (operation_names h) →
+    All (λ (v : Vec ℕ Global). All (λ x. x < length (elements h)) v.items) places
+lists-within h legal sound places is =
+    All-from_members (λ (v : Vec ℕ Global). All (λ x. x < length (elements h)) v.items) places (λ v i.
+    let j : In v.items (map (λ (u : Vec ℕ Global). u.items) places) = In-map (λ (u : Vec ℕ Global). u.items) v places i in
+    let s = In-map_back (λ (o : Operation). numbers_in (elements h) (response h o)) v.items (operation_names h) (subst (λ (ls : List (List ℕ)). In v.items ls) is j) in
+    subst (λ (l : List ℕ). All (λ x. x < length (elements h)) l) s.2 (numbers-within (elements h) (response h s.0) (once-elements h legal sound) (known-response h legal sound s.0 s.1)))
+
+module _ (h : History) (t : Numbered) (of : IsOf h t) where
+  -- as many lists as operations
+  pub lists-count : length t.places.items ≡ length (operation_names h)
+  lists-count =
+      sym (length-map {B = List ℕ} t.places.items (λ (v : Vec ℕ Global). v.items)) ∙ ap (λ (l : List (List ℕ)). length l) of.places
+      ∙ length-map {B = List ℕ} (operation_names h) (λ o. numbers_in (elements h) (response h o))
+
+  -- the list of an operation
+  pub list_at : (j : ℕ) (o : Operation) → slice_get (operation_names h) j ≡ Some o → places_at t j ≡ numbers_in (elements h) (response h o)
+  list_at j o at =
+      ap (λ (l : List (List ℕ)). get_or l j []) of.places
+      ∙ get_or-map (λ o. numbers_in (elements h) (response h o)) (operation_names h) j o [] (slice_get_within (operation_names h) j o at)
+      ∙ ap (λ p. numbers_in (elements h) (response h p)) (get_or_from_slice_get (operation_names h) j o o at)
+
+  -- what holds of each list holds of each response, and back
+  pub each_response : (P : List ℕ → Type 0) → ((j : ℕ) → j < length t.places.items → P (places_at t j)) → (r : Returned) → In r (responses_of h).returned →
+      In r.by (operation_names h) × (r.names ≡ response h r.by) × P (numbers_in (elements h) (response h r.by))
+  each_response P all r i =
+      let by = returned_by h r i in
+      let listed : In r.by (operation_names h) = operation-listed h r.by of.legal by.0 in
+      let p = place_of_In (operation_names h) r.by listed in
+      (listed, by.1, subst P (list_at p.0 r.by p.2) (all p.0 (omega (arith, p.1, lists-count))))
+
+  pub each_list : (P : List ℕ → Type 0) → ((o : Operation) → In o (operation_names h) → P (numbers_in (elements h) (response h o))) → (j : ℕ) → j < length t.places.items → P (places_at t j)
+  each_list P all j lt =
+      let none : Operation = record { replica = 0; n = 0 } in
+      let o : Operation = get_or (operation_names h) j none in
+      let at : slice_get (operation_names h) j ≡ Some o = slice_get-get_or (operation_names h) j none (omega (arith, lt, lists-count)) in
+      subst P (sym (list_at j o at)) (all o (In-from_place (operation_names h) j o at))
+
+-- the list at a place
+pub items-at : (t : Numbered) (i : ℕ) (v : Vec ℕ Global) → i < length t.places.items → v ≡ get_or t.places.items i v → places_at t i ≡ v.items
+items-at t i v lt is = get_or-map (λ (u : Vec ℕ Global). u.items) t.places.items i v [] lt ∙ ap (λ (u : Vec ℕ Global). u.items) (sym is)

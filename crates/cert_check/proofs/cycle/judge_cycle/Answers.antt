@@ -1,0 +1,22 @@
+-- The steps are a cycle's, and the rows decide for k of 3 and more.
+use Rattle.std.proofs.Common.{◌≡◌, ℕ, ◌≤◌, List, refl, arith}
+use Rattle.specification.specs.Conflict.{Step}
+use Rattle.events.specs.History.{History}
+use Rattle.cert_check.proofs.StepsRight.{all_right}
+use Rattle.cert_check.proofs.RowsJudged.{judged_no}
+use Rattle.cert_check.proofs.cycle.judge_cycle.Goals as goal
+
+pub returns-then-k-lt3 : goal.returns-then-k-lt3
+returns-then-k-lt3 c =
+    ((c.requires.sound, all_right c.args.recording.now c.args.steps.now c.in_default.ensures, c.requires.spellable.2, (λ le. absurd (omega (arith, c.if-k-lt3.true)))), refl)
+
+pub returns-in-None : goal.returns-in-None
+returns-in-None c =
+    let rows = rw c.in-None.is at c.in_ok-rows_fault.ensures in
+    ((c.requires.sound, all_right c.args.recording.now c.args.steps.now c.in_default.ensures, c.requires.spellable.2, (λ le. rows c.args.recording.now c.in_ok-numbered.ensures)), refl)
+
+pub returns : goal.returns
+returns c =
+    let fault = rw c.in-Some-2.is at c.in_ok-rows_fault.ensures in
+    judged_no c.args.recording.now c.args.k c.args.steps.now c.args.rows.now c.in-Some-2.why c.requires.sound
+    (all_right c.args.recording.now c.args.steps.now c.in_default.ensures) (omega (arith, c.if-k-lt3.false)) (fault c.args.recording.now c.in_ok-numbered.ensures)

@@ -1,0 +1,20 @@
+-- Laws of certificates.
+use Rattle.std.specs.Prelude.{◌≡◌, ℕ, List}
+use Rattle.events.specs.History.{History, IsLegal}
+use Rattle.specification.specs.Laws as laws
+use Rattle.specification.specs.CertificateText.{Certificate, IsSpellable}
+use Rattle.specification.specs.ValidCertificate.{IsValid}
+use Rattle.cert_check.specs.AnswerOf.{Reads, IsAnswer, Implies, kind_of}
+use Rattle.cert_check.specs.declared.answer.Answer.{Answer}
+use Rattle.cert_check.specs.declared.answer.Answer.TheVariants.{Yes}
+
+abbrev pub LayersBoundCycles : Type 0
+LayersBoundCycles = laws.LayersBoundCycles
+
+-- a valid certificate implies what it shows
+abbrev pub ValidCertificatesImply : Type 0
+ValidCertificatesImply = (h : History) (c : Certificate) → IsLegal h → IsSpellable c → IsValid h c → Implies h c
+
+-- a valid certificate gets a yes, of its kind
+abbrev pub ValidCertificatesGetYes : Type 0
+ValidCertificatesGetYes = (trace cert : List ℕ) (h : History) (c : Certificate) → Reads trace cert h c → IsValid h c → (a : Answer) → IsAnswer trace cert a → a ≡ Yes (kind_of c)

@@ -1,0 +1,48 @@
+-- The elements with their numbers, and the responses as lists of them.
+use Rattle.std.specs.Prelude.{◌≡◌, ℕ, ◌<◌, ◌==◌, ◌^◌, Option, List, [], All, length, map, slice_index, slice_index_or}
+use Rattle.std.specs.Cmp.Lexicographic.{pointwise}
+use Rattle.indexmap.specs.IndexMap.{get}
+use Rattle.events.specs.Names.{NameBytes}
+use Rattle.events.specs.History.{History, IsLegal}
+use Rattle.events.specs.Operations.{operation_names, response}
+use Rattle.specification.specs.Faults.{IsSound}
+use Rattle.specification.specs.Elements.{elements, number_in, numbers_in}
+use Rattle.specification.proofs.Members.{Once}
+use Rattle.cert_check.specs.Values.{IsGradual, IsDeepBefore}
+use Rattle.cert_check.specs.declared.numbered.Numbered.{Numbered}
+
+-- the number of a name
+abbrev pub number_of : Numbered → NameBytes → Option ℕ
+number_of t a = get (pointwise ◌==◌) t.numbers a
+
+-- the lists of places
+abbrev pub lists_of : Numbered → List (List ℕ)
+lists_of t = map (λ list. list.items) t.places.items
+
+-- the places of the operation with this number
+abbrev pub places_at : Numbered → ℕ → List ℕ
+places_at t i = slice_index_or (lists_of t) i []
+
+-- along these places the values are gradual, and deep before the source
+abbrev pub AreDeepAt : Numbered → List ℕ → ℕ → ℕ → ℕ → Type 0
+AreDeepAt t depths source bound j = IsGradual (map (slice_index depths) (places_at t j)) × IsDeepBefore depths source bound (places_at t j)
+
+-- the names differ, and their numbers are their places
+pub record IsNumbering (t : Numbered) : Type 0 where
+  pub once : Once t.names.items
+  pub few : length t.names.items < 2 ^ 32
+  pub numbers : (a : NameBytes) → number_of t a ≡ number_in t.names.items a
+
+-- each place has a number below the bound
+abbrev pub AreWithin : ℕ → Numbered → Type 0
+AreWithin bound t = All (λ list. All (λ x. x < bound) list.items) t.places.items
+
+-- the elements and the places of a sound recording
+pub record IsOf (h : History) (t : Numbered) : Type 0 where
+  pub legal : IsLegal h
+  pub sound : IsSound h
+  pub numbering : IsNumbering t
+  pub names : t.names.items ≡ elements h
+  pub operations : t.operations.items ≡ operation_names h
+  pub places : lists_of t ≡ map (λ o. numbers_in (elements h) (response h o)) (operation_names h)
+  pub within : AreWithin (length t.names.items) t

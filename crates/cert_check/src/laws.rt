@@ -1,0 +1,15 @@
+//! The laws, each as the contract of a function with an empty body.
+
+ghost use Rattle.cert_check.specs.Laws.{LayersBoundCycles, ValidCertificatesImply};
+
+/// For the responses of every sound recording and every k: where each element is the source of a row of layers that
+/// meets the layer rule for k, no cycle has fewer than k elements. So rows are tested, and nothing is searched.
+pub fn layers_bound_cycles()
+    ensures { LayersBoundCycles }
+{}
+
+/// A valid certificate that some text spells proves its verdict on a legal recording: it names the first fault, or
+/// strong holds, or k is the conflict number and the operations of its steps are in conflict.
+pub fn valid_certificates_imply()
+    ensures { ValidCertificatesImply }
+{}

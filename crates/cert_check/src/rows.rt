@@ -1,0 +1,118 @@
+//! Rows of layers.
+
+ghost use Rattle.std.specs.Prelude.{◌≡◌, ◌↔◌, ◌+◌, ◌<◌, ◌^◌, ℕ, All, IfOk, IsTrue, MatchOption, Some, length, slice_get};
+ghost use Rattle.events.specs.Names.{NameBytes};
+ghost use Rattle.events.specs.History.{History};
+ghost use Rattle.specification.specs.Elements.{elements};
+ghost use Rattle.specification.specs.Responses.{responses_of};
+ghost use Rattle.specification.specs.CertificateText.{IsRow};
+ghost use Rattle.specification.specs.LayerRule.{MeetsLayerRule};
+ghost use Rattle.specification.specs.ValidCertificate.{HasSource, RowsMeetRule};
+ghost use Rattle.cert_check.specs.Numbering.{IsNumbering, IsOf, AreWithin};
+ghost use Rattle.cert_check.specs.Judged.{IsRowJudged, AreRowsJudged};
+
+use super::answer::Reason;
+use super::numbered::Numbered;
+use events::{Memory, Name};
+use std::alloc::Global;
+use witnesses::{Layers, Row};
+
+/// The source of a row: the name that stands alone in its first layer.
+fn source_of(row: &Row) -> Option<Name>
+    ensures { MatchOption result ((a : NameBytes) → ¬ HasSource row.now a) (λ a. HasSource row.now a) }
+{
+    let layer = row.get(0)?;
+    if layer.len() != 1 {
+        return None;
+    }
+    layer.get(0).copied()
+}
+
+/// Whether a row has this source.
+fn has_source(row: &Row, source: &Name) -> bool
+    ensures { IsTrue result ↔ HasSource row.now source.now }
+{
+    match source_of(row) {
+        None => false,
+        Some(name) => name == *source,
+    }
+}
+
+/// Whether the row of the element with this number meets the layer rule. It costs the places of all
+/// responses, the elements and the names of the row.
+fn meets_rule(
+    alloc: Global,
+    numbered: &Numbered,
+    k: u32,
+    source: u32,
+    row: &Row,
+) -> Result<bool, Memory>
+    requires numbering { IsNumbering numbered.now }
+    requires within { AreWithin (length numbered.now.names.items) numbered.now }
+    requires layers { length row.now + 1 ≡ k }
+    ensures { IfOk result (λ meets. (h : History) (a : NameBytes) → IsOf h numbered.now → slice_get (elements h) source ≡ Some a →
+        IsTrue meets ↔ MeetsLayerRule (responses_of h) k a row.now) }
+{
+    let found = numbered.depths_of(alloc, k, row)?;
+    match found {
+        None => Ok(false),
+        Some(depths) => Ok(numbered.are_deep(&depths, source, k - 1)),
+    }
+}
+
+/// What is wrong with the row of the element with this number, if anything is.
+fn row_fault(
+    alloc: Global,
+    numbered: &Numbered,
+    k: u32,
+    rows: &Layers,
+    i: u32,
+) -> Result<Option<Reason>, Memory>
+    requires numbering { IsNumbering numbered.now }
+    requires within { AreWithin (length numbered.now.names.items) numbered.now }
+    requires rows { All (IsRow k) rows.now }
+    requires element { i < length numbered.now.names.items }
+    ensures { IfOk result (λ found. (h : History) → IsOf h numbered.now → IsRowJudged (responses_of h) k rows.now i found) }
+{
+    let source = numbered.names[i as usize];
+    match rows.get(i as usize) {
+        None => Ok(Some(Reason::MissingLayer { source })),
+        Some(row) => {
+            if !has_source(row, &source) {
+                Ok(Some(Reason::MissingLayer { source }))
+            } else if meets_rule(alloc, numbered, k, i, row)? {
+                Ok(None)
+            } else {
+                Ok(Some(Reason::ShortLayer { source }))
+            }
+        }
+    }
+}
+
+/// The first thing that is wrong with the rows of a certificate for `k` of 3 and more: one row after the
+/// other, in order of numbers, and then a row too many.
+pub fn rows_fault(
+    alloc: Global,
+    numbered: &Numbered,
+    k: u32,
+    rows: &Layers,
+) -> Result<Option<Reason>, Memory>
+    requires numbering { IsNumbering numbered.now }
+    requires within { AreWithin (length numbered.now.names.items) numbered.now }
+    requires rows { All (IsRow k) rows.now }
+    ensures { IfOk result (λ found. (h : History) → IsOf h numbered.now → AreRowsJudged (responses_of h) k rows.now found) }
+{
+    let count = numbered.names.len() as u32;
+    for i in 0..count {
+        if let Some(fault) = row_fault(alloc, numbered, k, rows, i)? {
+            return Ok(Some(fault));
+        }
+    }
+    match rows.get(numbered.names.len()) {
+        None => Ok(None),
+        Some(row) => match source_of(row) {
+            None => Ok(None),
+            Some(source) => Ok(Some(Reason::ExtraLayer { source })),
+        },
+    }
+}

@@ -1,0 +1,82 @@
+//! Whether the steps of a cycle are shown and join.
+
+ghost use Rattle.std.specs.Prelude.{◌≡◌, ◌↔◌, ◌<◌, ◌^◌, ℕ, IsTrue, MatchOption, length, option_copied, slice_get};
+ghost use Rattle.events.specs.History.{IsLegal};
+ghost use Rattle.events.specs.Operations.{response};
+ghost use Rattle.specification.specs.Responses.{responses_of};
+ghost use Rattle.specification.specs.ValidCertificate.{StepIsRight, IsFirstWrongStep};
+ghost use Rattle.specification.proofs.Members.{Before};
+ghost use Rattle.cert_check.specs.Ring.{next_place};
+
+use events::{Name, OpName, Recording, Response};
+use witnesses::{Step, Steps};
+
+/// Whether a response has one name at a lesser place than the other.
+fn stands_before(response: &Response, from: &Name, to: &Name) -> bool
+    ensures { IsTrue result ↔ Before from.now to.now response.now }
+{
+    let mut has_from = false;
+    for i in 0..response.len() {
+        if let Some(name) = response.get(i) {
+            if has_from && name == *to {
+                return true;
+            }
+            if name == *from {
+                has_from = true;
+            }
+        }
+    }
+    false
+}
+
+/// Whether an operation shows one name before the other.
+fn shows(recording: &Recording, by: OpName, from: &Name, to: &Name) -> bool
+    ensures { IsTrue result ↔ Before from.now to.now (response recording.now by) }
+{
+    match recording.response(by) {
+        None => false,
+        Some(response) => stands_before(response, from, to),
+    }
+}
+
+/// The step behind the one at a place: behind the last the first.
+fn next_step(steps: &Steps, i: usize) -> Option<&Step>
+    requires { i < length steps.now }
+    ensures { option_copied result ≡ slice_get steps.now (next_place (length steps.now) i) }
+{
+    let count = steps.len();
+    if i + 1 == count {
+        steps.get(0)
+    } else {
+        steps.get(i + 1)
+    }
+}
+
+/// Whether the step at a place is shown by its operation and ends where the next one begins.
+fn is_right_step(recording: &Recording, steps: &Steps, i: usize) -> bool
+    requires legal { IsLegal recording.now }
+    requires within { i < length steps.now }
+    ensures { IsTrue result ↔ StepIsRight (responses_of recording.now) steps.now i }
+{
+    match (steps.get(i), next_step(steps, i)) {
+        (Some(step), Some(next)) => {
+            step.to == next.from && shows(recording, step.shown, &step.from, &step.to)
+        }
+        _ => false,
+    }
+}
+
+/// The number of the first step that is not right, counted from 1.
+pub fn first_wrong_step(recording: &Recording, steps: &Steps) -> Option<u32>
+    requires legal { IsLegal recording.now }
+    requires few { length steps.now < 2 ^ 32 }
+    ensures { MatchOption result ((i : ℕ) → i < length steps.now → StepIsRight (responses_of recording.now) steps.now i)
+        (IsFirstWrongStep (responses_of recording.now) steps.now) }
+{
+    for i in 0..steps.len() {
+        if !is_right_step(recording, steps, i) {
+            return Some(i as u32 + 1);
+        }
+    }
+    None
+}
