@@ -8,6 +8,8 @@ use std::test::Fail;
 #[derive(Clone, Copy, Debug, PartialEq, Eq)]
 enum Request {
     Workers(u32, Form),
+    Cert,
+    Verify,
     Usage,
     Help,
     Memory,
@@ -22,7 +24,7 @@ fn words_of(alloc: Global, line: &str) -> Result<Vec<String>, AllocError> {
     Ok(words)
 }
 
-/// What the words ask for, and whether the file is the one that was meant.
+/// What the words ask for, and whether the file is the one that was meant. A certificate is to be `c`.
 fn asked_once(alloc: Global, words: &[String], file: &str) -> (Request, bool) {
     match read_words(alloc, words) {
         Ok(
@@ -32,6 +34,11 @@ fn asked_once(alloc: Global, words: &[String], file: &str) -> (Request, bool) {
                 file: word,
             },
         ) => (Request::Workers(workers, form), word.as_str() == file),
+        Ok(Task::Cert { file: word }) => (Request::Cert, word.as_str() == file),
+        Ok(Task::Verify { file: word, cert }) => (
+            Request::Verify,
+            word.as_str() == file && cert.as_str() == "c",
+        ),
         Err(WordsFault::Usage) => (Request::Usage, true),
         Err(WordsFault::Memory) => (Request::Memory, true),
         Err(WordsFault::Help { text }) => (Request::Help, !text.is_empty()),
@@ -52,6 +59,24 @@ fn line_asks(alloc: Global, line: &str, file: &str) -> Result<(Request, bool), A
         Err(_) => words_of(alloc, line)?,
     };
     Ok(asked(alloc, words.as_slice(), file))
+}
+
+#[test]
+fn words_of_certificates(rt: HostRuntime) -> Result<(), Fail> {
+    let rows = [
+        ("cert t", Request::Cert, "t"),
+        ("cert -- --json", Request::Cert, "--json"),
+        ("verify t c", Request::Verify, "t"),
+        ("verify - c", Request::Verify, "-"),
+        ("cert", Request::Usage, ""),
+        ("cert t u", Request::Usage, ""),
+        ("verify t", Request::Usage, ""),
+        ("verify --json t c", Request::Usage, ""),
+    ];
+    for (line, request, file) in rows {
+        assert_eq!(rt; line_asks(rt.alloc(), line, file)?, (request, true), "at {line}");
+    }
+    Ok(())
 }
 
 #[test]

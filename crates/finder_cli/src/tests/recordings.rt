@@ -1,5 +1,6 @@
 use super::pages::{Page, Script};
-use crate::run::{Form, RunFault, Status, run};
+use crate::run::{Form, run};
+use crate::status::{RunFault, Status};
 use crate::streams::{Sink, Source};
 use events::Refusal;
 use std::alloc::Global;

@@ -1,5 +1,6 @@
 use super::pages::{Page, Script};
-use crate::run::{Form, RunFault, Status, run};
+use crate::run::{Form, run};
+use crate::status::{RunFault, Status};
 use crate::streams::{ReadFault, Sink, Source, WriteFault};
 use std::alloc::Global;
 use std::test::Fail;

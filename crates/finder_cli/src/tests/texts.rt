@@ -1,5 +1,5 @@
 use crate::program::ProgramFault;
-use crate::run::{RunFault, Status};
+use crate::status::{RunFault, Status};
 use crate::streams::{ReadFault, WriteFault};
 use crate::task::Word;
 use crate::words::WordsFault;
