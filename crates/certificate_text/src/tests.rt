@@ -1,13 +1,16 @@
+ghost use Rattle.std.specs.Prelude.{IfOk};
 ghost use Rattle.specification.specs.CertificateText.{IsSpellable};
 ghost use Rattle.certificate_text.specs.CertificateOf.{certificate_of};
 
-use super::{CertCause, CertFault, Certificate};
+use super::{CertCause, CertFault, Certificate, Layer, Row, Step};
 use events::Memory;
 use std::alloc::{AllocError, Global};
 use std::test::Fail;
 
 /// What reading says; where the first call finds no memory, what the second says.
-fn reading(alloc: Global, text: &[u8]) -> Result<Certificate, CertFault> {
+fn reading(alloc: Global, text: &[u8]) -> Result<Certificate, CertFault>
+    ensures { IfOk result (λ c. IsSpellable (certificate_of c)) }
+{
     match Certificate::read(alloc, text) {
         Err(
             CertFault {
@@ -61,28 +64,60 @@ fn certificates_are_read_and_written_again(rt: HostRuntime) -> Result<(), Fail> 
     Ok(())
 }
 
+/// Whether it is the step `c d 3.4`.
+fn is_third_step(step: Option<&Step>) -> bool {
+    match step {
+        Some(step) => {
+            step.from.bytes() == b"c".as_slice()
+                && step.to.bytes() == b"d".as_slice()
+                && step.shown.replica == 3
+                && step.shown.n == 4
+        }
+        None => false,
+    }
+}
+
+/// How many names the layer has.
+fn size(layer: Option<&Layer>) -> usize {
+    match layer {
+        Some(layer) => layer.len(),
+        None => usize::MAX,
+    }
+}
+
+/// Whether its layers have one name, none and two.
+fn is_row(row: Option<&Row>) -> bool {
+    match row {
+        Some(row) => {
+            row.len() == 3
+                && size(row.get(0)) == 1
+                && size(row.get(1)) == 0
+                && size(row.get(2)) == 2
+        }
+        None => false,
+    }
+}
+
+/// Whether it is a cycle of four steps with that third step, and that row alone.
+fn is_cycle(certificate: &Certificate) -> bool {
+    match certificate {
+        Certificate::Refused { k, steps, layers } => {
+            *k == 4
+                && steps.len() == 4
+                && is_third_step(steps.get(2))
+                && layers.len() == 1
+                && is_row(layers.get(0))
+        }
+        _ => false,
+    }
+}
+
 #[test]
 fn a_text_gives_its_cycle(rt: HostRuntime) -> Result<(), Fail> {
     let text =
         "cert 1\nrefused 4\nstep a b 0.2\nstep b c 1.2\nstep c d 3.4\nstep d a 1.2\nlayers z / / b a\n";
-    match reading(rt.alloc(), text.as_bytes())? {
-        Certificate::Refused { k, steps, layers } => {
-            assert_eq!(rt; k, 4);
-            assert_eq!(rt; steps.len(), 4);
-            let third = steps.get(2).ok_or("no third step")?;
-            assert_eq!(rt; third.from.bytes(), b"c".as_slice());
-            assert_eq!(rt; third.to.bytes(), b"d".as_slice());
-            assert_eq!(rt; third.shown.replica, 3);
-            assert_eq!(rt; third.shown.n, 4);
-            assert_eq!(rt; layers.len(), 1);
-            let row = layers.get(0).ok_or("no row")?;
-            assert_eq!(rt; row.len(), 3);
-            assert_eq!(rt; row.get(1).ok_or("no second layer")?.len(), 0);
-            let last = row.get(2).ok_or("no third layer")?;
-            assert_eq!(rt; last.get(0).ok_or("no name")?.bytes(), b"b".as_slice());
-        }
-        _ => assert!(rt; false, "no refusal"),
-    }
+    let certificate = reading(rt.alloc(), text.as_bytes())?;
+    assert!(rt; is_cycle(&certificate));
     Ok(())
 }
 
