@@ -12,3 +12,4 @@ pub mod StepsRight
 pub mod OrderJudged
 pub mod RowsJudged
 pub mod Implied
+pub mod ReasonsExclude

@@ -1,6 +1,6 @@
 //! The laws, each as the contract of a function with an empty body.
 
-ghost use Rattle.cert_check.specs.Laws.{LayersBoundCycles, ValidCertificatesImply};
+ghost use Rattle.cert_check.specs.Laws.{LayersBoundCycles, ValidCertificatesImply, ValidOrReason};
 
 /// For the responses of every sound recording and every k: where each element is the source of a row of layers that
 /// meets the layer rule for k, no cycle has fewer than k elements. So rows are tested, and nothing is searched.
@@ -12,4 +12,9 @@ pub fn layers_bound_cycles()
 /// strong holds, or k is the conflict number and the operations of its steps are in conflict.
 pub fn valid_certificates_imply()
     ensures { ValidCertificatesImply }
+{}
+
+/// A certificate that is valid for a legal recording has no reason against it, so a yes and a no are never both right.
+pub fn valid_certificates_have_no_reason()
+    ensures { ValidOrReason }
 {}
