@@ -1,8 +1,9 @@
 #!/usr/bin/env python3
 """benchmark.py PROGRAM [RUNS [SIZE..]]: seconds, MB/s and peak memory of the whole program, and how its time grows.
 
-The traces are those of traces.py: XL is near the limits. Sizes are M, L and XL, and runs ten, unless told otherwise. It
-is no timed test: what counts as passed is that each trace has the verdict that it is made for. What is required of time
+The traces are those of traces.py: XL is near the limits. Sizes are M, L and XL, and runs ten, unless told otherwise. Of
+refused recordings the certificate is made and checked too, once. It is no timed test: what counts as passed is that each
+trace has the verdict that it is made for, and that the checker says yes. What is required of time
 and memory stands beside the measures at XL, for a quiet machine."""
 import math
 import os
@@ -30,18 +31,16 @@ class Measured(NamedTuple):
     peak: int  # bytes
 
 
-def once(program: str, path: str) -> Measured:
-    """One run on a file, which ends before this returns."""
-    reader, writer = os.pipe()
+def once(program: str, words: list, out: str) -> Measured:
+    """One run, which ends before this returns, and the second line of what it has written to the file."""
     start = time.monotonic()
-    child = os.posix_spawn(program, [program, "verdict", path], os.environ,
-                           file_actions=[(os.POSIX_SPAWN_DUP2, writer, 1)])
-    os.close(writer)
-    with open(reader, "rb") as out:
-        lines = out.read().decode().splitlines()
+    child = os.posix_spawn(program, [program, *words], os.environ,
+                           file_actions=[(os.POSIX_SPAWN_OPEN, 1, out, os.O_WRONLY | os.O_CREAT | os.O_TRUNC, 0o600)])
     _, _, used = os.wait4(child, 0)
     seconds = time.monotonic() - start
-    return Measured(lines[1] if len(lines) > 1 else "", seconds, used.ru_maxrss * 1024)
+    with open(out, "rb") as written:
+        lines = [written.readline().decode().rstrip("\n") for _ in range(2)]
+    return Measured(lines[1] or lines[0], seconds, used.ru_maxrss * 1024)
 
 
 def make(path: str, family: str, size: str) -> None:
@@ -51,8 +50,19 @@ def make(path: str, family: str, size: str) -> None:
 
 
 def measured(program: str, path: str, times: int) -> Measured:
-    runs = [once(program, path) for _ in range(times)]
+    runs = [once(program, ["verdict", path], path + ".out") for _ in range(times)]
     return Measured(runs[0].line, min(run.seconds for run in runs), max(run.peak for run in runs))
+
+
+def certified(tally: Tally, program: str, name: str, path: str) -> None:
+    """The certificate of a refused recording, made and checked."""
+    cert = path + ".cert"
+    made = once(program, ["cert", path], cert)
+    said = once(program, ["verify", path, cert], path + ".out")
+    size = os.path.getsize(cert)
+    print(f"{name:16} certificate {size / 1e6:.1f} MB, made in {made.seconds:.3f} s with {made.peak / 1e6:.1f} MB,"
+          f" checked in {said.seconds:.3f} s with {said.peak / 1e6:.1f} MB", flush=True)
+    tally.check(f"{name}: certificate", made.line.startswith("refused ") and said.line == "yes refused", (made.line, said.line))
 
 
 def requirement(family: str, size: str) -> str:
@@ -96,6 +106,8 @@ def main() -> None:
                 holds = got.line == verdict or (verdict == "doubled" and got.line.startswith("doubled "))
                 tally.check(f"{size} {name}", holds, got.line)
                 grown.append((length, got.seconds))
+                if verdict.startswith("refused "):
+                    certified(tally, program, f"{size} {name}", path)
             if len(grown) > 1:
                 print(f"{name}: {growth(grown)}")
     tally.close()
