@@ -1,19 +1,18 @@
 -- The depths of elements that are noted for a row are those of the row, and what the layer rule says of them.
-use Rattle.std.proofs.Common.{◌≡◌, ◌≢◌, ℕ, zero, suc, ◌+◌, ◌-◌, ◌<◌, ◌≤◌, ◌⊎◌, inl, inr, Bool, true, false, cond, Some, None, List, [], ◌∷◌, ◌++◌, map, length, refl, sym, ◌∙◌, ap, subst, arith}
-use Rattle.std.specs.Prelude.{All, AllPairs, Contains, unwrap_or, slice_get, slice_index, bytes_eq, nat_lt, not, flat_map, ◌||◌, IsTrue, ◌↔◌}
+use Rattle.std.proofs.Common.{◌≡◌, ◌≢◌, ℕ, suc, ◌+◌, ◌-◌, ◌<◌, ◌≤◌, ◌⊎◌, inl, inr, Bool, true, false, cond, Some, None, List, [], ◌∷◌, ◌++◌, map, length, refl, sym, ◌∙◌, ap, subst, arith}
+use Rattle.std.specs.Prelude.{All, AllPairs, Contains, unwrap_or, slice_get, slice_index, bytes_eq, nat_lt, ◌||◌}
 use Rattle.std.specs.List.{list_any, position_or_len}
-use Rattle.std.proofs.lemmas.Bool.{cases_lt, lt-ltb, le-ltb, false_from_ne_true, false≢true}
+use Rattle.std.proofs.lemmas.Bool.{cases_lt, lt-ltb, le-ltb, false_from_ne_true}
 use Rattle.std.proofs.lemmas.List.{map-append}
 use Rattle.std.specs.Cmp.Lexicographic.{bytes_decides}
 use native.Mathlib.Decide.{ℕ_discrete}
 use Rattle.events.specs.Names.{NameBytes}
-use Rattle.events.specs.Operation.{Operation}
 use Rattle.events.specs.History.{History}
-use Rattle.events.specs.Operations.{operation_names, response}
+use Rattle.events.specs.Operations.{response}
 use Rattle.specification.specs.Elements.{elements, numbers_in}
 use Rattle.specification.specs.Responses.{Returned, responses_of, HasInOrder}
 use Rattle.specification.specs.LayerRule.{Row, row_names, depth_in, MeetsLayerRule}
-use Rattle.specification.proofs.Members.{In, Before, Once, In-map, In-append_cases, In-append_left, In-append_right, In-from_place, All-from_members, All-member, In-from_Contains, Contains-from_In, Once-from_AllPairs, AllPairs-from_Once, Before-from_places, places_of_Before, Before-first, Before-second, decide_In}
+use Rattle.specification.proofs.Members.{In, Before, Once, In-map, In-append_cases, In-append_left, In-append_right, All-from_members, All-member, In-from_Contains, Contains-from_In, Once-from_AllPairs, AllPairs-from_Once, Before-from_places, places_of_Before, Before-first, Before-second, decide_In}
 use Rattle.specification.proofs.Numbers.{number}
 use Rattle.specification.proofs.Shown.{same_name}
 use Rattle.specification.proofs.OperationNames.{listed-operation}
@@ -23,7 +22,7 @@ use Rattle.cert_check.proofs.Listed.{In-map_back, Before-map, Before-map_back, n
 use Rattle.cert_check.proofs.NameNumbers.{number-at}
 use Rattle.cert_check.specs.Noted.{Noted, Holds, CanBeNoted, at_depth, pairs_from}
 use Rattle.cert_check.specs.Values.{IsGradual, IsDeepBefore}
-use Rattle.cert_check.specs.Numbering.{IsOf, AreDeepAt, places_at}
+use Rattle.cert_check.specs.Numbering.{IsOf, AreDeepAt}
 use Rattle.cert_check.specs.declared.numbered.Numbered.{Numbered}
 
 names_at_depth : (d : ℕ) (layer : List NameBytes) → map (λ (p : Noted). p.0) (at_depth d layer) ≡ layer

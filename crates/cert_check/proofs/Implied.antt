@@ -1,14 +1,13 @@
 -- What a valid certificate implies.
-use Rattle.std.proofs.Common.{◌≡◌, ◌≢◌, ◌⊎◌, inl, inr, ℕ, ◌+◌, ◌<◌, ◌≤◌, List, [], ◌∷◌, Some, None, length, map, refl, sym, ◌∙◌, ap, subst, arith}
-use Rattle.std.specs.Prelude.{Contains, slice_get, All}
+use Rattle.std.proofs.Common.{◌≡◌, ◌⊎◌, inl, inr, ℕ, ◌<◌, ◌≤◌, List, [], ◌∷◌, length, map, refl, sym, ◌∙◌, subst, arith}
+use Rattle.std.specs.Prelude.{All}
 use Rattle.std.proofs.lemmas.Bool.{cases_lt}
 use Rattle.std.proofs.lemmas.List.{length-map}
 use Rattle.events.specs.Names.{NameBytes}
 use Rattle.events.specs.History.{History, IsLegal}
-use Rattle.specification.specs.Faults.{IsSound}
 use Rattle.specification.specs.Responses.{Responses, responses_of, StandsBefore, Shows, AreProper}
-use Rattle.specification.specs.Conflict.{ring, IsCycle, Step, AreShownSteps, HasConflictNumber}
-use Rattle.specification.specs.Search.{IsCycleLength, IsShortestLength}
+use Rattle.specification.specs.Conflict.{IsCycle, Step, AreShownSteps, HasConflictNumber}
+use Rattle.specification.specs.Search.{IsShortestLength}
 use Rattle.specification.specs.LayerRule.{Row, MeetsLayerRule}
 use Rattle.specification.specs.Verdict.{ProvesConflict}
 use Rattle.specification.specs.CertificateText.{Certificate, names_fault, gives_order, gives_cycle, IsSpellable}

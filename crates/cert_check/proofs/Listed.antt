@@ -1,22 +1,22 @@
 -- What stands before what under a function, and the responses of a sound recording as lists of numbers.
-use Rattle.std.proofs.Common.{◌≡◌, ◌≢◌, ℕ, suc, ◌+◌, ◌<◌, ◌≤◌, ◌⊎◌, inl, inr, Some, None, List, [], ◌∷◌, ◌++◌, map, length, get_or, Vec, Global, refl, sym, ◌∙◌, ap, subst, arith}
-use Rattle.std.specs.Prelude.{All, unwrap_or, slice_get, slice_index_or}
+use Rattle.std.proofs.Common.{◌≡◌, ℕ, ◌<◌, inl, inr, Some, List, [], ◌∷◌, map, length, get_or, Vec, Global, refl, sym, ◌∙◌, ap, subst, arith}
+use Rattle.std.specs.Prelude.{All, unwrap_or, slice_get}
 use Rattle.std.proofs.lemmas.List.{get_or-map, length-map}
 use Rattle.std.proofs.lemmas.Option.{slice_get-get_or, get_or_from_slice_get, slice_get_within}
 use Rattle.events.specs.Names.{NameBytes}
 use Rattle.events.specs.Operation.{Operation}
 use Rattle.events.specs.History.{History, IsLegal}
-use Rattle.events.specs.Operations.{operation_names, response, IsOperation}
+use Rattle.events.specs.Operations.{operation_names, response}
 use Rattle.specification.specs.Faults.{IsSound}
-use Rattle.specification.specs.Elements.{elements, number_in, numbers_in}
+use Rattle.specification.specs.Elements.{elements, numbers_in}
 use Rattle.specification.specs.Responses.{Returned, responses_of}
-use Rattle.specification.proofs.Members.{In, Before, Once, In-map, All-from_members, All-member, Once-from_AllPairs, place_of_In, In-from_place}
+use Rattle.specification.proofs.Members.{In, Before, Once, In-map, All-from_members, Once-from_AllPairs, place_of_In, In-from_place}
 use Rattle.specification.proofs.Numbers.{number}
 use Rattle.specification.proofs.OperationNames.{listed-operation, operation-listed}
 use Rattle.specification.proofs.SoundResponses.{response-elements, elements-differ}
-use Rattle.specification.proofs.Strong.{returned_by, returned_of}
-use Rattle.cert_check.proofs.NameNumbers.{number-some, number-at, name-at}
-use Rattle.cert_check.specs.Numbering.{IsOf, lists_of, places_at, AreWithin}
+use Rattle.specification.proofs.Strong.{returned_by}
+use Rattle.cert_check.proofs.NameNumbers.{number-some}
+use Rattle.cert_check.specs.Numbering.{IsOf, places_at}
 use Rattle.cert_check.specs.declared.numbered.Numbered.{Numbered}
 
 module _ {X Y : Type 0} (f : X → Y) where

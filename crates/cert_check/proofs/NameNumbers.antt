@@ -6,10 +6,10 @@ use Rattle.std.specs.Cmp.Lexicographic.{bytes_decides}
 use Rattle.std.proofs.lemmas.Bool.{lt-ltb, le-ltb, false_from_ne_true}
 use Rattle.std.proofs.lemmas.List.{take-append-drop}
 use Rattle.std.proofs.lemmas.List.Quantifiers.{position-Some}
-use Rattle.std.proofs.lemmas.Option.{slice_get-get_or, slice_get_within, get_or_from_slice_get}
+use Rattle.std.proofs.lemmas.Option.{slice_get-get_or, slice_get_within}
 use Rattle.events.specs.Names.{NameBytes}
 use Rattle.events.proofs.Places.{slice_get-first, slice_get-last}
-use Rattle.specification.specs.Elements.{number_in, numbers_in}
+use Rattle.specification.specs.Elements.{number_in}
 use Rattle.specification.proofs.Members.{In, Once, In-from_place, place_of_In, In-append_cases, In-append_left}
 use Rattle.specification.proofs.Shown.{same_name}
 

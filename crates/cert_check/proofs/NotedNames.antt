@@ -1,6 +1,6 @@
 -- One name more is noted, or cannot be.
-use Rattle.std.proofs.Common.{◌≡◌, ◌≢◌, ℕ, zero, suc, ◌+◌, ◌<◌, ◌≤◌, ◌⊎◌, inl, inr, Option, Some, None, List, [], ◌∷◌, ◌++◌, map, length, take, drop, get_or, set, refl, sym, ◌∙◌, ap, subst, arith, get_or-set_same, get_or-set_other, add-zero, append_assoc, append-nil}
-use Rattle.std.specs.Prelude.{slice_get, slice_index, flat_map, replicate}
+use Rattle.std.proofs.Common.{◌≡◌, ◌≢◌, ℕ, zero, suc, ◌+◌, ◌<◌, inl, inr, Option, Some, None, List, [], ◌∷◌, ◌++◌, map, length, take, drop, set, refl, sym, ◌∙◌, ap, subst, arith, get_or-set_same, get_or-set_other, add-zero, append_assoc, append-nil}
+use Rattle.std.specs.Prelude.{slice_get, slice_index, replicate}
 use Rattle.std.proofs.lemmas.List.{length-set, map-append, take-append-drop, length-take-le}
 use Rattle.std.proofs.lemmas.Option.{slice_get_within}
 use native.Mathlib.Decide.{ℕ_discrete}
@@ -8,7 +8,7 @@ use Rattle.visibility.proofs.Entries.{take_next}
 use Rattle.events.specs.Names.{NameBytes}
 use Rattle.specification.specs.Elements.{number_in}
 use Rattle.specification.specs.LayerRule.{Row}
-use Rattle.specification.proofs.Members.{In, Once, In-append_left, In-append_right, In-append_cases, In-from_place, In-map, Once-middle, In-middle}
+use Rattle.specification.proofs.Members.{In, Once, In-append_left, In-append_right, In-from_place, In-map, Once-middle}
 use Rattle.cert_check.proofs.NameNumbers.{number-at, number-some, Once-front}
 use Rattle.cert_check.proofs.ValueTests.{In-push}
 use Rattle.cert_check.specs.Noted.{Noted, Holds, CanBeNoted, at_depth, pairs_from, placed_from}

@@ -1,22 +1,21 @@
 -- An order whose places rise along each response is followed; else the first response along which they do not is not.
-use Rattle.std.proofs.Common.{◌≡◌, ◌≢◌, ℕ, suc, ◌+◌, ◌<◌, ◌≤◌, ◌⊎◌, inl, inr, Some, List, map, length, refl, sym, ◌∙◌, ap, subst, arith}
-use Rattle.std.specs.Prelude.{All, slice_get, slice_index, IsPermutation}
+use Rattle.std.proofs.Common.{◌≡◌, ℕ, ◌<◌, inl, inr, Some, List, map, length, sym, ◌∙◌, ap, subst, arith}
+use Rattle.std.specs.Prelude.{slice_get, slice_index, IsPermutation}
 use Rattle.std.proofs.lemmas.Bool.{cases_lt}
-use Rattle.std.proofs.lemmas.Option.{slice_get_within}
 use Rattle.events.specs.Names.{NameBytes}
 use Rattle.events.specs.Operation.{Operation, ComesBefore, IsLeast}
 use Rattle.events.specs.History.{History}
-use Rattle.events.specs.Operations.{operation_names, response, IsOperation}
+use Rattle.events.specs.Operations.{operation_names, response}
 use Rattle.specification.specs.Elements.{elements}
-use Rattle.specification.specs.Orders.{IsSubsequence, IsFollowingOrder}
+use Rattle.specification.specs.Orders.{IsSubsequence}
 use Rattle.specification.specs.Responses.{Returned, responses_of}
 use Rattle.specification.specs.CertificateText.{gives_order}
 use Rattle.specification.specs.ValidCertificate.{IsValid, IsNotFollowed}
-use Rattle.specification.proofs.Members.{In, Before, All-from_members, place_of_In, In-from_place, Before-from_places, AllPairs-Before}
+use Rattle.specification.proofs.Members.{In, All-from_members, place_of_In, In-from_place, Before-from_places, AllPairs-Before}
 use Rattle.specification.proofs.Shown.{ComesBefore-irreflexive}
 use Rattle.specification.proofs.Dictionary.{ComesBefore-asymmetric}
 use Rattle.specification.proofs.OperationNames.{operation_names-rise, operation-listed, listed-operation, AllPairs-from_Rising}
-use Rattle.cert_check.proofs.Listed.{once-elements, known-response, once-response, each_response, list_at, lists-count}
+use Rattle.cert_check.proofs.Listed.{once-elements, known-response, once-response, each_response, list_at}
 use Rattle.cert_check.proofs.Ranks.{follows_from_rising, rising_from_follows}
 use Rattle.cert_check.specs.Noted.{Holds, placed_from}
 use Rattle.cert_check.specs.Values.{IsRising}

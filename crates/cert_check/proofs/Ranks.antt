@@ -1,28 +1,19 @@
 -- An order of the elements by the places of its names.
-use Rattle.std.proofs.Common.{◌≡◌, ◌≢◌, ℕ, zero, suc, ◌+◌, ◌<◌, ◌≤◌, ◌⊎◌, inl, inr, Some, None, List, [], ◌∷◌, ◌++◌, map, take, length, refl, sym, ◌∙◌, ap, subst, arith, add-zero, zero-add}
-use Rattle.std.specs.Prelude.{All, unwrap_or, slice_get, slice_index, IsPermutation}
-use Rattle.std.proofs.lemmas.List.Sorted.{length_permutation}
+use Rattle.std.proofs.Common.{◌≡◌, ℕ, zero, suc, ◌+◌, ◌<◌, ◌≤◌, inl, inr, Some, List, [], ◌∷◌, map, take, length, refl, sym, ◌∙◌, ap, subst, arith, add-zero, zero-add}
+use Rattle.std.specs.Prelude.{unwrap_or, slice_get, slice_index, IsPermutation}
 use Rattle.std.proofs.lemmas.List.{take_all}
 use Rattle.events.specs.Names.{NameBytes}
-use Rattle.events.specs.Operation.{Operation, IsLeast, ComesBefore}
-use Rattle.events.specs.History.{History, IsLegal}
-use Rattle.events.specs.Operations.{operation_names, response, IsOperation}
-use Rattle.specification.specs.Elements.{elements, number_in, numbers_in}
-use Rattle.specification.specs.Orders.{IsSubsequence, IsFollowingOrder, FollowsAll}
-use Rattle.specification.specs.Responses.{Returned, responses_of}
-use Rattle.specification.specs.ValidCertificate.{IsNotFollowed}
-use Rattle.specification.proofs.Members.{In, Before, Once, In-map, All-from_members, place_of_In, In-from_place, Once-bounded, decide_In, Before-cases, Before-first, Before-second}
+use Rattle.specification.specs.Elements.{numbers_in}
+use Rattle.specification.specs.Orders.{IsSubsequence}
+use Rattle.specification.proofs.Members.{In, Before, Once, In-map, Once-bounded, decide_In, Before-cases, Before-first, Before-second}
 use Rattle.specification.proofs.Permutations.{permutation_of_members, In-permutation, In-permutation_back, Once-permutation}
 use Rattle.specification.proofs.Subsequences.{Before-subsequence, subsequence_of_pairs}
 use Rattle.specification.proofs.Numbers.{number, number-rises}
 use Rattle.specification.proofs.Shown.{same_name}
-use Rattle.specification.proofs.OperationNames.{listed-operation, operation-listed}
 use Rattle.cert_check.proofs.NameNumbers.{number-some}
-use Rattle.cert_check.proofs.Listed.{In-map_back, Before-map, Before-map_back, map-twice, number_of_member, once-elements, known-response, once-response, each_response, each_list}
+use Rattle.cert_check.proofs.Listed.{In-map_back, Before-map, Before-map_back, number_of_member}
 use Rattle.cert_check.specs.Noted.{Noted, Holds, CanBeNoted, placed_from}
 use Rattle.cert_check.specs.Values.{IsRising}
-use Rattle.cert_check.specs.Numbering.{IsOf}
-use Rattle.cert_check.specs.declared.numbered.Numbered.{Numbered}
 
 pub names_of_placed : (i : ℕ) (order : List NameBytes) → map (λ (p : Noted). p.0) (placed_from i order) ≡ order
 names_of_placed i [] = refl

@@ -1,6 +1,6 @@
 -- A valid certificate has no reason against it.
-use Rattle.std.proofs.Common.{◌≡◌, ◌≢◌, ℕ, zero, suc, ◌+◌, ◌<◌, ◌≤◌, Option, Some, None, List, [], ◌∷◌, length, map, refl, sym, ◌∙◌, ap, subst, arith}
-use Rattle.std.specs.Prelude.{slice_get, All}
+use Rattle.std.proofs.Common.{◌≡◌, ℕ, zero, suc, Some, List, [], ◌∷◌, length, refl, sym, ◌∙◌, ap, subst, arith}
+use Rattle.std.specs.Prelude.{slice_get}
 use Rattle.std.proofs.lemmas.Option.{slice_get_within}
 use Rattle.events.specs.Names.{NameBytes}
 use Rattle.events.specs.History.{History, IsLegal}
@@ -14,9 +14,8 @@ use Rattle.specification.specs.ValidCertificate.{HasSource, RowsMeetRule, RowIsR
 use Rattle.specification.proofs.Members.{All-member, In-from_place}
 use Rattle.specification.proofs.Strong.{returned_of}
 use Rattle.trace_text.proofs.OneReading.{one-recording}
-use Rattle.cert_check.specs.AnswerOf.{Reads, IsReadReason, IsAnswer, kind_of}
+use Rattle.cert_check.specs.AnswerOf.{Reads, IsReadReason, kind_of}
 use Rattle.cert_check.specs.Laws.{ValidCertificatesGetYes}
-use Rattle.cert_check.specs.declared.answer.Answer.{Answer}
 use Rattle.cert_check.specs.declared.answer.Answer.TheVariants.{Yes, No}
 use Rattle.cert_check.specs.declared.answer.Reason.TheVariants as reason
 

@@ -1,17 +1,16 @@
 -- Steps that are right, and steps that are not.
-use Rattle.std.proofs.Common.{◌≡◌, ◌≢◌, ℕ, zero, suc, ◌+◌, ◌<◌, ◌≤◌, ◌⊎◌, inl, inr, Option, Some, None, List, [], ◌∷◌, map, length, refl, sym, ◌∙◌, ap, subst, arith}
-use Rattle.std.specs.Prelude.{slice_get, All, unwrap_or, option_map, IsSome}
+use Rattle.std.proofs.Common.{◌≡◌, ℕ, zero, suc, ◌<◌, Option, Some, None, List, [], ◌∷◌, map, length, refl, sym, ◌∙◌, ap, subst, arith}
+use Rattle.std.specs.Prelude.{slice_get, unwrap_or, option_map, IsSome}
 use Rattle.events.specs.declared.recording.Body.{Body}
 use Rattle.std.proofs.lemmas.List.{length-map}
-use Rattle.std.proofs.lemmas.Option.{slice_get-get_or, slice_get_within}
 use Rattle.events.specs.Names.{NameBytes}
 use Rattle.events.specs.Operation.{Operation}
 use Rattle.events.specs.History.{History, IsLegal, response_of}
 use Rattle.events.specs.Operations.{response, IsOperation, operation}
-use Rattle.specification.specs.Responses.{Responses, Returned, responses_of, Shows}
+use Rattle.specification.specs.Responses.{responses_of, Shows}
 use Rattle.specification.specs.Conflict.{ring, ring_from, Step, AreShownSteps}
-use Rattle.specification.specs.ValidCertificate.{IsRightStep, StepIsRight, IsFirstWrongStep}
-use Rattle.specification.proofs.Members.{In, Before, All-from_members, place_of_In, Before-first}
+use Rattle.specification.specs.ValidCertificate.{IsRightStep, StepIsRight}
+use Rattle.specification.proofs.Members.{Before, All-from_members, place_of_In}
 use Rattle.specification.proofs.Shown.{ShowsIn-from_Shows, Shows-from_ShowsIn}
 use Rattle.specification.proofs.Strong.{returned_of, returned_by}
 use Rattle.cert_check.specs.Ring.{next_place}

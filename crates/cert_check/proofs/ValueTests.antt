@@ -1,10 +1,10 @@
 -- One value more, or one that is not right.
-use Rattle.std.proofs.Common.{◌≡◌, ◌≢◌, ℕ, suc, ◌+◌, ◌-◌, ◌^◌, ◌<◌, ◌≤◌, ◌⊎◌, inl, inr, Bool, true, false, Some, List, [], ◌∷◌, ◌++◌, map, take, drop, length, get_or, refl, sym, ◌∙◌, ap, subst, arith}
-use Rattle.std.specs.Prelude.{slice_index, slice_get}
+use Rattle.std.proofs.Common.{◌≡◌, ◌≢◌, ℕ, suc, ◌+◌, ◌^◌, ◌<◌, ◌≤◌, ◌⊎◌, inl, inr, Bool, true, false, List, [], ◌∷◌, ◌++◌, map, take, drop, length, get_or, refl, sym, ◌∙◌, ap, subst, arith}
+use Rattle.std.specs.Prelude.{slice_index}
 use Rattle.std.proofs.lemmas.List.{map_push, map-append, take_more, take_all}
 use Rattle.std.proofs.lemmas.Option.{slice_get-get_or}
 use Rattle.visibility.proofs.Entries.{split_at}
-use Rattle.specification.proofs.Members.{In, Before, In-append_left, In-append_right, In-append_cases, Before-first}
+use Rattle.specification.proofs.Members.{In, Before, In-append_left, In-append_right, In-append_cases}
 use Rattle.cert_check.specs.Values.{IsRising, IsGradual, IsDeepBefore}
 
 module _ {X : Type 0} where

@@ -1,5 +1,5 @@
 -- What the checker answers, and what its yes implies.
-use Rattle.std.specs.Prelude.{◌≡◌, ◌<◌, ◌≤◌, ℕ, List, length}
+use Rattle.std.specs.Prelude.{◌≡◌, ℕ, List}
 use Rattle.events.specs.History.{History}
 use Rattle.specification.specs.Faults as fault
 use Rattle.specification.specs.Responses.{responses_of}

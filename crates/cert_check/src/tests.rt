@@ -1,5 +1,3 @@
-mod texts;
-
 use super::faults::judge_fault;
 use super::judging::judge;
 use super::steps::first_wrong_step;
@@ -47,104 +45,112 @@ fn answer(
     }
 }
 
+/// What is judged of an order; want of memory too where the trace does not read.
 fn ordered_once(
     rt: &(impl Threads + Sync),
     alloc: Global,
     trace: &[u8],
-    words: &[&'static str],
-) -> Result<Answer, Fail> {
-    let recording = read(alloc, trace)?;
-    let mut names = Vec::new(alloc);
-    for word in words {
-        names.push(name(word)?)?;
-    }
-    let order = Order::from_names(names);
+    names: &[Name],
+) -> Result<Answer, Memory> {
+    let recording = match read(alloc, trace) {
+        Ok(recording) => recording,
+        Err(_) => return Err(Memory),
+    };
+    let order = Order::from_names(Vec::from_slice(alloc, names)?);
     let _count = order.len();
-    Ok(judge(rt, alloc, &recording, &Certificate::Accepted(order))?)
+    judge(rt, alloc, &recording, &Certificate::Accepted(order))
 }
 
-/// What is judged of an order; a try that finds no memory is made again.
+/// The same; a try that finds no memory is made again.
 fn ordered(
     rt: &(impl Threads + Sync),
     alloc: Global,
     trace: &[u8],
-    words: &[&'static str],
+    names: &[Name],
 ) -> Result<Answer, Fail> {
-    match ordered_once(rt, alloc, trace, words) {
+    match ordered_once(rt, alloc, trace, names) {
         Ok(answer) => Ok(answer),
-        Err(_) => ordered_once(rt, alloc, trace, words),
+        Err(Memory) => Ok(ordered_once(rt, alloc, trace, names)?),
     }
 }
 
 #[test]
 fn orders_follow_every_response(rt: HostRuntime) -> Result<(), Fail> {
     let alloc = rt.alloc();
+    let (a, b) = (name("a")?, name("b")?);
     assert_eq!(rt;
         ordered(&rt, alloc, EMPTY, &[])?,
         Answer::Yes(Kind::Accepted)
     );
     assert_eq!(rt;
-        ordered(&rt, alloc, EMPTY, &["a"])?,
+        ordered(&rt, alloc, EMPTY, &[a])?,
         Answer::No(Reason::NotOrder)
     );
     assert_eq!(rt;
-        ordered(&rt, alloc, IN_FRONT, &["b", "a"])?,
+        ordered(&rt, alloc, IN_FRONT, &[b, a])?,
         Answer::Yes(Kind::Accepted)
     );
     assert_eq!(rt;
-        ordered(&rt, alloc, IN_FRONT, &["b"])?,
+        ordered(&rt, alloc, IN_FRONT, &[b])?,
         Answer::No(Reason::NotOrder)
     );
     assert_eq!(rt;
-        ordered(&rt, alloc, IN_FRONT, &["b", "b"])?,
+        ordered(&rt, alloc, IN_FRONT, &[b, b])?,
         Answer::No(Reason::NotOrder)
     );
+    let at = operation(0, 2)?;
     assert_eq!(rt;
-        ordered(&rt, alloc, IN_FRONT, &["a", "b"])?,
-        Answer::No(Reason::NotFollowed {
-            at: operation(0, 2)?
-        })
+        ordered(&rt, alloc, IN_FRONT, &[a, b])?,
+        Answer::No(Reason::NotFollowed { at })
     );
     Ok(())
 }
 
-/// A step: two names, and the operation that shows the first before the second.
-type Words = (&'static str, &'static str, u32, u32);
-
-fn wrong_step_once(alloc: Global, trace: &[u8], round: &[Words]) -> Result<Option<u32>, Fail> {
-    let recording = read(alloc, trace)?;
-    let mut steps = Vec::new(alloc);
-    for words in round {
-        steps.push(Step {
-            from: name(words.0)?,
-            to: name(words.1)?,
-            shown: operation(words.2, words.3)?,
-        })?;
-    }
-    let steps = Steps::from_steps(steps);
+/// The first wrong step; 0 for more than ten steps. Want of memory too where the trace does not read.
+fn wrong_step_once(alloc: Global, trace: &[u8], round: &[Step]) -> Result<Option<u32>, Memory> {
+    let recording = match read(alloc, trace) {
+        Ok(recording) => recording,
+        Err(_) => return Err(Memory),
+    };
+    let steps = Steps::from_steps(Vec::from_slice(alloc, round)?);
     if steps.len() > 10 {
-        return Err("many steps")?;
+        return Ok(Some(0));
     }
     Ok(first_wrong_step(&recording, &steps))
 }
 
-/// The first wrong step; a try that finds no memory is made again.
-fn wrong_step(alloc: Global, trace: &[u8], round: &[Words]) -> Result<Option<u32>, Fail> {
+/// The same; a try that finds no memory is made again.
+fn wrong_step(alloc: Global, trace: &[u8], round: &[Step]) -> Result<Option<u32>, Fail> {
     match wrong_step_once(alloc, trace, round) {
         Ok(found) => Ok(found),
-        Err(_) => wrong_step_once(alloc, trace, round),
+        Err(Memory) => Ok(wrong_step_once(alloc, trace, round)?),
     }
+}
+
+fn step(from: &'static str, to: &'static str, shown: OpName) -> Result<Step, Fail> {
+    Ok(Step {
+        from: name(from)?,
+        to: name(to)?,
+        shown,
+    })
 }
 
 #[test]
 fn steps_are_shown_and_join(rt: HostRuntime) -> Result<(), Fail> {
     let alloc = rt.alloc();
-    let around = [("x", "b", 2, 1), ("b", "a", 0, 3), ("a", "x", 1, 1)];
-    assert_eq!(rt; wrong_step(alloc, THREE_WAY, &around)?, None);
-    let turned = [("b", "x", 2, 1), ("b", "a", 0, 3), ("a", "x", 1, 1)];
-    assert_eq!(rt; wrong_step(alloc, THREE_WAY, &turned)?, Some(1));
-    let open = [("x", "b", 2, 1), ("b", "a", 0, 3)];
-    assert_eq!(rt; wrong_step(alloc, THREE_WAY, &open)?, Some(2));
+    let first = step("x", "b", operation(2, 1)?)?;
+    let second = step("b", "a", operation(0, 3)?)?;
+    let third = step("a", "x", operation(1, 1)?)?;
+    let turned = step("b", "x", operation(2, 1)?)?;
+    assert_eq!(rt;
+        wrong_step(alloc, THREE_WAY, &[first, second, third])?,
+        None
+    );
+    assert_eq!(rt;
+        wrong_step(alloc, THREE_WAY, &[turned, second, third])?,
+        Some(1)
+    );
+    assert_eq!(rt; wrong_step(alloc, THREE_WAY, &[first, second])?, Some(2));
     Ok(())
 }
 

@@ -1,7 +1,5 @@
 -- The steps are a cycle's, and the rows decide for k of 3 and more.
-use Rattle.std.proofs.Common.{◌≡◌, ℕ, ◌≤◌, List, refl, arith}
-use Rattle.specification.specs.Conflict.{Step}
-use Rattle.events.specs.History.{History}
+use Rattle.std.proofs.Common.{refl, arith}
 use Rattle.cert_check.proofs.StepsRight.{all_right}
 use Rattle.cert_check.proofs.RowsJudged.{judged_no}
 use Rattle.cert_check.proofs.cycle.judge_cycle.Goals as goal

@@ -1,6 +1,6 @@
 -- The certificate names the first fault, or is wrong about it.
 use Rattle.std.proofs.Common.{refl, sym, ap, subst, ◌∙◌, ◌≡◌}
-use Rattle.specification.specs.CertificateText.{Certificate, names_fault}
+use Rattle.specification.specs.CertificateText.{names_fault}
 use Rattle.specification.specs.ValidCertificate.{IsValid}
 use Rattle.contents_check.specs.FaultOf.{fault_of}
 use Rattle.cert_check.specs.AnswerOf.{kind_of}

@@ -1,6 +1,6 @@
 -- One name more.
 use Rattle.std.proofs.Common.{◌≡◌, ℕ, ◌+◌, ◌<◌, List, [], ◌∷◌, ◌++◌, Vec, Global, take, length, get_or, sym, ◌∙◌, ap, arith}
-use Rattle.std.specs.Prelude.{unwrap_or, slice_get, Some}
+use Rattle.std.specs.Prelude.{unwrap_or}
 use Rattle.std.proofs.lemmas.List.{map_push}
 use Rattle.std.proofs.lemmas.Option.{slice_get-get_or}
 use Rattle.visibility.proofs.Entries.{take_next}

@@ -1,7 +1,6 @@
 -- A row has one source.
-use Rattle.std.proofs.Common.{◌≡◌, ◌∙◌, sym, ap, subst}
+use Rattle.std.proofs.Common.{◌∙◌, sym, subst}
 use Rattle.std.specs.Cmp.Lexicographic.{bytes_decides}
-use Rattle.events.specs.Names.{NameBytes}
 use Rattle.specification.specs.ValidCertificate.{HasSource}
 use Rattle.cert_check.proofs.RowsJudged.{one_source}
 use Rattle.cert_check.proofs.rows.has_source.Goals as goal

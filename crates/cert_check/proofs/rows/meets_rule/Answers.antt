@@ -1,5 +1,5 @@
 -- A row that cannot be noted does not meet the rule; for the others its depths decide.
-use Rattle.std.proofs.Common.{◌≡◌, ◌∙◌, ◌-◌, ℕ, List, sym, ap, subst}
+use Rattle.std.proofs.Common.{◌≡◌, ◌-◌, ℕ, List, sym, subst}
 use Rattle.std.proofs.lemmas.Bool.{false≢true}
 use Rattle.events.specs.Names.{NameBytes}
 use Rattle.specification.specs.Elements.{elements}

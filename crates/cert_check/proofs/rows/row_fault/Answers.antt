@@ -1,15 +1,13 @@
 -- The row at the element's place, if it has the element as its source, decides.
-use Rattle.std.proofs.Common.{◌≡◌, ◌∙◌, ℕ, ◌<◌, Some, List, length, get_or, sym, ap, subst, refl, arith}
+use Rattle.std.proofs.Common.{◌≡◌, ◌∙◌, ℕ, ◌<◌, Some, List, length, get_or, sym, ap, subst, refl}
 use Rattle.std.specs.Prelude.{slice_get}
 use Rattle.std.proofs.lemmas.Bool.{false≢true}
 use Rattle.events.proofs.Places.{slice_get-within}
 use Rattle.events.specs.Names.{NameBytes}
-use Rattle.events.specs.History.{History}
 use Rattle.specification.specs.LayerRule.{Row, MeetsLayerRule}
 use Rattle.specification.specs.Responses.{responses_of}
 use Rattle.specification.specs.Elements.{elements}
 use Rattle.specification.specs.ValidCertificate.{HasSource}
-use Rattle.cert_check.specs.Numbering.{IsOf}
 use Rattle.cert_check.proofs.rows.row_fault.Goals as goal
 
 element_at : (names all : List NameBytes) (i : ℕ) (a : NameBytes) → i < length names → a ≡ get_or names i a → names ≡ all → slice_get all i ≡ Some a

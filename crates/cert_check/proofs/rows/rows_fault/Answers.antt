@@ -1,15 +1,13 @@
 -- All rows of elements are right: there is no other, or one too many.
-use Rattle.std.proofs.Common.{◌≡◌, ◌∙◌, ℕ, ◌<◌, ◌≤◌, Some, None, List, length, sym, ap, subst, refl, arith}
-use Rattle.std.specs.Prelude.{slice_get, option_copied, All}
+use Rattle.std.proofs.Common.{◌≡◌, ◌∙◌, ◌≤◌, Some, List, length, sym, ap, arith}
+use Rattle.std.specs.Prelude.{slice_get, option_copied}
 use Rattle.std.proofs.lemmas.Option.{slice_get_within}
 use Rattle.events.proofs.Places.{slice_get-none}
 use Rattle.events.specs.Names.{NameBytes}
-use Rattle.events.specs.History.{History}
 use Rattle.specification.specs.LayerRule.{Row}
 use Rattle.specification.specs.CertificateText.{IsRow}
 use Rattle.specification.specs.Responses.{responses_of}
 use Rattle.specification.specs.Elements.{elements}
-use Rattle.specification.specs.ValidCertificate.{HasSource, RowsRightBefore}
 use Rattle.specification.proofs.Members.{All-member, In-from_place}
 use Rattle.cert_check.proofs.RowsJudged.{rows_meet, row_source}
 use Rattle.cert_check.proofs.rows.rows_fault.Goals as goal

@@ -1,6 +1,6 @@
 -- One name alone is the source.
-use Rattle.std.proofs.Common.{◌≡◌, ℕ, Option, Some, None, List, [], ◌∷◌, length, sym, ◌∙◌, ap, arith, subst}
-use Rattle.std.specs.Prelude.{slice_get, MatchOption, option_copied, option_map}
+use Rattle.std.proofs.Common.{◌≡◌, Option, Some, List, [], ◌∷◌, length, sym, ◌∙◌, arith, subst}
+use Rattle.std.specs.Prelude.{slice_get, MatchOption}
 use Rattle.events.specs.Names.{NameBytes}
 use Rattle.specification.specs.LayerRule.{Row}
 use Rattle.specification.specs.ValidCertificate.{HasSource}

@@ -1,5 +1,5 @@
 -- All steps before this one are right.
-use Rattle.std.proofs.Common.{◌≡◌, ℕ, suc, ◌+◌, arith, subst}
+use Rattle.std.proofs.Common.{◌≡◌, suc, ◌+◌, arith, subst}
 use Rattle.std.proofs.lemmas.Bool.{false≢true}
 use Rattle.specification.specs.Responses.{responses_of}
 use Rattle.specification.specs.ValidCertificate.{IsFirstWrongStep}

@@ -1,9 +1,8 @@
 -- The step at a place and the next one are there, and decide.
-use Rattle.std.proofs.Common.{◌≡◌, ◌≢◌, ◌∙◌, ℕ, ◌<◌, Some, List, length, sym, ap, subst, arith, refl}
+use Rattle.std.proofs.Common.{◌≡◌, ◌∙◌, Some, List, length, sym, ap, subst}
 use Rattle.std.specs.Prelude.{slice_get, option_copied}
 use Rattle.std.specs.Cmp.Lexicographic.{bytes_decides}
 use Rattle.std.proofs.lemmas.Bool.{false≢true}
-use Rattle.events.specs.Names.{NameBytes}
 use Rattle.events.specs.History.{History}
 use Rattle.events.specs.Operations.{response}
 use Rattle.specification.specs.Conflict.{Step}

@@ -1,5 +1,5 @@
 -- The value at the next place is at most one above all before it, or more than one above the least.
-use Rattle.std.proofs.Common.{◌≡◌, ◌⊎◌, inl, inr, ℕ, ◌<◌, ◌≤◌, ◌+◌, ◌^◌, List, length, map, take, drop, suc, get_or, sym, subst, ap, arith, refl, ◌++◌, ◌∷◌, []}
+use Rattle.std.proofs.Common.{◌≡◌, ◌⊎◌, inl, inr, ℕ, ◌<◌, ◌≤◌, ◌+◌, ◌^◌, List, length, map, take, drop, suc, get_or, sym, subst, arith, refl, ◌++◌, ◌∷◌, []}
 use Rattle.std.specs.Prelude.{slice_index}
 use Rattle.cert_check.specs.Values.{IsGradual}
 use Rattle.cert_check.proofs.ValueTests.{GoesTo, go_on, go_stop, map-more, map-split, whole_front}

@@ -1,5 +1,5 @@
 -- The list of one more place.
-use Rattle.std.proofs.Common.{◌≡◌, ℕ, ◌+◌, ◌<◌, List, [], Vec, Global, map, length, get_or, sym, ◌∙◌, ap, subst, arith, below_more, refl}
+use Rattle.std.proofs.Common.{◌≡◌, ℕ, ◌<◌, List, Vec, Global, map, length, get_or, sym, ◌∙◌, ap, subst, arith, below_more, refl}
 use Rattle.std.specs.Prelude.{slice_index}
 use Rattle.std.proofs.lemmas.Bool.{false≢true}
 use Rattle.cert_check.specs.Values.{IsGradual, IsDeepBefore}

@@ -1,5 +1,5 @@
 -- The name's element has no value, or has one, or there is none.
-use Rattle.std.proofs.Common.{◌≡◌, ◌∙◌, ℕ, Some, None, List, sym, ap, refl, arith, set}
+use Rattle.std.proofs.Common.{◌≡◌, ◌∙◌, ℕ, Some, None, List, sym, ap}
 use Rattle.std.specs.Prelude.{slice_get, option_copied}
 use Rattle.events.specs.Names.{NameBytes}
 use Rattle.specification.specs.Elements.{number_in}

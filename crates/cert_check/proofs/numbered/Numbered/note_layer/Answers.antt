@@ -1,5 +1,5 @@
 -- One name of the layer more.
-use Rattle.std.proofs.Common.{◌≡◌, ℕ, ◌+◌, ◌<◌, ◌∙◌, Some, List, [], ◌∷◌, ◌++◌, length, take, get_or, sym, ap, subst, arith}
+use Rattle.std.proofs.Common.{◌≡◌, ℕ, ◌+◌, ◌<◌, Some, List, ◌++◌, length, take, sym, ap, subst, arith}
 use Rattle.std.specs.Prelude.{slice_get, option_copied}
 use Rattle.events.specs.Names.{NameBytes}
 use Rattle.cert_check.specs.Noted.{Noted, Holds, CanBeNoted, at_depth}

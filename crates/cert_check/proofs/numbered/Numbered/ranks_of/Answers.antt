@@ -1,6 +1,6 @@
 -- One name of the order more.
-use Rattle.std.proofs.Common.{◌≡◌, ℕ, ◌+◌, ◌<◌, ◌≤◌, ◌∙◌, Some, Vec, Global, List, [], ◌∷◌, ◌++◌, length, take, get_or, sym, ap, subst, arith}
-use Rattle.std.specs.Prelude.{slice_get, IsPermutation, option_copied}
+use Rattle.std.proofs.Common.{◌≡◌, ℕ, ◌+◌, ◌<◌, ◌∙◌, Some, Vec, Global, List, length, take, sym, ap, subst, arith}
+use Rattle.std.specs.Prelude.{slice_get, option_copied}
 use Rattle.std.proofs.lemmas.List.Sorted.{length_permutation}
 use Rattle.std.proofs.lemmas.List.{with_items_is}
 use Rattle.events.specs.Names.{NameBytes}
