@@ -1,3 +1,4 @@
 pub mod Longer
 pub mod Ascii
 pub mod Listed
+pub mod OfStreams

@@ -5,6 +5,7 @@
 
 mod compact;
 mod counts;
+mod laws;
 mod lines;
 mod object;
 #[cfg(test)]
@@ -12,4 +13,5 @@ mod tests;
 mod words;
 
 pub use compact::json;
+pub use laws::reports_are_of_streams;
 pub use lines::text;
