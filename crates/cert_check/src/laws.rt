@@ -1,6 +1,6 @@
 //! The laws, each as the contract of a function with an empty body.
 
-ghost use Rattle.cert_check.specs.Laws.{LayersBoundCycles, ValidCertificatesImply, ValidOrReason};
+ghost use Rattle.cert_check.specs.Laws.{LayersBoundCycles, ValidCertificatesGetYes, ValidCertificatesImply, ValidOrReason};
 
 /// For the responses of every sound recording and every k: where each element is the source of a row of layers that
 /// meets the layer rule for k, no cycle has fewer than k elements. So rows are tested, and nothing is searched.
@@ -17,4 +17,10 @@ pub fn valid_certificates_imply()
 /// A certificate that is valid for a legal recording has no reason against it, so a yes and a no are never both right.
 pub fn valid_certificates_have_no_reason()
     ensures { ValidOrReason }
+{}
+
+/// Where a trace spells a recording and a text a certificate that is valid for it, the one right answer is yes, with the
+/// certificate's kind. So what the finder gives for its verdict, written, gets yes.
+pub fn valid_certificates_get_yes()
+    ensures { ValidCertificatesGetYes }
 {}

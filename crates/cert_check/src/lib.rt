@@ -19,7 +19,10 @@ mod values;
 
 pub use answer::{Answer, Kind, Reason};
 pub use checking::check;
-pub use laws::{layers_bound_cycles, valid_certificates_have_no_reason, valid_certificates_imply};
+pub use laws::{
+    layers_bound_cycles, valid_certificates_get_yes, valid_certificates_have_no_reason,
+    valid_certificates_imply,
+};
 
 #[cfg(test)]
 mod tests;

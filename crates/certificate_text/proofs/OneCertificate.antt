@@ -119,7 +119,7 @@ same-certificate c d h k is =
     of-kind c d h k (sym p.0) p.1
 
 -- a text spells at most one certificate
-one-certificate : (text : List ℕ) (c d : Certificate) → SpellsCertificate text c → SpellsCertificate text d → c ≡ d
+pub one-certificate : (text : List ℕ) (c d : Certificate) → SpellsCertificate text c → SpellsCertificate text d → c ≡ d
 one-certificate text c d (h, is) (k, also) =
     same-certificate c d h k (append_cancel_right (certificate_lines c) (certificate_lines d) ([] ∷ []) (sym (lines-are c h) ∙ ap lines_of (sym is ∙ also) ∙ lines-are d k))
 

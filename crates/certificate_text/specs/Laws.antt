@@ -1,11 +1,15 @@
 -- The laws over certificates: those of verdicts are valid and have a spelling, each verdict has one at most, and merges of
 -- the same streams have the same.
-use Rattle.std.specs.Prelude.{◌≡◌}
+use Rattle.std.specs.Prelude.{◌≡◌, ℕ, List}
 use Rattle.events.specs.History.{History, IsLegal, SameStreams}
 use Rattle.specification.specs.Verdict.{Verdict, IsVerdict}
-use Rattle.specification.specs.CertificateText.{Certificate, IsSpellable}
+use Rattle.specification.specs.CertificateText.{Certificate, IsSpellable, SpellsCertificate}
 use Rattle.specification.specs.ValidCertificate.{IsValid}
 use Rattle.specification.specs.ExactRows.{IsCertificateOf}
+
+-- a text spells one certificate at most
+abbrev pub TextsSpellOneCertificate : Type 0
+TextsSpellOneCertificate = (text : List ℕ) (c d : Certificate) → SpellsCertificate text c → SpellsCertificate text d → c ≡ d
 
 -- the certificate of a verdict on a legal recording is valid, and has a spelling
 abbrev pub CertificatesAreValid : Type 0

@@ -1,7 +1,12 @@
 //! The laws over certificates, each as the contract of a function with an empty body: there is nothing to run, and the
 //! gate asks for the proof.
 
-ghost use Rattle.certificate_text.specs.Laws.{CertificatesAreValid, CertificatesAreUnique, CertificatesAreOfStreams};
+ghost use Rattle.certificate_text.specs.Laws.{CertificatesAreOfStreams, CertificatesAreUnique, CertificatesAreValid, TextsSpellOneCertificate};
+
+/// A text spells at most one certificate, so whatever is said of what a text spells is said of one value.
+pub fn texts_spell_one_certificate()
+    ensures { TextsSpellOneCertificate }
+{}
 
 /// The certificate of a verdict on a legal recording is valid, so a checker accepts it, and it has a spelling, so it
 /// can be written. Where k is 3 or more its rows give the distances from each element, which meet the layer rule: what

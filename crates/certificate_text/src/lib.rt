@@ -20,7 +20,10 @@ mod writing;
 
 pub use certificate::Certificate;
 pub use fault::{CertCause, CertFault};
-pub use laws::{certificates_are_of_streams, certificates_are_unique, certificates_are_valid};
+pub use laws::{
+    certificates_are_of_streams, certificates_are_unique, certificates_are_valid,
+    texts_spell_one_certificate,
+};
 pub use witnesses::{Layer, Layers, Order, Row, Step, Steps};
 
 #[cfg(test)]
