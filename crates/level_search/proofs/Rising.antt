@@ -1,5 +1,5 @@
 -- An order of elements that each list follows: each cycle leads through an element that it leaves out.
-use Rattle.std.proofs.Common.{◌≡◌, ℕ, zero, suc, ◌+◌, ◌<◌, ◌≤◌, ◌⊎◌, inl, inr, List, [], ◌∷◌, ◌++◌, length, get_or, slice_index, refl, sym, ap, ◌∙◌, subst, arith}
+use Rattle.std.proofs.Common.{◌≡◌, ℕ, suc, ◌+◌, ◌<◌, ◌≤◌, ◌⊎◌, inl, inr, List, [], ◌∷◌, ◌++◌, length, get_or, slice_index, sym, ap, ◌∙◌, subst, arith}
 use Rattle.std.specs.Prelude.{Contains}
 use Rattle.std.proofs.lemmas.Bool.{cases_lt, cases_eq}
 use Rattle.std.proofs.lemmas.List.Elements.{Contains-append_left, Contains-append_right}
@@ -65,9 +65,9 @@ module _ (rows : List (List ℕ)) (ranks : List ℕ) (rise : (l : ℕ) → Rises
   leads-rise a (b ∷ path) z leads first last = elim (cases_eq (slice_index ranks b) UNRANKED) [
     | inl out ↦ inl (0, omega arith, out)
     | inr ranked ↦ elim (leads-rise b path z leads.1 ranked last) [
-        | inl found ↦ inl (suc found.0, (let within = found.1 in omega arith), found.2)
-        | inr lt ↦ let step = before-rises a b leads.0 first ranked in inr (omega arith)
-      ]
+      | inl found ↦ inl (suc found.0, (let within = found.1 in omega arith), found.2)
+      | inr lt ↦ let step = before-rises a b leads.0 first ranked in inr (omega arith)
+    ]
   ]
 
   ring-leaves_out : (ring : List ℕ) → IsRing rows ring → LeavesOut ring
@@ -75,9 +75,9 @@ module _ (rows : List (List ℕ)) (ranks : List ℕ) (rise : (l : ℕ) → Rises
   ring-leaves_out (a ∷ path) is = elim (cases_eq (slice_index ranks a) UNRANKED) [
     | inl out ↦ (0, omega arith, out)
     | inr ranked ↦ elim (leads-rise a path a is ranked ranked) [
-        | inl found ↦ (suc found.0, (let within = found.1 in omega arith), found.2)
-        | inr lt ↦ absurd (omega arith)
-      ]
+      | inl found ↦ (suc found.0, (let within = found.1 in omega arith), found.2)
+      | inr lt ↦ absurd (omega arith)
+    ]
   ]
 
   -- a cycle leads through an element that is left out

@@ -1,7 +1,6 @@
 -- Elements to search from, and an order of the other elements that each list follows.
-use Rattle.std.specs.Prelude.{◌≡◌, ◌≢◌, ℕ, ◌<◌, List, length, slice_index, Contains}
-use Rattle.order_graph.specs.Lists.{row, Stands}
-use Rattle.level_search.specs.Graph.{Before}
+use Rattle.std.specs.Prelude.{◌≢◌, ℕ, ◌<◌, List, slice_index, Contains}
+use Rattle.order_graph.specs.Lists.{Stands}
 use Rattle.level_search.specs.Walks.{HasCycle}
 
 -- the rank of an element that is left out of the order

@@ -1,5 +1,5 @@
 -- One list more, and no list past the last.
-use Rattle.std.proofs.Common.{◌≡◌, ℕ, ◌+◌, ◌<◌, ◌≤◌, List, inl, inr, length, refl, subst, sym, arith}
+use Rattle.std.proofs.Common.{◌≡◌, ℕ, ◌<◌, ◌≤◌, List, inl, inr, length, subst, arith}
 use Rattle.std.proofs.lemmas.Bool.{cases_lt}
 use Rattle.std.proofs.lemmas.List.{length-map}
 use Rattle.specification.specs.Elements.{numbers_in}
@@ -12,8 +12,8 @@ use Rattle.level_search.proofs.sources.all_rise.Goals as goal
 past-rises : (v : Responses) (ranks : List ℕ) (l : ℕ) → length v.returned ≤ l → Rises (lists_of v) ranks l
 past-rises v ranks l past = record {
   rises = λ p q x y lt first second.
-  let within : l < length (lists_of v) = row_within (lists_of v) l p first.within in
-  absurd (omega (arith, length-map v.returned (λ (r : Returned). numbers_in v.elements r.names)));
+      let within : l < length (lists_of v) = row_within (lists_of v) l p first.within in
+      absurd (omega (arith, length-map v.returned (λ (r : Returned). numbers_in v.elements r.names)));
 }
 
 pub loop-list-preserved : goal.loop-list-preserved

@@ -1,12 +1,11 @@
 -- Each cycle leads through an element that the order leaves out; and through an element.
-use Rattle.std.proofs.Common.{◌≡◌, refl, ℕ, ◌<◌, ◌≤◌, inl, inr, List, length, slice_index, get_or, sym, ◌∙◌, subst, arith}
-use Rattle.std.specs.Prelude.{All, Contains}
+use Rattle.std.proofs.Common.{◌≡◌, refl, ℕ, ◌<◌, inl, inr, List, length, slice_index, sym, ◌∙◌, subst, arith}
+use Rattle.std.specs.Prelude.{Contains}
 use Rattle.std.proofs.lemmas.Bool.{cases_lt}
 use Rattle.std.proofs.lemmas.List.{get_or_past}
 use Rattle.std.proofs.lemmas.Result.{IfOk-weaker}
 use Rattle.specification.specs.Responses.{Responses}
 use Rattle.order_graph.specs.Lists.{lists_of}
-use Rattle.level_search.specs.Walks.{HasCycle}
 use Rattle.level_search.specs.Sources.{UNRANKED, MeetsCycles, Rises}
 use Rattle.level_search.proofs.Rising.{cycle-leaves_out}
 use Rattle.level_search.proofs.sources.sources_of.Goals as goal

@@ -1,9 +1,8 @@
 -- One element more, with a rank or without.
-use Rattle.std.proofs.Common.{◌≡◌, ℕ, ◌<◌, ◌≤◌, ◌+◌, Vec, Global, inl, inr, List, [], ◌∷◌, ◌++◌, length, length-append, slice_index, sym, ap, ◌∙◌, subst, arith}
+use Rattle.std.proofs.Common.{◌≡◌, ℕ, ◌<◌, Vec, Global, inl, inr, List, [], ◌∷◌, length, length-append, slice_index, sym, ap, ◌∙◌, subst, arith}
 use Rattle.std.specs.Prelude.{All, Contains}
 use Rattle.std.proofs.lemmas.Bool.{cases_lt}
 use Rattle.std.proofs.lemmas.List.Elements.{All-push}
-use Rattle.level_search.specs.Sources.{UNRANKED}
 use Rattle.level_search.proofs.Rising.{listed-next}
 use Rattle.level_search.proofs.sources.unranked.Goals as goal
 use Rattle.level_search.proofs.sources.unranked.Goals.{then-rank+in_ok-push, else-rank}
