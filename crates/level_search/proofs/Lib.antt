@@ -12,6 +12,7 @@ pub mod Joining
 pub mod TableRows
 pub mod StepsRound
 pub mod ShortestFew
+pub mod Rising
 -- Lemmas on the workers.
 pub mod Teams
 pub mod LeastOffer

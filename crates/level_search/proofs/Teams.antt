@@ -8,11 +8,14 @@ use Rattle.std.proofs.lemmas.List.Sorted.{All-permutation, IsPermutation-sym}
 use Rattle.std.proofs.lemmas.List.FromFn.{get_or-range_with_len, length-range_with_len}
 use Rattle.std.proofs.lemmas.List.Elements.{All-nil, All-cons, All-head, All-tail, All-push, All-append}
 use Rattle.std.proofs.lemmas.Bool.{cases_lt}
+use Rattle.std.proofs.lemmas.Grind.{get_or_default_zero}
+use Rattle.std.specs.Prelude.{Contains, slice_index}
 use Rattle.shared_bound.specs.Seats.{SeatView, BoundView, least_offer}
 use Rattle.specification.specs.Responses.{Responses, AreProper}
 use Rattle.order_graph.specs.Lists.{lists_of}
 use Rattle.level_search.specs.Walks.{HasCycle, IsSearchAnswer}
-use Rattle.level_search.specs.Team.{IsSearched, IsLength, Honest, IsReady, SameSeat, HasWorked, HaveWorked, ceiling, AtPlace, IsTeam, IsLeastLength}
+use Rattle.level_search.specs.Sources.{MeetsCycles}
+use Rattle.level_search.specs.Team.{IsSearched, IsSearchedAt, IsLength, Honest, IsReady, SameSeat, HasWorked, HaveWorked, ceiling, AtPlace, IsTeam, IsLeastLength}
 use Rattle.level_search.specs.declared.worker.Worker.{Worker}
 use Rattle.level_search.proofs.Joining.{IsShortestOfAll, cycle-known}
 
@@ -35,8 +38,8 @@ searched_below rows low low' source less is = record {
   none = λ above. is.none (le_trans above less);
 }
 
-all_below : (rows : List (List ℕ)) (low low' : ℕ) (xs : List ℕ) → low' ≤ low → All (IsSearched rows low) xs → All (IsSearched rows low') xs
-all_below rows low low' xs less all = λ k d within. searched_below rows low low' (get_or xs k d) less (all k d within)
+all_below : (rows : List (List ℕ)) (sources : List ℕ) (low low' : ℕ) (xs : List ℕ) → low' ≤ low → All (IsSearchedAt rows sources low) xs → All (IsSearchedAt rows sources low') xs
+all_below rows sources low low' xs less all = λ k d within. searched_below rows low low' (slice_index sources (get_or xs k d)) less (all k d within)
 
 -- a search that finds a length, which is offered
 pub searched_some : (rows : List (List ℕ)) (s m bound low : ℕ) → IsSearchAnswer rows s bound (Some m) → bound ≤ 4294967295 → low ≤ m → IsSearched rows low s
@@ -54,12 +57,12 @@ searched_none rows s elements low answer few none = record {
 }
 
 -- a claim, and a search from what was claimed
-pub claimed_one : (rows : List (List ℕ)) (s t : SeatView) (source : ℕ) → Honest rows s → t.claimed ≡ s.claimed ++ source ∷ [] → All (IsLength rows) t.offered → t.low ≤ s.low
-    → IsSearched rows t.low source → Honest rows t
-claimed_one rows s t source h claimed offers less searched = record {
+pub claimed_one : (rows : List (List ℕ)) (sources : List ℕ) (s t : SeatView) (place : ℕ) → Honest rows sources s → t.claimed ≡ s.claimed ++ place ∷ [] → All (IsLength rows) t.offered → t.low ≤ s.low
+    → IsSearchedAt rows sources t.low place → Honest rows sources t
+claimed_one rows sources s t place h claimed offers less searched = record {
   known = le_trans less h.known;
   offers = offers;
-  claims = subst (All (IsSearched rows t.low)) (sym claimed) (All-push (IsSearched rows t.low) s.claimed source (all_below rows s.low t.low s.claimed less h.claims) searched);
+  claims = subst (All (IsSearchedAt rows sources t.low)) (sym claimed) (All-push (IsSearchedAt rows sources t.low) s.claimed place (all_below rows sources s.low t.low s.claimed less h.claims) searched);
 }
 
 -- a claim, and then a search that may offer
@@ -82,18 +85,18 @@ pub fewer_left : (s t : SeatView) (source : ℕ) → t.bound ≡ s.bound → t.c
 fewer_left s t source bound claimed within above =
     subst (λ (z : BoundView × List ℕ). z.0.sources - ceiling z.1 < s.bound.sources - ceiling s.claimed) (λ i. (sym bound i, sym claimed i)) (fewer s.bound.sources source s.claimed within above)
 
--- the last look, which finds no source
-pub finished : (rows : List (List ℕ)) (s t : SeatView) → t ≡ record s { done = true } → Honest rows s → Honest rows t
-finished rows s t e h = subst (Honest rows) (sym e) (record { known = h.known; offers = h.offers; claims = h.claims })
+-- the last look, which finds no place
+pub finished : (rows : List (List ℕ)) (sources : List ℕ) (s t : SeatView) → t ≡ record s { done = true } → Honest rows sources s → Honest rows sources t
+finished rows sources s t e h = subst (Honest rows sources) (sym e) (record { known = h.known; offers = h.offers; claims = h.claims })
 
 -- the first seat, with what another did
-pub taken_in : (rows : List (List ℕ)) (s o t : SeatView) → Honest rows s → Honest rows o → t.claimed ≡ s.claimed ++ o.claimed → t.offered ≡ s.offered ++ o.offered → t.low ≤ s.low → t.low ≤ o.low
-    → Honest rows t
-taken_in rows s o t h k claimed offered low low' = record {
+pub taken_in : (rows : List (List ℕ)) (sources : List ℕ) (s o t : SeatView) → Honest rows sources s → Honest rows sources o → t.claimed ≡ s.claimed ++ o.claimed → t.offered ≡ s.offered ++ o.offered → t.low ≤ s.low → t.low ≤ o.low
+    → Honest rows sources t
+taken_in rows sources s o t h k claimed offered low low' = record {
   known = le_trans low h.known;
   offers = subst (All (IsLength rows)) (sym offered) (All-append (IsLength rows) s.offered o.offered h.offers k.offers);
-  claims = subst (All (IsSearched rows t.low)) (sym claimed)
-      (All-append (IsSearched rows t.low) s.claimed o.claimed (all_below rows s.low t.low s.claimed low h.claims) (all_below rows o.low t.low o.claimed low' k.claims));
+  claims = subst (All (IsSearchedAt rows sources t.low)) (sym claimed)
+      (All-append (IsSearchedAt rows sources t.low) s.claimed o.claimed (all_below rows sources s.low t.low s.claimed low h.claims) (all_below rows sources o.low t.low o.claimed low' k.claims));
 }
 
 pub all_front : {X : Type 0} (P : X → Type 0) (xs : List X) (x : X) → All P (xs ++ x ∷ []) → All P xs × P x
@@ -113,17 +116,24 @@ least_among P (x ∷ xs) h =
     (λ le. let e : x ≡ min x (least_offer xs) = omega arith in inr (subst P e (All-head P x xs h)))
     (λ not_le. let e : least_offer xs ≡ min x (least_offer xs) = omega arith in subst (λ (m : ℕ). (m ≡ 4294967295) ⊎ P m) e (least_among P xs (All-tail P x xs h)))
 
--- what all workers together found
-pub settled : (v : Responses) (n m : ℕ) (s : SeatView) → n ≡ length v.elements → m ≡ least_offer s.offered → m ≤ s.low → Honest (lists_of v) s → IsPermutation (range_with_len 0 n) s.claimed
+-- the place of a number in a list
+place_of : (xs : List ℕ) (x : ℕ) → Contains xs x → (i : ℕ) × (i < length xs) × (get_or xs i 0 ≡ x)
+place_of xs x inside = (inside.0, inside.1, sym (get_or_default_zero xs inside.0 x inside.1) ∙ inside.2)
+
+-- what all workers together found: each cycle leads through a source, from which was searched
+pub settled : (v : Responses) (sources : List ℕ) (n m : ℕ) (s : SeatView) → n ≡ length sources → MeetsCycles (lists_of v) (length v.elements) sources → m ≡ least_offer s.offered → m ≤ s.low → Honest (lists_of v) sources s → IsPermutation (range_with_len 0 n) s.claimed
     → IsLeastLength v m
-settled v n m s count least low h same = record {
-  least = λ source k within cycle. le_trans low ((searched source within).shorter k cycle);
+settled v sources n m s count meets least low h same = record {
+  least = λ source k within cycle. let t = meets source k within cycle in le_trans low ((searched t.0 t.1).shorter k t.2);
   found = subst (λ (z : ℕ). (z ≡ 4294967295) ⊎ IsLength (lists_of v) z) (sym least) (least_among (IsLength (lists_of v)) s.offered h.offers);
-  none = λ e source k within. (searched source within).none (omega arith) k;
+  none = λ e source k within cycle. let t = meets source k within cycle in (searched t.0 t.1).none (omega arith) k t.2;
 }
   where
-    searched : (source : ℕ) → source < length v.elements → IsSearched (lists_of v) s.low source
-    searched source within = all_claimed (IsSearched (lists_of v) s.low) n s.claimed same h.claims source (omega arith)
+    searched : (source : ℕ) → Contains sources source → IsSearched (lists_of v) s.low source
+    searched source inside =
+        let at = place_of sources source inside in
+        let within = at.1 in
+        subst (IsSearched (lists_of v) s.low) at.2 (all_claimed (IsSearchedAt (lists_of v) sources s.low) n s.claimed same h.claims at.0 (omega arith))
 
 -- a least length that is none but `NO_OFFER` is that of a shortest cycle
 pub shortest_found : (v : Responses) → AreProper v → (m : ℕ) → IsLeastLength v m → m ≢ 4294967295 → IsShortestOfAll v m
@@ -151,8 +161,8 @@ written {X} n old new same whole =
     ap (λ (l : List X). take n (new ++ l)) (drop_whole (length new) old (omega arith)) ∙ (ap (take n) (append-nil new) ∙ take_whole n new (omega arith))
 
 -- a team at its places, once its work is done
-at_place : (b : BoundView) (v : Responses) (m k : ℕ) (old new : Worker) → AtPlace b v m k old → HasWorked v old new → AtPlace b v m k new
-at_place b v m k old new at worked = record {
+at_place : (b : BoundView) (v : Responses) (sources : List ℕ) (m k : ℕ) (old new : Worker) → AtPlace b v sources m k old → HasWorked v sources old new → AtPlace b v sources m k new
+at_place b v sources m k old new at worked = record {
   bound = worked.same.0 ∙ at.bound;
   ready = worked.ready;
   other = λ less. worked.same.1 ∙ at.other less;
@@ -169,48 +179,48 @@ front_at (y ∷ ys) x zero d less = refl
 front_at (y ∷ ys) x (suc k) d less = front_at ys x k d (omega arith)
 
 -- what is known of the first seat and of the others, once all work is done
-abbrev pub IsFirst : BoundView → Responses → ℕ → SeatView → Type 0
-IsFirst b v m s = (s.bound ≡ b) × (s.is_first ≡ true) × (s.out ≡ m) × (s.done ≡ true) × Honest (lists_of v) s
+abbrev pub IsFirst : BoundView → Responses → List ℕ → ℕ → SeatView → Type 0
+IsFirst b v sources m s = (s.bound ≡ b) × (s.is_first ≡ true) × (s.out ≡ m) × (s.done ≡ true) × Honest (lists_of v) sources s
 
-abbrev pub IsOther : BoundView → Responses → Worker → Type 0
-IsOther b v w = (w.seat.bound ≡ b) × (w.seat.is_first ≡ false) × Honest (lists_of v) w.seat
+abbrev pub IsOther : BoundView → Responses → List ℕ → Worker → Type 0
+IsOther b v sources w = (w.seat.bound ≡ b) × (w.seat.is_first ≡ false) × Honest (lists_of v) sources w.seat
 
 -- the last of a team that is done, and the others
-pub last_of_team : (b : BoundView) (v : Responses) (m : ℕ) (old front : List Worker) (first : Worker) → IsTeam b v m old → HaveWorked v old (front ++ first ∷ [])
-    → IsFirst b v (length front) first.seat × All (IsOther b v) front
-last_of_team b v m old front first t worked =
+pub last_of_team : (b : BoundView) (v : Responses) (sources : List ℕ) (m : ℕ) (old front : List Worker) (first : Worker) → IsTeam b v sources m old → HaveWorked v sources old (front ++ first ∷ [])
+    → IsFirst b v sources (length front) first.seat × All (IsOther b v sources) front
+last_of_team b v sources m old front first t worked =
     let long = length-append front (first ∷ []) in
     let size = t.0 in
     let size' = worked.0 in
-    let done : HasWorked v (get_or old (length front) first) first =
-    subst (λ (w : Worker). HasWorked v (get_or old (length front) first) w) (last_at front first first) (worked.1 (length front) first (omega arith)) in
-    let at : AtPlace b v m (length front) first = at_place b v m (length front) (get_or old (length front) first) first (t.1 (length front) first (omega arith)) done in
+    let done : HasWorked v sources (get_or old (length front) first) first =
+    subst (λ (w : Worker). HasWorked v sources (get_or old (length front) first) w) (last_at front first first) (worked.1 (length front) first (omega arith)) in
+    let at : AtPlace b v sources m (length front) first = at_place b v sources m (length front) (get_or old (length front) first) first (t.1 (length front) first (omega arith)) done in
     let mine = at.first (omega arith) in
     let out = mine.1 in (
       (at.bound, mine.0, omega arith, done.done, at.ready.honest),
       λ k d less. (
-          let did : HasWorked v (get_or old k d) (get_or front k d) = subst (λ (w : Worker). HasWorked v (get_or old k d) w) (front_at front first k d less) (worked.1 k d (omega arith)) in
-          let p : AtPlace b v m k (get_or front k d) = at_place b v m k (get_or old k d) (get_or front k d) (t.1 k d (omega arith)) did in
+          let did : HasWorked v sources (get_or old k d) (get_or front k d) = subst (λ (w : Worker). HasWorked v sources (get_or old k d) w) (front_at front first k d less) (worked.1 k d (omega arith)) in
+          let p : AtPlace b v sources m k (get_or front k d) = at_place b v sources m k (get_or old k d) (get_or front k d) (t.1 k d (omega arith)) did in
           (p.bound, p.other (omega arith), p.ready.honest)
           ),
     )
 
 -- a worker with the first seat completes a team
-pub team_grown : (b : BoundView) (v : Responses) (m : ℕ) (front : List Worker) (w : Worker) → All (λ o. (o.seat.bound ≡ b) × (o.seat.is_first ≡ false) × IsReady v o) front → length front ≡ m
-    → w.seat.bound ≡ b → w.seat.is_first ≡ true → w.seat.out ≡ m → IsReady v w → IsTeam b v m (front ++ w ∷ [])
-team_grown b v m front w others size bound first out ready = (omega (arith, long), at)
+pub team_grown : (b : BoundView) (v : Responses) (sources : List ℕ) (m : ℕ) (front : List Worker) (w : Worker) → All (λ o. (o.seat.bound ≡ b) × (o.seat.is_first ≡ false) × IsReady v sources o) front → length front ≡ m
+    → w.seat.bound ≡ b → w.seat.is_first ≡ true → w.seat.out ≡ m → IsReady v sources w → IsTeam b v sources m (front ++ w ∷ [])
+team_grown b v sources m front w others size bound first out ready = (omega (arith, long), at)
   where
     long : length (front ++ w ∷ []) ≡ length front + 1
     long = length-append front (w ∷ [])
 
-    at : (k : ℕ) (d : Worker) → k < length (front ++ w ∷ []) → AtPlace b v m k (get_or (front ++ w ∷ []) k d)
+    at : (k : ℕ) (d : Worker) → k < length (front ++ w ∷ []) → AtPlace b v sources m k (get_or (front ++ w ∷ []) k d)
     at k d within = go (cases_lt k (length front))
       where
-        go : (k < length front) ⊎ (length front ≤ k) → AtPlace b v m k (get_or (front ++ w ∷ []) k d)
+        go : (k < length front) ⊎ (length front ≤ k) → AtPlace b v sources m k (get_or (front ++ w ∷ []) k d)
         go (inl less) =
             let o = others k d less in
-            subst (AtPlace b v m k) (sym (front_at front w k d less)) (record { bound = o.0; ready = o.2; other = λ _. o.1; first = λ e. absurd (omega arith) })
+            subst (AtPlace b v sources m k) (sym (front_at front w k d less)) (record { bound = o.0; ready = o.2; other = λ _. o.1; first = λ e. absurd (omega arith) })
         go (inr above) =
             let last : length front ≡ k = omega (arith, long) in
             let here : get_or (front ++ w ∷ []) k d ≡ w = subst (λ (n : ℕ). get_or (front ++ w ∷ []) n d ≡ w) last (last_at front w d) in
-            subst (AtPlace b v m k) (sym here) (record { bound = bound; ready = ready; other = λ less. absurd (omega arith); first = λ _. (first, out) })
+            subst (AtPlace b v sources m k) (sym here) (record { bound = bound; ready = ready; other = λ less. absurd (omega arith); first = λ _. (first, out) })

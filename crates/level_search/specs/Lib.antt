@@ -5,5 +5,6 @@ pub mod Rings
 pub mod Progress
 pub mod ScratchView
 pub mod Steps
+pub mod Sources
 pub mod Team
 pub mod BoundLaw

@@ -1,9 +1,11 @@
 ghost use Rattle.std.specs.Prelude.{◌≡◌, ℕ, ◌+◌, ◌-◌, ◌<◌, ◌≤◌, true, false, length, IfOk, All, vec_len};
 ghost use Rattle.order_graph.specs.Lists.{lists_of};
 ghost use Rattle.shared_bound.specs.Seats.{fresh_seat};
+ghost use Rattle.level_search.specs.Sources.{MeetsCycles};
 ghost use Rattle.level_search.specs.Team.{CanWork, HasWorked, HaveWorked, Honest, IsLeastLength, IsTeam};
 
 use super::gate::Gate;
+use super::sources::sources_of;
 use super::worker::{Worker, work};
 use events::Memory;
 use order_graph::OrderGraph;
@@ -16,13 +18,14 @@ use std::thread::Threads;
 fn team<'a>(
     alloc: Global,
     graph: &OrderGraph,
+    sources: &[u32],
     bound: &'a Bound,
     mut first: Seat,
     workers: u32,
 ) -> Result<Vec<Worker<'a>>, Memory>
     requires workers { (1 ≤ workers) × (workers ≤ 64) }
     requires first { first ≡ fresh_seat bound.now true NO_OFFER (workers - 1) }
-    ensures { IfOk result (λ team. IsTeam bound.now graph.now (workers - 1) team.items) }
+    ensures { IfOk result (λ team. IsTeam bound.now graph.now sources.now (workers - 1) team.items) }
 {
     let mut team = Vec::new(alloc);
     for number in 1..workers {
@@ -34,10 +37,17 @@ fn team<'a>(
 }
 
 /// All workers work, each in a thread where one can be started; else another thread does its work too.
-fn work_all<H: Threads + Sync, G: Gate>(rt: &H, graph: &OrderGraph, gate: &G, team: &mut [Worker])
+fn work_all<H: Threads + Sync, G: Gate>(
+    rt: &H,
+    graph: &OrderGraph,
+    sources: &[u32],
+    gate: &G,
+    team: &mut [Worker],
+)
     requires few { length graph.now.elements < NO_OFFER }
-    requires team { All (CanWork graph.now) team.old }
-    ensures { HaveWorked graph.now team.old team.new }
+    requires known { All (λ s. s < length graph.now.elements) sources.now }
+    requires team { All (CanWork graph.now sources.now) team.old }
+    ensures { HaveWorked graph.now sources.now team.old team.new }
 {
     let threads = team.len().max(1);
     thread::for_each_mut(
@@ -46,19 +56,26 @@ fn work_all<H: Threads + Sync, G: Gate>(rt: &H, graph: &OrderGraph, gate: &G, te
         threads,
         &|_: usize, worker: &mut Worker|
             requires few { length graph.now.elements < NO_OFFER }
-            requires ready { CanWork graph.now worker.old }
-            ensures { HasWorked graph.entry.now worker.old worker.new }
-        { work(graph, gate, worker) },
+            requires known { All (λ s. s < length graph.now.elements) sources.now }
+            requires ready { CanWork graph.now sources.now worker.old }
+            ensures { HasWorked graph.entry.now sources.entry.now worker.old worker.new }
+        { work(graph, sources, gate, worker) },
     );
 }
 
 /// The first seat, with all that the others claimed and offered.
-fn gathered(bound: &Bound, graph: &OrderGraph, mut first: Seat, mut others: Vec<Worker>) -> Seat
+fn gathered(
+    bound: &Bound,
+    graph: &OrderGraph,
+    sources: &[u32],
+    mut first: Seat,
+    mut others: Vec<Worker>,
+) -> Seat
     requires first { (first.bound ≡ bound.now) × (first.is_first ≡ true) × (first.out ≡ vec_len others) × (first.done ≡ true) }
-    requires honest { Honest (lists_of graph.now) first }
-    requires others { All (λ w. (w.seat.bound ≡ bound.now) × (w.seat.is_first ≡ false) × Honest (lists_of graph.now) w.seat) others.items }
+    requires honest { Honest (lists_of graph.now) sources.now first }
+    requires others { All (λ w. (w.seat.bound ≡ bound.now) × (w.seat.is_first ≡ false) × Honest (lists_of graph.now) sources.now w.seat) others.items }
     ensures first { (result.bound ≡ bound.now) × (result.is_first ≡ true) × (result.out ≡ 0) × (result.done ≡ true) }
-    ensures honest { Honest (lists_of graph.now) result }
+    ensures honest { Honest (lists_of graph.now) sources.now result }
 {
     while let Some(other) = others.pop() {
         bound.take_in(&mut first, other.into_seat());
@@ -67,17 +84,45 @@ fn gathered(bound: &Bound, graph: &OrderGraph, mut first: Seat, mut others: Vec<
 }
 
 /// What the bound has at the end, once each source was searched from and all seats are taken in.
-fn closed(bound: Bound, graph: &OrderGraph, first: Seat) -> u32
-    requires sources { bound.sources ≡ length graph.now.elements }
+fn closed(bound: Bound, graph: &OrderGraph, sources: &[u32], first: Seat) -> u32
+    requires count { bound.sources ≡ length sources.now }
+    requires met { MeetsCycles (lists_of graph.now) (length graph.now.elements) sources.now }
     requires first { (first.bound ≡ bound) × (first.is_first ≡ true) × (first.out ≡ 0) × (first.done ≡ true) }
-    requires honest { Honest (lists_of graph.now) first }
+    requires honest { Honest (lists_of graph.now) sources.now first }
     ensures { IsLeastLength graph.now result }
 {
     bound.close(first)
 }
 
-/// The length of a shortest cycle, or `NO_OFFER` where there is none, by a search from each element. All
-/// memory is taken before a worker starts.
+/// The length of a shortest cycle, or `NO_OFFER` where there is none, by a search from each of the sources,
+/// through one of which each cycle leads.
+fn least_from<H: Threads + Sync, G: Gate>(
+    rt: &H,
+    alloc: Global,
+    graph: &OrderGraph,
+    sources: &[u32],
+    workers: u32,
+    gate: &G,
+) -> Result<u32, Memory>
+    requires workers { (1 ≤ workers) × (workers ≤ 64) }
+    requires few { length graph.now.elements < NO_OFFER }
+    requires known { All (λ s. s < length graph.now.elements) sources.now }
+    requires count { length sources.now ≤ length graph.now.elements }
+    requires met { MeetsCycles (lists_of graph.now) (length graph.now.elements) sources.now }
+    ensures { IfOk result (IsLeastLength graph.now) }
+{
+    let (bound, first) = Bound::new(alloc, sources.len() as u32, workers)?;
+    let mut team = team(alloc, graph, sources, &bound, first, workers)?;
+    work_all(rt, graph, sources, gate, team.as_mut_slice());
+    let Some(last) = team.pop() else {
+        unreachable!()
+    };
+    let first = gathered(&bound, graph, sources, last.into_seat(), team);
+    Ok(closed(bound, graph, sources, first))
+}
+
+/// The length of a shortest cycle, or `NO_OFFER` where there is none, by a search from each of few elements.
+/// All memory is taken before a worker starts.
 pub fn least_length<H: Threads + Sync, G: Gate>(
     rt: &H,
     alloc: Global,
@@ -89,12 +134,6 @@ pub fn least_length<H: Threads + Sync, G: Gate>(
     requires few { length graph.now.elements < NO_OFFER }
     ensures { IfOk result (IsLeastLength graph.now) }
 {
-    let (bound, first) = Bound::new(alloc, graph.elements(), workers)?;
-    let mut team = team(alloc, graph, &bound, first, workers)?;
-    work_all(rt, graph, gate, team.as_mut_slice());
-    let Some(last) = team.pop() else {
-        unreachable!()
-    };
-    let first = gathered(&bound, graph, last.into_seat(), team);
-    Ok(closed(bound, graph, first))
+    let sources = sources_of(alloc, graph)?;
+    least_from(rt, alloc, graph, &sources, workers, gate)
 }

@@ -1,6 +1,7 @@
 mod conflicts;
 mod gates;
 mod generated;
+mod many;
 mod plain;
 mod recordings;
 mod searches;

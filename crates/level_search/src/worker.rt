@@ -1,4 +1,4 @@
-ghost use Rattle.std.specs.Prelude.{◌≡◌, ◌<◌, ◌≤◌, true, [], length, IfOk, All};
+ghost use Rattle.std.specs.Prelude.{◌≡◌, ℕ, List, ◌<◌, ◌≤◌, true, [], length, IfOk, All};
 ghost use Rattle.order_graph.specs.Lists.{lists_of};
 ghost use Rattle.level_search.specs.ScratchView.{Fits};
 ghost use Rattle.level_search.specs.Team.{IsLength, IsReady, IsSearched, SameSeat};
@@ -32,7 +32,7 @@ impl<'a> Worker<'a> {
         requires bound { seat.bound ≡ bound.now }
         requires fresh { (seat.claimed ≡ []) × (seat.offered ≡ []) × (seat.low ≤ NO_OFFER) }
         ensures seat { IfOk result (λ w. w.seat ≡ seat) }
-        ensures ready { IfOk result (λ w. IsReady graph.now w) }
+        ensures ready { IfOk result (λ w. (sources : List ℕ) → IsReady graph.now sources w) }
     {
         let scratch = Scratch::new(alloc, graph)?;
         Ok(Worker {
@@ -74,16 +74,17 @@ fn search_from<G: Gate>(graph: &OrderGraph, source: u32, gate: &G, worker: &mut 
     gate.after(worker.number, source);
 }
 
-/// Claims sources until none is left, and searches from each.
-pub fn work<G: Gate>(graph: &OrderGraph, gate: &G, worker: &mut Worker)
-    requires sources { worker.old.seat.bound.sources ≡ length graph.now.elements }
+/// Claims places of the sources until none is left, and searches from the element at each.
+pub fn work<G: Gate>(graph: &OrderGraph, sources: &[u32], gate: &G, worker: &mut Worker)
+    requires known { All (λ s. s < length graph.now.elements) sources.now }
+    requires count { worker.old.seat.bound.sources ≡ length sources.now }
     requires few { length graph.now.elements < NO_OFFER }
-    requires ready { IsReady graph.now worker.old }
-    ensures ready { IsReady graph.now worker.new }
+    requires ready { IsReady graph.now sources.now worker.old }
+    ensures ready { IsReady graph.now sources.now worker.new }
     ensures done { worker.new.seat.done ≡ true }
     ensures same { SameSeat worker.old.seat worker.new.seat }
 {
-    while let Some(source) = worker.seat.claim() {
-        search_from(graph, source, gate, worker);
+    while let Some(place) = worker.seat.claim() {
+        search_from(graph, sources[place as usize], gate, worker);
     }
 }

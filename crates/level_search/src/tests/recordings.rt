@@ -29,9 +29,13 @@ pub fn empty(alloc: Global, replicas: u32) -> Result<Recording, Fail> {
     }
 }
 
-/// Puts a name at the end of a response.
+/// Puts the name that a text spells at the end of a response.
 pub fn push(response: &mut Response, text: &str) -> Result<(), Fail> {
-    let name = Name::new(text.as_bytes())?;
+    push_name(response, Name::new(text.as_bytes())?)
+}
+
+/// Puts a name at the end of a response.
+pub fn push_name(response: &mut Response, name: Name) -> Result<(), Fail> {
     match response.push(name) {
         Ok(()) => Ok(()),
         Err(Memory) => Ok(response.push(name)?),

@@ -12,7 +12,7 @@ loop-other-preserved c =
     let e = c.take_in.ensures.first in
     let rows : List (List ℕ) = lists_of c.args.graph.now in
     let items = c.in-Some.ensures.items in
-    let P : Worker → Type 0 = IsOther c.args.bound.now c.args.graph.now in
+    let P : Worker → Type 0 = IsOther c.args.bound.now c.args.graph.now c.args.sources.now in
     let front = all_front P c.pop.new.self.items c.in-Some.other (subst (All P) items inv.5) in
     let ok = c.loop-other.others.ok.0 in
     let ok' = c.pop.new.self.ok.0 in
@@ -25,7 +25,7 @@ loop-other-preserved c =
       ap (λ (s : SeatView). s.is_first) e ∙ inv.1,
       omega arith,
       ap (λ (s : SeatView). s.done) e ∙ ap (λ (b : Bool). b || c.into_seat.result.done) inv.3,
-      taken_in rows c.loop-other.first c.into_seat.result c.take_in.new.first inv.4 (subst (Honest rows) (sym c.into_seat.ensures) front.1.2)
+      taken_in rows c.args.sources.now c.loop-other.first c.into_seat.result c.take_in.new.first inv.4 (subst (Honest rows c.args.sources.now) (sym c.into_seat.ensures) front.1.2)
           (ap (λ (s : SeatView). s.claimed) e) (ap (λ (s : SeatView). s.offered) e) (omega arith) (omega arith),
       front.0,
     )

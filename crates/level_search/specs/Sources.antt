@@ -1,0 +1,25 @@
+-- Elements to search from, and an order of the other elements that each list follows.
+use Rattle.std.specs.Prelude.{◌≢◌, ℕ, ◌<◌, List, slice_index, Contains}
+use Rattle.order_graph.specs.Lists.{Stands}
+use Rattle.level_search.specs.Walks.{HasCycle}
+
+-- the rank of an element that is left out of the order
+abbrev pub UNRANKED : ℕ
+UNRANKED = 4294967295
+
+-- x is in the order
+abbrev pub IsRanked : List ℕ → ℕ → Type 0
+IsRanked ranks x = slice_index ranks x ≢ UNRANKED
+
+-- along the first j places of a list the ranked elements rise, and are below `next`
+pub record RisesTo (rows : List (List ℕ)) (ranks : List ℕ) (l j next : ℕ) : Type 0 where
+  pub below : (p x : ℕ) → p < j → Stands rows l p x → IsRanked ranks x → slice_index ranks x < next
+  pub rises : (p q x y : ℕ) → p < q → q < j → Stands rows l p x → Stands rows l q y → IsRanked ranks x → IsRanked ranks y → slice_index ranks x < slice_index ranks y
+
+-- along a list the ranked elements rise
+pub record Rises (rows : List (List ℕ)) (ranks : List ℕ) (l : ℕ) : Type 0 where
+  pub rises : (p q x y : ℕ) → p < q → Stands rows l p x → Stands rows l q y → IsRanked ranks x → IsRanked ranks y → slice_index ranks x < slice_index ranks y
+
+-- each cycle leads through one of these
+abbrev pub MeetsCycles : List (List ℕ) → ℕ → List ℕ → Type 0
+MeetsCycles rows elements sources = (s n : ℕ) → s < elements → HasCycle rows s n → (t : ℕ) × Contains sources t × HasCycle rows t n

@@ -1,0 +1,84 @@
+//! Recordings of more elements than are searched from one and all.
+ghost use Rattle.std.specs.Prelude.{◌<◌};
+
+use super::conflicts::{THREE_WAY_CYCLE, number_of};
+use super::recordings::{add, graph, push, push_name, recording};
+use crate::Gate;
+use events::{Body, Name, Recording, Response};
+use std::alloc::Global;
+use std::sync::atomic::{AtomicU64, Ordering};
+use std::test::Fail;
+use std::thread::Threads;
+
+const MANY: u8 = 70;
+
+const ONE_ELEMENT: &str = "trace 1\nreplicas 1\n0 ins x 0 : x\n";
+
+/// Counts the searches.
+#[derive(Drop)]
+struct Searches(AtomicU64);
+
+impl Gate for Searches {
+    fn before(&self, _worker: u32, _source: u32) {
+        self.0.fetch_add(1, Ordering::SeqCst);
+    }
+
+    fn after(&self, _worker: u32, _source: u32) {}
+}
+
+/// The name with a number.
+fn numbered(n: u8) -> Result<Name, Fail>
+    requires { n < 100 }
+{
+    Ok(Name::new(&[b'e', b'0' + n / 10, b'0' + n % 10])?)
+}
+
+/// Lets replica 0 put many elements behind those that it sees, one after the other.
+fn put_behind(alloc: Global, recording: &mut Recording, seen: &[&str]) -> Result<(), Fail> {
+    for n in 0..MANY {
+        let mut response = Response::new(alloc);
+        for text in seen {
+            push(&mut response, text)?;
+        }
+        for i in 0..n {
+            push_name(&mut response, numbered(i)?)?;
+        }
+        let name = numbered(n)?;
+        let at = u32::try_from(response.len())?;
+        push_name(&mut response, name)?;
+        add(recording, 0, Body::Ins { name, at, response })?;
+    }
+    Ok(())
+}
+
+/// The conflict number of a recording with many elements behind those that replica 0 sees at its end.
+fn number_behind<G: Gate>(
+    rt: &(impl Threads + Sync),
+    alloc: Global,
+    text: &str,
+    seen: &[&str],
+    gate: &G,
+) -> Result<Option<u32>, Fail> {
+    let mut recording = recording(alloc, text)?;
+    put_behind(alloc, &mut recording, seen)?;
+    let graph = graph(rt, alloc, &recording)?;
+    Ok(number_of(rt, alloc, &graph, 2, gate)?)
+}
+
+#[test]
+fn one_search_where_all_cycles_meet(rt: HostRuntime) -> Result<(), Fail> {
+    let searches = Searches(AtomicU64::new(0));
+    let found = number_behind(&rt, rt.alloc(), THREE_WAY_CYCLE, &["b", "a"], &searches)?;
+    assert_eq!(rt; found, Some(3));
+    assert_eq!(rt; searches.0.load(Ordering::SeqCst), 1);
+    Ok(())
+}
+
+#[test]
+fn no_search_where_all_follow_one_order(rt: HostRuntime) -> Result<(), Fail> {
+    let searches = Searches(AtomicU64::new(0));
+    let found = number_behind(&rt, rt.alloc(), ONE_ELEMENT, &["x"], &searches)?;
+    assert_eq!(rt; found, None);
+    assert_eq!(rt; searches.0.load(Ordering::SeqCst), 0);
+    Ok(())
+}
