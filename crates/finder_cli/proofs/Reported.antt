@@ -40,8 +40,8 @@ pub written-of-both : (Q : List ℕ → List ℕ → List ℕ → Status → Typ
 written-of-both Q before after before_2 after_2 old new text read text_2 read_2 bytes status (Ok s) was was_2 of_texts wrote =
     let of_read : Q read text_2 bytes s = subst (λ x. Q read text_2 bytes x) (sym wrote.0) (subst (λ t. Q t text_2 bytes status) was.same of_texts) in
     Consumes-whole before after read (λ t. IfSome before_2 (λ c. (output : List ℕ) × Q t c output s × Appends old new output)) was.consumed was.ended
-        (Consumes-whole before_2 after_2 read_2 (λ c. (output : List ℕ) × Q read c output s × Appends old new output) was_2.consumed was_2.ended
-          (bytes, subst (λ c. Q read c bytes s) was_2.same of_read, wrote.1))
+    (Consumes-whole before_2 after_2 read_2 (λ c. (output : List ℕ) × Q read c output s × Appends old new output) was_2.consumed was_2.ended
+    (bytes, subst (λ c. Q read c bytes s) was_2.same of_read, wrote.1))
 written-of-both Q before after before_2 after_2 old new text read text_2 read_2 bytes status (Err fault) was was_2 of_texts wrote = tt
 
 -- a front of one was written
@@ -53,6 +53,6 @@ front-of-both Q failed before after before_2 after_2 old new text read text_2 re
   wrote.1,
   Consumes-whole before after read (λ t. IfSome before_2 (λ c. (output : List ℕ) × (s : Status) × Q t c output s × AppendsFront old new output)) was.consumed was.ended
       (Consumes-whole before_2 after_2 read_2 (λ c. (output : List ℕ) × (s : Status) × Q read c output s × AppendsFront old new output) was_2.consumed was_2.ended
-        (bytes, status, subst (λ c. Q read c bytes status) was_2.same (subst (λ t. Q t text_2 bytes status) was.same of_texts), wrote.2)),
+      (bytes, status, subst (λ c. Q read c bytes status) was_2.same (subst (λ t. Q t text_2 bytes status) was.same of_texts), wrote.2)),
 )
 front-of-both Q failed before after before_2 after_2 old new text read text_2 read_2 bytes status (Ok s) was was_2 of_texts wrote = tt

@@ -40,11 +40,7 @@ pub fn run_cert<H: Threads + Sync, R: Read + Drop, W: Write + Drop>(
 }
 
 /// The text of the certificate of the recording that the text spells.
-fn certificate_on<H: Threads + Sync>(
-    rt: &H,
-    alloc: Global,
-    text: &[u8],
-) -> Result<Output, RunFault>
+fn certificate_on<H: Threads + Sync>(rt: &H, alloc: Global, text: &[u8]) -> Result<Output, RunFault>
     ensures ok { IfOk result (λ output. IsCertificateOn text.now output.bytes.items output.status) }
     ensures trace { IfErr result (λ fault. NamesFirstFault text.now fault × IsOfText fault) }
 {

@@ -43,7 +43,10 @@ pub fn whole_text<R: Read + Drop>(
 }
 
 /// Writes an output, and answers its status.
-pub fn write_output<W: Write + Drop>(sink: &mut Sink<W>, output: &Output) -> Result<Status, RunFault>
+pub fn write_output<W: Write + Drop>(
+    sink: &mut Sink<W>,
+    output: &Output,
+) -> Result<Status, RunFault>
     ensures ok { IfOk result (λ status. (status ≡ output.now.status) × Appends sink.old.bytes sink.new.bytes output.now.bytes.items) }
     ensures err { IfErr result (λ fault. (fault ≡ RunFault.Write) × (sink.new.failed ≡ true) × AppendsFront sink.old.bytes sink.new.bytes output.now.bytes.items) }
 {

@@ -50,8 +50,13 @@ pub enum Task {
         file: Word,
     },
     /// The certificate of the verdict on the recording that a file spells; `-` is standard input.
-    Cert { file: Word },
+    Cert {
+        file: Word,
+    },
     /// Whether a certificate is valid for the recording that a file spells; `-` is standard input, which
     /// is read to its end for the trace and then again for the certificate where both are so.
-    Verify { file: Word, cert: Word },
+    Verify {
+        file: Word,
+        cert: Word,
+    },
 }

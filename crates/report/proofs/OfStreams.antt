@@ -43,10 +43,10 @@ abbrev steps_by : (Operation → List NameBytes) → List Step → Items
 steps_by returned [] = json.no_items
 steps_by returned (s ∷ steps) = json.item
     (json.object
-      (member (codes "from") (json.string s.from)
-      (member (codes "response") (json.array (names_json (returned s.shown)))
-      (member (codes "shown") (operation_json s.shown)
-      (member (codes "to") (json.string s.to) json.no_members)))))
+    (member (codes "from") (json.string s.from)
+    (member (codes "response") (json.array (names_json (returned s.shown)))
+    (member (codes "shown") (operation_json s.shown)
+    (member (codes "to") (json.string s.to) json.no_members)))))
     (steps_by returned steps)
 
 abbrev fault_by : ℕ → ℕ → ℕ → Operation → List ℕ → Data
@@ -116,5 +116,5 @@ pub reports_are_of_streams : ReportsAreOfStreams
 reports_are_of_streams g h v same = (
   text-by g v ∙ by-streams g h same (List ℕ) (λ r o n f. text_by r o n f v) ∙ sym (text-by h v),
   ap (λ d. compact_text d ++ 10 ∷ [])
-    (data-by g v ∙ by-streams g h same Data (λ r o n f. data_by r o n f v) ∙ sym (data-by h v)),
+      (data-by g v ∙ by-streams g h same Data (λ r o n f. data_by r o n f v) ∙ sym (data-by h v)),
 )

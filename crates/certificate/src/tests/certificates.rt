@@ -39,10 +39,7 @@ fn certificates_of_worked_recordings(rt: HostRuntime) -> Result<(), Fail> {
             THREE_WAY,
             "cert 1\nrefused 3\nstep x b 2.1\nstep b a 0.3\nstep a x 1.1\nlayers x / b\nlayers a / x\nlayers b / a\n",
         ),
-        (
-            OPPOSITE,
-            "cert 1\nrefused 2\nstep a b 0.2\nstep b a 1.2\n",
-        ),
+        (OPPOSITE, "cert 1\nrefused 2\nstep a b 0.2\nstep b a 1.2\n"),
         (
             RING_OF_FOUR,
             "cert 1\nrefused 4\nstep a b 2.1\nstep b c 3.1\nstep c d 4.2\nstep d a 5.2\nlayers a / b / c\nlayers b / c / d\nlayers c / d / a\nlayers d / a / b\n",

@@ -96,7 +96,12 @@ fn certificates_of_worked_recordings(rt: HostRuntime) -> Result<(), Fail> {
 #[test]
 fn answers_of_the_checker(rt: HostRuntime) -> Result<(), Fail> {
     let rows = [
-        (THREE_WAY_CYCLE, ITS_CERTIFICATE, "yes refused\n", Status::Good),
+        (
+            THREE_WAY_CYCLE,
+            ITS_CERTIFICATE,
+            "yes refused\n",
+            Status::Good,
+        ),
         (DELETED, ITS_ORDER, "yes accepted\n", Status::Good),
         (DELETED, ITS_CERTIFICATE, "no cycle 1\n", Status::Bad),
         ("trace 1\n", ITS_ORDER, "no trace\n", Status::Bad),

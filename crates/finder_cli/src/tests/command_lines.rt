@@ -74,7 +74,11 @@ fn words_of_certificates(rt: HostRuntime) -> Result<(), Fail> {
         ("verify --json t c", Request::Usage, ""),
     ];
     for (line, request, file) in rows {
-        assert_eq!(rt; line_asks(rt.alloc(), line, file)?, (request, true), "at {line}");
+        assert_eq!(rt;
+            line_asks(rt.alloc(), line, file)?,
+            (request, true),
+            "at {line}"
+        );
     }
     Ok(())
 }
