@@ -153,14 +153,19 @@ def most_threads(program: str, words: list) -> int:
 
 
 def threads(tally: Tally, program: str, folder: str) -> None:
-    """As many threads search as were asked for. The check of contents before it has a thread for each processor."""
+    """As many threads search as were asked for, in one run of several: a search may end before all have begun. The check of
+    contents before it has a thread for each processor, and begins twice."""
     path = os.path.join(folder, "ring")
     with open(path, "wb") as out:
-        subprocess.run([sys.executable, str(ROOT / "tests" / "traces.py"), "ring", "M"], stdout=out, check=True)
+        subprocess.run([sys.executable, str(ROOT / "tests" / "traces.py"), "long_ring", "L"], stdout=out, check=True)
     processors = os.cpu_count() or 1
     many = min(64, 2 * processors + 8)
-    tally.check("one worker", most_threads(program, ["verdict", "--workers", "1", path]) <= processors + 1)
-    seen = most_threads(program, ["verdict", "--workers", str(many), path])
+    seen = most_threads(program, ["verdict", "--workers", "1", path])
+    tally.check("one worker", seen <= 2 * processors + 1, f"saw {seen}")
+    runs = 0
+    while seen < many and runs < 20:
+        seen = max(seen, most_threads(program, ["verdict", "--workers", str(many), path]))
+        runs += 1
     tally.check(f"{many} workers in threads", seen >= many, f"saw {seen}")
 
 
