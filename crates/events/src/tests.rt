@@ -167,45 +167,59 @@ fn receipts_are_refused_in_their_order(rt: HostRuntime) -> Result<(), Fail> {
     let alloc = rt.alloc();
     let mut recording = opened(alloc, 2)?;
     let a = name("a")?;
-    let seen = |replica: u32, n: u32| OpName {
-        replica,
-        n: n.max(1),
-    };
     assert_eq!(rt; answer(&mut recording, 0, insert(alloc, a)), Ok(1));
-    let early = Body::Recv { seen: seen(0, 2) };
-    assert_eq!(rt;
-        answer(&mut recording, 1, early),
-        Err(Refusal::NotYet { have: 1 })
-    );
-    let own = Body::Recv { seen: seen(0, 1) };
-    assert_eq!(rt; answer(&mut recording, 0, own), Err(Refusal::OwnReceipt));
-    let own_early = Body::Recv { seen: seen(1, 9) };
-    assert_eq!(rt;
-        answer(&mut recording, 1, own_early),
-        Err(Refusal::OwnReceipt)
-    );
-    let unknown = Body::Recv { seen: seen(2, 1) };
-    assert_eq!(rt; answer(&mut recording, 0, unknown), Err(Refusal::NoReplica));
+    let rows = [
+        (1, 0, 2, Err(Refusal::NotYet { have: 1 })),
+        (0, 0, 1, Err(Refusal::OwnReceipt)),
+        (1, 1, 9, Err(Refusal::OwnReceipt)),
+        (0, 2, 1, Err(Refusal::NoReplica)),
+        (1, 0, 1, Ok(1)),
+        (1, 0, 1, Ok(2)),
+    ];
+    for (replica, of, n, reply) in rows {
+        let seen = OpName::new(of, n).ok_or("no name")?;
+        assert_eq!(rt;
+            answer(&mut recording, replica, Body::Recv { seen }),
+            reply,
+            "{replica} {of} {n}"
+        );
+    }
     assert_eq!(rt;
         answer(&mut recording, 2, insert(alloc, a)),
         Err(Refusal::NoReplica)
     );
-    assert_eq!(rt;
-        answer(&mut recording, 1, Body::Recv { seen: seen(0, 1) }),
-        Ok(1)
-    );
-    assert_eq!(rt;
-        answer(&mut recording, 1, Body::Recv { seen: seen(0, 1) }),
-        Ok(2)
-    );
-    assert_eq!(rt; answer(&mut recording, 1, read(alloc, a, 1)?), Ok(3));
-    assert!(rt; recording.len() == 4 && recording.stream_len(1) == 3 && recording.count(1) == 1);
-    assert!(rt;
-        recording.stream_len(0) == 1
-            && recording.count(0) == 1
-            && recording.count(2) == 0
-            && recording.stream_len(2) == 0
-    );
+    Ok(())
+}
+
+/// An insert, its receipt at the other replica, and a read there.
+fn inserted_and_read(alloc: Global) -> Result<Recording, Fail> {
+    let mut recording = opened(alloc, 2)?;
+    let a = name("a")?;
+    answer(&mut recording, 0, insert(alloc, a))?;
+    let seen = OpName::new(0, 1).ok_or("no name")?;
+    answer(&mut recording, 1, Body::Recv { seen })?;
+    answer(&mut recording, 1, read(alloc, a, 1)?)?;
+    Ok(recording)
+}
+
+#[test]
+fn entries_and_operations_are_counted(rt: HostRuntime) -> Result<(), Fail> {
+    let recording = inserted_and_read(rt.alloc())?;
+    assert_eq!(rt; recording.len(), 3);
+    for (replica, entries, operations) in [(0, 1, 1), (1, 2, 1), (2, 0, 0)] {
+        assert_eq!(rt; recording.stream_len(replica), entries, "{replica}");
+        assert_eq!(rt; recording.count(replica), operations, "{replica}");
+    }
+    Ok(())
+}
+
+#[test]
+fn entries_and_operations_are_found(rt: HostRuntime) -> Result<(), Fail> {
+    let recording = inserted_and_read(rt.alloc())?;
+    let of = |replica: u32, n: u32| OpName {
+        replica,
+        n: n.max(1),
+    };
     assert!(rt;
         matches!(
             recording.entry(1),
@@ -215,14 +229,11 @@ fn receipts_are_refused_in_their_order(rt: HostRuntime) -> Result<(), Fail> {
             })
         )
     );
-    assert!(rt; recording.entry(4).is_none());
-    assert!(rt; matches!(recording.stream(1, 1), Some(Body::Recv { .. })));
-    assert!(rt; matches!(recording.stream(1, 2), Some(Body::Read { .. })));
-    assert!(rt; recording.stream(1, 3).is_none() && recording.stream(2, 0).is_none());
-    assert!(rt; matches!(recording.operation(seen(1, 1)), Some(Body::Read { .. })));
-    assert!(rt;
-        recording.operation(seen(1, 2)).is_none() && recording.operation(seen(2, 1)).is_none()
-    );
+    assert!(rt; recording.entry(3).is_none());
+    assert!(rt; matches!(recording.stream(1, 1), Some(Body::Read { .. })));
+    assert!(rt; recording.stream(1, 2).is_none() && recording.stream(2, 0).is_none());
+    assert!(rt; matches!(recording.operation(of(1, 1)), Some(Body::Read { .. })));
+    assert!(rt; recording.operation(of(1, 2)).is_none() && recording.operation(of(2, 1)).is_none());
     Ok(())
 }
 
