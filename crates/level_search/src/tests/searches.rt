@@ -135,7 +135,7 @@ fn searches_of_generated_recordings_agree_with_the_plain_search(
 #[test]
 fn distances_in_the_ring_of_four(rt: HostRuntime) -> Result<(), Fail> {
     let alloc = rt.alloc();
-    let recording = recording(alloc, 6, &RING_OF_FOUR)?;
+    let recording = recording(alloc, RING_OF_FOUR)?;
     let ring = graph(&rt, alloc, &recording)?;
     let mut scratch = scratch(alloc, &ring)?;
     let rows = [
