@@ -130,8 +130,6 @@ fn no_command_line(rt: HostRuntime) -> Result<(), Fail> {
         "verdict --json",
         "verdict --json=yes t",
         "verdict --quick t",
-        "cert t",
-        "verify t c",
         "live t",
         "t",
         "-",
