@@ -15,7 +15,8 @@ pub enum Kind {
     Refused,
 }
 
-/// Why a certificate is not valid. Where several reasons hold, the first of this list is answered.
+/// Why a certificate is not valid. Where several reasons hold, the first of this list is answered; rows are looked
+/// at one after the other, in order of the elements' numbers.
 #[derive(Clone, Copy, Debug, PartialEq, Eq)]
 pub enum Reason {
     /// The trace spells no recording.

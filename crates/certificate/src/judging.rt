@@ -21,8 +21,8 @@ use witness_order::order;
 /// follows every response; the gate is called round each of its searches. The least cycle is then found in
 /// the caller's thread.
 ///
-/// Without conflicts its cost is that of `first_fault` and linear in the places of all responses; the search
-/// costs at most the places and elements once for each element. Memory is linear in the places, and for each
+/// Without conflicts its cost is that of `first_fault` and linear in the places of all responses; where there
+/// are, `conflict_number` has the cost of the search. Memory is linear in the places, and for each
 /// worker in the elements and operations.
 pub fn judge<H: Threads + Sync, G: Gate>(
     rt: &H,

@@ -1,4 +1,4 @@
-//! The verdict on a recording.
+//! The verdict on a recording, and its certificate.
 //!
 //! `judge` looks for the first fault, then for the least order that every response follows, and only where
 //! there is none for the conflict number and the least cycle. `certify` shows why a verdict is right.

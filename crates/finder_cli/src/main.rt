@@ -1,7 +1,8 @@
-//! The program `finder`: reads a recording of collaborative editors, judges it, and writes the report.
+//! The program `finder`: reads a recording of collaborative editors, judges it, and writes the report or a
+//! certificate; or checks a certificate.
 //!
-//! `run` is the engine, over any reader and writer; `read_words` is the command line; `program` joins
-//! them to files, standard streams and exit statuses.
+//! `run`, `run_cert` and `run_verify` are the engines, over any readers and writers; `read_words` is the command
+//! line; `program` joins them to files, standard streams and exit statuses.
 #![tactic(auto)]
 
 mod answer_line;

@@ -32,6 +32,9 @@ pub fn run_verify<H: Threads + Sync, T: Read + Drop, C: Read + Drop, W: Write + 
     ensures end { OnOk result (IsAtEnd trace.new.bytes × IsAtEnd cert.new.bytes) }
     ensures faults { IfErr result IsOfVerifying }
     ensures read { IfErr result (λ fault. fault ≡ RunFault.Read → IsClosed trace.new ⊎ IsClosed cert.new) }
+    ensures memory { IfErr result (λ fault. fault ≡ RunFault.Memory → (trace.new.failed ≡ false) × ((cert.new ≡ cert.old) ⊎ (cert.new.failed ≡ false))) }
+    // The certificate is read only behind the whole trace.
+    ensures order { IfErr result (λ fault. fault ≡ RunFault.Read → (cert.new ≡ cert.old) ⊎ IsClosed cert.new) }
     ensures write { IfErr result (λ fault. fault ≡ RunFault.Write → (sink.new.failed ≡ true) × IfSome trace.old.bytes (λ t. IfSome cert.old.bytes (λ c. VerifiesFront t c sink.old.bytes sink.new.bytes))) }
     ensures unwritten { IfErr result (λ fault. fault ≢ RunFault.Write → sink.new ≡ sink.old) }
 {

@@ -42,6 +42,7 @@ impl<'a> BoundSource for BoundSeat<'a> {
 }
 
 impl<'a> BoundSeat<'a> {
+    /// The seat at this bound.
     pub fn new(bound: &'a Bound, seat: Seat) -> BoundSeat<'a>
         requires { seat.bound ≡ bound.now }
         ensures { result ≡ seat }

@@ -1,4 +1,4 @@
-//! The search by levels for a shortest cycle, the conflict number, and the least cycle.
+//! The search by levels for a shortest cycle, distances, the conflict number, and the least cycle.
 #![tactic(auto)]
 
 mod back;
