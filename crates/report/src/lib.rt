@@ -8,8 +8,6 @@ mod counts;
 mod laws;
 mod lines;
 mod object;
-#[cfg(test)]
-mod tests;
 mod words;
 
 pub use compact::json;
