@@ -2,9 +2,10 @@
 """benchmark.py PROGRAM [RUNS [SIZE..]]: seconds, MB/s and peak memory of the whole program, and how its time grows.
 
 The traces are those of traces.py: XL is near the limits. Sizes are M, L and XL, and runs ten, unless told otherwise. Of
-refused recordings the certificate is made and checked too, once; at XL, where that takes minutes, only where XL alone is asked for. It is no timed test: what counts as passed is that each
-trace has the verdict that it is made for, and that the checker says yes. What is required of time
-and memory stands beside the measures at XL, for a quiet machine."""
+refused recordings the certificate is made and checked too, once; at XL, where that takes minutes, only where XL alone is
+asked for. The wide ring, where the search takes the most of the time, is judged with 1, 2 and 4 workers. It is no timed
+test: what counts as passed is that each trace has the verdict that it is made for, and that the checker says yes. What is
+required of time and memory stands beside the measures at XL, for a quiet machine with four processors."""
 import math
 import os
 import subprocess
@@ -21,6 +22,8 @@ TRACES = Path(__file__).parent / "traces.py"
 
 # Near the limits: at most so many seconds, and so many MB of memory.
 REQUIRED = {"accepted": (3, 400), "ring": (20, 400)}
+# Where the search takes the most of the time: four workers need at most this share of one worker's time.
+SEARCHED, SHARE = "wide_ring", 0.35
 
 
 class Measured(NamedTuple):
@@ -49,9 +52,19 @@ def make(path: str, family: str, size: str) -> None:
         subprocess.run([sys.executable, str(TRACES), family, size], stdout=out, check=True)
 
 
-def measured(program: str, path: str, times: int) -> Measured:
-    runs = [once(program, ["verdict", path], path + ".out") for _ in range(times)]
+def measured(program: str, path: str, times: int, workers: int = 4) -> Measured:
+    runs = [once(program, ["verdict", "--workers", str(workers), path], path + ".out") for _ in range(times)]
     return Measured(runs[0].line, min(run.seconds for run in runs), max(run.peak for run in runs))
+
+
+def by_workers(tally: Tally, program: str, name: str, path: str, times: int) -> None:
+    """The same recording with fewer and more workers."""
+    runs = {workers: measured(program, path, times, workers) for workers in (1, 2, 4)}
+    alone = runs[1].seconds
+    for workers, run in runs.items():
+        required = f", required: under {SHARE}" if workers == 4 and name.startswith("XL") else ""
+        print(f"{name:16} {workers} workers: {run.seconds:.3f} s, {run.seconds / alone:.2f} of one worker's{required}", flush=True)
+    tally.check(f"{name}: the same with any number of workers", len({run.line for run in runs.values()}) == 1, runs)
 
 
 def certified(tally: Tally, program: str, name: str, path: str) -> None:
@@ -106,6 +119,8 @@ def main() -> None:
                 holds = got.line == verdict or (verdict == "doubled" and got.line.startswith("doubled "))
                 tally.check(f"{size} {name}", holds, got.line)
                 grown.append((length, got.seconds))
+                if name == SEARCHED:
+                    by_workers(tally, program, f"{size} {name}", path, times)
                 if verdict.startswith("refused ") and (size != "XL" or sizes == ["XL"]):
                     certified(tally, program, f"{size} {name}", path)
             if len(grown) > 1:

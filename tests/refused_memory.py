@@ -1,5 +1,5 @@
 #!/usr/bin/env python3
-"""refused_memory.py PROGRAM: each vector, as text and as JSON, with one request for memory refused, for each request.
+"""refused_memory.py PROGRAM: each command on each vector, with one request for memory refused, for each request.
 
 The program must answer what it answers with ample memory, or want of memory. It needs a C compiler (`cc`)."""
 import os
@@ -31,15 +31,22 @@ def refuse_each(tally: Tally, library: str, words: list) -> int:
     """Refuses one request after the other, and answers how often want of memory was told."""
     ample = run(words[0], words[1:])
     if ample.status not in (0, 1):
-        sys.exit(f"no report of {words[2:]}: {ample}")
+        sys.exit(f"no answer to {words[1:]}: {ample}")
     told = last = request = 0
     while request < last + UNTOLD:
         request += 1
         got = refused(library, words, request)
-        tally.check(f"{words[2:]}, request {request}", got in (ample, MEMORY), got)
+        tally.check(f"{words[1:]}, request {request}", got in (ample, MEMORY), got)
         if got == MEMORY:
             told, last = told + 1, request
     return told
+
+
+def commands(trace: Path) -> list:
+    """The words of each command on the trace."""
+    cert = trace.with_suffix(".cert")
+    told = [["verdict", str(trace)], ["verdict", "--json", str(trace)], ["cert", str(trace)]]
+    return told + ([["verify", str(trace), str(cert)]] if cert.exists() else [])
 
 
 def main() -> None:
@@ -49,11 +56,11 @@ def main() -> None:
     with tempfile.TemporaryDirectory() as folder:
         library = shim(folder)
         for path in sorted(HERE.glob("vectors/*.trace")):
-            for form in [], ["--json"]:
-                name = " ".join([path.name, *form])
-                told[name] = refuse_each(tally, library, [program, "verdict", *form, str(path)])
+            for words in commands(path):
+                name = " ".join(words)
+                told[name] = refuse_each(tally, library, [program, *words])
                 tally.check(f"some request of {name} was refused", told[name] > 0)
-    print(f"{sum(told.values())} times want of memory, at most {max(told.values())} for one report")
+    print(f"{sum(told.values())} times want of memory, at most {max(told.values())} for one answer")
     tally.close()
 
 

@@ -215,6 +215,23 @@ class Session:
             self.edit(group, NOTHING, deletes)
 
 
+    def play_wide_ring(self, heard: int) -> None:
+        """Each types alone, and then reads along what the next ones have typed."""
+        for replica in self.replicas:
+            while replica.waiting:
+                self.insert(replica, replica.waiting.pop())
+        typed = self.size.inserts
+        for replica in self.replicas:
+            others = [self.replicas[(replica.number + 1 + i) % len(self.replicas)] for i in range(heard)]
+            steps = max(replica.left.places * 2 // ((heard + 2) * typed), 1)
+            for step in range(1, steps + 1):
+                for other in others:
+                    self.receive(replica, other, max(typed * step // steps, 1))
+                if replica.left.places < len(replica.shown):
+                    break
+                self.read(replica)
+
+
 NOTHING = Size(0, 0, 0, 0)
 
 
@@ -243,6 +260,12 @@ def play_long_ring(size: Size, rnd: random.Random) -> Session:
     return session
 
 
+def play_wide_ring(size: Size, rnd: random.Random) -> Session:
+    session = Session(size, size.replicas, rnd)
+    session.play_wide_ring(size.replicas // 3)
+    return session
+
+
 class Family(NamedTuple):
     """What the traces are, how they are made, and the line of the verdict for so many replicas."""
 
@@ -259,6 +282,8 @@ FAMILIES = {
     "ring": Family("a group for each replica", play_ring, lambda replicas: f"refused {replicas}"),
     "long_ring": Family("two replicas in a group, and long responses", play_long_ring,
                         lambda replicas: f"refused {replicas // 2}"),
+    "wide_ring": Family("each reads along what a third of the others type", play_wide_ring,
+                        lambda replicas: f"refused {-(-replicas // (replicas // 3))}"),
 }
 
 

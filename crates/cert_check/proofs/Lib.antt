@@ -13,3 +13,4 @@ pub mod OrderJudged
 pub mod RowsJudged
 pub mod Implied
 pub mod ReasonsExclude
+pub mod OneAnswer

@@ -33,7 +33,7 @@ rows_count v k [] (row ∷ rows) meet = absurd meet
 rows_count v k (s ∷ sources) [] meet = absurd meet
 rows_count v k (s ∷ sources) (row ∷ rows) meet = ap suc (rows_count v k sources rows meet.2)
 
-step_right : (v : Responses) (steps : List Step) → AreShownSteps v steps → (i : ℕ) → StepIsRight v steps i
+pub step_right : (v : Responses) (steps : List Step) → AreShownSteps v steps → (i : ℕ) → StepIsRight v steps i
 step_right v steps are i s at = record {
   shown = All-member (λ (z : Step). Shows v z.shown z.from z.to) steps s are.shown (In-from_place steps i s at);
   meets = ap (λ (l : List (NameBytes × NameBytes)). slice_get l i) are.joined;

@@ -22,3 +22,7 @@ ValidOrReason = (h : History) (c : Certificate) (why : Reason) → IsLegal h →
 -- a valid certificate gets a yes, of its kind
 abbrev pub ValidCertificatesGetYes : Type 0
 ValidCertificatesGetYes = (trace cert : List ℕ) (h : History) (c : Certificate) → Reads trace cert h c → IsValid h c → (a : Answer) → IsAnswer trace cert a → a ≡ Yes (kind_of c)
+
+-- two texts have one right answer at most
+abbrev pub AnswersAreUnique : Type 0
+AnswersAreUnique = (trace cert : List ℕ) (a b : Answer) → IsAnswer trace cert a → IsAnswer trace cert b → a ≡ b

@@ -1,6 +1,6 @@
 //! The laws, each as the contract of a function with an empty body.
 
-ghost use Rattle.cert_check.specs.Laws.{LayersBoundCycles, ValidCertificatesGetYes, ValidCertificatesImply, ValidOrReason};
+ghost use Rattle.cert_check.specs.Laws.{AnswersAreUnique, LayersBoundCycles, ValidCertificatesGetYes, ValidCertificatesImply, ValidOrReason};
 
 /// For the responses of every sound recording and every k: where each element is the source of a row of layers that
 /// meets the layer rule for k, no cycle has fewer than k elements. So rows are tested, and nothing is searched.
@@ -23,4 +23,10 @@ pub fn valid_certificates_have_no_reason()
 /// certificate's kind. So what the finder gives for its verdict, written, gets yes.
 pub fn valid_certificates_get_yes()
     ensures { ValidCertificatesGetYes }
+{}
+
+/// Two texts have one right answer at most: a yes with one kind, or a no with one reason, the first that holds. So two
+/// checkers that keep the contract of `check` never differ but for want of memory.
+pub fn answers_are_unique()
+    ensures { AnswersAreUnique }
 {}

@@ -20,8 +20,8 @@ mod values;
 pub use answer::{Answer, Kind, Reason};
 pub use checking::check;
 pub use laws::{
-    layers_bound_cycles, valid_certificates_get_yes, valid_certificates_have_no_reason,
-    valid_certificates_imply,
+    answers_are_unique, layers_bound_cycles, valid_certificates_get_yes,
+    valid_certificates_have_no_reason, valid_certificates_imply,
 };
 
 #[cfg(test)]

@@ -38,7 +38,7 @@ pub fn certify(
     ensures exact { IfOk result (λ c. IsCertificateOf recording.now (verdict_of verdict.now) (certificate_of c)) }
     ensures valid { IfOk result (λ c. IsValid recording.now (certificate_of c) × IsSpellable (certificate_of c)) }
 {
-    // Its contract has that the recording is legal.
+    // The contract of this call has that the recording is legal.
     let _ = recording.replicas();
     certificate_for(alloc, recording, verdict)
 }
@@ -102,7 +102,7 @@ fn refusal(
     requires { IsVerdict recording.now (refused k steps.now) }
     ensures { IfOk result (λ c. IsCertificateOf recording.now (refused k steps.now) (certificate_of c)) }
 {
-    // Its contract has that the recording is legal.
+    // The contract of this call has that the recording is legal.
     let _ = recording.replicas();
     let steps = copied_steps(alloc, steps)?;
     if k < 3 {
@@ -150,7 +150,7 @@ fn row_of_layers(
     ensures row { IfOk result (λ row. IsExactRow graph.now k (slice_index_or graph.now.elements source []) row) }
     ensures fits { Fits scratch.new graph.now }
 {
-    // Its contract has that the responses are proper.
+    // The contract of this call has that the responses are proper.
     let _ = graph.elements();
     distances(graph, source, k - 1, scratch, depths);
     let names = names_by_depth(alloc, graph, k - 1, depths)?;

@@ -25,7 +25,7 @@ some-name = record { some_byte = omega arith; few_bytes = omega arith; each_byte
 some-step : IsStep some_step
 some-step = (some-name, some-name, (omega arith, omega arith, omega arith))
 
-cycle-begins : (k : ℕ) (steps : List Step) (rows : List Row) → IsPartOfCycle k steps rows → BeginsCertificate (certificate_lines (gives_cycle k steps rows))
+pub cycle-begins : (k : ℕ) (steps : List Step) (rows : List Row) → IsPartOfCycle k steps rows → BeginsCertificate (certificate_lines (gives_cycle k steps rows))
 cycle-begins k steps rows part = elim (cases_lt (length steps) k) [
   | inl less ↦ with-more rows part less
   | inr whole ↦

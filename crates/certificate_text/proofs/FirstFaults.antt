@@ -1,11 +1,16 @@
 -- The first fault of a text, from what its right lines are and what follows them.
-use Rattle.std.proofs.Common.{◌≡◌, ℕ, ◌+◌, List, [], ◌∷◌, ◌++◌, length, sym, ap, ◌∙◌, Option, Some, None, IfSome, inl, inr, arith}
+use Rattle.std.proofs.Common.{◌≡◌, ℕ, ◌+◌, ◌≤◌, List, [], ◌∷◌, ◌++◌, length, sym, ap, ◌∙◌, Option, Some, None, IfSome, inl, inr, arith}
 use Rattle.std.proofs.lemmas.List.{append_assoc, append-nil}
 use Rattle.specification.specs.Lines.{Line, text_of, IsOneLine}
 use Rattle.specification.specs.CertificateText as format
-use Rattle.specification.specs.CertificateText.{BeginsCertificate, HasWrongLine, LacksCertificateLine, IsFirstCertFault, cause_behind}
+use Rattle.specification.specs.CertificateText.{BeginsCertificate, HasWrongLine, LacksCertificateLine, IsCertificateCut, IsFirstCertFault, cause_behind}
+use Rattle.format_words.specs.Reading.{Fails}
+use Rattle.format_words.specs.declared.stop.Stop.{Stop}
+use Rattle.format_words.specs.declared.stop.Stop.TheVariants as stop
+use Rattle.certificate_text.specs.declared.fault.CertCause.{CertCause}
+use Rattle.certificate_text.specs.CertificateOf.{cause_of, cause_of_stop}
 use Rattle.certificate_text.specs.Progress.{IsWrongBehind, LacksMore}
-use Rattle.certificate_text.specs.Place.{IsBehindRightLines}
+use Rattle.certificate_text.specs.Place.{HasEndedLine, IsBehindRightLines}
 
 never-cut : (lines : List Line) → format.cut ≡ cause_behind lines → ⊥
 never-cut [] e = cc
@@ -48,9 +53,30 @@ lacking-fault text number lines None whole is begins lacks = tt
 lacking-fault text number lines (Some cause) whole is begins lacks =
     first-of-lacking text number lines cause lacks.0 (record { good = lines; begins = begins; text_is = whole; not_whole = lacks.1; number = is; cause_is = lacks.0 })
 
+-- behind right lines, bytes without LF
+pub cut-fault : (text : List ℕ) (number : ℕ) (lines : List Line) (rest : Line) → 1 ≤ length rest → IsOneLine rest → text ≡ text_of lines ++ rest → number ≡ length lines + 1 → BeginsCertificate lines → IsCertificateCut text number
+cut-fault text number lines rest some one whole is begins = record { good = lines; begins = begins; rest = rest; some_byte = some; one_line = one; text_is = whole; number = is }
+
 pub nothing-left : (text front rest : List ℕ) → text ≡ front ++ rest → length rest ≡ 0 → text ≡ front
 nothing-left text front [] is none = is ∙ append-nil front
 nothing-left text front (b ∷ rest) is none = absurd (omega arith)
 
 pub behind-right : (text : List ℕ) (number : ℕ) (lines : List Line) (rest : List ℕ) → text ≡ text_of lines ++ rest → number ≡ length lines + 1 → BeginsCertificate lines → IsBehindRightLines text number
 behind-right text number lines rest whole is begins = record { good = lines; begins = begins; rest = rest; text_is = whole; number = is }
+
+pub ended-line : (text : List ℕ) (number : ℕ) (lines : List Line) (line rest behind : List ℕ) →
+    text ≡ text_of lines ++ rest → rest ≡ line ++ 10 ∷ behind → IsOneLine line → number ≡ length lines + 1 → BeginsCertificate lines → HasEndedLine text number
+ended-line text number lines line rest behind whole cut one is begins = record {
+  good = lines;
+  begins = begins;
+  next = line;
+  one_line = one;
+  more = behind;
+  text_is = whole ∙ ap (λ l. text_of lines ++ l) cut ∙ sym (append_assoc (text_of lines) line (10 ∷ behind));
+  number = is;
+}
+
+-- a line whose reading stopped has the cause of one that says no such thing, or there was no memory
+pub stop-fault : {Y : Type 0} (unsaid : CertCause) (s : Stop) (read : Option Y) (P : format.CertCause → Type 0) → Fails s read → (read ≡ None → IfSome (cause_of unsaid) P) → IfSome (cause_of (cause_of_stop unsaid s)) P
+stop-fault unsaid stop.Shape read P none wrong = wrong none
+stop-fault unsaid stop.Memory read P none wrong = tt

@@ -6,6 +6,8 @@ pub mod GoingOn
 pub mod Begins
 pub mod FirstFaults
 pub mod OneCertificate
+pub mod OneFault
+pub mod EachText
 -- Lemmas on certificates: lists in rising order, layers by distances, what texts can name, and the laws.
 pub mod Rising
 pub mod ExactLayers

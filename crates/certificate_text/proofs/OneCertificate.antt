@@ -49,7 +49,7 @@ lines-lack c h =
     (All-cons LacksLf (codes "cert 1") (kind_line (kind_of c) ∷ rest_lines c) (lacks-literal 10 (codes "cert 1") refl)
     (All-cons LacksLf (kind_line (kind_of c)) (rest_lines c) (kind-lacks (kind_of c) c h refl) (rest-lack c h)))
 
-beginning-lacks : (lines : List Line) → BeginsCertificate lines → All LacksLf lines
+pub beginning-lacks : (lines : List Line) → BeginsCertificate lines → All LacksLf lines
 beginning-lacks lines (c, spellable, more, is) = all-front LacksLf lines more (subst (All LacksLf) (sym is) (lines-lack c spellable))
 
 -- a spelling's lines, from its text
@@ -144,7 +144,8 @@ not-cut c text line (h, is) cut =
     let empty : [] ≡ cut.rest = (same_from_push (certificate_lines c) cut.good [] cut.rest lines).1 in
     absurd (omega (arith, ap length empty, cut.some_byte))
 
-no-fault : (c : Certificate) (text : List ℕ) (line : ℕ) (why : format.CertCause) → SpellsCertificate text c → IsFirstCertFault text line why → ⊥
+-- a text that spells a certificate has no fault
+pub no-fault : (c : Certificate) (text : List ℕ) (line : ℕ) (why : format.CertCause) → SpellsCertificate text c → IsFirstCertFault text line why → ⊥
 no-fault c text line format.header s (inl wrong) = no-wrong-line c text line format.header s wrong
 no-fault c text line format.header s (inr lacks) = none-lacking c text line format.header s lacks
 no-fault c text line format.kind s (inl wrong) = no-wrong-line c text line format.kind s wrong

@@ -2,6 +2,8 @@
 use Rattle.std.specs.Prelude.{Option, Some, None}
 use Rattle.specification.specs.Faults as fault
 use Rattle.specification.specs.CertificateText as format
+use Rattle.format_words.specs.declared.stop.Stop.{Stop}
+use Rattle.format_words.specs.declared.stop.Stop.TheVariants as stop
 use Rattle.certificate_text.specs.declared.certificate.Certificate.{Certificate}
 use Rattle.certificate_text.specs.declared.certificate.Certificate.TheVariants.{Doubled, Contents, Position, Accepted, Refused}
 use Rattle.certificate_text.specs.declared.fault.CertCause.{CertCause}
@@ -21,3 +23,8 @@ cause_of cause.Kind = Some format.kind
 cause_of cause.Shape = Some format.shape
 cause_of cause.Cut = Some format.cut
 cause_of cause.Memory = None
+
+-- why a line's reading stopped, as a cause; unsaid is that of a line which says no such thing
+abbrev pub cause_of_stop : CertCause → Stop → CertCause
+cause_of_stop unsaid stop.Shape = unsaid
+cause_of_stop unsaid stop.Memory = cause.Memory

@@ -1,14 +1,13 @@
 //! A cycle's lines: its steps, then its rows.
 
-ghost use Rattle.std.specs.Prelude.{◌≡◌, ◌∷◌, [], ◌++◌, ◌<◌, ◌≤◌, ◌^◌, length, IfOk, IfErr, IfSome};
+ghost use Rattle.std.specs.Prelude.{◌≡◌, ◌≢◌, ◌∷◌, [], ◌++◌, ◌<◌, ◌≤◌, ◌^◌, length, IfOk, IfErr, IfSome};
 ghost use Rattle.specification.specs.CertificateText.{IsSpellable, certificate_lines};
 ghost use Rattle.certificate_text.specs.CertificateOf.{certificate_of, cause_of};
 ghost use Rattle.certificate_text.specs.Progress.{IsRightCycle, IsWrongBehind, LacksMore, cycle_lines};
 
 use super::certificate::Certificate;
 use super::entries::{row_of, step_of};
-use super::fault::CertCause;
-use format_words::Stop;
+use super::fault::{CertCause, cause_of_stop};
 use std::alloc::Global;
 use witnesses::{Layers, Row, Step, Steps};
 
@@ -59,8 +58,7 @@ impl Cycle {
                 Ok(()) => Ok(self),
                 Err(_) => Err(CertCause::Memory),
             },
-            Err(Stop::Shape) => Err(CertCause::Shape),
-            Err(Stop::Memory) => Err(CertCause::Memory),
+            Err(stop) => Err(cause_of_stop(CertCause::Shape, stop)),
         }
     }
 
@@ -77,8 +75,7 @@ impl Cycle {
                 Ok(()) => Ok(self),
                 Err(_) => Err(CertCause::Memory),
             },
-            Err(Stop::Shape) => Err(CertCause::Shape),
-            Err(Stop::Memory) => Err(CertCause::Memory),
+            Err(stop) => Err(cause_of_stop(CertCause::Shape, stop)),
         }
     }
 
@@ -87,6 +84,7 @@ impl Cycle {
         requires { IsRightCycle self }
         ensures ok { IfOk result (λ c. IsSpellable (certificate_of c) × (cycle_lines self ≡ certificate_lines (certificate_of c))) }
         ensures fault { IfErr result (λ cause. IfSome (cause_of cause) (LacksMore (cycle_lines self))) }
+        ensures memory { IfErr result (λ cause. cause ≢ CertCause.Memory) }
     {
         if self.steps.len() < self.k as usize {
             return Err(CertCause::Shape);

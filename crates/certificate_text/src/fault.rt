@@ -1,3 +1,7 @@
+ghost use Rattle.std.specs.Prelude.{◌≡◌};
+ghost use Rattle.certificate_text.specs.CertificateOf.{cause_of_stop};
+
+use format_words::Stop;
 use thiserror::Error;
 
 /// What is wrong with a line of a certificate's text.
@@ -28,4 +32,14 @@ pub struct CertFault {
     pub line: u64,
     /// What is wrong with it.
     pub cause: CertCause,
+}
+
+/// Why a line's reading stopped, as a cause; `unsaid` is that of a line which says no such thing.
+pub fn cause_of_stop(unsaid: CertCause, stop: Stop) -> CertCause
+    ensures { result ≡ cause_of_stop unsaid stop }
+{
+    match stop {
+        Stop::Shape => unsaid,
+        Stop::Memory => CertCause::Memory,
+    }
 }

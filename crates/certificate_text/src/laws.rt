@@ -1,11 +1,27 @@
 //! The laws over certificates, each as the contract of a function with an empty body: there is nothing to run, and the
 //! gate asks for the proof.
 
-ghost use Rattle.certificate_text.specs.Laws.{CertificatesAreOfStreams, CertificatesAreUnique, CertificatesAreValid, TextsSpellOneCertificate};
+ghost use Rattle.certificate_text.specs.Laws.{CertificatesAreOfStreams, CertificatesAreUnique, CertificatesAreValid};
+ghost use Rattle.certificate_text.specs.Laws.{EachTextSpellsOrHasFault, SpelledTextsHaveNoFault, TextsHaveOneFirstFault, TextsSpellOneCertificate};
 
 /// A text spells at most one certificate, so whatever is said of what a text spells is said of one value.
 pub fn texts_spell_one_certificate()
     ensures { TextsSpellOneCertificate }
+{}
+
+/// A text that spells a certificate has no fault.
+pub fn spelled_texts_have_no_fault()
+    ensures { SpelledTextsHaveNoFault }
+{}
+
+/// A text has at most one first fault: one line, and one cause.
+pub fn texts_have_one_first_fault()
+    ensures { TextsHaveOneFirstFault }
+{}
+
+/// Each text spells a certificate or has a first fault. So by the other laws each text has one right answer.
+pub fn each_text_spells_or_has_a_fault()
+    ensures { EachTextSpellsOrHasFault }
 {}
 
 /// The certificate of a verdict on a legal recording is valid, so a checker accepts it, and it has a spelling, so it

@@ -22,6 +22,7 @@ pub use certificate::Certificate;
 pub use fault::{CertCause, CertFault};
 pub use laws::{
     certificates_are_of_streams, certificates_are_unique, certificates_are_valid,
+    each_text_spells_or_has_a_fault, spelled_texts_have_no_fault, texts_have_one_first_fault,
     texts_spell_one_certificate,
 };
 pub use witnesses::{Layer, Layers, Order, Row, Step, Steps};

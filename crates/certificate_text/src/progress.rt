@@ -1,6 +1,6 @@
 //! How far a text is read, and one line more.
 
-ghost use Rattle.std.specs.Prelude.{◌≡◌, ◌∷◌, [], ◌++◌, IfOk, IfErr, IfSome};
+ghost use Rattle.std.specs.Prelude.{◌≡◌, ◌≢◌, ◌∷◌, [], ◌++◌, IfOk, IfErr, IfSome};
 ghost use Rattle.specification.specs.CertificateText.{IsSpellable, certificate_lines};
 ghost use Rattle.certificate_text.specs.CertificateOf.{certificate_of, cause_of};
 ghost use Rattle.certificate_text.specs.Progress.{IsKind, IsRight, IsWrongBehind, LacksMore, good, kind_line};
@@ -9,9 +9,8 @@ ghost use Rattle.std.specs.Prelude.{codes};
 use super::certificate::Certificate;
 use super::cycle::Cycle;
 use super::entries::order_of;
-use super::fault::CertCause;
+use super::fault::{CertCause, cause_of_stop};
 use super::kind::{Kind, kind_of};
-use format_words::Stop;
 use std::alloc::Global;
 use witnesses::Order;
 
@@ -37,8 +36,7 @@ fn second(line: &[u8]) -> Result<Progress, CertCause>
 {
     match kind_of(line) {
         Ok(kind) => Ok(Progress::Kind(kind)),
-        Err(Stop::Shape) => Err(CertCause::Kind),
-        Err(Stop::Memory) => Err(CertCause::Memory),
+        Err(stop) => Err(cause_of_stop(CertCause::Kind, stop)),
     }
 }
 
@@ -49,8 +47,7 @@ fn ordered(alloc: Global, line: &[u8]) -> Result<Progress, CertCause>
 {
     match order_of(alloc, line) {
         Ok(order) => Ok(Progress::Ordered(order)),
-        Err(Stop::Shape) => Err(CertCause::Shape),
-        Err(Stop::Memory) => Err(CertCause::Memory),
+        Err(stop) => Err(cause_of_stop(CertCause::Shape, stop)),
     }
 }
 
@@ -77,6 +74,7 @@ fn fault_alone(kind: Kind) -> Result<Certificate, CertCause>
     requires { IsKind kind }
     ensures ok { IfOk result (λ c. IsSpellable (certificate_of c) × (codes "cert 1" ∷ kind_line kind ∷ [] ≡ certificate_lines (certificate_of c))) }
     ensures fault { IfErr result (λ cause. IfSome (cause_of cause) (LacksMore (codes "cert 1" ∷ kind_line kind ∷ []))) }
+    ensures memory { IfErr result (λ cause. cause ≢ CertCause.Memory) }
 {
     match kind {
         Kind::Doubled { first, again } => Ok(Certificate::Doubled { first, again }),
@@ -117,6 +115,7 @@ impl Progress {
         requires { IsRight self }
         ensures ok { IfOk result (λ c. IsSpellable (certificate_of c) × (good self ≡ certificate_lines (certificate_of c))) }
         ensures fault { IfErr result (λ cause. IfSome (cause_of cause) (LacksMore (good self))) }
+        ensures memory { IfErr result (λ cause. cause ≢ CertCause.Memory) }
     {
         match self {
             Progress::Start => Err(CertCause::Header),

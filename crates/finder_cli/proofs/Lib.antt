@@ -1,4 +1,2 @@
-pub mod Fronts
 pub mod LineFaults
 pub mod Reported
-pub mod Positives

@@ -2,7 +2,7 @@
 use Rattle.std.proofs.Common.{◌≡◌, ℕ, Bool, true, List, Option, Result, Ok, Err, IfSome, IfOk, IfErr, subst, sym}
 use Rattle.std.specs.Io.KnownBytes.{Appends, Consumes, IsAtEnd}
 use Rattle.std.proofs.KnownBytes.{Consumes-whole}
-use Rattle.finder_cli.specs.Streams.{AppendsFront}
+use Rattle.byte_streams.specs.Streams.{AppendsFront}
 use Rattle.finder_cli.specs.declared.status.Status.{Status}
 use Rattle.finder_cli.specs.declared.status.RunFault.{RunFault}
 use Rattle.finder_cli.specs.declared.status.RunFault.TheVariants.{Write}

@@ -9,7 +9,7 @@ use Rattle.specification.specs.ExactRows.{IsCertificateOf}
 use Rattle.cert_check.specs.AnswerOf.{IsAnswer}
 use Rattle.cert_check.specs.declared.answer.Answer.{Answer}
 use Rattle.cert_check.specs.declared.answer.Answer.TheVariants.{Yes, No}
-use Rattle.finder_cli.specs.Streams.{AppendsFront}
+use Rattle.byte_streams.specs.Streams.{AppendsFront}
 use Rattle.finder_cli.specs.Lines.{answer_line}
 use Rattle.finder_cli.specs.Runs.{status_of}
 use Rattle.finder_cli.specs.declared.status.Status.{Status}

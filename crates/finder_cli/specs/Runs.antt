@@ -7,10 +7,10 @@ use Rattle.specification.specs.ReportText.{report_text}
 use Rattle.specification.specs.TraceText.{Spells, IsFirstLineFault, Cause}
 use Rattle.trace_text.specs.Causes.{cause_of}
 use Rattle.trace_text.specs.declared.cause.LineFault.{LineFault}
-use Rattle.finder_cli.specs.Streams.{AppendsFront}
+use Rattle.byte_streams.specs.Streams.{AppendsFront}
 use Rattle.report.specs.JsonReport.{report_json}
-use Rattle.finder_cli.specs.declared.run.Form.{Form}
-use Rattle.finder_cli.specs.declared.run.Form.TheVariants.{Text, Json}
+use Rattle.command_line.specs.declared.task.Form.{Form}
+use Rattle.command_line.specs.declared.task.Form.TheVariants.{Text, Json}
 use Rattle.finder_cli.specs.declared.status.Status.{Status}
 use Rattle.finder_cli.specs.declared.status.Status.TheVariants.{Good, Bad}
 use Rattle.finder_cli.specs.declared.status.RunFault.{RunFault}

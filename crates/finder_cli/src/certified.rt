@@ -2,14 +2,14 @@
 
 ghost use Rattle.std.specs.Prelude.{◌≡◌, ◌≢◌, true, false, IfOk, IfErr, IfSome, OnOk, IsErrOf};
 ghost use Rattle.std.specs.Io.KnownBytes.{IsAtEnd};
-ghost use Rattle.finder_cli.specs.Streams.{IsClosed};
+ghost use Rattle.byte_streams.specs.Streams.{IsClosed};
 ghost use Rattle.finder_cli.specs.Runs.{NamesFirstFault, IsOfText};
 ghost use Rattle.finder_cli.specs.Certified.{IsCertificateOn, Certifies, CertifiesFront};
 
 use super::output::{Output, recording_on, status_of, verdict_on, whole_text, write_output};
 use super::status::{RunFault, Status};
-use super::streams::{Sink, Source};
-use super::words::WORKERS;
+use byte_streams::{Sink, Source};
+use command_line::WORKERS;
 use certificate::certify;
 use std::alloc::Global;
 use std::io::{Read, Write};

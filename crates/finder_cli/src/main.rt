@@ -1,8 +1,8 @@
 //! The program `finder`: reads a recording of collaborative editors, judges it, and writes the report or a
 //! certificate; or checks a certificate.
 //!
-//! `run`, `run_cert` and `run_verify` are the engines, over any readers and writers; `read_words` is the command
-//! line; `program` joins them to files, standard streams and exit statuses.
+//! `run`, `run_cert` and `run_verify` are the engines, over any readers and writers; `program` joins them and
+//! the words of the command line to files, standard streams and exit statuses.
 #![tactic(auto)]
 
 mod answer_line;
@@ -11,12 +11,9 @@ mod output;
 mod program;
 mod run;
 mod status;
-mod streams;
-mod task;
 #[cfg(test)]
 mod tests;
 mod verified;
-mod words;
 
 use program::finder;
 use std::process::ExitCode;

@@ -6,11 +6,11 @@ ghost use Rattle.specification.specs.TraceText.{Spells};
 ghost use Rattle.specification.specs.Verdict.{IsVerdict};
 ghost use Rattle.trace_text.specs.Causes.{cause_of};
 ghost use Rattle.certificate.specs.VerdictOf.{verdict_of};
-ghost use Rattle.finder_cli.specs.Streams.{AppendsFront, IsClosed};
+ghost use Rattle.byte_streams.specs.Streams.{AppendsFront, IsClosed};
 ghost use Rattle.finder_cli.specs.Runs.{NamesFirstFault, IsOfText, IsOfReading, status_of};
 
 use super::status::{RunFault, Status};
-use super::streams::{ReadFault, Sink, Source};
+use byte_streams::{ReadFault, Sink, Source};
 use certificate::{NoGate, SearchFault, Verdict, judge};
 use events::{Memory, Recording, Refusal};
 use std::alloc::Global;

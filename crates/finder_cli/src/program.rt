@@ -7,18 +7,17 @@ ghost use Rattle.finder_cli.specs.Certified.{Certifies, Verifies};
 ghost use Rattle.finder_cli.specs.Endings.{number_of_fault, IsFaultOfRun, NamesFile, NamesEither, IsOfWords};
 
 use super::certified::run_cert;
-use super::run::{Form, run};
+use super::run::run;
 use super::status::{RunFault, Status};
-use super::streams::{Sink, Source};
-use super::task::{Task, Word};
 use super::verified::run_verify;
-use super::words::{WordsFault, read_words};
+use byte_streams::{Sink, Source};
+use command_line::{Form, Task, Word, WordsFault, read_words};
 use std::alloc::Global;
 use std::env::Env;
 use std::io::{ErrorKind, Input, Print, Read, Write};
 use std::rt::Files;
 use std::thread::Threads;
-use std::{env, fmt, fs, io};
+use std::{env, fs, io};
 use thiserror::Error;
 use trace_text::LineFault;
 
@@ -51,12 +50,6 @@ impl ProgramFault {
             ProgramFault::Memory => 3,
             _ => 2,
         }
-    }
-}
-
-impl fmt::Display for Word {
-    fn fmt<W: fmt::Write>(&self, f: &mut fmt::Formatter<W>) -> fmt::Result {
-        f.write_str(self.as_str())
     }
 }
 

@@ -3,27 +3,18 @@
 ghost use Rattle.std.specs.Prelude.{◌≡◌, ◌≢◌, ◌↔◌, ◌≤◌, true, false, IfOk, IfErr, IfSome, OnOk, IsErrOf};
 ghost use Rattle.std.specs.Io.KnownBytes.{IsAtEnd};
 ghost use Rattle.certificate.specs.VerdictOf.{verdict_of};
-ghost use Rattle.finder_cli.specs.Streams.{IsClosed};
+ghost use Rattle.byte_streams.specs.Streams.{IsClosed};
 ghost use Rattle.finder_cli.specs.Runs.{report_of, IsReportOf, Reports, ReportsFront, NamesFirstFault, IsOfText, IsNoWorkers};
 
 use super::output::{Output, recording_on, status_of, verdict_on, whole_text, write_output};
 use super::status::{RunFault, Status};
-use super::streams::{Sink, Source};
-use super::words::MOST_WORKERS;
+use byte_streams::{Sink, Source};
 use certificate::Verdict;
+use command_line::{Form, MOST_WORKERS};
 use events::{Memory, Recording};
 use std::alloc::Global;
 use std::io::{Read, Write};
 use std::thread::Threads;
-
-/// How a report is written.
-#[derive(Clone, Copy, Debug, PartialEq, Eq)]
-pub enum Form {
-    /// As lines of text.
-    Text,
-    /// As one JSON object, and a LF.
-    Json,
-}
 
 /// Reads a trace to its end, and writes the report of its verdict.
 ///

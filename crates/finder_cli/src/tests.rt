@@ -1,6 +1,5 @@
-//! What no clause says: worked recordings, command lines, streams that fail, texts of faults.
+//! What no clause says: worked recordings, streams that fail, texts of faults.
 
-mod command_lines;
 mod pages;
 mod recordings;
 mod streams;

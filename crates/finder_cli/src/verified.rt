@@ -2,14 +2,14 @@
 
 ghost use Rattle.std.specs.Prelude.{◌≡◌, ◌≢◌, ◌⊎◌, true, false, IfOk, IfErr, IfSome, OnOk};
 ghost use Rattle.std.specs.Io.KnownBytes.{IsAtEnd};
-ghost use Rattle.finder_cli.specs.Streams.{IsClosed};
+ghost use Rattle.byte_streams.specs.Streams.{IsClosed};
 ghost use Rattle.finder_cli.specs.Runs.{IsOfVerifying};
 ghost use Rattle.finder_cli.specs.Certified.{IsLineOn, Verifies, VerifiesFront, status_of_answer};
 
 use super::answer_line::line_of;
 use super::output::{Output, whole_text, write_output};
 use super::status::{RunFault, Status};
-use super::streams::{Sink, Source};
+use byte_streams::{Sink, Source};
 use cert_check::{Answer, check};
 use events::Memory;
 use std::alloc::Global;

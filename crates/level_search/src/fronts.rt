@@ -9,6 +9,8 @@ use std::alloc::Global;
 
 /// The rank of an element that is not in the order.
 pub const UNRANKED: u32 = u32::MAX;
+/// The walk of an element that no walk has come to.
+const NO_WALK: u32 = u32::MAX;
 
 /// What is left of the lists.
 #[derive(Drop)]
@@ -26,8 +28,9 @@ struct Fronts {
     looked: Looked,
 }
 
-/// For each element its rank in an order that each list follows, but for the elements that are `UNRANKED`.
-/// All cycles lead through those. It is a guess, in time linear in the places for each of them.
+/// For each element its rank in an order, but for the elements that are `UNRANKED`. Each list should follow the
+/// order, and so each cycle lead through an element without a rank; no clause says so, and `sources` tests it.
+/// In time linear in the places for each element without a rank.
 pub fn ranks_of(alloc: Global, graph: &OrderGraph) -> Result<Vec<u32>, Memory>
     ensures { IfOk result (λ ranks. length ranks.items ≡ length graph.now.elements) }
 {
@@ -73,7 +76,7 @@ impl Fronts {
             held: Vec::from_elem(alloc, 0, elements)?,
             gone: Vec::from_elem(alloc, false, elements)?,
             free: Vec::new(alloc),
-            walked: Vec::from_elem(alloc, UNRANKED, elements)?,
+            walked: Vec::from_elem(alloc, NO_WALK, elements)?,
             looked: Looked::new(),
         };
         fronts.hold_all(graph)?;
@@ -191,7 +194,7 @@ impl Fronts {
     fn first_of(&self, list: u32) -> u32 {
         match self.first.get(list as usize) {
             Some(first) => *first,
-            None => UNRANKED,
+            None => u32::MAX,
         }
     }
 

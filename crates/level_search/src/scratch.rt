@@ -1,7 +1,8 @@
-ghost use Rattle.std.specs.Prelude.{◌≡◌, ◌↔◌, ℕ, ◌<◌, ◌≤◌, IfOk, IfNone, IsTrue, List, length};
+ghost use Rattle.std.specs.Prelude.{◌≡◌, ◌↔◌, ℕ, ◌<◌, ◌≤◌, IfOk, IfNone, IsTrue, List, None, length};
 ghost use Rattle.order_graph.specs.Lists.{lists_of};
 ghost use Rattle.events.specs.Names.{NameBytes};
 ghost use Rattle.specification.specs.Search.{IsCycleThrough, IsSearchAnswer};
+ghost use Rattle.level_search.specs.Distances.{AreDistances};
 ghost use Rattle.level_search.specs.Walks as by_number;
 
 use super::bound_source::BoundSource;
@@ -124,9 +125,6 @@ pub fn search<B: BoundSource>(
     prove!(s < elements);
     search_by_number(graph, s, scratch, source)
 }
-
-ghost use Rattle.std.specs.Prelude.{None};
-ghost use Rattle.level_search.specs.Distances.{AreDistances};
 
 /// Writes at each element's number how many steps lead to it from the element s, at the least, each step from an
 /// element to one that some response shows behind it; the limit, where so few steps don't lead to it.

@@ -14,7 +14,7 @@ use std::alloc::Global;
 use std::thread;
 use std::thread::Threads;
 
-/// As many workers. Worker 0, with the first seat, is the last.
+/// So many workers, each with a seat at the bound. Worker 0, with the first seat, comes last.
 fn team<'a>(
     alloc: Global,
     graph: &OrderGraph,

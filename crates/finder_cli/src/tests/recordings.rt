@@ -1,7 +1,8 @@
 use super::pages::{Page, Script};
-use crate::run::{Form, run};
+use crate::run::run;
 use crate::status::{RunFault, Status};
-use crate::streams::{Sink, Source};
+use byte_streams::{Sink, Source};
+use command_line::Form;
 use events::Refusal;
 use std::alloc::Global;
 use std::test::Fail;

@@ -1,7 +1,8 @@
 use super::pages::{Page, Script};
-use crate::run::{Form, run};
+use crate::run::run;
 use crate::status::{RunFault, Status};
-use crate::streams::{ReadFault, Sink, Source, WriteFault};
+use byte_streams::{ReadFault, Sink, Source, WriteFault};
+use command_line::Form;
 use std::alloc::Global;
 use std::test::Fail;
 use std::thread::Threads;

@@ -1,8 +1,7 @@
 use crate::program::ProgramFault;
 use crate::status::{RunFault, Status};
-use crate::streams::{ReadFault, WriteFault};
-use crate::task::Word;
-use crate::words::WordsFault;
+use byte_streams::{ReadFault, WriteFault};
+use command_line::{Word, WordsFault};
 use events::Refusal;
 use std::alloc::{AllocError, Global};
 use std::fmt::Display;

@@ -1,7 +1,12 @@
 use Rattle.std.proofs.Common.{◌≡◌, List, [], ◌∷◌, ◌++◌, refl, sym, subst}
 use Rattle.format_words.specs.Words.{words_of}
-use Rattle.format_words.specs.Reading.{Fails}
-use Rattle.format_words.specs.declared.stop.Stop.{Stop}
+use Rattle.std.proofs.Common.{IfSome}
+use Rattle.specification.specs.CertificateText as format
+use Rattle.certificate_text.specs.declared.fault.CertCause.{CertCause}
+use Rattle.certificate_text.specs.declared.fault.CertCause.TheVariants as cause
+use Rattle.certificate_text.specs.CertificateOf.{cause_of}
+use Rattle.certificate_text.specs.Progress.{IsWrongBehind, cycle_lines}
+use Rattle.certificate_text.proofs.FirstFaults.{stop-fault}
 use Rattle.specification.specs.LayerRule.{Row}
 use Rattle.specification.specs.CertificateText.{certificate_lines, gives_cycle}
 use Rattle.certificate_text.specs.Progress.{IsPartOfCycle}
@@ -19,8 +24,9 @@ returns-in-Ok-push-clause-ok c =
     (sym c.in-Ok-push.ensures.items)
     (row-more cycle.k cycle.steps.items cycle.rows.items c.in-Ok.row line c.requires.right c.requires.steps c.requires.long p.0 p.1)
 
-pub returns-in-Err-Shape-clause-fault : goal.returns-in-Err-Shape-clause-fault
-returns-in-Err-Shape-clause-fault c =
+pub returns-in-Err-clause-fault : goal.returns-in-Err-clause-fault
+returns-in-Err-clause-fault c =
     let cycle = c.args.self in
-    let none = subst (λ (e : Stop). Fails e (row_at cycle.k (words_of c.args.line.now))) c.in-Err-Shape.field-0-is c.in-Err-Shape.ensures in
-    (refl, no-row cycle.k cycle.steps.items cycle.rows.items c.args.line.now c.requires.right c.requires.steps none)
+    let behind : format.CertCause → Type 0 = IsWrongBehind (cycle_lines cycle) c.args.line.now in
+    subst (λ (e : CertCause). IfSome (cause_of e) behind) (sym c.cause_of_stop.ensures)
+    (stop-fault cause.Shape c.in-Err.stop (row_at cycle.k (words_of c.args.line.now)) behind c.in-Err.ensures (λ none. (refl, no-row cycle.k cycle.steps.items cycle.rows.items c.args.line.now c.requires.right c.requires.steps none)))

@@ -1,0 +1,15 @@
+use Rattle.std.proofs.Common.{length, ◌-◌, ◌≡◌, ◌≤◌, true, take}
+use Rattle.std.specs.Io.KnownBytes.{Appends}
+use Rattle.byte_streams.proofs.sink.Sink.write_whole.Given as goal
+
+abbrev pub invariant-loop-at : goal.invariant-loop-at
+invariant-loop-at g l = record {
+  within : l.at ≤ length l.bytes;
+  written : Appends l.fn.self.bytes l.self.bytes (take l.at l.bytes);
+  still : l.self.failed ≡ l.fn.self.failed;
+  closed : l.fn.self.failed ≡ true → l.at ≡ 0;
+  first : l.at ≡ 0 → l.self ≡ l.fn.self;
+}
+
+abbrev pub decreases-loop-at : goal.decreases-loop-at
+decreases-loop-at g l = length l.bytes - l.at

@@ -1,0 +1,255 @@
+-- Each text spells a certificate or has a fault.
+use Rattle.std.proofs.Common.{◌≡◌, ℕ, zero, suc, ◌+◌, ◌<◌, ◌≤◌, ◌==◌, Bool, true, false, List, [], ◌∷◌, ◌++◌, length, codes, refl, sym, ap, ◌∙◌, arith, Option, Some, None, ◌⊎◌, inl, inr, append_assoc}
+use Rattle.std.specs.List.{All}
+use Rattle.std.specs.Str.{bytes_eq}
+use Rattle.std.proofs.lemmas.List.{append-nil}
+use Rattle.std.proofs.lemmas.List.Concat.{flat_map-append}
+use Rattle.std.proofs.lemmas.List.Elements.{All-head, All-tail, All-cons, All-nil}
+use Rattle.std.proofs.lemmas.Bool.{eqb-false, eqb-true, cases_lt, false≢true}
+use Rattle.std.proofs.lemmas.Slice.Eq.{bytes_eq-Decides}
+use Rattle.events.specs.Names.{NameBytes, IsName}
+use Rattle.events.specs.Operation.{Operation}
+use Rattle.specification.specs.Conflict.{Step}
+use Rattle.specification.specs.Faults.{doubled, contents, position}
+use Rattle.specification.specs.LayerRule.{Row}
+use Rattle.specification.specs.Lines.{Line, text_of, IsOneLine, order_line}
+use Rattle.specification.specs.CertificateText as format
+use Rattle.specification.specs.CertificateText.{Certificate, names_fault, gives_order, gives_cycle, certificate_lines, certificate_text, IsSpellable, SpellsCertificate, BeginsCertificate, IsWholeCertificate, IsFirstCertFault, cause_behind}
+use Rattle.format_words.specs.Words.{words_of}
+use Rattle.certificate_text.specs.declared.kind.Kind.{Kind}
+use Rattle.certificate_text.specs.declared.kind.Kind.TheVariants as kind
+use Rattle.certificate_text.specs.declared.progress.Progress.TheVariants as progress
+use Rattle.certificate_text.specs.Reading.{kind_at, order_at, step_at, row_at}
+use Rattle.certificate_text.specs.Progress.{IsKind, IsPartOfCycle, kind_line}
+use Rattle.certificate_text.proofs.KindLines.{kind-spells}
+use Rattle.certificate_text.proofs.StepLines.{order-spells, step-spells}
+use Rattle.certificate_text.proofs.RowLines.{row-spells}
+use Rattle.certificate_text.proofs.GoingOn.{kind_of, rest_lines, lines-parts, kind-behind, no-kind, no-order, no-step, no-row, no-more-of-two, lacks-step, no-steps, step-more, row-more}
+use Rattle.certificate_text.proofs.Begins.{right-begins, cycle-begins}
+use Rattle.certificate_text.proofs.FirstFaults.{wrong-fault, lacking-fault}
+
+-- the lines that have their LF, and what follows the last of them
+record Cut (text : List ℕ) : Type 0 where
+  lines : List Line
+  rest : Line
+  each : All IsOneLine lines
+  last : IsOneLine rest
+  whole : text ≡ text_of lines ++ rest
+
+no-byte : IsOneLine []
+no-byte (k, low, is) = absurd (omega arith)
+
+one-more : (b : ℕ) (line : Line) → (b ≡ 10 → ⊥) → IsOneLine line → IsOneLine (b ∷ line)
+one-more b line ne h (zero, low, is) = ne is
+one-more b line ne h (suc k, low, is) = h (k, (let l : k < length line = omega (arith, low) in l), is)
+
+cut-more : (b : ℕ) (bs : List ℕ) (t : Bool) → (b == 10) ≡ t → Cut bs → Cut (b ∷ bs)
+cut-more b bs true e c =
+    let lf : b ≡ 10 = eqb-true b 10 e in
+    record { lines = [] ∷ c.lines; rest = c.rest; each = All-cons IsOneLine [] c.lines no-byte c.each; last = c.last; whole = ap (λ l. b ∷ l) c.whole ∙ ap (λ a. a ∷ (text_of c.lines ++ c.rest)) lf }
+cut-more b bs false e c = onto b bs (eqb-false b 10 e) c.lines c.rest c.each c.last c.whole
+  where
+    onto : (b : ℕ) (bs : List ℕ) → (b ≡ 10 → ⊥) → (lines : List Line) (rest : Line) → All IsOneLine lines → IsOneLine rest → bs ≡ text_of lines ++ rest → Cut (b ∷ bs)
+    onto b bs ne [] rest each last whole = record { lines = []; rest = b ∷ rest; each = All-nil IsOneLine; last = one-more b rest ne last; whole = ap (λ l. b ∷ l) whole }
+    onto b bs ne (l ∷ lines) rest each last whole =
+        record { lines = (b ∷ l) ∷ lines; rest = rest; each = All-cons IsOneLine (b ∷ l) lines (one-more b l ne (All-head IsOneLine l lines each)) (All-tail IsOneLine l lines each); last = last; whole = ap (λ l. b ∷ l) whole }
+
+cut-text : (text : List ℕ) → Cut text
+cut-text [] = record { lines = []; rest = []; each = All-nil IsOneLine; last = no-byte; whole = refl }
+cut-text (b ∷ bs) = cut-more b bs (b == 10) refl (cut-text bs)
+
+-- the first of the lines that are left
+line-off : (l : Line) (lines : List Line) (rest : List ℕ) → text_of (l ∷ lines) ++ rest ≡ l ++ 10 ∷ (text_of lines ++ rest)
+line-off l lines rest = append_assoc (l ++ 10 ∷ []) (text_of lines) rest ∙ append_assoc l (10 ∷ []) (text_of lines ++ rest)
+
+-- and at the end of those that are right
+line-on : (lines : List Line) (l : Line) (behind : List ℕ) → text_of lines ++ (l ++ 10 ∷ behind) ≡ text_of (lines ++ l ∷ []) ++ behind
+line-on lines l behind =
+    ap (λ t. text_of lines ++ t) (sym (append_assoc l (10 ∷ []) behind))
+    ∙ sym (append_assoc (text_of lines) (l ++ 10 ∷ []) behind)
+    ∙ ap (λ t. t ++ behind) (ap (λ t. text_of lines ++ t) (sym (append-nil (l ++ 10 ∷ []))) ∙ sym (flat_map-append (λ (line : Line). line ++ 10 ∷ []) lines (l ∷ [])))
+
+-- what right lines say
+data Known : Type 0 where
+  start : Known
+  headed : Known
+  of_kind : Kind → Known
+  ordered : List NameBytes → Known
+  cycle : ℕ → List Step → List Row → Known
+
+abbrev lines_so_far : Known → List Line
+lines_so_far start = []
+lines_so_far headed = codes "cert 1" ∷ []
+lines_so_far (of_kind k) = codes "cert 1" ∷ kind_line k ∷ []
+lines_so_far (ordered order) = certificate_lines (gives_order order)
+lines_so_far (cycle k steps rows) = certificate_lines (gives_cycle k steps rows)
+
+abbrev IsRight : Known → Type 0
+IsRight start = Unit {0}
+IsRight headed = Unit {0}
+IsRight (of_kind k) = IsKind k
+IsRight (ordered order) = All IsName order
+IsRight (cycle k steps rows) = IsPartOfCycle k steps rows
+
+begins : (s : Known) → IsRight s → BeginsCertificate (lines_so_far s)
+begins start h = right-begins progress.Start tt
+begins headed h = right-begins progress.Headed tt
+begins (of_kind k) h = right-begins (progress.Kind k) h
+begins (ordered order) h = right-begins (progress.Ordered order) h
+begins (cycle k steps rows) h = cycle-begins k steps rows h
+
+-- one line more goes on a spelling, or goes on none
+abbrev GoesOn : List Line → Line → Type 0
+GoesOn good l = (¬ BeginsCertificate (good ++ l ∷ [])) ⊎ ((t : Known) × IsRight t × (lines_so_far t ≡ good ++ l ∷ []))
+
+header-step : (l : Line) → GoesOn [] l
+header-step l = by (bytes_eq l (codes "cert 1")) refl
+  where
+    by : (t : Bool) → bytes_eq l (codes "cert 1") ≡ t → GoesOn [] l
+    by true e = inr (headed, tt, ap (λ (first : Line). first ∷ []) (sym ((bytes_eq-Decides l (codes "cert 1")).0 e)))
+    by false e = inl (λ (c, spellable, more, is). let same : l ≡ codes "cert 1" = cc in false≢true (sym e ∙ (bytes_eq-Decides l (codes "cert 1")).1 same))
+
+kind-step : (l : Line) → GoesOn (codes "cert 1" ∷ []) l
+kind-step l = by (kind_at (words_of l)) refl
+  where
+    by : (o : Option Kind) → kind_at (words_of l) ≡ o → GoesOn (codes "cert 1" ∷ []) l
+    by None e = inl (no-kind l e)
+    by (Some k) e = let p = kind-spells l k e in inr (of_kind k, p.0, ap (λ (second : Line). codes "cert 1" ∷ second ∷ []) (sym p.1))
+
+order-step : (l : Line) → GoesOn (codes "cert 1" ∷ codes "accepted" ∷ []) l
+order-step l = by (order_at (words_of l)) refl
+  where
+    by : (o : Option (List NameBytes)) → order_at (words_of l) ≡ o → GoesOn (codes "cert 1" ∷ codes "accepted" ∷ []) l
+    by None e = inl (no-order l e)
+    by (Some order) e = let p = order-spells l order e in inr (ordered order, p.0, ap (λ (third : Line). codes "cert 1" ∷ codes "accepted" ∷ third ∷ []) (sym p.1))
+
+cycle-step : (k : ℕ) (steps : List Step) (rows : List Row) (l : Line) → IsPartOfCycle k steps rows → GoesOn (certificate_lines (gives_cycle k steps rows)) l
+cycle-step k steps rows l part = elim (cases_lt (length steps) k) [
+  | inl less ↦ by-step less (step_at (words_of l)) refl
+  | inr all ↦ (let whole : length steps ≡ k = omega (arith, part.few) in elim (cases_lt k 3) [
+    | inl two ↦ inl (no-more-of-two k steps rows l part whole (let is : k ≡ 2 = omega (arith, part.low) in is))
+    | inr long ↦ by-row whole long (row_at k (words_of l)) refl
+  ])
+]
+  where
+    by-step : length steps < k → (o : Option Step) → step_at (words_of l) ≡ o → GoesOn (certificate_lines (gives_cycle k steps rows)) l
+    by-step less None e = inl (no-step k steps rows l part less e)
+    by-step less (Some s) e = let p = step-spells l s e in let q = step-more k steps rows s l part less p.0 p.1 in inr (cycle k (steps ++ s ∷ []) rows, q.0, q.1)
+
+    by-row : length steps ≡ k → 3 ≤ k → (o : Option Row) → row_at k (words_of l) ≡ o → GoesOn (certificate_lines (gives_cycle k steps rows)) l
+    by-row whole long None e = inl (no-row k steps rows l part whole e)
+    by-row whole long (Some r) e = let p = row-spells k l r e in let q = row-more k steps rows r l part whole long p.0 p.1 in inr (cycle k steps (rows ++ r ∷ []), q.0, q.1)
+
+-- no line follows a fault's line, nor an order's
+none-behind : (k : Kind) (l : Line) → IsKind k → ((c : Certificate) → kind_of c ≡ k → rest_lines c ≡ []) → ¬ BeginsCertificate (codes "cert 1" ∷ kind_line k ∷ l ∷ [])
+none-behind k l h none (c, spellable, more, is) =
+    let p = kind-behind c k (l ∷ more) spellable h is in
+    let empty : l ∷ more ≡ [] = p.1 ∙ none c p.0 in
+    absurd (cc)
+
+of-doubled : (c : Certificate) (first again : Operation) → kind_of c ≡ kind.Doubled first again → rest_lines c ≡ []
+of-doubled (names_fault fault) f g e = refl
+of-doubled (gives_order order) f g e = absurd (cc)
+of-doubled (gives_cycle k steps rows) f g e = absurd (cc)
+
+of-contents : (c : Certificate) (at : Operation) → kind_of c ≡ kind.Contents at → rest_lines c ≡ []
+of-contents (names_fault fault) at e = refl
+of-contents (gives_order order) at e = absurd (cc)
+of-contents (gives_cycle k steps rows) at e = absurd (cc)
+
+of-position : (c : Certificate) (at : Operation) → kind_of c ≡ kind.Position at → rest_lines c ≡ []
+of-position (names_fault fault) at e = refl
+of-position (gives_order order) at e = absurd (cc)
+of-position (gives_cycle k steps rows) at e = absurd (cc)
+
+ordered-rest : (c : Certificate) (a b : Line) (more : List Line) → kind_of c ≡ kind.Accepted → a ∷ b ∷ more ≡ rest_lines c → ⊥
+ordered-rest (names_fault (doubled first again)) a b more e is = absurd (cc)
+ordered-rest (names_fault (contents at)) a b more e is = absurd (cc)
+ordered-rest (names_fault (position at)) a b more e is = absurd (cc)
+ordered-rest (gives_order order) a b more e is = absurd (cc)
+ordered-rest (gives_cycle k steps rows) a b more e is = absurd (cc)
+
+behind-order : (order : List NameBytes) (l : Line) → ¬ BeginsCertificate (certificate_lines (gives_order order) ++ l ∷ [])
+behind-order order l (c, spellable, more, is) =
+    let p = kind-behind c kind.Accepted (order_line order ∷ l ∷ more) spellable tt is in ordered-rest c (order_line order) l more p.0 p.1
+
+step : (s : Known) (l : Line) → IsRight s → GoesOn (lines_so_far s) l
+step start l h = header-step l
+step headed l h = kind-step l
+step (of_kind (kind.Doubled first again)) l h = inl (none-behind (kind.Doubled first again) l h (λ c. of-doubled c first again))
+step (of_kind (kind.Contents at)) l h = inl (none-behind (kind.Contents at) l h (λ c. of-contents c at))
+step (of_kind (kind.Position at)) l h = inl (none-behind (kind.Position at) l h (λ c. of-position c at))
+step (of_kind kind.Accepted) l h = order-step l
+step (of_kind (kind.Refused k)) l h = cycle-step k [] [] l (no-steps k h.0 h.1)
+step (ordered order) l h = inl (behind-order order l)
+step (cycle k steps rows) l h = cycle-step k steps rows l h
+
+-- where nothing follows, the lines are whole or one is missing
+header-missing : ¬ IsWholeCertificate []
+header-missing (c, spellable, is) = absurd (cc)
+
+kind-missing : ¬ IsWholeCertificate (codes "cert 1" ∷ [])
+kind-missing (c, spellable, is) = let parts : codes "cert 1" ∷ [] ≡ codes "cert 1" ∷ kind_line (kind_of c) ∷ rest_lines c = is ∙ lines-parts c in absurd (cc)
+
+accepted-rest : (c : Certificate) → kind_of c ≡ kind.Accepted → [] ≡ rest_lines c → ⊥
+accepted-rest (names_fault (doubled first again)) e is = absurd (cc)
+accepted-rest (names_fault (contents at)) e is = absurd (cc)
+accepted-rest (names_fault (position at)) e is = absurd (cc)
+accepted-rest (gives_order order) e is = absurd (cc)
+accepted-rest (gives_cycle k steps rows) e is = absurd (cc)
+
+order-missing : ¬ IsWholeCertificate (codes "cert 1" ∷ codes "accepted" ∷ [])
+order-missing (c, spellable, is) = let p = kind-behind c kind.Accepted [] spellable tt is in accepted-rest c p.0 p.1
+
+cycle-end : (k : ℕ) (steps : List Step) (rows : List Row) → IsPartOfCycle k steps rows →
+    IsWholeCertificate (certificate_lines (gives_cycle k steps rows)) ⊎ (¬ IsWholeCertificate (certificate_lines (gives_cycle k steps rows)))
+cycle-end k steps rows part = elim (cases_lt (length steps) k) [
+  | inl less ↦ inr (lacks-step k steps rows part less)
+  | inr all ↦ inl (gives_cycle k steps rows, (part.low, part.high, (let n : length steps ≡ k = omega (arith, part.few) in n), part.each_step, part.short, part.each_row), refl)
+]
+
+end : (s : Known) → IsRight s → IsWholeCertificate (lines_so_far s) ⊎ (¬ IsWholeCertificate (lines_so_far s))
+end start h = inr header-missing
+end headed h = inr kind-missing
+end (of_kind (kind.Doubled first again)) h = inl (names_fault (doubled first again), h, refl)
+end (of_kind (kind.Contents at)) h = inl (names_fault (contents at), h, refl)
+end (of_kind (kind.Position at)) h = inl (names_fault (position at), h, refl)
+end (of_kind kind.Accepted) h = inr order-missing
+end (of_kind (kind.Refused k)) h = cycle-end k [] [] (no-steps k h.0 h.1)
+end (ordered order) h = inl (gives_order order, h, refl)
+end (cycle k steps rows) h = cycle-end k steps rows h
+
+abbrev HasFault : List ℕ → Type 0
+HasFault text = (line : ℕ) × (cause : format.CertCause) × IsFirstCertFault text line cause
+
+abbrev IsSpelled : List ℕ → Type 0
+IsSpelled text = (c : Certificate) × SpellsCertificate text c
+
+cut-at : (text : List ℕ) (good : List Line) (b : ℕ) (rest : List ℕ) → BeginsCertificate good → IsOneLine (b ∷ rest) → text ≡ text_of good ++ b ∷ rest → HasFault text
+cut-at text good b rest begins one is = (length good + 1, format.cut, record { good = good; begins = begins; rest = b ∷ rest; some_byte = omega arith; one_line = one; text_is = is; number = refl })
+
+wrong-at : (text : List ℕ) (good : List Line) (l : Line) (behind : List ℕ) → BeginsCertificate good → IsOneLine l → text ≡ text_of good ++ (l ++ 10 ∷ behind) → ¬ BeginsCertificate (good ++ l ∷ []) → HasFault text
+wrong-at text good l behind begins one is wrong =
+    (length good + 1, cause_behind good, wrong-fault text (length good + 1) good l (l ++ 10 ∷ behind) behind (Some (cause_behind good)) is refl one refl begins (refl, wrong))
+
+lacking-at : (text : List ℕ) (good : List Line) → BeginsCertificate good → text ≡ text_of good → ¬ IsWholeCertificate good → HasFault text
+lacking-at text good begins is not = (length good + 1, cause_behind good, lacking-fault text (length good + 1) good (Some (cause_behind good)) is refl begins (refl, not))
+
+from-here : (text : List ℕ) (s : Known) (lines : List Line) (rest : List ℕ) → IsRight s → All IsOneLine lines → IsOneLine rest → text ≡ text_of (lines_so_far s) ++ (text_of lines ++ rest) → IsSpelled text ⊎ HasFault text
+from-here text s [] [] right each last is =
+    let all : text ≡ text_of (lines_so_far s) = is ∙ append-nil (text_of (lines_so_far s)) in
+    elim (end s right) [
+      | inl whole ↦ inl (whole.0, (whole.1, all ∙ ap text_of whole.2))
+      | inr not ↦ inr (lacking-at text (lines_so_far s) (begins s right) all not)
+    ]
+from-here text s [] (b ∷ rest) right each last is = inr (cut-at text (lines_so_far s) b rest (begins s right) last is)
+from-here text s (l ∷ lines) rest right each last is =
+    let off : text ≡ text_of (lines_so_far s) ++ (l ++ 10 ∷ (text_of lines ++ rest)) = is ∙ ap (λ t. text_of (lines_so_far s) ++ t) (line-off l lines rest) in
+    elim (step s l right) [
+      | inl wrong ↦ inr (wrong-at text (lines_so_far s) l (text_of lines ++ rest) (begins s right) (All-head IsOneLine l lines each) off wrong)
+      | inr t ↦ from-here text t.0 lines rest t.1 (All-tail IsOneLine l lines each) last
+          (off ∙ line-on (lines_so_far s) l (text_of lines ++ rest) ∙ ap (λ (ls : List Line). text_of ls ++ (text_of lines ++ rest)) (sym t.2))
+    ]
+
+pub each-text : (text : List ℕ) → IsSpelled text ⊎ HasFault text
+each-text text = let c = cut-text text in from-here text start c.lines c.rest tt c.each c.last c.whole

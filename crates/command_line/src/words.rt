@@ -1,0 +1,202 @@
+//! The words of the command line.
+
+ghost use Rattle.std.specs.Prelude.{◌≡◌, ◌≢◌, ◌↔◌, [], Some, IfOk, MatchResult, codes};
+ghost use Rattle.clap.specs.Words.{first_value, found_of, kind_of};
+ghost use Rattle.command_line.specs.Tasks.{HasWorkers, IsDefault};
+ghost use Rattle.command_line.specs.Workers.{IsPositiveOf, IsWorkersOf};
+
+use super::task::{Form, Task, Word};
+use clap::error::ErrorKind;
+use clap::{Arg, ArgAction, ArgMatches, Command};
+use std::alloc::{AllocError, Global};
+use thiserror::Error;
+
+/// How many workers search where the words give no number.
+pub const WORKERS: u32 = 4;
+/// The most workers that may search; the fewest is 1.
+pub const MOST_WORKERS: u32 = 64;
+
+/// Why the words of a command line give no task.
+#[derive(Debug, Drop, Error)]
+pub enum WordsFault {
+    /// They are no command.
+    #[error("usage")]
+    Usage,
+    /// They ask for help: its text.
+    #[error("help")]
+    Help { text: String },
+    /// A growth was refused.
+    #[error("memory")]
+    Memory,
+}
+
+impl From<AllocError> for WordsFault {
+    ghost use Rattle.command_line.specs.declared.words.WordsFault.TheVariants.{Memory};
+
+    ghost from_gives = { λ _ fault. fault ≡ Memory };
+
+    fn from(_error: AllocError) -> WordsFault {
+        WordsFault::Memory
+    }
+}
+
+/// The task that the words ask for: those behind the program's name.
+///
+/// The commands are `verdict [--workers N] [--json] FILE`, `cert FILE` and `verify FILE CERT`; N is 1 to 64, in
+/// digits and without leading zeros, and 4 where it is not given. No words mean `verdict -`.
+pub fn read_words(alloc: Global, words: &[String]) -> Result<Task, WordsFault>
+    ensures workers { IfOk result HasWorkers }
+    ensures none { words.now ≡ [] → MatchResult result IsDefault (λ fault. fault ≡ WordsFault.Memory) }
+{
+    if words.is_empty() {
+        return default_task(alloc);
+    }
+    match finder_command(alloc)?.try_get_matches_from(words) {
+        Ok(matches) => task_of(alloc, &matches),
+        Err(error) => Err(fault_of(alloc, &error)),
+    }
+}
+
+/// The task of a command line without words.
+fn default_task(alloc: Global) -> Result<Task, WordsFault>
+    ensures { MatchResult result (λ task. HasWorkers task × IsDefault task) (λ fault. fault ≡ WordsFault.Memory) }
+{
+    let file = Word::new(alloc, "-")?;
+    Ok(Task::Verdict {
+        workers: WORKERS,
+        form: Form::Text,
+        file,
+    })
+}
+
+fn finder_command<'a>(alloc: Global) -> Result<Command<'a>, AllocError> {
+    Command::new(alloc, "finder")
+        .no_binary_name(true)
+        .subcommand_required(true)
+        .subcommand(verdict_command(alloc)?)?
+        .subcommand(cert_command(alloc)?)?
+        .subcommand(verify_command(alloc)?)
+}
+
+fn verdict_command<'a>(alloc: Global) -> Result<Command<'a>, AllocError> {
+    let workers = Arg::new(alloc, "workers")
+        .long("workers")
+        .value_name("N")
+        .help("How many workers search: 1 to 64, and 4 where it is not said")
+        .action(ArgAction::Set);
+    let json = Arg::new(alloc, "json")
+        .long("json")
+        .help("Writes the report as JSON")
+        .action(ArgAction::SetTrue);
+    Command::new(alloc, "verdict")
+        .about(
+            "Judges a recording: its first fault, the order that all responses follow, or the least conflict",
+        )
+        .arg(workers)?
+        .arg(json)?
+        .arg(trace_word(alloc))
+}
+
+fn cert_command<'a>(alloc: Global) -> Result<Command<'a>, AllocError> {
+    Command::new(alloc, "cert")
+        .about("Writes the certificate of the verdict, which shows why it is right")
+        .arg(trace_word(alloc))
+}
+
+fn verify_command<'a>(alloc: Global) -> Result<Command<'a>, AllocError> {
+    let cert = Arg::new(alloc, "CERT")
+        .help("The certificate; - is standard input")
+        .required(true)
+        .action(ArgAction::Set);
+    Command::new(alloc, "verify")
+        .about("Says whether a certificate is valid for a recording, without a search")
+        .arg(trace_word(alloc))?
+        .arg(cert)
+}
+
+fn trace_word<'a>(alloc: Global) -> Arg<'a> {
+    Arg::new(alloc, "FILE")
+        .help("The trace; - is standard input")
+        .required(true)
+        .action(ArgAction::Set)
+}
+
+/// The task of words that `clap` has read.
+fn task_of(alloc: Global, matches: &ArgMatches<'_>) -> Result<Task, WordsFault>
+    ensures { IfOk result HasWorkers }
+{
+    let (name, given) = matches.subcommand().ok_or(WordsFault::Usage)?;
+    match name {
+        "verdict" => Ok(Task::Verdict {
+            workers: workers_of(given)?,
+            form: form_of(given),
+            file: word_of(alloc, given, "FILE")?,
+        }),
+        "cert" => Ok(Task::Cert {
+            file: word_of(alloc, given, "FILE")?,
+        }),
+        "verify" => Ok(Task::Verify {
+            file: word_of(alloc, given, "FILE")?,
+            cert: word_of(alloc, given, "CERT")?,
+        }),
+        _ => Err(WordsFault::Usage),
+    }
+}
+
+/// The number of workers that was given, or `WORKERS`.
+fn workers_of(given: &ArgMatches<'_>) -> Result<u32, WordsFault>
+    ensures { IsWorkersOf (first_value (found_of given.now) (codes "workers")) result }
+{
+    let Some(word) = given.get_str("workers") else {
+        return Ok(WORKERS);
+    };
+    let Some(n) = number_of(word) else {
+        return Err(WordsFault::Usage);
+    };
+    if n > MOST_WORKERS {
+        return Err(WordsFault::Usage);
+    }
+    Ok(n)
+}
+
+/// JSON where it was asked for, else text.
+fn form_of(given: &ArgMatches<'_>) -> Form {
+    if given.get_flag("json") {
+        Form::Json
+    } else {
+        Form::Text
+    }
+}
+
+/// The number from 1 below 2^32 that the word is: digits, the first of them not 0.
+fn number_of(word: &str) -> Option<u32>
+    ensures { IsPositiveOf word.now result }
+{
+    let [b'1'..=b'9', ..] = word.as_bytes() else {
+        return None;
+    };
+    word.parse().ok()
+}
+
+/// The word that was given for this argument.
+fn word_of(alloc: Global, given: &ArgMatches<'_>, name: &str) -> Result<Word, WordsFault>
+    ensures { IfOk result (λ word. first_value (found_of given.now) name.now ≡ Some word) }
+{
+    let word = given.get_str(name).ok_or(WordsFault::Usage)?;
+    Ok(Word::new(alloc, word)?)
+}
+
+/// What `clap` found wrong, or the help that was asked for.
+fn fault_of(alloc: Global, error: &clap::Error) -> WordsFault
+    ensures memory { kind_of error.now ≡ ErrorKind.OutOfMemory → result ≡ WordsFault.Memory }
+    ensures usage { (result ≡ WordsFault.Usage) ↔ ((kind_of error.now ≢ ErrorKind.OutOfMemory) × (kind_of error.now ≢ ErrorKind.DisplayHelp)) }
+{
+    match error.kind() {
+        ErrorKind::DisplayHelp => match error.to_string(alloc) {
+            Ok(text) => WordsFault::Help { text },
+            Err(_) => WordsFault::Memory,
+        },
+        ErrorKind::OutOfMemory => WordsFault::Memory,
+        _ => WordsFault::Usage,
+    }
+}
