@@ -1,2 +1,4 @@
+pub mod Answers
+pub mod Commands
 pub mod Tasks
 pub mod Workers

@@ -1,8 +1,10 @@
 //! The words of the command line.
 
-ghost use Rattle.std.specs.Prelude.{◌≡◌, ◌≢◌, ◌↔◌, [], Some, IfOk, MatchResult, codes};
-ghost use Rattle.clap.specs.Words.{first_value, found_of, kind_of};
-ghost use Rattle.command_line.specs.Tasks.{HasWorkers, IsDefault};
+ghost use Rattle.std.specs.Prelude.{◌≡◌, ◌≢◌, [], Some, IfOk, MatchResult, codes, false, map, string_bytes, true};
+ghost use Rattle.clap.specs.Words.{first_value, found_of, kind_of, one_text, rows_of, rule_of, subcommand_rows_of, takes};
+ghost use Rattle.command_line.specs.Answers.{IsAnswerAt, IsFaultOf, given_by};
+ghost use Rattle.command_line.specs.Commands.{IsCommandOf, cert_app, certificate_rule, file_rule, finder_app, json_rule, verdict_app, verify_app, workers_rule};
+ghost use Rattle.command_line.specs.Tasks.{HasWorkers, IsAnswerTo, IsDefault, IsFormOf, IsTakenAs, IsWordOf};
 ghost use Rattle.command_line.specs.Workers.{IsPositiveOf, IsWorkersOf};
 
 use super::task::{Form, Task, Word};
@@ -44,9 +46,16 @@ impl From<AllocError> for WordsFault {
 ///
 /// The commands are `verdict [--workers N] [--json] FILE`, `cert FILE` and `verify FILE CERT`; N is 1 to 64, in
 /// digits and without leading zeros, and 4 where it is not given. No words mean `verdict -`.
+///
+/// What other words mean is what `clap` makes of them for `finder_app`, which writes these commands out: the task has
+/// what they give for each argument, `Help` comes where they ask for help, and `Usage` where something is wrong with
+/// them, or nothing but the number of workers. No clause says the text of help, or that memory suffices; and where
+/// `help` stands as a command, `clap` leaves open whether it is answered by help or by a usage fault.
 pub fn read_words(alloc: Global, words: &[String]) -> Result<Task, WordsFault>
     ensures workers { IfOk result HasWorkers }
     ensures none { words.now ≡ [] → MatchResult result IsDefault (λ fault. fault ≡ WordsFault.Memory) }
+    ensures answer { words.now ≢ [] → IsAnswerAt (map string_bytes words.now) result }
+    ensures taken { words.now ≢ [] → takes finder_app (map string_bytes words.now) ≡ true → IsTakenAs (given_by (map string_bytes words.now)) result }
 {
     if words.is_empty() {
         return default_task(alloc);
@@ -69,7 +78,9 @@ fn default_task(alloc: Global) -> Result<Task, WordsFault>
     })
 }
 
-fn finder_command<'a>(alloc: Global) -> Result<Command<'a>, AllocError> {
+fn finder_command<'a>(alloc: Global) -> Result<Command<'a>, AllocError>
+    ensures { IfOk result (IsCommandOf finder_app) }
+{
     Command::new(alloc, "finder")
         .no_binary_name(true)
         .subcommand_required(true)
@@ -78,54 +89,88 @@ fn finder_command<'a>(alloc: Global) -> Result<Command<'a>, AllocError> {
         .subcommand(verify_command(alloc)?)
 }
 
-fn verdict_command<'a>(alloc: Global) -> Result<Command<'a>, AllocError> {
-    let workers = Arg::new(alloc, "workers")
-        .long("workers")
-        .value_name("N")
-        .help("How many workers search: 1 to 64, and 4 where it is not said")
-        .action(ArgAction::Set);
-    let json = Arg::new(alloc, "json")
-        .long("json")
-        .help("Writes the report as JSON")
-        .action(ArgAction::SetTrue);
+fn verdict_command<'a>(alloc: Global) -> Result<Command<'a>, AllocError>
+    ensures { IfOk result (IsCommandOf verdict_app) }
+{
     Command::new(alloc, "verdict")
         .about(
             "Judges a recording: its first fault, the order that all responses follow, or the least conflict",
         )
-        .arg(workers)?
-        .arg(json)?
+        .arg(workers_word(alloc))?
+        .arg(json_word(alloc))?
         .arg(trace_word(alloc))
 }
 
-fn cert_command<'a>(alloc: Global) -> Result<Command<'a>, AllocError> {
+fn cert_command<'a>(alloc: Global) -> Result<Command<'a>, AllocError>
+    ensures { IfOk result (IsCommandOf cert_app) }
+{
     Command::new(alloc, "cert")
         .about("Writes the certificate of the verdict, which shows why it is right")
         .arg(trace_word(alloc))
 }
 
-fn verify_command<'a>(alloc: Global) -> Result<Command<'a>, AllocError> {
-    let cert = Arg::new(alloc, "CERT")
-        .help("The certificate; - is standard input")
-        .required(true)
-        .action(ArgAction::Set);
+fn verify_command<'a>(alloc: Global) -> Result<Command<'a>, AllocError>
+    ensures { IfOk result (IsCommandOf verify_app) }
+{
     Command::new(alloc, "verify")
         .about("Says whether a certificate is valid for a recording, without a search")
         .arg(trace_word(alloc))?
-        .arg(cert)
+        .arg(certificate_word(alloc))
 }
 
-fn trace_word<'a>(alloc: Global) -> Arg<'a> {
+fn workers_word<'a>(alloc: Global) -> Arg<'a>
+    ensures rule { rule_of result ≡ workers_rule }
+    ensures local { result.global ≡ false }
+{
+    Arg::new(alloc, "workers")
+        .long("workers")
+        .value_name("N")
+        .help("How many workers search: 1 to 64, and 4 where it is not said")
+        .action(ArgAction::Set)
+}
+
+fn json_word<'a>(alloc: Global) -> Arg<'a>
+    ensures rule { rule_of result ≡ json_rule }
+    ensures local { result.global ≡ false }
+{
+    Arg::new(alloc, "json")
+        .long("json")
+        .help("Writes the report as JSON")
+        .action(ArgAction::SetTrue)
+}
+
+fn trace_word<'a>(alloc: Global) -> Arg<'a>
+    ensures rule { rule_of result ≡ file_rule }
+    ensures local { result.global ≡ false }
+{
     Arg::new(alloc, "FILE")
         .help("The trace; - is standard input")
         .required(true)
         .action(ArgAction::Set)
 }
 
+fn certificate_word<'a>(alloc: Global) -> Arg<'a>
+    ensures rule { rule_of result ≡ certificate_rule }
+    ensures local { result.global ≡ false }
+{
+    Arg::new(alloc, "CERT")
+        .help("The certificate; - is standard input")
+        .required(true)
+        .action(ArgAction::Set)
+}
+
 /// The task of words that `clap` has read.
 fn task_of(alloc: Global, matches: &ArgMatches<'_>) -> Result<Task, WordsFault>
-    ensures { IfOk result HasWorkers }
+    ensures { IsAnswerTo (subcommand_rows_of matches.now) result }
 {
     let (name, given) = matches.subcommand().ok_or(WordsFault::Usage)?;
+    task_given(alloc, name, given)
+}
+
+/// The task of a subcommand and its arguments.
+fn task_given(alloc: Global, name: &str, given: &ArgMatches<'_>) -> Result<Task, WordsFault>
+    ensures { IsAnswerTo (Some (name.now, rows_of (found_of given.now))) result }
+{
     match name {
         "verdict" => Ok(Task::Verdict {
             workers: workers_of(given)?,
@@ -160,11 +205,12 @@ fn workers_of(given: &ArgMatches<'_>) -> Result<u32, WordsFault>
 }
 
 /// JSON where it was asked for, else text.
-fn form_of(given: &ArgMatches<'_>) -> Form {
-    if given.get_flag("json") {
-        Form::Json
-    } else {
-        Form::Text
+fn form_of(given: &ArgMatches<'_>) -> Form
+    ensures { IsFormOf (one_text (found_of given.now) (codes "json")) result }
+{
+    match given.get_one::<bool>("json") {
+        Some(true) => Form::Json,
+        _ => Form::Text,
     }
 }
 
@@ -180,7 +226,7 @@ fn number_of(word: &str) -> Option<u32>
 
 /// The word that was given for this argument.
 fn word_of(alloc: Global, given: &ArgMatches<'_>, name: &str) -> Result<Word, WordsFault>
-    ensures { IfOk result (λ word. first_value (found_of given.now) name.now ≡ Some word) }
+    ensures { IsWordOf (first_value (found_of given.now) name.now) result }
 {
     let word = given.get_str(name).ok_or(WordsFault::Usage)?;
     Ok(Word::new(alloc, word)?)
@@ -188,8 +234,7 @@ fn word_of(alloc: Global, given: &ArgMatches<'_>, name: &str) -> Result<Word, Wo
 
 /// What `clap` found wrong, or the help that was asked for.
 fn fault_of(alloc: Global, error: &clap::Error) -> WordsFault
-    ensures memory { kind_of error.now ≡ ErrorKind.OutOfMemory → result ≡ WordsFault.Memory }
-    ensures usage { (result ≡ WordsFault.Usage) ↔ ((kind_of error.now ≢ ErrorKind.OutOfMemory) × (kind_of error.now ≢ ErrorKind.DisplayHelp)) }
+    ensures { IsFaultOf (kind_of error.now) result }
 {
     match error.kind() {
         ErrorKind::DisplayHelp => match error.to_string(alloc) {

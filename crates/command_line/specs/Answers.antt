@@ -1,0 +1,36 @@
+-- What the words of a command line are answered.
+use Rattle.std.specs.Prelude.{◌≡◌, ◌≢◌, ◌⊎◌, [], List, ℕ, Option, Result, Ok, Err}
+use Rattle.clap.specs.Words.{IsAmong, Kinds, Row, fault_of, subcommand_of}
+use Rattle.clap.specs.declared.error.ErrorKind.{ErrorKind}
+use Rattle.clap.specs.declared.error.ErrorKind.TheVariants.{DisplayHelp, OutOfMemory}
+use Rattle.command_line.specs.Commands.{finder_app}
+use Rattle.command_line.specs.Tasks.{AsksFor, HasBadWorkers}
+use Rattle.command_line.specs.declared.task.Task.{Task}
+use Rattle.command_line.specs.declared.words.WordsFault.{WordsFault}
+use Rattle.command_line.specs.declared.words.WordsFault.TheVariants.{Usage, Help, Memory}
+
+-- the kinds of fault that `clap` finds in the words: none where the program takes them
+abbrev pub kinds_at : List (List ℕ) → Kinds
+kinds_at words = fault_of finder_app words
+
+-- the subcommand that the words name, and what they give for each of its arguments
+abbrev pub given_by : List (List ℕ) → Option (List ℕ × List Row)
+given_by words = subcommand_of finder_app words
+
+-- what is answered to a fault of this kind; the text of help may be refused for want of memory
+abbrev pub IsFaultOf : ErrorKind → WordsFault → Type 0
+IsFaultOf kind Usage = (kind ≢ DisplayHelp) × (kind ≢ OutOfMemory)
+IsFaultOf kind (Help text) = kind ≡ DisplayHelp
+IsFaultOf kind Memory = (kind ≡ DisplayHelp) ⊎ (kind ≡ OutOfMemory)
+
+-- one of the kinds is a mistake, and no wish for help
+abbrev pub HasMistake : Kinds → Type 0
+HasMistake kinds = (kind : ErrorKind) × IsAmong kind kinds × IsFaultOf kind Usage
+
+-- the task that the words ask for; help where they ask for that; a usage fault where `clap` finds a mistake, or finds
+-- none and the number of workers is none; or want of memory
+abbrev pub IsAnswerAt : List (List ℕ) → Result Task WordsFault → Type 0
+IsAnswerAt words (Ok task) = (kinds_at words ≡ []) × AsksFor (given_by words) task
+IsAnswerAt words (Err Usage) = HasMistake (kinds_at words) ⊎ ((kinds_at words ≡ []) × HasBadWorkers (given_by words))
+IsAnswerAt words (Err (Help text)) = IsAmong DisplayHelp (kinds_at words)
+IsAnswerAt words (Err Memory) = Unit {0}
