@@ -13,10 +13,11 @@ from html import escape
 
 LEAST_NODE = 22  # the radius of an element with a short name
 LETTER = 8.5  # the width of a letter of a label
+DROP = 5  # how far below its middle a text stands: not every viewer knows of baselines
 MOST_NAMES = 5  # of a response that is shown whole
 
 STYLE = """\
-text { font: 14px ui-monospace, Menlo, Consolas, monospace; fill: #555; dominant-baseline: middle }
+text { font: 14px ui-monospace, Menlo, Consolas, monospace; fill: #555 }
 .element { fill: #fff; stroke: #222; stroke-width: 1.5 }
 .name { fill: #222; text-anchor: middle }
 .number { font-family: system-ui, sans-serif; text-anchor: middle }
@@ -44,7 +45,8 @@ def point(centre: tuple, radius: float, angle: float) -> tuple:
 
 
 def at(x: float, y: float) -> str:
-    return f'x="{x:.1f}" y="{y:.1f}"'
+    """The place of a text whose middle is there."""
+    return f'x="{x:.1f}" y="{y + DROP:.1f}"'
 
 
 def arrow(centre: tuple, radius: float, node: float, start: float, end: float) -> str:
