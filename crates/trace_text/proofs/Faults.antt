@@ -4,6 +4,7 @@ use Rattle.std.proofs.lemmas.List.{append_assoc}
 use Rattle.specification.specs.Lines.{Line, text_of, IsOneLine}
 use Rattle.specification.specs.TraceText as format
 use Rattle.specification.specs.TraceText.{IsFaultyLine, IsMissingLine, BeginsSpelling, HasWholeFault, IsCutAt, LacksLine, IsFirstLineFault}
+use Rattle.trace_text.specs.Place.{HasEndedLine}
 
 never-cut : (lines : List Line) (line : Line) → IsFaultyLine lines line format.cut → ⊥
 never-cut [] line h = h
@@ -36,3 +37,15 @@ pub line-fault : (text : List ℕ) (number : ℕ) (lines : List Line) (line rest
     text ≡ text_of lines ++ rest → rest ≡ line ++ 10 ∷ behind → IsOneLine line → number ≡ length lines + 1 → BeginsSpelling lines → IfSome cause (IsFaultyLine lines line) → IfSome cause (IsFirstLineFault text number)
 line-fault text number lines line rest behind None whole cut one_line is begins faulty = tt
 line-fault text number lines line rest behind (Some cause) whole cut one_line is begins faulty = whole-fault text number lines line rest behind cause whole cut one_line is begins faulty
+
+pub ended-line : (text : List ℕ) (number : ℕ) (lines : List Line) (line rest behind : List ℕ) →
+    text ≡ text_of lines ++ rest → rest ≡ line ++ 10 ∷ behind → IsOneLine line → number ≡ length lines + 1 → BeginsSpelling lines → HasEndedLine text number
+ended-line text number lines line rest behind whole cut one_line is begins = record {
+  good = lines;
+  begins = begins;
+  next = line;
+  one_line = one_line;
+  more = behind;
+  text_is = whole ∙ ap (λ l. text_of lines ++ l) cut ∙ sym (append_assoc (text_of lines) line (10 ∷ behind));
+  number = is;
+}

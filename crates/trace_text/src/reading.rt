@@ -143,6 +143,7 @@ impl Reading {
         ensures number { IfErr result (λ fault. fault.line ≡ length (good self) + 1) }
         ensures begins { BeginsSpelling (good self) }
         ensures fault { IfErr result (λ fault. IfSome (cause_of fault.cause) (IsMissingLine (good self))) }
+        ensures memory { IfErr result (λ fault. fault.cause ≢ Cause.Refused Refusal.Memory) }
     {
         let line = self.next_line();
         match self {

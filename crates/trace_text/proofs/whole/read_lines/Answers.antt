@@ -1,7 +1,7 @@
 use Rattle.std.proofs.lemmas.Result.{err_from_is_err_and}
 use Rattle.trace_text.specs.Causes.{cause_of}
 use Rattle.trace_text.specs.Progress.{good}
-use Rattle.trace_text.proofs.Faults.{line-fault}
+use Rattle.trace_text.proofs.Faults.{line-fault, ended-line}
 use Rattle.trace_text.proofs.whole.read_lines.Goals as goal
 
 pub returns-in_err-line-clause-fault : goal.returns-in_err-line-clause-fault
@@ -11,3 +11,11 @@ returns-in_err-line-clause-fault c =
     let cut = c.in-Some.ensures in
     rw (p.1, p.2) (line-fault c.args.bytes.now fault.line (good c.loop-rest.reading) c.in-Some.line.now c.loop-rest.rest.now c.in-Some.behind.now (cause_of fault.cause)
     c.loop-rest.invariant cut.1 cut.0 c.in_err-line.ensures.number c.in_err-line.ensures.begins c.in_err-line.ensures.fault)
+
+pub returns-in_err-line-clause-memory : goal.returns-in_err-line-clause-memory
+returns-in_err-line-clause-memory c =
+    let p = err_from_is_err_and c.from_residual.result c.from_residual.ensures.1 in
+    let fault = c.in_err-line.field-0.0 in
+    let cut = c.in-Some.ensures in
+    rw (p.1, p.2) (λ is. ended-line c.args.bytes.now fault.line (good c.loop-rest.reading) c.in-Some.line.now c.loop-rest.rest.now c.in-Some.behind.now
+    c.loop-rest.invariant cut.1 cut.0 c.in_err-line.ensures.number c.in_err-line.ensures.begins)
