@@ -22,20 +22,20 @@ TRACES = Path(__file__).parent / "traces.py"
 
 # Near the limits: at most so many seconds, and so many MB of memory.
 REQUIRED = {"accepted": (3, 400), "ring": (20, 400)}
-# Where the search takes the most of the time: four workers need at most this share of one worker's time.
+# Where the search takes the most of the time: four workers need less than this share of one worker's time.
 SEARCHED, SHARE = "wide_ring", 0.35
 
 
 class Measured(NamedTuple):
-    """The best of some runs."""
+    """A run, or of some runs the first's line, the least time and the largest peak."""
 
     line: str  # of the verdict
     seconds: float
-    peak: int  # bytes
+    peak: int  # bytes; a child's begins with what this process holds, so a smaller one is not told
 
 
 def once(program: str, words: list, out: str) -> Measured:
-    """One run, which ends before this returns, and the second line of what it has written to the file."""
+    """One run, which ends before this returns, and the second line of what it has written to the file, or its only one."""
     start = time.monotonic()
     child = os.posix_spawn(program, [program, *words], os.environ,
                            file_actions=[(os.POSIX_SPAWN_OPEN, 1, out, os.O_WRONLY | os.O_CREAT | os.O_TRUNC, 0o600)])
@@ -52,19 +52,32 @@ def make(path: str, family: str, size: str) -> None:
         subprocess.run([sys.executable, str(TRACES), family, size], stdout=out, check=True)
 
 
-def measured(program: str, path: str, times: int, workers: int = 4) -> Measured:
-    runs = [once(program, ["verdict", "--workers", str(workers), path], path + ".out") for _ in range(times)]
+def judged(program: str, path: str, workers: int) -> Measured:
+    return once(program, ["verdict", "--workers", str(workers), path], path + ".out")
+
+
+def best(runs: list) -> Measured:
     return Measured(runs[0].line, min(run.seconds for run in runs), max(run.peak for run in runs))
 
 
-def by_workers(tally: Tally, program: str, name: str, path: str, times: int) -> None:
-    """The same recording with fewer and more workers."""
-    runs = {workers: measured(program, path, times, workers) for workers in (1, 2, 4)}
-    alone = runs[1].seconds
-    for workers, run in runs.items():
-        required = f", required: under {SHARE}" if workers == 4 and name.startswith("XL") else ""
-        print(f"{name:16} {workers} workers: {run.seconds:.3f} s, {run.seconds / alone:.2f} of one worker's{required}", flush=True)
-    tally.check(f"{name}: the same with any number of workers", len({run.line for run in runs.values()}) == 1, runs)
+def measured(program: str, path: str, times: int) -> Measured:
+    return best([judged(program, path, 4) for _ in range(times)])
+
+
+def by_workers(tally: Tally, program: str, size: str, path: str, times: int) -> None:
+    """The whole program's time with fewer and more workers, in turn. Whatever their number, all processors check contents."""
+    runs, reports = {1: [], 2: [], 4: []}, set()
+    for _ in range(times):
+        for workers, of_these in runs.items():
+            of_these.append(judged(program, path, workers))
+            with open(path + ".out", "rb") as written:
+                reports.add(written.read())
+    alone = best(runs[1]).seconds
+    for workers, of_these in runs.items():
+        required = f", required: under {SHARE}" if workers == 4 and size == "XL" else ""
+        seconds = best(of_these).seconds
+        print(f"{size + ' ' + SEARCHED:16} workers {workers}: {seconds:.3f} s, {seconds / alone:.2f} of one worker's{required}", flush=True)
+    tally.check(f"{size} {SEARCHED}: the same report with any number of workers", len(reports) == 1)
 
 
 def certified(tally: Tally, program: str, name: str, path: str) -> None:
@@ -120,7 +133,7 @@ def main() -> None:
                 tally.check(f"{size} {name}", holds, got.line)
                 grown.append((length, got.seconds))
                 if name == SEARCHED:
-                    by_workers(tally, program, f"{size} {name}", path, times)
+                    by_workers(tally, program, size, path, times)
                 if verdict.startswith("refused ") and (size != "XL" or sizes == ["XL"]):
                     certified(tally, program, f"{size} {name}", path)
             if len(grown) > 1:

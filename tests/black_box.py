@@ -221,9 +221,12 @@ def gallery(tally: Tally, program: str) -> None:
 def command_line(tally: Tally, program: str) -> None:
     for words in USAGE:
         tally.same(f"usage {words}", run(program, words, DELETED), fault("usage"))
-    for words in (["--help"], ["-h"], ["help"], ["verdict", "--help"], ["help", "verdict"]):
+    for words in (["--help"], ["-h"], ["help"], ["verdict", "--help"], ["help", "verdict"],
+                  ["verdict", "--workers", "0", "--help", "t"], ["verdict", "t", "--workers", "0", "--help"]):
         got = run(program, words)
         tally.check(f"help {words}", got.status == 0 and got.out.endswith(b"\n") and b"verdict" in got.out and not got.err, got)
+    named = subprocess.run([b"\xff"], executable=program, input=DELETED, capture_output=True)
+    tally.same("a program name that is no text", Ended(named.returncode, named.stdout, named.stderr), fault("usage"))
 
 
 def files(tally: Tally, program: str, folder: str) -> None:

@@ -1,5 +1,6 @@
 #!/usr/bin/env python3
-"""traces.py FAMILY SIZE: a legal trace near the limits, or near those of a smaller SIZE, on standard output.
+"""traces.py FAMILY SIZE: a legal trace near the limits on names in responses, or near those of a smaller SIZE, on
+standard output.
 
 The editors of one group keep one order of all elements: those of their own group first, then those of the next group,
 and so on round; within a group by rank. So the groups' orders together make a ring."""
@@ -214,9 +215,8 @@ class Session:
         for group in groups:
             self.edit(group, NOTHING, deletes)
 
-
     def play_wide_ring(self, heard: int) -> None:
-        """Each types alone, and then reads along what the next ones have typed."""
+        """Each types all its elements alone; then each hears of what the next ones typed, step by step, and reads it."""
         for replica in self.replicas:
             while replica.waiting:
                 self.insert(replica, replica.waiting.pop())
@@ -282,7 +282,7 @@ FAMILIES = {
     "ring": Family("a group for each replica", play_ring, lambda replicas: f"refused {replicas}"),
     "long_ring": Family("two replicas in a group, and long responses", play_long_ring,
                         lambda replicas: f"refused {replicas // 2}"),
-    "wide_ring": Family("each reads along what a third of the others type", play_wide_ring,
+    "wide_ring": Family("each hears of what a third of the others typed, and reads", play_wide_ring,
                         lambda replicas: f"refused {-(-replicas // (replicas // 3))}"),
 }
 

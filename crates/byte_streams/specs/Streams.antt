@@ -1,5 +1,5 @@
 -- What contracts see of a reader and of a writer: the bytes, where they are known, and how the calls went.
-use Rattle.std.specs.Prelude.{◌≡◌, ℕ, ◌≤◌, ◌⊎◌, Bool, true, Option, List, length, take}
+use Rattle.std.specs.Prelude.{◌≡◌, ℕ, ◌<◌, ◌⊎◌, Bool, true, Option, List, length, take}
 use Rattle.std.specs.Io.KnownBytes.{Appends}
 
 -- the bytes that a reader has left, how many reads were made, and whether one failed
@@ -18,6 +18,6 @@ pub record Drains : Type 0 where
   pub calls : ℕ
   pub failed : Bool
 
--- known bytes grow by a front of these
+-- known bytes grow by a front of these, and not by all
 abbrev pub AppendsFront : Option (List ℕ) → Option (List ℕ) → List ℕ → Type 0
-AppendsFront old new bytes = (n : ℕ) × (n ≤ length bytes) × Appends old new (take n bytes)
+AppendsFront old new bytes = (n : ℕ) × (n < length bytes) × Appends old new (take n bytes)

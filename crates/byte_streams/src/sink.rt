@@ -43,8 +43,8 @@ impl<W: Write + Drop> Sink<W> {
     }
 
     /// Writes once, from the front of the bytes, and answers how many were taken: at least one. Answers
-    /// `None` where the write fails or takes no byte. After that it answers `None` and asks the writer no
-    /// more. Writes are counted up to 2^64 - 1.
+    /// `None` where the write fails or takes no byte, as it does where there is none. After that it answers
+    /// `None` and asks the writer no more. Writes are counted up to 2^64 - 1.
     pub fn write(&mut self, bytes: &[u8]) -> Option<usize>
         ensures within { IfSome result (λ n. (0 < n) × (n ≤ length bytes.now)) }
         ensures bytes { IfSome result (λ n. Appends self.old.bytes self.new.bytes (take n bytes.now)) }
@@ -67,10 +67,11 @@ impl<W: Write + Drop> Sink<W> {
     }
 
     /// Writes all of the bytes, in as many writes as the writer needs. Where a write fails or takes no
-    /// byte, a front of them was written. No byte needs no write.
+    /// byte, a front of them was written, and not all. No byte needs no write.
     pub fn write_whole(&mut self, bytes: &[u8]) -> Result<(), WriteFault>
         ensures ok { OnOk result (Appends self.old.bytes self.new.bytes bytes.now × (self.new.failed ≡ self.old.failed)) }
         ensures err { OnErr result (AppendsFront self.old.bytes self.new.bytes bytes.now × (self.new.failed ≡ true)) }
+        ensures asked { self.old.failed ≡ false → 0 < length bytes.now → min (self.old.calls + 1) (2 ^ 64 - 1) ≤ self.new.calls }
         ensures closed { self.old.failed ≡ true → 0 < length bytes.now → IsErr result × (self.new ≡ self.old) }
         ensures nothing { bytes.now ≡ [] → IsOk result × (self.new ≡ self.old) }
     {

@@ -7,7 +7,8 @@ use std::io::Read;
 use std::marker::Model;
 use thiserror::Error;
 
-/// How many reads are made of a reader: more than the longest legal trace has bytes.
+/// How many reads are made of a reader: more than the longest legal trace has bytes. A certificate may be longer, so a
+/// reader that gives it byte by byte can be cut short.
 pub const READS: u32 = 268_435_456;
 
 /// How many bytes are asked for at once.
@@ -44,7 +45,7 @@ impl<R: Read + Drop> Model for Source<R> {
 }
 
 impl<R: Read + Drop> Source<R> {
-    ghost use Rattle.std.specs.Prelude.{◌≡◌, ◌≢◌, ◌≤◌, ◌<◌, ◌+◌, true, false, None, Err, IfSome, IfOk, IfErr, length, take};
+    ghost use Rattle.std.specs.Prelude.{◌≡◌, ◌≤◌, ◌<◌, ◌+◌, true, false, None, Err, IfSome, IfOk, IfErr, length, take};
     ghost use Rattle.std.specs.Io.KnownBytes.{Consumes, Keeps, IsAtEnd};
     ghost use Rattle.byte_streams.specs.Streams.{IsClosed};
 
@@ -69,6 +70,7 @@ impl<R: Read + Drop> Source<R> {
         ensures went { IfSome result (λ n. (self.new.failed ≡ false) × (self.old.failed ≡ false) × (self.new.calls ≡ self.old.calls + 1) × (self.new.calls ≤ READS)) }
         ensures failed { result ≡ None → Keeps self.old.bytes self.new.bytes × IsClosed self.new }
         ensures asked { result ≡ None → ¬ IsClosed self.old → self.new.calls ≡ self.old.calls + 1 }
+        ensures calls { self.old.calls ≤ self.new.calls }
         ensures closed { IsClosed self.old → (result ≡ None) × (self.new ≡ self.old) }
     {
         if self.has_failed || self.reads == READS {
@@ -84,11 +86,12 @@ impl<R: Read + Drop> Source<R> {
         }
     }
 
-    /// All that is left, to the end.
+    /// All that is left, to the end. After a fault some of it was read and is lost: how much, no clause says.
     pub fn whole(&mut self, alloc: Global) -> Result<Vec<u8>, ReadFault>
         ensures ok { IfOk result (λ text. Consumes self.old.bytes self.new.bytes text.items × IsAtEnd self.new.bytes × (self.new.failed ≡ false)) }
         ensures read { IfErr result (λ fault. fault ≡ ReadFault.Read → IsClosed self.new) }
         ensures memory { IfErr result (λ fault. fault ≡ ReadFault.Memory → self.new.failed ≡ false) }
+        ensures asked { ¬ IsClosed self.old → self.old.calls < self.new.calls }
         ensures closed { IsClosed self.old → (result ≡ Err ReadFault.Read) × (self.new ≡ self.old) }
     {
         let mut all = Vec::new(alloc);

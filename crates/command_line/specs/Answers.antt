@@ -9,7 +9,7 @@ use Rattle.command_line.specs.declared.task.Task.{Task}
 use Rattle.command_line.specs.declared.words.WordsFault.{WordsFault}
 use Rattle.command_line.specs.declared.words.WordsFault.TheVariants.{Usage, Help, Memory}
 
--- the kinds of fault that `clap` finds in the words: none where the program takes them
+-- the kinds that `clap`'s fault may have on the words: none where the program takes them
 abbrev pub kinds_at : List (List ℕ) → Kinds
 kinds_at words = fault_of finder_app words
 
@@ -23,11 +23,11 @@ IsFaultOf kind Usage = (kind ≢ DisplayHelp) × (kind ≢ OutOfMemory)
 IsFaultOf kind (Help text) = kind ≡ DisplayHelp
 IsFaultOf kind Memory = (kind ≡ DisplayHelp) ⊎ (kind ≡ OutOfMemory)
 
--- one of the kinds is a mistake, and no wish for help
+-- one of the kinds that the fault may have is a mistake, and no wish for help
 abbrev pub HasMistake : Kinds → Type 0
 HasMistake kinds = (kind : ErrorKind) × IsAmong kind kinds × IsFaultOf kind Usage
 
--- the task that the words ask for; help where they ask for that; a usage fault where `clap` finds a mistake, or finds
+-- the task that the words ask for; help where they ask for that; a usage fault where `clap` may find a mistake, or finds
 -- none and the number of workers is none; or want of memory
 abbrev pub IsAnswerAt : List (List ℕ) → Result Task WordsFault → Type 0
 IsAnswerAt words (Ok task) = (kinds_at words ≡ []) × AsksFor (given_by words) task

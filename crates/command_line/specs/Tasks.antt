@@ -25,7 +25,7 @@ IsDefault (Verify file cert) = ⊥
 abbrev pub IsFormOf : Option (List ℕ) → Form → Type 0
 IsFormOf flag form = (form ≡ Json) ↔ (flag ≡ Some (codes "true"))
 
--- the word that was given for an argument, and a usage fault where none was
+-- the word that was given for an argument, or want of memory; and a usage fault where none was
 abbrev pub IsWordOf : Option (List ℕ) → Result (List ℕ) WordsFault → Type 0
 IsWordOf None answer = MatchResult answer (λ _. ⊥) (λ fault. fault ≡ Usage)
 IsWordOf (Some word) answer = MatchResult answer (λ given. given ≡ word) (λ fault. fault ≡ Memory)

@@ -21,7 +21,7 @@ pub const MOST_WORKERS: u32 = 64;
 /// Why the words of a command line give no task.
 #[derive(Debug, Drop, Error)]
 pub enum WordsFault {
-    /// They are no command.
+    /// They are no command, or give a number of workers that is none.
     #[error("usage")]
     Usage,
     /// They ask for help: its text.
@@ -48,8 +48,8 @@ impl From<AllocError> for WordsFault {
 /// digits and without leading zeros, and 4 where it is not given. No words mean `verdict -`.
 ///
 /// What other words mean is what `clap` makes of them for `finder_app`, which writes these commands out: the task has
-/// what they give for each argument, `Help` comes where they ask for help, and `Usage` where something is wrong with
-/// them, or nothing but the number of workers. No clause says the text of help, or that memory suffices; and where
+/// what they give for each argument, `Help` comes where they ask for help, and `Usage` where `clap` finds a mistake,
+/// or finds none and the number of workers is none. No clause says the text of help, or that memory suffices; and where
 /// `help` stands as a command, `clap` leaves open whether it is answered by help or by a usage fault.
 pub fn read_words(alloc: Global, words: &[String]) -> Result<Task, WordsFault>
     ensures workers { IfOk result HasWorkers }

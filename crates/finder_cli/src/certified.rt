@@ -9,8 +9,8 @@ ghost use Rattle.finder_cli.specs.Certified.{IsCertificateOn, Certifies, Certifi
 use super::output::{Output, recording_on, status_of, verdict_on, whole_text, write_output};
 use super::status::{RunFault, Status};
 use byte_streams::{Sink, Source};
-use command_line::WORKERS;
 use certificate::certify;
+use command_line::WORKERS;
 use std::alloc::Global;
 use std::io::{Read, Write};
 use std::thread::Threads;

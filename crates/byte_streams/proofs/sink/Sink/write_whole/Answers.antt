@@ -1,4 +1,5 @@
-use Rattle.std.proofs.Common.{ℕ, arith, length-take, length-drop}
+use Rattle.std.proofs.Common.{ℕ, ap, arith, length-take, length-drop}
+use Rattle.byte_streams.proofs.Counts.{one-more}
 use Rattle.byte_streams.proofs.Fronts.{front-grows}
 use Rattle.byte_streams.proofs.sink.Sink.write_whole.Goals as goal
 
@@ -14,4 +15,5 @@ loop-at-preserved g c =
       still = cc;
       closed = λ failed. cc;
       first = λ none. absurd (omega (arith, wrote.within));
+      calls = λ some. one-more _ _ _ c.loop-at.at _ wrote.went.2 (λ none. ap (λ s. s.calls) (c.loop-at.invariant.first none)) c.loop-at.invariant.calls;
     }
