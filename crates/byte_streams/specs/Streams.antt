@@ -3,17 +3,17 @@ use Rattle.std.specs.Prelude.{◌≡◌, ℕ, ◌<◌, ◌⊎◌, Bool, true, Op
 use Rattle.std.specs.Io.KnownBytes.{Appends}
 
 -- the bytes that a reader has left, how many reads were made, and whether one failed
-pub record Taps : Type 0 where
+pub record SourceState : Type 0 where
   pub bytes : Option (List ℕ)
   pub calls : ℕ
   pub failed : Bool
 
 -- a reader that is not asked again: a read failed, or the limit of reads was reached
-abbrev pub IsClosed : Taps → Type 0
-IsClosed taps = (taps.failed ≡ true) ⊎ (taps.calls ≡ 268435456)
+abbrev pub IsClosed : SourceState → Type 0
+IsClosed source = (source.failed ≡ true) ⊎ (source.calls ≡ 268435456)
 
 -- the bytes that a writer holds, how many writes were made, and whether one failed or took no byte
-pub record Drains : Type 0 where
+pub record SinkState : Type 0 where
   pub bytes : Option (List ℕ)
   pub calls : ℕ
   pub failed : Bool

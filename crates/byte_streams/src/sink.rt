@@ -18,9 +18,9 @@ pub struct Sink<W: Write + Drop> {
 }
 
 impl<W: Write + Drop> Model for Sink<W> {
-    ghost use Rattle.byte_streams.specs.Streams.{Drains};
+    ghost use Rattle.byte_streams.specs.Streams.{SinkState};
 
-    ghost Value = { Drains };
+    ghost Value = { SinkState };
 
     ghost view = { λ s. record { bytes = W.contents s.inner; calls = s.writes; failed = s.has_failed } };
 }

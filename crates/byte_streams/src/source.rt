@@ -35,9 +35,9 @@ pub struct Source<R: Read + Drop> {
 
 impl<R: Read + Drop> Model for Source<R> {
     ghost use Rattle.std.specs.Prelude.{◌≤◌};
-    ghost use Rattle.byte_streams.specs.Streams.{Taps};
+    ghost use Rattle.byte_streams.specs.Streams.{SourceState};
 
-    ghost Value = { Taps };
+    ghost Value = { SourceState };
 
     ghost view = { λ s. record { bytes = R.remaining s.inner; calls = s.reads; failed = s.has_failed } };
 

@@ -4,9 +4,9 @@ use Rattle.clap.specs.Words.{App, FailsBy, HasKind, HasMatchesOf, IsAmong, Row, 
 use Rattle.clap.specs.declared.error.Error.{Error}
 use Rattle.clap.specs.declared.error.ErrorKind.TheVariants.{DisplayHelp, OutOfMemory}
 use Rattle.clap.specs.declared.parser.matches.ArgMatches.{ArgMatches}
-use Rattle.command_line.specs.Answers.{IsAnswerAt, IsFaultOf, given_by, kinds_at}
+use Rattle.command_line.specs.Answers.{IsAnswerToWords, IsFaultOf, given_by, kinds_at}
 use Rattle.command_line.specs.Commands.{finder_app}
-use Rattle.command_line.specs.Tasks.{IsAnswerTo, IsTakenAs}
+use Rattle.command_line.specs.Tasks.{IsAnswerToSubcommand, IsAnswerWhereTaken}
 use Rattle.command_line.proofs.Taken.{named-whole, taken-as}
 use Rattle.command_line.specs.declared.task.Task.{Task}
 use Rattle.command_line.specs.declared.words.WordsFault.{WordsFault}
@@ -28,8 +28,8 @@ pub fails-by : (app : App) (words : List (List ℕ)) (parsed : Result ArgMatches
 fails-by app words parsed is h = subst (λ a. is_simple_and_free a ≡ true → FailsBy (fault_of a words) parsed) is h finder-free
 
 -- the answer to matches
-pub matches-answer : (words : List (List ℕ)) (answer : Result Task WordsFault) → kinds_at words ≡ [] → IsTakenAs (given_by words) answer
-    → IsAnswerAt words answer
+pub matches-answer : (words : List (List ℕ)) (answer : Result Task WordsFault) → kinds_at words ≡ [] → IsAnswerWhereTaken (given_by words) answer
+    → IsAnswerToWords words answer
 matches-answer words (Ok task) none h = (none, h)
 matches-answer words (Err Memory) none h = tt
 matches-answer words (Err Usage) none (inl memory) = absurd (let bad : Usage ≡ Memory = memory in cc)
@@ -39,7 +39,7 @@ matches-answer words (Err (Help text)) none (inr usage) = absurd (let bad : Help
 
 -- the answer to a fault
 pub fault-answer : (words : List (List ℕ)) (error : Error) (fault : WordsFault) → HasKind (kinds_at words) error → IsFaultOf (kind_of error) fault
-    → IsAnswerAt words (Err fault)
+    → IsAnswerToWords words (Err fault)
 fault-answer words error Memory kind h = tt
 fault-answer words error Usage (inl memory) h = absurd (h.1 memory)
 fault-answer words error Usage (inr among) h = inl (kind_of error, among, h)
@@ -48,13 +48,13 @@ fault-answer words error (Help text) (inr among) h = subst (λ k. IsAmong k (kin
 
 -- where memory ran out, that is told
 pub memory-answer : (given : Option (List ℕ × List Row)) (error : Error) (fault : WordsFault) → kind_of error ≡ OutOfMemory → IsFaultOf (kind_of error) fault
-    → IsTakenAs given (Err fault)
+    → IsAnswerWhereTaken given (Err fault)
 memory-answer given error Memory memory h = inl refl
 memory-answer given error Usage memory h = absurd (h.1 memory)
 memory-answer given error (Help text) memory h = absurd (let bad : DisplayHelp ≡ OutOfMemory = sym h ∙ memory in cc)
 
 -- the matches that the words give, where nothing is wrong in them, are answered by their task or by the number of workers
 pub given-answer : (words : List (List ℕ)) (given : Option (List ℕ × List Row)) (answer : Result Task WordsFault) → given ≡ given_by words
-    → kinds_at words ≡ [] → IsAnswerTo given answer → IsTakenAs (given_by words) answer
+    → kinds_at words ≡ [] → IsAnswerToSubcommand given answer → IsAnswerWhereTaken (given_by words) answer
 given-answer words given answer same none h =
-    taken-as (given_by words) answer (named-whole words none) (subst (λ g. IsAnswerTo g answer) same h)
+    taken-as (given_by words) answer (named-whole words none) (subst (λ g. IsAnswerToSubcommand g answer) same h)

@@ -4,7 +4,7 @@ use Rattle.std.specs.Prelude.{IfOk, IsErrAnd}
 use Rattle.clap.specs.Words.{Row, first_of, first_value, one_text, rows_of}
 use Rattle.clap.specs.declared.parser.matches.Found.{Found}
 use Rattle.clap.proofs.WalkLemmas.{first_value-rows, one_text-rows}
-use Rattle.command_line.specs.Tasks.{AsksFor, HasWorkers, IsAnswerTo, IsFormOf, IsTaskOf, IsWordOf}
+use Rattle.command_line.specs.Tasks.{AsksFor, HasWorkers, IsAnswerToSubcommand, IsFormOf, IsTaskOf, IsWordOf}
 use Rattle.command_line.specs.Workers.{IsWorkersOf}
 use Rattle.command_line.specs.declared.task.Form.{Form}
 use Rattle.command_line.specs.declared.task.Task.{Task}
@@ -32,14 +32,14 @@ file-given f name (Cert file) h none = let bad : None ≡ Some file = sym none �
 file-given f name (Verify file cert) h none = let bad : None ≡ Some file = sym none ∙ first_value-rows f (codes "FILE") ∙ h.1 in cc
 
 pub no-file : (f : Found) (name : List ℕ) (fault : WordsFault) → IsWordOf (first_value f (codes "FILE")) (Err fault)
-    → IsAnswerTo (Some (name, rows_of f)) (Err fault)
+    → IsAnswerToSubcommand (Some (name, rows_of f)) (Err fault)
 no-file f name fault h = elim (word-fault _ fault h) [
   | inl memory ↦ inl memory
   | inr none ↦ inr (none.0, λ task asks. file-given f name task asks none.1)
 ]
 
 pub no-cert : (f : Found) (name : List ℕ) (fault : WordsFault) → name ≡ codes "verify" → IsWordOf (first_value f (codes "CERT")) (Err fault)
-    → IsAnswerTo (Some (name, rows_of f)) (Err fault)
+    → IsAnswerToSubcommand (Some (name, rows_of f)) (Err fault)
 no-cert f name fault is h = elim (word-fault _ fault h) [
   | inl memory ↦ inl memory
   | inr none ↦ inr (none.0, λ task asks. cert-given task asks none.1)
@@ -56,7 +56,7 @@ workers-fault None fault h = absurd h
 workers-fault (Some word) fault h = (h.0, λ n is. h.1 n is.1 is.2 is.0)
 
 pub no-workers : (f : Found) (name : List ℕ) (fault : WordsFault) → name ≡ codes "verdict" → IsWorkersOf (first_value f (codes "workers")) (Err fault)
-    → IsAnswerTo (Some (name, rows_of f)) (Err fault)
+    → IsAnswerToSubcommand (Some (name, rows_of f)) (Err fault)
 no-workers f name fault is h =
     let failed = workers-fault _ fault h in
     inr (failed.0, λ task asks. fits task asks failed.1)
@@ -68,9 +68,9 @@ no-workers f name fault is h =
 
 -- `?` gives the same fault on
 pub fault-kept : (f : Found) (name : List ℕ) (answer : Result Task WordsFault) (fault : WordsFault) → IsErrAnd answer (λ e. e ≡ fault)
-    → IsAnswerTo (Some (name, rows_of f)) (Err fault) → IsAnswerTo (Some (name, rows_of f)) answer
+    → IsAnswerToSubcommand (Some (name, rows_of f)) (Err fault) → IsAnswerToSubcommand (Some (name, rows_of f)) answer
 fault-kept f name (Ok task) fault same h = absurd same
-fault-kept f name (Err e) fault same h = subst (λ x. IsAnswerTo (Some (name, rows_of f)) (Err x)) (sym same) h
+fault-kept f name (Err e) fault same h = subst (λ x. IsAnswerToSubcommand (Some (name, rows_of f)) (Err x)) (sym same) h
 
 pub verdict-asked : (f : Found) (workers : ℕ) (form : Form) (file : List ℕ) → IsWorkersOf (first_value f (codes "workers")) (Ok workers)
     → IsFormOf (one_text f (codes "json")) form → IsWordOf (first_value f (codes "FILE")) (Ok file)
@@ -93,6 +93,6 @@ has-workers (Some given) (Cert file) h = tt
 has-workers (Some given) (Verify file cert) h = tt
 
 -- a task that was asked for has 1 to 64 workers
-pub answer-workers : (given : Option (List ℕ × List Row)) (answer : Result Task WordsFault) → IsAnswerTo given answer → IfOk answer HasWorkers
+pub answer-workers : (given : Option (List ℕ × List Row)) (answer : Result Task WordsFault) → IsAnswerToSubcommand given answer → IfOk answer HasWorkers
 answer-workers given (Ok task) h = has-workers given task h
 answer-workers given (Err fault) h = tt

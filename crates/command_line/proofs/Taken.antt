@@ -15,7 +15,7 @@ use Rattle.clap.specs.declared.builder.action.ArgAction.TheVariants.{Set, SetTru
 use Rattle.clap.specs.declared.parser.matches.ValueSource.TheVariants.{CommandLine}
 use Rattle.command_line.specs.Answers.{given_by, kinds_at}
 use Rattle.command_line.specs.Commands.{cert_app, certificate_rule, file_rule, finder_app, json_rule, verdict_app, verify_app, workers_rule}
-use Rattle.command_line.specs.Tasks.{AsksFor, HasBadWorkers, IsAnswerTo, IsFormOf, IsTakenAs}
+use Rattle.command_line.specs.Tasks.{AsksFor, HasBadWorkers, IsAnswerToSubcommand, IsFormOf, IsAnswerWhereTaken}
 use Rattle.command_line.specs.declared.task.Form.{Form}
 use Rattle.command_line.specs.declared.task.Form.TheVariants.{Text as PlainText, Json}
 use Rattle.command_line.specs.declared.task.Task.{Task}
@@ -253,7 +253,7 @@ none-asked (Some given) (inr (inl cert)) never = absurd (never (Cert cert.1.0) (
 none-asked (Some given) (inr (inr verify)) never =
     absurd (never (Verify verify.1.0 verify.2.0) (verify.0, verify.1.1, verify.2.1))
 
-pub taken-as : (given : Option (Text × List Row)) (answer : Result Task WordsFault) → IsWhole given → IsAnswerTo given answer → IsTakenAs given answer
+pub taken-as : (given : Option (Text × List Row)) (answer : Result Task WordsFault) → IsWhole given → IsAnswerToSubcommand given answer → IsAnswerWhereTaken given answer
 taken-as given (Ok task) whole h = h
 taken-as given (Err fault) whole (inl memory) = inl memory
 taken-as given (Err fault) whole (inr usage) = inr (usage.0, none-asked given whole usage.1)

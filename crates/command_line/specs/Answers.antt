@@ -29,8 +29,8 @@ HasMistake kinds = (kind : ErrorKind) × IsAmong kind kinds × IsFaultOf kind Us
 
 -- the task that the words ask for; help where they ask for that; a usage fault where `clap` may find a mistake, or finds
 -- none and the number of workers is none; or want of memory
-abbrev pub IsAnswerAt : List (List ℕ) → Result Task WordsFault → Type 0
-IsAnswerAt words (Ok task) = (kinds_at words ≡ []) × AsksFor (given_by words) task
-IsAnswerAt words (Err Usage) = HasMistake (kinds_at words) ⊎ ((kinds_at words ≡ []) × HasBadWorkers (given_by words))
-IsAnswerAt words (Err (Help text)) = IsAmong DisplayHelp (kinds_at words)
-IsAnswerAt words (Err Memory) = Unit {0}
+abbrev pub IsAnswerToWords : List (List ℕ) → Result Task WordsFault → Type 0
+IsAnswerToWords words (Ok task) = (kinds_at words ≡ []) × AsksFor (given_by words) task
+IsAnswerToWords words (Err Usage) = HasMistake (kinds_at words) ⊎ ((kinds_at words ≡ []) × HasBadWorkers (given_by words))
+IsAnswerToWords words (Err (Help text)) = IsAmong DisplayHelp (kinds_at words)
+IsAnswerToWords words (Err Memory) = Unit {0}

@@ -46,8 +46,8 @@ AsksFor None task = ⊥
 AsksFor (Some given) task = IsTaskOf given.0 given.1 task
 
 -- the task that the subcommand asks for; a usage fault where it asks for none; or want of memory
-abbrev pub IsAnswerTo : Option (List ℕ × List Row) → Result Task WordsFault → Type 0
-IsAnswerTo given answer = MatchResult answer (AsksFor given)
+abbrev pub IsAnswerToSubcommand : Option (List ℕ × List Row) → Result Task WordsFault → Type 0
+IsAnswerToSubcommand given answer = MatchResult answer (AsksFor given)
     (λ fault. (fault ≡ Memory) ⊎ ((fault ≡ Usage) × ((task : Task) → ¬ AsksFor given task)))
 
 -- `verdict` was asked for with a word for the number of workers that is no number from 1 to 64
@@ -57,6 +57,6 @@ HasBadWorkers (Some given) =
     (given.0 ≡ codes "verdict") × ((n : ℕ) → IsWorkersOf (first_of (codes "workers") given.1) (Ok n) → ⊥)
 
 -- the task that the subcommand asks for; a usage fault where its number of workers is none; or want of memory
-abbrev pub IsTakenAs : Option (List ℕ × List Row) → Result Task WordsFault → Type 0
-IsTakenAs given answer =
+abbrev pub IsAnswerWhereTaken : Option (List ℕ × List Row) → Result Task WordsFault → Type 0
+IsAnswerWhereTaken given answer =
     MatchResult answer (AsksFor given) (λ fault. (fault ≡ Memory) ⊎ ((fault ≡ Usage) × HasBadWorkers given))

@@ -2,9 +2,9 @@
 
 ghost use Rattle.std.specs.Prelude.{◌≡◌, ◌≢◌, [], Some, IfOk, MatchResult, codes, false, map, string_bytes, true};
 ghost use Rattle.clap.specs.Words.{first_value, found_of, kind_of, one_text, rows_of, rule_of, subcommand_rows_of, takes};
-ghost use Rattle.command_line.specs.Answers.{IsAnswerAt, IsFaultOf, given_by};
+ghost use Rattle.command_line.specs.Answers.{IsAnswerToWords, IsFaultOf, given_by};
 ghost use Rattle.command_line.specs.Commands.{IsCommandOf, cert_app, certificate_rule, file_rule, finder_app, json_rule, verdict_app, verify_app, workers_rule};
-ghost use Rattle.command_line.specs.Tasks.{HasWorkers, IsAnswerTo, IsDefault, IsFormOf, IsTakenAs, IsWordOf};
+ghost use Rattle.command_line.specs.Tasks.{HasWorkers, IsAnswerToSubcommand, IsDefault, IsFormOf, IsAnswerWhereTaken, IsWordOf};
 ghost use Rattle.command_line.specs.Workers.{IsPositiveOf, IsWorkersOf};
 
 use super::task::{Form, Task, Word};
@@ -54,8 +54,8 @@ impl From<AllocError> for WordsFault {
 pub fn read_words(alloc: Global, words: &[String]) -> Result<Task, WordsFault>
     ensures workers { IfOk result HasWorkers }
     ensures none { words.now ≡ [] → MatchResult result IsDefault (λ fault. fault ≡ WordsFault.Memory) }
-    ensures answer { words.now ≢ [] → IsAnswerAt (map string_bytes words.now) result }
-    ensures taken { words.now ≢ [] → takes finder_app (map string_bytes words.now) ≡ true → IsTakenAs (given_by (map string_bytes words.now)) result }
+    ensures answer { words.now ≢ [] → IsAnswerToWords (map string_bytes words.now) result }
+    ensures taken { words.now ≢ [] → takes finder_app (map string_bytes words.now) ≡ true → IsAnswerWhereTaken (given_by (map string_bytes words.now)) result }
 {
     if words.is_empty() {
         return default_task(alloc);
@@ -161,7 +161,7 @@ fn certificate_word<'a>(alloc: Global) -> Arg<'a>
 
 /// The task of words that `clap` has read.
 fn task_of(alloc: Global, matches: &ArgMatches<'_>) -> Result<Task, WordsFault>
-    ensures { IsAnswerTo (subcommand_rows_of matches.now) result }
+    ensures { IsAnswerToSubcommand (subcommand_rows_of matches.now) result }
 {
     let (name, given) = matches.subcommand().ok_or(WordsFault::Usage)?;
     task_given(alloc, name, given)
@@ -169,7 +169,7 @@ fn task_of(alloc: Global, matches: &ArgMatches<'_>) -> Result<Task, WordsFault>
 
 /// The task of a subcommand and its arguments.
 fn task_given(alloc: Global, name: &str, given: &ArgMatches<'_>) -> Result<Task, WordsFault>
-    ensures { IsAnswerTo (Some (name.now, rows_of (found_of given.now))) result }
+    ensures { IsAnswerToSubcommand (Some (name.now, rows_of (found_of given.now))) result }
 {
     match name {
         "verdict" => Ok(Task::Verdict {
