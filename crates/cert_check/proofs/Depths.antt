@@ -19,7 +19,7 @@ use Rattle.specification.proofs.OperationNames.{listed-operation}
 use Rattle.specification.proofs.Strong.{returned_of}
 use Rattle.cert_check.proofs.NotedNames.{noted_name}
 use Rattle.cert_check.proofs.Listed.{In-map_back, Before-map, Before-map_back, number_of_member, once-elements, known-response, each_response, each_list}
-use Rattle.cert_check.proofs.NameNumbers.{number-at}
+use Rattle.element_numbers.proofs.NameNumbers.{number-at}
 use Rattle.cert_check.specs.Noted.{Noted, Holds, CanBeNoted, at_depth, pairs_from}
 use Rattle.cert_check.specs.Values.{IsGradual, IsDeepBefore}
 use Rattle.cert_check.specs.Numbering.{IsOf, AreDeepAt}

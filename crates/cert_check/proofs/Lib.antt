@@ -1,6 +1,4 @@
 -- The lemmas.
-pub mod OneMore
-pub mod NameNumbers
 pub mod ValueTests
 pub mod NotedNames
 pub mod FaultReasons

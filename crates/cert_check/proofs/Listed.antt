@@ -15,7 +15,7 @@ use Rattle.specification.proofs.Numbers.{number}
 use Rattle.specification.proofs.OperationNames.{listed-operation, operation-listed}
 use Rattle.specification.proofs.SoundResponses.{response-elements, elements-differ}
 use Rattle.specification.proofs.Strong.{returned_by}
-use Rattle.cert_check.proofs.NameNumbers.{number-some}
+use Rattle.element_numbers.proofs.NameNumbers.{number-some}
 use Rattle.cert_check.specs.Numbering.{IsOf, places_at}
 use Rattle.cert_check.specs.declared.numbered.Numbered.{Numbered}
 

@@ -9,7 +9,7 @@ use Rattle.events.specs.Names.{NameBytes}
 use Rattle.specification.specs.Elements.{number_in}
 use Rattle.specification.specs.LayerRule.{Row}
 use Rattle.specification.proofs.Members.{In, Once, In-append_left, In-append_right, In-from_place, In-map, Once-middle}
-use Rattle.cert_check.proofs.NameNumbers.{number-at, number-some, Once-front}
+use Rattle.element_numbers.proofs.NameNumbers.{number-at, number-some, Once-front}
 use Rattle.cert_check.proofs.ValueTests.{In-push}
 use Rattle.cert_check.specs.Noted.{Noted, Holds, CanBeNoted, at_depth, pairs_from, placed_from}
 

@@ -10,7 +10,7 @@ use Rattle.specification.proofs.Permutations.{permutation_of_members, In-permuta
 use Rattle.specification.proofs.Subsequences.{Before-subsequence, subsequence_of_pairs}
 use Rattle.specification.proofs.Numbers.{number, number-rises}
 use Rattle.specification.proofs.Shown.{same_name}
-use Rattle.cert_check.proofs.NameNumbers.{number-some}
+use Rattle.element_numbers.proofs.NameNumbers.{number-some}
 use Rattle.cert_check.proofs.Listed.{In-map_back, Before-map, Before-map_back, number_of_member}
 use Rattle.cert_check.specs.Noted.{Noted, Holds, CanBeNoted, placed_from}
 use Rattle.cert_check.specs.Values.{IsRising}

@@ -9,7 +9,6 @@ mod cycle;
 mod faults;
 mod judging;
 mod laws;
-mod names;
 mod numbered;
 mod order;
 mod places;

@@ -1,6 +1,6 @@
-use super::names::inserted_names;
-use super::places::{numbers_of, places_of};
+use super::places::places_of;
 use super::values::{is_deep_before, is_gradual, is_rising};
+use element_numbers::{inserted_names, numbers_of};
 use events::{Memory, Name, OpName, Recording};
 use indexmap::IndexMap;
 use std::alloc::Global;

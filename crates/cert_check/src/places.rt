@@ -5,34 +5,10 @@ ghost use Rattle.events.specs.Names.{NameBytes};
 ghost use Rattle.events.specs.Operations.{response};
 ghost use Rattle.specification.specs.Elements.{number_in, numbers_in};
 
+use element_numbers::number_or_count;
 use events::{Memory, Name, OpName, Recording, Response};
 use indexmap::IndexMap;
 use std::alloc::Global;
-
-/// Each name with its number, its place among these names.
-pub fn numbers_of(alloc: Global, names: &[Name]) -> Result<IndexMap<Name, u32>, Memory>
-    requires distinct { AllPairs (λ a b. a ≢ b) names.now }
-    requires few { length names.now < 2 ^ 32 }
-    ensures { IfOk result (λ m. (a : NameBytes) → get (pointwise ◌==◌) m a ≡ number_in names.now a) }
-{
-    let mut numbers = IndexMap::new(alloc);
-    for (i, name) in names.iter().enumerate() {
-        numbers.insert(*name, i as u32)?;
-    }
-    Ok(numbers)
-}
-
-/// The number of a name; for one that is not among these their count.
-fn number_or_count(names: &[Name], numbers: &IndexMap<Name, u32>, name: &Name) -> u32
-    requires numbered { (a : NameBytes) → get (pointwise ◌==◌) numbers.now a ≡ number_in names.now a }
-    requires few { length names.now < 2 ^ 32 }
-    ensures { result ≡ unwrap_or (number_in names.now name.now) (length names.now) }
-{
-    match numbers.get(name) {
-        Some(number) => *number,
-        None => names.len() as u32,
-    }
-}
 
 /// The numbers of a response's names. For a name that is not among these their count stands.
 fn numbers_in_response(

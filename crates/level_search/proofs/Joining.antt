@@ -20,7 +20,7 @@ use Rattle.specification.proofs.Cycles.{IsShownPair}
 use Rattle.specification.proofs.ConflictNumber.{conflict_number_is_shortest_cycle}
 use Rattle.order_graph.specs.Kept.{names_at}
 use Rattle.order_graph.specs.Lists.{lists_of, BeforeIn}
-use Rattle.order_graph.proofs.Numbering.{number-at, number-some}
+use Rattle.element_numbers.proofs.NameNumbers.{number-at, number-some}
 use Rattle.order_graph.proofs.Shown.{list-shows, shows-list, named-stands}
 use Rattle.level_search.specs.Graph.{Before}
 use Rattle.level_search.specs.Rings.{IsFirstRing, IsNotAfter, IsRing, Leads}

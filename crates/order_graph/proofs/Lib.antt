@@ -1,7 +1,6 @@
--- Lemmas: on rows cut from a list, on the names of operations, on numbers of names, on spots, on the limits.
+-- Lemmas: on rows cut from a list, on names read back from their numbers, on spots, on the limits.
 pub mod Cuts
-pub mod OneMore
-pub mod Numbering
+pub mod ReadBack
 pub mod AllSpots
 pub mod Adding
 pub mod InOrder

@@ -14,7 +14,7 @@ use Rattle.specification.proofs.Shown.{elements-once, names-elements, ComesBefor
 use Rattle.specification.proofs.Dictionary.{ComesBefore-asymmetric}
 use Rattle.order_graph.specs.Lists.{lists_of, row, Stands, BeforeIn, IsLeastList}
 use Rattle.order_graph.specs.Kept.{returned_of}
-use Rattle.order_graph.proofs.Numbering.{number-at, number-some}
+use Rattle.element_numbers.proofs.NameNumbers.{number-at, number-some}
 
 abbrev number_or : List NameBytes → NameBytes → ℕ
 number_or names a = unwrap_or (number_in names a) (length names)

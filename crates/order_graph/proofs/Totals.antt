@@ -14,7 +14,7 @@ use Rattle.specification.specs.Responses.{Returned, responses_of}
 use Rattle.specification.proofs.Members.{In, Once}
 use Rattle.order_graph.specs.Lists.{AreFew}
 use Rattle.order_graph.specs.Kept.{returned_of}
-use Rattle.order_graph.proofs.Numbering.{read-back}
+use Rattle.order_graph.proofs.ReadBack.{read-back}
 
 sum-map : {X Y : Type 0} (w : Y → ℕ) (f : X → Y) (xs : List X) → sum_by w (map f xs) ≡ sum_by (λ x. w (f x)) xs
 sum-map w f [] = refl

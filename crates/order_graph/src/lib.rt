@@ -5,7 +5,6 @@
 #![tactic(auto)]
 
 mod looked;
-mod names;
 mod order_graph;
 mod pairs;
 mod places;

@@ -4,12 +4,12 @@ ghost use Rattle.specification.specs.Elements.{number_in};
 ghost use Rattle.specification.specs.Responses.{responses_of, AreProper, IsLeastShowing};
 
 use super::looked::Looked;
-use super::names::inserted_names;
 use super::pairs::first_list;
-use super::places::{numbers_of, places_of};
+use super::places::places_of;
 use super::rows::Rows;
 use super::spot::Spot;
 use super::spots::spots_in_lists;
+use element_numbers::{inserted_names, numbers_of};
 use events::{Memory, Name, OpName, Recording};
 use indexmap::IndexMap;
 use std::alloc::Global;

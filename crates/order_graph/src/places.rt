@@ -7,36 +7,13 @@ ghost use Rattle.specification.specs.Elements.{number_in, numbers_in};
 ghost use Rattle.order_graph.specs.Cuts.{rows_of, IsCut};
 
 use super::rows::Rows;
+use element_numbers::number_or_count;
 use events::{Memory, Name, OpName, Recording, Response};
 use indexmap::IndexMap;
 use std::alloc::Global;
 
-/// Each name with its number, its place among these names.
-pub fn numbers_of(alloc: Global, names: &[Name]) -> Result<IndexMap<Name, u32>, Memory>
-    requires distinct { AllPairs (λ a b. a ≢ b) names.now }
-    requires few { length names.now < 2 ^ 32 }
-    ensures { IfOk result (λ m. (a : NameBytes) → get (pointwise ◌==◌) m a ≡ number_in names.now a) }
-{
-    let mut numbers = IndexMap::new(alloc);
-    for (i, name) in names.iter().enumerate() {
-        numbers.insert(*name, i as u32)?;
-    }
-    Ok(numbers)
-}
-
-/// The number of a name; for one that is not among these their count.
-fn number_or_count(names: &[Name], numbers: &IndexMap<Name, u32>, name: &Name) -> u32
-    requires numbered { (a : NameBytes) → get (pointwise ◌==◌) numbers.now a ≡ number_in names.now a }
-    requires few { length names.now < 2 ^ 32 }
-    ensures { result ≡ unwrap_or (number_in names.now name.now) (length names.now) }
-{
-    match numbers.get(name) {
-        Some(number) => *number,
-        None => names.len() as u32,
-    }
-}
-
-/// The same, after a guess: where the name with the guessed number is this one, no map is asked.
+/// The number of a name, or the names' count, after a guess: where the name with the guessed number is this
+/// one, no map is asked.
 fn guessed_number(names: &[Name], numbers: &IndexMap<Name, u32>, guess: u32, name: &Name) -> u32
     requires distinct { AllPairs (λ a b. a ≢ b) names.now }
     requires numbered { (a : NameBytes) → get (pointwise ◌==◌) numbers.now a ≡ number_in names.now a }

@@ -23,7 +23,7 @@ use Rattle.order_graph.specs.Lists.{lists_of, row, Stands, BeforeIn}
 use Rattle.order_graph.specs.Spots.{spots_of}
 use Rattle.order_graph.specs.declared.spot.Spot.{Spot}
 use Rattle.order_graph.proofs.AllSpots.{IsAmong, spots_complete, spots_sound}
-use Rattle.order_graph.proofs.Numbering.{number-at, number-some}
+use Rattle.element_numbers.proofs.NameNumbers.{number-at, number-some}
 use Rattle.order_graph.proofs.Shown.{shows-list, list-shows, named-stands, known-numbers}
 use Rattle.witness_order.specs.Edges.{behind, is_number, edges_at, edges}
 use Rattle.witness_order.proofs.InTurn.{Leads, below, IsFirst, In-below, below-In}

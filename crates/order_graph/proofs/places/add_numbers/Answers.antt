@@ -5,8 +5,8 @@ use Rattle.std.proofs.lemmas.List.{length-set, map_push}
 use Rattle.std.proofs.lemmas.Option.{slice_get-get_or, get_or_from_slice_get}
 use Rattle.events.specs.Names.{NameBytes}
 use Rattle.specification.specs.Elements.{number_in, numbers_in}
-use Rattle.order_graph.proofs.Numbering.{number-most}
-use Rattle.order_graph.proofs.OneMore.{take-next}
+use Rattle.element_numbers.proofs.NameNumbers.{number-most}
+use Rattle.element_numbers.proofs.OneMore.{take-next}
 use Rattle.order_graph.proofs.places.add_numbers.Goals as goal
 use Rattle.order_graph.proofs.places.add_numbers.Goals.{in-Some+in_ok-push, in_default}
 

@@ -6,7 +6,7 @@ use Rattle.std.proofs.lemmas.Bool.{ltb-true}
 use Rattle.std.proofs.lemmas.Option.{slice_get-get_or}
 use Rattle.events.specs.Names.{NameBytes}
 use Rattle.specification.proofs.Members.{Once-from_AllPairs}
-use Rattle.order_graph.proofs.Numbering.{number-at}
+use Rattle.element_numbers.proofs.NameNumbers.{number-at}
 use Rattle.order_graph.proofs.places.guessed_number.Goals as goal
 
 pub returns-in-Some : goal.returns-in-Some

@@ -4,7 +4,7 @@ use Rattle.std.proofs.lemmas.List.{map_push}
 use Rattle.order_graph.specs.declared.spot.Spot.{Spot}
 use Rattle.order_graph.specs.declared.rows.Rows.{Rows}
 use Rattle.order_graph.proofs.Cuts.{row-ended}
-use Rattle.order_graph.proofs.OneMore.{take-next}
+use Rattle.element_numbers.proofs.OneMore.{take-next}
 use Rattle.order_graph.proofs.spots.joined.Goals as goal
 
 pub loop-list-preserved : goal.loop-list-preserved

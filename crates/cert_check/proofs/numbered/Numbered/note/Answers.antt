@@ -3,7 +3,7 @@ use Rattle.std.proofs.Common.{◌≡◌, ◌∙◌, ℕ, Some, None, List, sym, 
 use Rattle.std.specs.Prelude.{slice_get, option_copied}
 use Rattle.events.specs.Names.{NameBytes}
 use Rattle.specification.specs.Elements.{number_in}
-use Rattle.cert_check.proofs.NameNumbers.{name-at}
+use Rattle.element_numbers.proofs.NameNumbers.{name-at}
 use Rattle.cert_check.proofs.NotedNames.{none_unknown, none_twice, hold_more}
 use Rattle.cert_check.proofs.numbered.Numbered.note.Goals as goal
 

@@ -3,7 +3,7 @@ use Rattle.std.specs.Cmp.Lexicographic.{pointwise}
 use Rattle.indexmap.specs.IndexMap.{get}
 use Rattle.events.specs.Names.{NameBytes}
 use Rattle.specification.specs.Elements.{number_in}
-use Rattle.cert_check.proofs.places.numbers_of.Given as goal
+use Rattle.element_numbers.proofs.numbers.numbers_of.Given as goal
 
 abbrev pub invariant-loop-i : goal.invariant-loop-i
 invariant-loop-i l = (a : NameBytes) → get (pointwise ◌==◌) l.numbers a ≡ number_in (take l.i l.names) a

@@ -7,9 +7,9 @@ use Rattle.std.proofs.lemmas.List.{length-take-le}
 use Rattle.events.specs.Names.{NameBytes}
 use Rattle.specification.specs.Elements.{number_in}
 use Rattle.specification.proofs.Members.{Once, Once-from_AllPairs}
-use Rattle.cert_check.proofs.NameNumbers.{Once-take, number-push}
-use Rattle.cert_check.proofs.OneMore.{take-next}
-use Rattle.cert_check.proofs.places.numbers_of.Goals as goal
+use Rattle.element_numbers.proofs.NameNumbers.{Once-take, number-push}
+use Rattle.element_numbers.proofs.OneMore.{take-next}
+use Rattle.element_numbers.proofs.numbers.numbers_of.Goals as goal
 
 pub loop-i-preserved : goal.loop-i-preserved
 loop-i-preserved c = λ a.

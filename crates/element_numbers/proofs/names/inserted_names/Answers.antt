@@ -6,8 +6,8 @@ use Rattle.std.proofs.lemmas.List.Elements.{filter_map-append}
 use Rattle.events.specs.Operation.{Operation}
 use Rattle.events.specs.History.{inserted_name}
 use Rattle.events.specs.Operations.{operation}
-use Rattle.cert_check.proofs.OneMore.{take-next}
-use Rattle.cert_check.proofs.names.inserted_names.Goals as goal
+use Rattle.element_numbers.proofs.OneMore.{take-next}
+use Rattle.element_numbers.proofs.names.inserted_names.Goals as goal
 
 pub loop-operation-preserved : goal.loop-operation-preserved
 loop-operation-preserved c =

@@ -1,8 +1,0 @@
-use Rattle.std.proofs.Common.{◌≡◌, take}
-use Rattle.std.specs.Prelude.{filter_map, option_and_then}
-use Rattle.events.specs.History.{inserted_name}
-use Rattle.events.specs.Operations.{operation}
-use Rattle.cert_check.proofs.names.inserted_names.Given as goal
-
-abbrev pub invariant-loop-operation : goal.invariant-loop-operation
-invariant-loop-operation l = l.names.items ≡ filter_map (λ o. option_and_then inserted_name (operation l.recording o)) (take l.operation-index l.operations)

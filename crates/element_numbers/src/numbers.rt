@@ -1,0 +1,34 @@
+ghost use Rattle.std.specs.Prelude.{◌≡◌, ◌≢◌, ◌<◌, ◌^◌, ◌==◌, AllPairs, IfOk, length, unwrap_or};
+ghost use Rattle.std.specs.Cmp.Lexicographic.{pointwise};
+ghost use Rattle.indexmap.specs.IndexMap.{get};
+ghost use Rattle.events.specs.Names.{NameBytes};
+ghost use Rattle.specification.specs.Elements.{number_in};
+
+use events::{Memory, Name};
+use indexmap::IndexMap;
+use std::alloc::Global;
+
+/// Each name with its number, its place among these names. It takes memory and time linear in the names.
+pub fn numbers_of(alloc: Global, names: &[Name]) -> Result<IndexMap<Name, u32>, Memory>
+    requires distinct { AllPairs (λ a b. a ≢ b) names.now }
+    requires few { length names.now < 2 ^ 32 }
+    ensures { IfOk result (λ m. (a : NameBytes) → get (pointwise ◌==◌) m a ≡ number_in names.now a) }
+{
+    let mut numbers = IndexMap::new(alloc);
+    for (i, name) in names.iter().enumerate() {
+        numbers.insert(*name, i as u32)?;
+    }
+    Ok(numbers)
+}
+
+/// The number of a name; for one that is not among these their count. It asks the map once.
+pub fn number_or_count(names: &[Name], numbers: &IndexMap<Name, u32>, name: &Name) -> u32
+    requires numbered { (a : NameBytes) → get (pointwise ◌==◌) numbers.now a ≡ number_in names.now a }
+    requires few { length names.now < 2 ^ 32 }
+    ensures { result ≡ unwrap_or (number_in names.now name.now) (length names.now) }
+{
+    match numbers.get(name) {
+        Some(number) => *number,
+        None => names.len() as u32,
+    }
+}
