@@ -1,11 +1,10 @@
 -- Each text spells a certificate or has a fault.
-use Rattle.std.proofs.Common.{◌≡◌, ℕ, zero, suc, ◌+◌, ◌<◌, ◌≤◌, ◌==◌, Bool, true, false, List, [], ◌∷◌, ◌++◌, length, codes, refl, sym, ap, ◌∙◌, arith, Option, Some, None, ◌⊎◌, inl, inr, append_assoc}
+use Rattle.std.proofs.Common.{◌≡◌, ℕ, ◌+◌, ◌<◌, ◌≤◌, Bool, true, false, List, [], ◌∷◌, ◌++◌, length, codes, refl, sym, ap, ◌∙◌, arith, Option, Some, None, ◌⊎◌, inl, inr}
 use Rattle.std.specs.List.{All}
 use Rattle.std.specs.Str.{bytes_eq}
 use Rattle.std.proofs.lemmas.List.{append-nil}
-use Rattle.std.proofs.lemmas.List.Concat.{flat_map-append}
-use Rattle.std.proofs.lemmas.List.Elements.{All-head, All-tail, All-cons, All-nil}
-use Rattle.std.proofs.lemmas.Bool.{eqb-false, eqb-true, cases_lt, false≢true}
+use Rattle.std.proofs.lemmas.List.Elements.{All-head, All-tail}
+use Rattle.std.proofs.lemmas.Bool.{cases_lt, false≢true}
 use Rattle.std.proofs.lemmas.Slice.Eq.{bytes_eq-Decides}
 use Rattle.events.specs.Names.{NameBytes, IsName}
 use Rattle.events.specs.Operation.{Operation}
@@ -14,7 +13,8 @@ use Rattle.specification.specs.Faults.{doubled, contents, position}
 use Rattle.specification.specs.LayerRule.{Row}
 use Rattle.specification.specs.Lines.{Line, text_of, IsOneLine, order_line}
 use Rattle.specification.specs.CertificateText as format
-use Rattle.specification.specs.CertificateText.{Certificate, names_fault, gives_order, gives_cycle, certificate_lines, certificate_text, IsSpellable, SpellsCertificate, BeginsCertificate, IsWholeCertificate, IsFirstCertFault, cause_behind}
+use Rattle.specification.specs.CertificateText.{Certificate, names_fault, gives_order, gives_cycle, certificate_lines, SpellsCertificate, BeginsCertificate, IsWholeCertificate, IsFirstCertFault, cause_behind}
+use Rattle.format_words.proofs.CutText.{cut-text, line-off, line-on}
 use Rattle.format_words.specs.Words.{words_of}
 use Rattle.certificate_text.specs.declared.kind.Kind.{Kind}
 use Rattle.certificate_text.specs.declared.kind.Kind.TheVariants as kind
@@ -27,47 +27,6 @@ use Rattle.certificate_text.proofs.RowLines.{row-spells}
 use Rattle.certificate_text.proofs.GoingOn.{kind_of, rest_lines, lines-parts, kind-behind, no-kind, no-order, no-step, no-row, no-more-of-two, lacks-step, no-steps, step-more, row-more}
 use Rattle.certificate_text.proofs.Begins.{right-begins, cycle-begins}
 use Rattle.certificate_text.proofs.FirstFaults.{wrong-fault, lacking-fault}
-
--- the lines that have their LF, and what follows the last of them
-record Cut (text : List ℕ) : Type 0 where
-  lines : List Line
-  rest : Line
-  each : All IsOneLine lines
-  last : IsOneLine rest
-  whole : text ≡ text_of lines ++ rest
-
-no-byte : IsOneLine []
-no-byte (k, low, is) = absurd (omega arith)
-
-one-more : (b : ℕ) (line : Line) → (b ≡ 10 → ⊥) → IsOneLine line → IsOneLine (b ∷ line)
-one-more b line ne h (zero, low, is) = ne is
-one-more b line ne h (suc k, low, is) = h (k, (let l : k < length line = omega (arith, low) in l), is)
-
-cut-more : (b : ℕ) (bs : List ℕ) (t : Bool) → (b == 10) ≡ t → Cut bs → Cut (b ∷ bs)
-cut-more b bs true e c =
-    let lf : b ≡ 10 = eqb-true b 10 e in
-    record { lines = [] ∷ c.lines; rest = c.rest; each = All-cons IsOneLine [] c.lines no-byte c.each; last = c.last; whole = ap (λ l. b ∷ l) c.whole ∙ ap (λ a. a ∷ (text_of c.lines ++ c.rest)) lf }
-cut-more b bs false e c = onto b bs (eqb-false b 10 e) c.lines c.rest c.each c.last c.whole
-  where
-    onto : (b : ℕ) (bs : List ℕ) → (b ≡ 10 → ⊥) → (lines : List Line) (rest : Line) → All IsOneLine lines → IsOneLine rest → bs ≡ text_of lines ++ rest → Cut (b ∷ bs)
-    onto b bs ne [] rest each last whole = record { lines = []; rest = b ∷ rest; each = All-nil IsOneLine; last = one-more b rest ne last; whole = ap (λ l. b ∷ l) whole }
-    onto b bs ne (l ∷ lines) rest each last whole =
-        record { lines = (b ∷ l) ∷ lines; rest = rest; each = All-cons IsOneLine (b ∷ l) lines (one-more b l ne (All-head IsOneLine l lines each)) (All-tail IsOneLine l lines each); last = last; whole = ap (λ l. b ∷ l) whole }
-
-cut-text : (text : List ℕ) → Cut text
-cut-text [] = record { lines = []; rest = []; each = All-nil IsOneLine; last = no-byte; whole = refl }
-cut-text (b ∷ bs) = cut-more b bs (b == 10) refl (cut-text bs)
-
--- the first of the lines that are left
-line-off : (l : Line) (lines : List Line) (rest : List ℕ) → text_of (l ∷ lines) ++ rest ≡ l ++ 10 ∷ (text_of lines ++ rest)
-line-off l lines rest = append_assoc (l ++ 10 ∷ []) (text_of lines) rest ∙ append_assoc l (10 ∷ []) (text_of lines ++ rest)
-
--- and at the end of those that are right
-line-on : (lines : List Line) (l : Line) (behind : List ℕ) → text_of lines ++ (l ++ 10 ∷ behind) ≡ text_of (lines ++ l ∷ []) ++ behind
-line-on lines l behind =
-    ap (λ t. text_of lines ++ t) (sym (append_assoc l (10 ∷ []) behind))
-    ∙ sym (append_assoc (text_of lines) (l ++ 10 ∷ []) behind)
-    ∙ ap (λ t. t ++ behind) (ap (λ t. text_of lines ++ t) (sym (append-nil (l ++ 10 ∷ []))) ∙ sym (flat_map-append (λ (line : Line). line ++ 10 ∷ []) lines (l ∷ [])))
 
 -- what right lines say
 data Known : Type 0 where

@@ -5,6 +5,7 @@ use Rattle.std.proofs.lemmas.Bool.{cases_lt}
 use Rattle.specification.specs.Lines.{Line, text_of}
 use Rattle.specification.specs.CertificateText as format
 use Rattle.specification.specs.CertificateText.{BeginsCertificate, HasWrongLine, LacksCertificateLine, IsCertificateCut, IsFirstCertFault, cause_behind}
+use Rattle.format_words.proofs.TwoCuts.{inner, same-cut}
 use Rattle.format_words.proofs.TextLines.{lines_of, lacks-lf, lines-then, one-line, line-then, some-line}
 use Rattle.certificate_text.proofs.OneCertificate.{beginning-lacks}
 
@@ -74,26 +75,6 @@ shows-fault text number format.kind (inr f) = shows-lack text number format.kind
 shows-fault text number format.shape (inl f) = shows-wrong text number format.shape f
 shows-fault text number format.shape (inr f) = shows-lack text number format.shape f
 shows-fault text number format.cut f = shows-cut text number f
-
--- two ways to cut a list: the longer front has what stands behind the shorter
-inner : {X : Type 0} (xs ys : List X) (x y : X) (ms ns : List X) → xs ++ x ∷ ms ≡ ys ++ y ∷ ns → length xs < length ys → (between : List X) × (ys ≡ xs ++ x ∷ between)
-inner xs [] x y ms ns is h = absurd (omega arith)
-inner [] (z ∷ ys) x y ms ns is h = (ys, cc)
-inner (w ∷ xs) (z ∷ ys) x y ms ns is h =
-    let head : w ≡ z = cc in
-    let tail : xs ++ x ∷ ms ≡ ys ++ y ∷ ns = cc in
-    let p = inner xs ys x y ms ns tail (omega arith) in
-    (p.0, ap (λ v. v ∷ ys) (sym head) ∙ ap (λ l. w ∷ l) p.1)
-
-same-cut : {X : Type 0} (xs ys : List X) (x y : X) (ms ns : List X) → xs ++ x ∷ ms ≡ ys ++ y ∷ ns → length xs ≡ length ys → (xs ≡ ys) × (x ≡ y) × (ms ≡ ns)
-same-cut [] [] x y ms ns is h = (refl, cc, cc)
-same-cut [] (z ∷ ys) x y ms ns is h = absurd (omega arith)
-same-cut (w ∷ xs) [] x y ms ns is h = absurd (omega arith)
-same-cut (w ∷ xs) (z ∷ ys) x y ms ns is h =
-    let head : w ≡ z = cc in
-    let tail : xs ++ x ∷ ms ≡ ys ++ y ∷ ns = cc in
-    let p = same-cut xs ys x y ms ns tail (omega arith) in
-    (ap (λ v. v ∷ xs) head ∙ ap (λ l. z ∷ l) p.0, p.1, p.2)
 
 -- no fault stands before lines that are right
 not-before : (good : List Line) (line : Line) (behind longer : List Line) (other : Line) (rest : List Line) (cause : format.CertCause) → Why good line behind cause → BeginsCertificate longer →

@@ -10,3 +10,5 @@ pub mod WordsBack
 pub mod TextLines
 pub mod Operations
 pub mod Spaced
+pub mod CutText
+pub mod TwoCuts

@@ -1,10 +1,9 @@
 -- Each text spells a recording or has a fault.
-use Rattle.std.proofs.Common.{◌≡◌, ◌≢◌, ℕ, zero, suc, ◌+◌, ◌<◌, ◌≤◌, ◌==◌, Bool, true, false, List, [], ◌∷◌, ◌++◌, length, refl, sym, ap, ◌∙◌, arith, Option, Some, None, ◌⊎◌, inl, inr}
+use Rattle.std.proofs.Common.{◌≡◌, ◌≢◌, ℕ, ◌+◌, ◌≤◌, Bool, true, false, List, [], ◌∷◌, ◌++◌, length, refl, sym, ap, ◌∙◌, arith, Option, Some, None, ◌⊎◌, inl, inr}
 use Rattle.std.specs.List.{All}
-use Rattle.std.proofs.lemmas.List.{append_assoc, append-nil}
-use Rattle.std.proofs.lemmas.List.Concat.{flat_map-append}
-use Rattle.std.proofs.lemmas.List.Elements.{All-head, All-tail, All-cons, All-nil}
-use Rattle.std.proofs.lemmas.Bool.{eqb-false, cases_lt, eqb-true, false≢true}
+use Rattle.std.proofs.lemmas.List.{append-nil}
+use Rattle.std.proofs.lemmas.List.Elements.{All-head, All-tail}
+use Rattle.std.proofs.lemmas.Bool.{cases_lt, false≢true}
 use Rattle.std.proofs.lemmas.Slice.Eq.{bytes_eq-Decides}
 use Rattle.std.specs.Str.{bytes_eq}
 use Rattle.events.specs.History.{History, IsLegal, with_entry}
@@ -15,7 +14,8 @@ use Rattle.events.specs.declared.refusal.Refusal.{Refusal}
 use Rattle.events.proofs.Legal.{legal_more}
 use Rattle.specification.specs.Lines.{Line, text_of, IsOneLine}
 use Rattle.specification.specs.TraceText as format
-use Rattle.specification.specs.TraceText.{HEADER, entry_line, replicas_line, trace_lines, trace_text, Spells, IsEntry, IsFaultyLine, IsMissingLine, BeginsSpelling, IsFirstLineFault}
+use Rattle.specification.specs.TraceText.{HEADER, entry_line, replicas_line, trace_lines, trace_text, Spells, IsEntry, IsFaultyLine, BeginsSpelling, IsFirstLineFault}
+use Rattle.format_words.proofs.CutText.{cut-text, line-off, line-on}
 use Rattle.format_words.specs.Words.{words_of}
 use Rattle.trace_text.specs.Reading.{entry_at, replicas_at}
 use Rattle.trace_text.proofs.Spelled.{line-spells, line-spells-none}
@@ -23,49 +23,8 @@ use Rattle.trace_text.proofs.SecondLine.{replicas-spells, replicas-none, replica
 use Rattle.trace_text.proofs.FaultyLines.{one-line-more, empty-legal, nothing-begins, header-begins, lines-begin}
 use Rattle.trace_text.proofs.Faults.{line-fault}
 
--- the lines that have their LF, and what follows the last of them
-record Cut (text : List ℕ) : Type 0 where
-  lines : List Line
-  rest : Line
-  each : All IsOneLine lines
-  last : IsOneLine rest
-  whole : text ≡ text_of lines ++ rest
-
-no-byte : IsOneLine []
-no-byte (k, low, is) = absurd (omega arith)
-
-one-more : (b : ℕ) (line : Line) → (b ≡ 10 → ⊥) → IsOneLine line → IsOneLine (b ∷ line)
-one-more b line ne h (zero, low, is) = ne is
-one-more b line ne h (suc k, low, is) = h (k, (let l : k < length line = omega (arith, low) in l), is)
-
-cut-more : (b : ℕ) (bs : List ℕ) (t : Bool) → (b == 10) ≡ t → Cut bs → Cut (b ∷ bs)
-cut-more b bs true e c =
-    let lf : b ≡ 10 = eqb-true b 10 e in
-    record { lines = [] ∷ c.lines; rest = c.rest; each = All-cons IsOneLine [] c.lines no-byte c.each; last = c.last; whole = ap (λ l. b ∷ l) c.whole ∙ ap (λ a. a ∷ (text_of c.lines ++ c.rest)) lf }
-cut-more b bs false e c = onto b bs (eqb-false b 10 e) c.lines c.rest c.each c.last c.whole
-  where
-    onto : (b : ℕ) (bs : List ℕ) → (b ≡ 10 → ⊥) → (lines : List Line) (rest : Line) → All IsOneLine lines → IsOneLine rest → bs ≡ text_of lines ++ rest → Cut (b ∷ bs)
-    onto b bs ne [] rest each last whole = record { lines = []; rest = b ∷ rest; each = All-nil IsOneLine; last = one-more b rest ne last; whole = ap (λ l. b ∷ l) whole }
-    onto b bs ne (l ∷ lines) rest each last whole =
-        record { lines = (b ∷ l) ∷ lines; rest = rest; each = All-cons IsOneLine (b ∷ l) lines (one-more b l ne (All-head IsOneLine l lines each)) (All-tail IsOneLine l lines each); last = last; whole = ap (λ l. b ∷ l) whole }
-
-cut-text : (text : List ℕ) → Cut text
-cut-text [] = record { lines = []; rest = []; each = All-nil IsOneLine; last = no-byte; whole = refl }
-cut-text (b ∷ bs) = cut-more b bs (b == 10) refl (cut-text bs)
-
 abbrev HasFault : List ℕ → Type 0
 HasFault text = (line : ℕ) × (cause : format.Cause) × IsFirstLineFault text line cause
-
--- the first of the lines that are left
-line-off : (l : Line) (lines : List Line) (rest : List ℕ) → text_of (l ∷ lines) ++ rest ≡ l ++ 10 ∷ (text_of lines ++ rest)
-line-off l lines rest = append_assoc (l ++ 10 ∷ []) (text_of lines) rest ∙ append_assoc l (10 ∷ []) (text_of lines ++ rest)
-
--- and at the end of those that are right
-line-on : (lines : List Line) (l : Line) (behind : List ℕ) → text_of lines ++ (l ++ 10 ∷ behind) ≡ text_of (lines ++ l ∷ []) ++ behind
-line-on lines l behind =
-    ap (λ t. text_of lines ++ t) (sym (append_assoc l (10 ∷ []) behind))
-    ∙ sym (append_assoc (text_of lines) (l ++ 10 ∷ []) behind)
-    ∙ ap (λ t. t ++ behind) (ap (λ t. text_of lines ++ t) (sym (append-nil (l ++ 10 ∷ []))) ∙ sym (flat_map-append (λ (line : Line). line ++ 10 ∷ []) lines (l ∷ [])))
 
 cut-at : (text : List ℕ) (good : List Line) (b : ℕ) (rest : List ℕ) → BeginsSpelling good → IsOneLine (b ∷ rest) → text ≡ text_of good ++ b ∷ rest → HasFault text
 cut-at text good b rest begins one is = (length good + 1, format.cut, record { good = good; begins = begins; rest = b ∷ rest; some_byte = omega arith; one_line = one; text_is = is; number = refl })

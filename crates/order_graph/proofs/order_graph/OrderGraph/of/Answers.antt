@@ -1,33 +1,15 @@
 -- What is kept of a sound recording reads as its responses.
-use Rattle.std.proofs.Common.{◌≡◌, ◌≢◌, ℕ, ◌<◌, ◌^◌, List, length, sym, ◌∙◌, ap, subst, arith}
-use Rattle.std.specs.Prelude.{AllPairs, All, filter_map, option_and_then}
+use Rattle.std.proofs.Common.{◌≡◌, ℕ, ◌<◌, List, length, ◌∙◌, ap, subst, arith}
+use Rattle.std.specs.Prelude.{All}
 use Rattle.events.specs.Names.{NameBytes}
 use Rattle.events.specs.Operation.{Operation}
-use Rattle.events.specs.History.{History, IsLegal, inserted_name}
-use Rattle.events.specs.Operations.{operation, operation_names}
-use Rattle.specification.specs.Faults.{IsSound}
-use Rattle.specification.specs.Elements.{elements, number_in}
-use Rattle.specification.specs.Responses.{responses_of, AreProper}
-use Rattle.specification.proofs.SoundResponses.{sound_responses_are_proper}
+use Rattle.events.specs.History.{History, IsLegal}
+use Rattle.specification.specs.Elements.{number_in}
+use Rattle.element_numbers.proofs.Elements.{distinct-names, few-names, names-are}
 use Rattle.order_graph.specs.Cuts.{rows_of}
 use Rattle.order_graph.specs.Lists.{row}
 use Rattle.order_graph.proofs.Made.{answers, kept-is, kept-lists, kept-proper, kept-few, kept-count, kept-known, kept-short, few-rows}
 use Rattle.order_graph.proofs.order_graph.OrderGraph.of.Goals as goal
-
-distinct-names : (h : History) → IsLegal h → IsSound h → (names : List NameBytes) → names ≡ elements h → AllPairs (λ a b. a ≢ b) names
-distinct-names h legal sound names is =
-    let proper : AreProper (responses_of h) = sound_responses_are_proper h legal sound in
-    subst (λ (l : List NameBytes). AllPairs (λ a b. a ≢ b) l) (sym is) proper.distinct
-
-few-names : (h : History) → IsLegal h → IsSound h → (names : List NameBytes) → names ≡ elements h → length names < 2 ^ 32
-few-names h legal sound names is =
-    let proper : AreProper (responses_of h) = sound_responses_are_proper h legal sound in
-    omega (arith, proper.few, ap (λ (l : List NameBytes). length l) is)
-
--- the inserted names are the elements
-names-are : (h : History) (operations : List Operation) (names : List NameBytes) → operations ≡ operation_names h
-    → names ≡ filter_map (λ o. option_and_then inserted_name (operation h o)) operations → names ≡ elements h
-names-are h operations names all is = is ∙ ap (filter_map (λ o. option_and_then inserted_name (operation h o))) all
 
 rows-are : (h : History) (names lent : List NameBytes) (shown all : List Operation) (rows : List (List ℕ)) → lent ≡ names → all ≡ shown
     → rows ≡ answers h lent all → rows ≡ answers h names shown
