@@ -10,14 +10,19 @@ fn name(text: &str) -> Result<Name, NameFault> {
     Name::new(text.as_bytes())
 }
 
-/// A response of one name, so many times. Where memory is wanted nothing is lost: the push is tried again.
+/// Adds the name. Where memory is wanted nothing is lost: the push is tried again.
+fn pushed(made: &mut Response, name: Name) -> Result<(), Memory> {
+    match made.push(name) {
+        Err(Memory) => made.push(name),
+        Ok(()) => Ok(()),
+    }
+}
+
+/// A response of one name, so many times.
 fn response(alloc: Global, name: Name, count: u32) -> Result<Response, Memory> {
     let mut made = Response::new(alloc);
     for _ in 0..count {
-        match made.push(name) {
-            Err(Memory) => made.push(name)?,
-            Ok(()) => {}
-        }
+        pushed(&mut made, name)?;
     }
     Ok(made)
 }
@@ -46,22 +51,56 @@ fn answer(recording: &mut Recording, replica: u32, body: Body) -> Result<u32, Re
     recorded(recording, Entry { replica, body }).map_err(|refused| refused.why)
 }
 
-fn read(alloc: Global, name: Name, count: u32) -> Result<Body, Memory> {
-    Ok(Body::Read {
-        response: response(alloc, name, count)?,
-    })
+/// The answer to a read of this name so many times.
+fn read(
+    recording: &mut Recording,
+    alloc: Global,
+    replica: u32,
+    name: Name,
+    count: u32,
+) -> Result<u32, Refusal> {
+    match response(alloc, name, count) {
+        Ok(response) => answer(recording, replica, Body::Read { response }),
+        Err(Memory) => Err(Refusal::Memory),
+    }
 }
 
-fn insert(alloc: Global, name: Name) -> Body {
-    Body::Ins {
+/// The answer to an insert at the front, where nothing is shown.
+fn insert(
+    recording: &mut Recording,
+    alloc: Global,
+    replica: u32,
+    name: Name,
+) -> Result<u32, Refusal> {
+    let body = Body::Ins {
         name,
         at: 0,
         response: Response::new(alloc),
+    };
+    answer(recording, replica, body)
+}
+
+/// The answer to a receipt; none where what is received is no name of an operation.
+fn receive(
+    recording: &mut Recording,
+    replica: u32,
+    of: u32,
+    n: u32,
+) -> Option<Result<u32, Refusal>> {
+    let seen = OpName::new(of, n)?;
+    Some(answer(recording, replica, Body::Recv { seen }))
+}
+
+/// Whether the text is a name, which has its bytes.
+fn is_name(text: &str) -> bool {
+    match name(text) {
+        Ok(made) => made.bytes() == text.as_bytes(),
+        Err(_) => false,
     }
 }
 
 #[test]
-fn names_are_read_and_their_faults_told(rt: HostRuntime) -> Result<(), Fail> {
+fn names_are_read(rt: HostRuntime) {
     let good = [
         "a",
         "Z",
@@ -73,19 +112,25 @@ fn names_are_read_and_their_faults_told(rt: HostRuntime) -> Result<(), Fail> {
         "nnnnnnnnnnnnnnnnnnnnnnnnnnnnnnnn",
     ];
     for text in good {
-        let made = name(text)?;
-        assert!(rt; made.bytes() == text.as_bytes(), "{text}");
+        assert!(rt; is_name(text), "{text}");
     }
-    assert_eq!(rt; name("").err(), Some(NameFault::Empty));
-    assert_eq!(rt;
-        name("nnnnnnnnnnnnnnnnnnnnnnnnnnnnnnnnn").err(),
-        Some(NameFault::Long)
-    );
-    // Too long comes before a byte that may not stand there.
-    assert_eq!(rt;
-        name("                                 ").err(),
-        Some(NameFault::Long)
-    );
+}
+
+#[test]
+fn faults_of_names_are_told(rt: HostRuntime) {
+    let rows = [
+        ("", NameFault::Empty),
+        ("nnnnnnnnnnnnnnnnnnnnnnnnnnnnnnnnn", NameFault::Long),
+        // Too long comes before a byte that may not stand there.
+        ("                                 ", NameFault::Long),
+    ];
+    for (text, fault) in rows {
+        assert!(rt; name(text).err() == Some(fault), "{text}");
+    }
+}
+
+#[test]
+fn bad_bytes_of_names_are_told(rt: HostRuntime) {
     let bad = [
         (" ", 0),
         ("a b", 1),
@@ -98,76 +143,121 @@ fn names_are_read_and_their_faults_told(rt: HostRuntime) -> Result<(), Fail> {
         ("\n", 0),
     ];
     for (text, at) in bad {
-        assert_eq!(rt; name(text).err(), Some(NameFault::BadByte { at }), "{text}");
+        assert!(rt;
+            name(text).err() == Some(NameFault::BadByte { at }),
+            "{text}"
+        );
     }
-    assert_eq!(rt;
-        Name::new(b"a\xc3\xa9").err(),
-        Some(NameFault::BadByte { at: 1 })
-    );
-    Ok(())
+    assert!(rt; Name::new(b"a\xc3\xa9").err() == Some(NameFault::BadByte { at: 1 }));
+}
+
+/// Whether both texts are names, and the first is less than the other, or the same, as is said.
+fn are_ordered(low: &str, high: &str, less: bool, same: bool) -> bool {
+    match (name(low), name(high)) {
+        (Ok(low), Ok(high)) => (low < high) == less && (low == high) == same,
+        _ => false,
+    }
 }
 
 #[test]
-fn names_are_ordered_by_their_bytes(rt: HostRuntime) -> Result<(), Fail> {
+fn names_are_ordered_by_their_bytes(rt: HostRuntime) {
     let rising = [
         "-", ".", "0", "00", "01", "1", "A", "Aa", "Z", "_", "a", "a0", "aa", "b",
     ];
     for (i, low) in rising.iter().enumerate() {
         for (j, high) in rising.iter().enumerate() {
-            assert_eq!(rt; name(low)? < name(high)?, i < j, "{low} {high}");
-            assert_eq!(rt; name(low)? == name(high)?, i == j, "{low} {high}");
+            assert!(rt; are_ordered(low, high, i < j, i == j), "{low} {high}");
         }
     }
-    Ok(())
+}
+
+/// Whether it is the operation of this replica with this number.
+fn is_operation(made: Option<OpName>, replica: u32, n: u32) -> bool {
+    match made {
+        Some(made) => made.replica == replica && made.n == n,
+        None => false,
+    }
+}
+
+/// Whether both are names of operations, and the first is less.
+fn is_lower(lower: Option<OpName>, higher: Option<OpName>) -> bool {
+    match (lower, higher) {
+        (Some(lower), Some(higher)) => lower < higher,
+        _ => false,
+    }
 }
 
 #[test]
-fn operations_count_from_one(rt: HostRuntime) -> Result<(), Fail> {
+fn operations_count_from_one(rt: HostRuntime) {
     assert!(rt; OpName::new(3, 0).is_none());
-    let made = OpName::new(3, 1).ok_or("no name")?;
-    assert!(rt; made.replica == 3 && made.n == 1);
-    let lower = OpName::new(2, 9).ok_or("no name")?;
-    assert!(rt; lower < made);
-    Ok(())
+    assert!(rt; is_operation(OpName::new(3, 1), 3, 1));
+    assert!(rt; is_lower(OpName::new(2, 9), OpName::new(3, 1)));
+}
+
+/// Whether the response has the name at this place.
+fn has_at(response: &Response, place: usize, text: &str) -> bool {
+    match name(text) {
+        Ok(name) => response.get(place) == Some(name),
+        Err(_) => false,
+    }
+}
+
+/// The names `a`, `a` and `b`.
+fn listed(alloc: Global) -> Result<Response, Fail> {
+    let mut made = response(alloc, name("a")?, 2)?;
+    pushed(&mut made, name("b")?)?;
+    Ok(made)
+}
+
+/// The same names, copied, taken out and put together again.
+fn listed_again(alloc: Global) -> Result<Response, Fail> {
+    let made = listed(alloc)?;
+    let copied = match made.copy(alloc) {
+        Err(Memory) => made.copy(alloc)?,
+        Ok(copied) => copied,
+    };
+    Ok(Response::from_names(copied.into_names()))
 }
 
 #[test]
 fn responses_are_lists(rt: HostRuntime) -> Result<(), Fail> {
-    let a = name("a")?;
-    let b = name("b")?;
-    let mut made = response(rt.alloc(), a, 2)?;
-    match made.push(b) {
-        Err(Memory) => made.push(b)?,
-        Ok(()) => {}
-    }
-    assert_eq!(rt; made.len(), 3);
-    assert!(rt; made.get(0) == Some(a) && made.get(2) == Some(b) && made.get(3).is_none());
-    let copied = match made.copy(rt.alloc()) {
-        Err(Memory) => made.copy(rt.alloc())?,
-        Ok(copied) => copied,
-    };
-    let again = Response::from_names(copied.into_names());
-    assert!(rt; again.len() == 3 && again.get(1) == Some(a) && again.get(2) == Some(b));
+    let made = listed(rt.alloc())?;
+    assert!(rt; made.len() == 3 && made.get(3).is_none());
+    assert!(rt; has_at(&made, 0, "a") && has_at(&made, 2, "b"));
     Ok(())
 }
 
 #[test]
-fn a_recording_has_one_to_sixteen_replicas(rt: HostRuntime) -> Result<(), Fail> {
-    assert!(rt; matches!(opened(rt.alloc(), 0), Err(NewFault::NoReplicas)));
-    assert!(rt; matches!(opened(rt.alloc(), 17), Err(NewFault::ManyReplicas)));
-    assert!(rt; matches!(opened(rt.alloc(), 4294967295), Err(NewFault::ManyReplicas)));
-    let recording = opened(rt.alloc(), 16)?;
-    assert!(rt; recording.replicas() == 16 && recording.len() == 0);
+fn responses_are_copied(rt: HostRuntime) -> Result<(), Fail> {
+    let again = listed_again(rt.alloc())?;
+    assert!(rt; again.len() == 3);
+    assert!(rt; has_at(&again, 1, "a") && has_at(&again, 2, "b"));
     Ok(())
+}
+
+/// Whether a recording is opened with so many replicas and no entry.
+fn is_opened(alloc: Global, replicas: u32) -> bool {
+    match opened(alloc, replicas) {
+        Ok(recording) => recording.replicas() == replicas && recording.len() == 0,
+        Err(_) => false,
+    }
+}
+
+#[test]
+fn a_recording_has_one_to_sixteen_replicas(rt: HostRuntime) {
+    let alloc = rt.alloc();
+    assert!(rt; opened(alloc, 0).err() == Some(NewFault::NoReplicas));
+    assert!(rt; opened(alloc, 17).err() == Some(NewFault::ManyReplicas));
+    assert!(rt; opened(alloc, 4294967295).err() == Some(NewFault::ManyReplicas));
+    assert!(rt; is_opened(alloc, 16));
 }
 
 // Receipts too early, of one's own, and repeated.
 #[test]
 fn receipts_are_refused_in_their_order(rt: HostRuntime) -> Result<(), Fail> {
-    let alloc = rt.alloc();
-    let mut recording = opened(alloc, 2)?;
     let a = name("a")?;
-    assert_eq!(rt; answer(&mut recording, 0, insert(alloc, a)), Ok(1));
+    let mut recording = opened(rt.alloc(), 2)?;
+    assert!(rt; insert(&mut recording, rt.alloc(), 0, a) == Ok(1));
     let rows = [
         (1, 0, 2, Err(Refusal::NotYet { have: 1 })),
         (0, 0, 1, Err(Refusal::OwnReceipt)),
@@ -177,63 +267,57 @@ fn receipts_are_refused_in_their_order(rt: HostRuntime) -> Result<(), Fail> {
         (1, 0, 1, Ok(2)),
     ];
     for (replica, of, n, reply) in rows {
-        let seen = OpName::new(of, n).ok_or("no name")?;
-        assert_eq!(rt;
-            answer(&mut recording, replica, Body::Recv { seen }),
-            reply,
-            "{replica} {of} {n}"
-        );
+        let said = receive(&mut recording, replica, of, n);
+        assert!(rt; said == Some(reply), "{replica} {of} {n}");
     }
-    assert_eq!(rt;
-        answer(&mut recording, 2, insert(alloc, a)),
-        Err(Refusal::NoReplica)
-    );
+    assert!(rt; insert(&mut recording, rt.alloc(), 2, a) == Err(Refusal::NoReplica));
     Ok(())
 }
 
 /// An insert, its receipt at the other replica, and a read there.
 fn inserted_and_read(alloc: Global) -> Result<Recording, Fail> {
-    let mut recording = opened(alloc, 2)?;
     let a = name("a")?;
-    answer(&mut recording, 0, insert(alloc, a))?;
-    let seen = OpName::new(0, 1).ok_or("no name")?;
-    answer(&mut recording, 1, Body::Recv { seen })?;
-    answer(&mut recording, 1, read(alloc, a, 1)?)?;
+    let mut recording = opened(alloc, 2)?;
+    insert(&mut recording, alloc, 0, a)?;
+    receive(&mut recording, 1, 0, 1).ok_or("no name")??;
+    read(&mut recording, alloc, 1, a, 1)?;
     Ok(recording)
 }
 
 #[test]
 fn entries_and_operations_are_counted(rt: HostRuntime) -> Result<(), Fail> {
     let recording = inserted_and_read(rt.alloc())?;
-    assert_eq!(rt; recording.len(), 3);
+    assert!(rt; recording.len() == 3);
     for (replica, entries, operations) in [(0, 1, 1), (1, 2, 1), (2, 0, 0)] {
-        assert_eq!(rt; recording.stream_len(replica), entries, "{replica}");
-        assert_eq!(rt; recording.count(replica), operations, "{replica}");
+        assert!(rt; recording.stream_len(replica) == entries, "{replica}");
+        assert!(rt; recording.count(replica) == operations, "{replica}");
     }
     Ok(())
+}
+
+/// Whether the entry is a receipt at this replica.
+fn is_receipt_at(entry: Option<&Entry>, replica: u32) -> bool {
+    match entry {
+        Some(entry) => entry.replica == replica && matches!(entry.body, Body::Recv { .. }),
+        None => false,
+    }
+}
+
+/// Whether the replica's operation with this number is a read; none where there is no such operation.
+fn is_read(recording: &Recording, replica: u32, n: u32) -> Option<bool> {
+    let body = recording.operation(OpName::new(replica, n)?)?;
+    Some(matches!(body, Body::Read { .. }))
 }
 
 #[test]
 fn entries_and_operations_are_found(rt: HostRuntime) -> Result<(), Fail> {
     let recording = inserted_and_read(rt.alloc())?;
-    let of = |replica: u32, n: u32| OpName {
-        replica,
-        n: n.max(1),
-    };
-    assert!(rt;
-        matches!(
-            recording.entry(1),
-            Some(Entry {
-                replica: 1,
-                body: Body::Recv { .. }
-            })
-        )
-    );
+    assert!(rt; is_receipt_at(recording.entry(1), 1));
     assert!(rt; recording.entry(3).is_none());
     assert!(rt; matches!(recording.stream(1, 1), Some(Body::Read { .. })));
     assert!(rt; recording.stream(1, 2).is_none() && recording.stream(2, 0).is_none());
-    assert!(rt; matches!(recording.operation(of(1, 1)), Some(Body::Read { .. })));
-    assert!(rt; recording.operation(of(1, 2)).is_none() && recording.operation(of(2, 1)).is_none());
+    assert!(rt; is_read(&recording, 1, 1) == Some(true));
+    assert!(rt; is_read(&recording, 1, 2).is_none() && is_read(&recording, 2, 1).is_none());
     Ok(())
 }
 
@@ -245,92 +329,85 @@ fn holds_thrice(body: &Body, name: Name) -> bool {
     }
 }
 
+/// Whether replica 7's read of the name three times is refused, and is handed back.
+fn hands_back(recording: &mut Recording, body: Body, name: Name) -> bool {
+    match recorded(recording, Entry { replica: 7, body }) {
+        Ok(_) => false,
+        Err(Refused { why, entry }) => {
+            why == Refusal::NoReplica && entry.replica == 7 && holds_thrice(&entry.body, name)
+        }
+    }
+}
+
 // A refused entry comes back as it was handed in.
 #[test]
 fn a_refused_entry_is_handed_back(rt: HostRuntime) -> Result<(), Fail> {
-    let alloc = rt.alloc();
-    let mut recording = opened(alloc, 1)?;
-    let body = read(alloc, name("kept")?, 3)?;
-    match recorded(&mut recording, Entry { replica: 7, body }) {
-        Ok(_) => assert!(rt; false, "taken"),
-        Err(Refused { why, entry }) => {
-            assert!(rt; why == Refusal::NoReplica && entry.replica == 7);
-            assert!(rt; holds_thrice(&entry.body, name("kept")?));
-        }
-    }
-    assert_eq!(rt; recording.len(), 0);
+    let kept = name("kept")?;
+    let response = response(rt.alloc(), kept, 3)?;
+    let mut recording = opened(rt.alloc(), 1)?;
+    assert!(rt; hands_back(&mut recording, Body::Read { response }, kept));
+    assert!(rt; recording.len() == 0);
     Ok(())
 }
 
 #[test]
 fn a_replica_has_at_most_256_inserts(rt: HostRuntime) -> Result<(), Fail> {
     let alloc = rt.alloc();
-    let mut recording = opened(alloc, 2)?;
     let a = name("a")?;
+    let mut recording = opened(alloc, 2)?;
     for n in 1..257 {
-        assert_eq!(rt; answer(&mut recording, 0, insert(alloc, a)), Ok(n));
+        assert!(rt; insert(&mut recording, alloc, 0, a) == Ok(n), "{n}");
     }
-    assert_eq!(rt;
-        answer(&mut recording, 0, insert(alloc, a)),
-        Err(Refusal::InsertsFull)
-    );
-    assert_eq!(rt; answer(&mut recording, 0, read(alloc, a, 0)?), Ok(257));
-    assert_eq!(rt; answer(&mut recording, 1, insert(alloc, a)), Ok(1));
+    assert!(rt; insert(&mut recording, alloc, 0, a) == Err(Refusal::InsertsFull));
+    assert!(rt; read(&mut recording, alloc, 0, a, 0) == Ok(257));
+    assert!(rt; insert(&mut recording, alloc, 1, a) == Ok(1));
     Ok(())
 }
 
 #[test]
 fn a_replica_has_at_most_4096_entries(rt: HostRuntime) -> Result<(), Fail> {
     let alloc = rt.alloc();
-    let mut recording = opened(alloc, 2)?;
     let a = name("a")?;
+    let mut recording = opened(alloc, 2)?;
     for n in 1..4097 {
-        assert_eq!(rt; answer(&mut recording, 1, read(alloc, a, 0)?), Ok(n));
+        assert!(rt; read(&mut recording, alloc, 1, a, 0) == Ok(n), "{n}");
     }
-    assert_eq!(rt;
-        answer(&mut recording, 1, read(alloc, a, 0)?),
-        Err(Refusal::EntriesFull)
-    );
+    assert!(rt; read(&mut recording, alloc, 1, a, 0) == Err(Refusal::EntriesFull));
     // The entries come before the inserts and the response.
-    assert_eq!(rt;
-        answer(&mut recording, 1, read(alloc, a, 4097)?),
-        Err(Refusal::EntriesFull)
-    );
-    assert_eq!(rt; answer(&mut recording, 0, read(alloc, a, 0)?), Ok(1));
-    assert_eq!(rt; recording.len(), 4097);
+    assert!(rt; read(&mut recording, alloc, 1, a, 4097) == Err(Refusal::EntriesFull));
+    assert!(rt; read(&mut recording, alloc, 0, a, 0) == Ok(1));
+    assert!(rt; recording.len() == 4097);
     Ok(())
 }
 
 #[test]
 fn a_replica_has_at_most_262144_names_in_responses(rt: HostRuntime) -> Result<(), Fail> {
     let alloc = rt.alloc();
-    let mut recording = opened(alloc, 1)?;
     let a = name("a")?;
-    assert_eq!(rt;
-        answer(&mut recording, 0, read(alloc, a, 4097)?),
-        Err(Refusal::LongResponse)
-    );
+    let mut recording = opened(alloc, 1)?;
+    assert!(rt; read(&mut recording, alloc, 0, a, 4097) == Err(Refusal::LongResponse));
     for n in 1..65 {
-        assert_eq!(rt; answer(&mut recording, 0, read(alloc, a, 4096)?), Ok(n));
+        assert!(rt; read(&mut recording, alloc, 0, a, 4096) == Ok(n), "{n}");
     }
-    assert_eq!(rt;
-        answer(&mut recording, 0, read(alloc, a, 1)?),
-        Err(Refusal::PlacesFull)
-    );
-    assert_eq!(rt; answer(&mut recording, 0, read(alloc, a, 0)?), Ok(65));
+    assert!(rt; read(&mut recording, alloc, 0, a, 1) == Err(Refusal::PlacesFull));
+    assert!(rt; read(&mut recording, alloc, 0, a, 0) == Ok(65));
     Ok(())
 }
 
-/// The words of an error; where the first call finds no memory, what the second gives.
-fn words<E: Display>(alloc: Global, error: &E) -> Result<String, Fail> {
-    match error.to_string(alloc) {
-        Err(_) => Ok(error.to_string(alloc)?),
-        Ok(text) => Ok(text),
+/// Whether these are the words of an error; where the first call finds no memory, of what the second gives.
+fn says<E: Display>(alloc: Global, error: &E, words: &str) -> bool {
+    let text = match error.to_string(alloc) {
+        Err(_) => error.to_string(alloc),
+        text => text,
+    };
+    match text {
+        Ok(text) => text.as_str() == words,
+        Err(_) => false,
     }
 }
 
 #[test]
-fn errors_have_their_words(rt: HostRuntime) -> Result<(), Fail> {
+fn refusals_have_their_words(rt: HostRuntime) {
     let rows = [
         (Refusal::NoReplica, "no such replica"),
         (Refusal::OwnReceipt, "own receipt"),
@@ -341,24 +418,18 @@ fn errors_have_their_words(rt: HostRuntime) -> Result<(), Fail> {
         (Refusal::PlacesFull, "places full"),
         (Refusal::Memory, "memory"),
     ];
-    for (refusal, text) in rows {
-        assert_eq!(rt; words(rt.alloc(), &refusal)?.as_str(), text);
+    for (refusal, words) in rows {
+        assert!(rt; says(rt.alloc(), &refusal, words), "{words}");
     }
-    let rows = [
-        (NameFault::Empty, "empty name"),
-        (NameFault::Long, "long name"),
-        (NameFault::BadByte { at: 31 }, "bad byte at 31"),
-    ];
-    for (fault, text) in rows {
-        assert_eq!(rt; words(rt.alloc(), &fault)?.as_str(), text);
-    }
-    let rows = [
-        (NewFault::NoReplicas, "no replicas"),
-        (NewFault::ManyReplicas, "many replicas"),
-        (NewFault::Memory, "memory"),
-    ];
-    for (fault, text) in rows {
-        assert_eq!(rt; words(rt.alloc(), &fault)?.as_str(), text);
-    }
-    Ok(())
+}
+
+#[test]
+fn faults_have_their_words(rt: HostRuntime) {
+    let alloc = rt.alloc();
+    assert!(rt; says(alloc, &NameFault::Empty, "empty name"));
+    assert!(rt; says(alloc, &NameFault::Long, "long name"));
+    assert!(rt; says(alloc, &NameFault::BadByte { at: 31 }, "bad byte at 31"));
+    assert!(rt; says(alloc, &NewFault::NoReplicas, "no replicas"));
+    assert!(rt; says(alloc, &NewFault::ManyReplicas, "many replicas"));
+    assert!(rt; says(alloc, &NewFault::Memory, "memory"));
 }

@@ -42,26 +42,93 @@ fn names_of(alloc: Global, rest: &[u8]) -> Result<Vec<Name>, Stop> {
     }
 }
 
+/// Whether a line is split off a text, with this text behind it.
+fn splits(text: &[u8], line: &[u8], behind: &[u8]) -> bool {
+    match split_line(text) {
+        Some(found) => found.0 == line && found.1 == behind,
+        None => false,
+    }
+}
+
+/// Whether the next word is this one, with this rest behind it.
+fn takes_word(rest: &[u8], word: &[u8], behind: &[u8]) -> bool {
+    match next_word(rest) {
+        Ok(found) => found.0 == word && found.1 == behind,
+        Err(_) => false,
+    }
+}
+
+/// Whether the next word is this number, with this rest behind it.
+fn takes_number(rest: &[u8], number: u32, behind: &[u8]) -> bool {
+    match next_number(rest) {
+        Ok(found) => found.0 == number && found.1 == behind,
+        Err(_) => false,
+    }
+}
+
+/// Whether the next word can be skipped as this one, with this rest behind it.
+fn skips(rest: &[u8], word: &[u8], behind: &[u8]) -> bool {
+    match skip_word(rest, word) {
+        Ok(found) => found == behind,
+        Err(_) => false,
+    }
+}
+
+// The words of the line "12 ins 3.4 7 : a -_" are taken one by one.
+
 #[test]
-fn words_are_read_one_by_one(rt: HostRuntime) -> Result<(), Fail> {
-    let (line, behind) = split_line(b"12 ins 3.4 7 : a -_\nx").ok_or("no line")?;
-    assert_eq!(rt; behind, b"x".as_slice());
-    assert!(rt; split_line(behind).is_none());
-    let (word, rest) = first_word(line);
-    assert_eq!(rt; number_of(word), Some(12));
-    let rest = skip_word(rest, b"ins").ok().ok_or("no ins")?;
-    let (word, rest) = next_word(rest).ok().ok_or("no operation")?;
-    let operation = operation_of(word).ok().ok_or("no name of an operation")?;
-    assert_eq!(rt; operation.replica, 3);
-    assert_eq!(rt; operation.n, 4);
-    let (n, rest) = next_number(rest).ok().ok_or("no number")?;
-    assert_eq!(rt; n, 7);
-    let rest = skip_word(rest, b":").ok().ok_or("no colon")?;
-    let names = names_of(rt.alloc(), rest).ok().ok_or("no names")?;
-    assert_eq!(rt; names.len(), 2);
-    assert_eq!(rt; names.get(1).ok_or("one name")?.bytes(), b"-_".as_slice());
-    assert!(rt; matches!(end(rest), Err(Stop::Shape)));
+fn a_line_is_split_off(rt: HostRuntime) {
+    let text = b"12 ins 3.4 7 : a -_\nx".as_slice();
+    assert!(rt; splits(text, b"12 ins 3.4 7 : a -_", b"x"));
+    assert!(rt; split_line(b"x").is_none());
+}
+
+#[test]
+fn words_are_taken(rt: HostRuntime) {
+    let first = first_word(b"12 ins 3.4 7 : a -_");
+    assert!(rt; first.0 == b"12".as_slice() && first.1 == b" ins 3.4 7 : a -_".as_slice());
+    assert!(rt; takes_word(b" 3.4 7 : a -_", b"3.4", b" 7 : a -_"));
+    assert!(rt; takes_number(b" 7 : a -_", 7, b" : a -_"));
+}
+
+#[test]
+fn words_are_skipped(rt: HostRuntime) {
+    assert!(rt; skips(b" ins 3.4 7 : a -_", b"ins", b" 3.4 7 : a -_"));
+    assert!(rt; skips(b" : a -_", b":", b" a -_"));
+}
+
+#[test]
+fn a_line_ends_where_nothing_is_left(rt: HostRuntime) {
+    assert!(rt; matches!(end(b" a -_"), Err(Stop::Shape)));
     assert!(rt; matches!(end(b""), Ok(())));
+}
+
+/// Whether a word is the name of this operation.
+fn is_operation(word: &[u8], replica: u32, n: u32) -> bool {
+    match operation_of(word) {
+        Ok(found) => found.replica == replica && found.n == n,
+        Err(_) => false,
+    }
+}
+
+#[test]
+fn words_are_read(rt: HostRuntime) {
+    assert_eq!(rt; number_of(b"12"), Some(12));
+    assert!(rt; is_operation(b"3.4", 3, 4));
+}
+
+/// Whether there are two names, the second of which has this text.
+fn ends_with(names: &[Name], text: &[u8]) -> bool {
+    match names.get(1) {
+        Some(name) => names.len() == 2 && name.bytes() == text,
+        None => false,
+    }
+}
+
+#[test]
+fn names_are_read_to_the_end(rt: HostRuntime) -> Result<(), Fail> {
+    let names = names_of(rt.alloc(), b" a -_")?;
+    assert!(rt; ends_with(&names, b"-_"));
     Ok(())
 }
 

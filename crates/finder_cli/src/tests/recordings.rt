@@ -5,7 +5,6 @@ use byte_streams::{Sink, Source};
 use command_line::Form;
 use events::Refusal;
 use std::alloc::Global;
-use std::test::Fail;
 use std::thread::Threads;
 use trace_text::{Cause, LineFault};
 
@@ -41,8 +40,38 @@ fn ran<H: Threads + Sync>(
     }
 }
 
+/// Whether a run on the text writes this report and ends with this status.
+fn reports<H: Threads + Sync>(
+    rt: &H,
+    alloc: Global,
+    text: &str,
+    workers: u32,
+    form: Form,
+    report: &str,
+    status: Status,
+) -> bool {
+    let (answer, page) = ran(rt, alloc, text, workers, form);
+    answer == Ok(status) && page.text() == report.as_bytes()
+}
+
+/// Whether a run on the text ends with this fault of a line and writes nothing.
+fn is_refused<H: Threads + Sync>(rt: &H, alloc: Global, text: &str, fault: LineFault) -> bool {
+    let (answer, page) = ran(rt, alloc, text, 4, Form::Text);
+    answer == Err(RunFault::Trace(fault)) && page.text().is_empty()
+}
+
+/// Whether a run refuses so many workers, and neither reads nor writes.
+fn refuses_workers<H: Threads + Sync>(rt: &H, alloc: Global, workers: u32) -> bool {
+    let mut page = Page::new(LARGE, 0);
+    let mut script = Script::new("trace 1\n", LARGE, 0);
+    let mut source = Source::new(&mut script);
+    let mut sink = Sink::new(&mut page);
+    let answer = run(rt, alloc, &mut source, &mut sink, workers, Form::Text);
+    answer == Err(RunFault::Workers) && script.reads == 0 && page.writes == 0
+}
+
 /// Recordings with their reports and statuses.
-const ROWS: [(&str, &str, Status); 19] = [
+static ROWS: [(&str, &str, Status); 19] = [
     // The empty recording.
     (
         "trace 1\nreplicas 1\n",
@@ -154,31 +183,27 @@ const ROWS: [(&str, &str, Status); 19] = [
 ];
 
 #[test]
-fn worked_recordings(rt: HostRuntime) -> Result<(), Fail> {
-    for (text, report, status) in ROWS {
-        let (answer, page) = ran(&rt, rt.alloc(), text, 4, Form::Text);
-        assert_eq!(rt; answer, Ok(status), "at {text}");
-        assert_eq!(rt; page.text(), report.as_bytes(), "at {text}");
+fn worked_recordings(rt: HostRuntime) {
+    for (text, report, status) in ROWS.iter().copied() {
+        let as_worked = reports(&rt, rt.alloc(), text, 4, Form::Text, report, status);
+        assert!(rt; as_worked, "at {text}");
     }
-    Ok(())
 }
 
 #[test]
-fn any_number_of_workers(rt: HostRuntime) -> Result<(), Fail> {
+fn any_number_of_workers(rt: HostRuntime) {
     // The three-way cycle, the opposite pair and the ring of four.
     for row in [2, 3, 4] {
         let (text, report, status) = ROWS[row];
         for workers in [1, 2, 7, 64] {
-            let (answer, page) = ran(&rt, rt.alloc(), text, workers, Form::Text);
-            assert_eq!(rt; answer, Ok(status), "at {text}");
-            assert_eq!(rt; page.text(), report.as_bytes(), "at {text}");
+            let as_worked = reports(&rt, rt.alloc(), text, workers, Form::Text, report, status);
+            assert!(rt; as_worked, "at {workers} {text}");
         }
     }
-    Ok(())
 }
 
 #[test]
-fn reports_as_json(rt: HostRuntime) -> Result<(), Fail> {
+fn reports_as_json(rt: HostRuntime) {
     let rows = [
         (
             0,
@@ -191,15 +216,13 @@ fn reports_as_json(rt: HostRuntime) -> Result<(), Fail> {
     ];
     for (row, report) in rows {
         let (text, _, status) = ROWS[row];
-        let (answer, page) = ran(&rt, rt.alloc(), text, 4, Form::Json);
-        assert_eq!(rt; answer, Ok(status), "at {text}");
-        assert_eq!(rt; page.text(), report.as_bytes(), "at {text}");
+        let as_worked = reports(&rt, rt.alloc(), text, 4, Form::Json, report, status);
+        assert!(rt; as_worked, "at {text}");
     }
-    Ok(())
 }
 
 #[test]
-fn faulty_lines(rt: HostRuntime) -> Result<(), Fail> {
+fn faulty_lines(rt: HostRuntime) {
     let rows = [
         ("", 1, Cause::Header),
         ("trace 1", 1, Cause::Cut),
@@ -223,28 +246,14 @@ fn faulty_lines(rt: HostRuntime) -> Result<(), Fail> {
         ),
     ];
     for (text, line, cause) in rows {
-        let (answer, page) = ran(&rt, rt.alloc(), text, 4, Form::Text);
-        assert_eq!(rt;
-            answer,
-            Err(RunFault::Trace(LineFault { line, cause })),
-            "at {text}"
-        );
-        assert!(rt; page.text().is_empty(), "at {text}");
+        let refused = is_refused(&rt, rt.alloc(), text, LineFault { line, cause });
+        assert!(rt; refused, "at {text}");
     }
-    Ok(())
 }
 
 #[test]
-fn workers_out_of_range(rt: HostRuntime) -> Result<(), Fail> {
+fn workers_out_of_range(rt: HostRuntime) {
     for workers in [0, 65, 4294967295] {
-        let mut page = Page::new(LARGE, 0);
-        let mut script = Script::new("trace 1\n", LARGE, 0);
-        let mut source = Source::new(&mut script);
-        let mut sink = Sink::new(&mut page);
-        let answer = run(&rt, rt.alloc(), &mut source, &mut sink, workers, Form::Text);
-        assert_eq!(rt; answer, Err(RunFault::Workers));
-        assert_eq!(rt; script.reads, 0);
-        assert_eq!(rt; page.writes, 0);
+        assert!(rt; refuses_workers(&rt, rt.alloc(), workers), "{workers}");
     }
-    Ok(())
 }

@@ -4,7 +4,6 @@ use crate::status::{RunFault, Status};
 use byte_streams::{ReadFault, Sink, Source, WriteFault};
 use command_line::Form;
 use std::alloc::Global;
-use std::test::Fail;
 use std::thread::Threads;
 
 const DELETED: &str = "trace 1\nreplicas 1\n0 ins a 0 : a\n0 del a :\n0 read :\n";
@@ -59,64 +58,87 @@ fn tried<'a, H: Threads + Sync>(
     first
 }
 
+/// Whether the run failed to read, at its last of so many reads, and wrote nothing.
+fn fails_to_read(trial: &Trial<'_>, reads: u32) -> bool {
+    trial.answer == Err(RunFault::Read) && trial.script.reads == reads && trial.page.writes == 0
+}
+
+/// Whether the run failed to write, at its last of so many writes, after the front of the report.
+fn fails_to_write(trial: &Trial<'_>, writes: u32, front: &[u8]) -> bool {
+    trial.answer == Err(RunFault::Write)
+        && trial.page.writes == writes
+        && trial.page.text() == front
+}
+
+/// Whether the run wrote the whole report.
+fn is_whole(trial: &Trial<'_>) -> bool {
+    trial.answer == Ok(Status::Good) && trial.page.text() == REPORT
+}
+
 #[test]
-fn reader_that_fails(rt: HostRuntime) -> Result<(), Fail> {
+fn reader_that_fails(rt: HostRuntime) {
     // 52 bytes are 8 reads, and one more shows the end.
     for fails_at in 1..=9 {
         let trial = tried(&rt, rt.alloc(), DELETED, fails_at, 0);
-        assert_eq!(rt; trial.answer, Err(RunFault::Read), "at {fails_at}");
-        assert_eq!(rt; trial.script.reads, fails_at);
-        assert_eq!(rt; trial.page.writes, 0);
+        assert!(rt; fails_to_read(&trial, fails_at), "at {fails_at}");
     }
     let trial = tried(&rt, rt.alloc(), DELETED, 10, 0);
-    assert_eq!(rt; trial.answer, Ok(Status::Good));
-    assert_eq!(rt; trial.script.reads, 9);
-    assert_eq!(rt; trial.page.text(), REPORT);
-    Ok(())
+    assert!(rt; is_whole(&trial));
+    assert!(rt; trial.script.reads == 9);
 }
 
 #[test]
-fn writer_that_fails(rt: HostRuntime) -> Result<(), Fail> {
+fn writer_that_fails(rt: HostRuntime) {
     for fails_at in 1..=73u32 {
         let trial = tried(&rt, rt.alloc(), DELETED, 0, fails_at);
-        assert_eq!(rt; trial.answer, Err(RunFault::Write), "at {fails_at}");
-        assert_eq!(rt; trial.page.writes, fails_at);
-        assert_eq!(rt; trial.page.text(), &REPORT[..fails_at as usize - 1]);
+        let front = &REPORT[..fails_at as usize - 1];
+        assert!(rt; fails_to_write(&trial, fails_at, front), "at {fails_at}");
     }
     let trial = tried(&rt, rt.alloc(), DELETED, 0, 74);
-    assert_eq!(rt; trial.answer, Ok(Status::Good));
-    assert_eq!(rt; trial.page.writes, 73);
-    assert_eq!(rt; trial.page.text(), REPORT);
-    Ok(())
+    assert!(rt; is_whole(&trial));
+    assert!(rt; trial.page.writes == 73);
+}
+
+/// Whether the source gives one byte and then fails, also when it is asked again.
+fn fails_after_a_byte(source: &mut Source<&mut Script<'_>>, alloc: Global) -> bool {
+    let mut buffer = [0; 4];
+    source.read(&mut buffer) == Some(1)
+        && source.read(&mut buffer).is_none()
+        && source.read(&mut buffer).is_none()
+        && source.whole(alloc).err() == Some(ReadFault::Read)
 }
 
 #[test]
-fn failed_streams_are_asked_no_more(rt: HostRuntime) -> Result<(), Fail> {
+fn a_failed_reader_is_asked_no_more(rt: HostRuntime) {
     let mut script = Script::new("text", 1, 2);
-    let mut source = Source::new(&mut script);
-    let mut buffer = [0; 4];
-    assert_eq!(rt; source.read(&mut buffer), Some(1));
-    assert_eq!(rt; source.read(&mut buffer), None);
-    assert_eq!(rt; source.read(&mut buffer), None);
-    assert_eq!(rt; source.whole(rt.alloc()).err(), Some(ReadFault::Read));
-    assert_eq!(rt; script.reads, 2);
+    assert!(rt; fails_after_a_byte(&mut Source::new(&mut script), rt.alloc()));
+    assert!(rt; script.reads == 2);
+}
+
+/// Whether the sink takes one byte and then fails, also when it is asked again.
+fn fails_behind_a_byte(sink: &mut Sink<&mut Page>) -> bool {
+    sink.write(b"text") == Some(1) && sink.write(b"ext").is_none() && sink.write(b"ext").is_none()
+}
+
+/// Whether the failed sink takes nothing as a whole but what is empty.
+fn takes_nothing(sink: &mut Sink<&mut Page>) -> bool {
+    sink.write_whole(b"ext") == Err(WriteFault) && sink.write_whole(b"") == Ok(())
+}
+
+#[test]
+fn a_failed_writer_is_asked_no_more(rt: HostRuntime) {
     let mut page = Page::new(1, 2);
     let mut sink = Sink::new(&mut page);
-    assert_eq!(rt; sink.write(b"text"), Some(1));
-    assert_eq!(rt; sink.write(b"ext"), None);
-    assert_eq!(rt; sink.write(b"ext"), None);
-    assert_eq!(rt; sink.write_whole(b"ext"), Err(WriteFault));
-    assert_eq!(rt; sink.write_whole(b""), Ok(()));
-    assert_eq!(rt; page.writes, 2);
-    assert_eq!(rt; page.text(), b"t".as_slice());
-    Ok(())
+    assert!(rt; fails_behind_a_byte(&mut sink));
+    assert!(rt; takes_nothing(&mut sink));
+    assert!(rt; page.writes == 2);
+    assert!(rt; page.text() == b"t".as_slice());
 }
 
 #[test]
-fn a_writer_that_takes_nothing_fails(rt: HostRuntime) -> Result<(), Fail> {
+fn a_writer_that_takes_nothing_fails(rt: HostRuntime) {
     let mut page = Page::new(0, 0);
     let mut sink = Sink::new(&mut page);
-    assert_eq!(rt; sink.write_whole(b"text"), Err(WriteFault));
-    assert_eq!(rt; page.writes, 1);
-    Ok(())
+    assert!(rt; sink.write_whole(b"text") == Err(WriteFault));
+    assert!(rt; page.writes == 1);
 }

@@ -5,7 +5,6 @@ use command_line::{Word, WordsFault};
 use events::Refusal;
 use std::alloc::{AllocError, Global};
 use std::fmt::Display;
-use std::test::Fail;
 use trace_text::{Cause, LineFault};
 
 /// The text; where the first call finds no memory, what the second gives.
@@ -13,6 +12,14 @@ fn text_of<T: Display>(alloc: Global, value: &T) -> Result<String, AllocError> {
     match value.to_string(alloc) {
         Err(_) => value.to_string(alloc),
         text => text,
+    }
+}
+
+/// Whether this is the value's text.
+fn says<T: Display>(alloc: Global, value: &T, text: &str) -> bool {
+    match text_of(alloc, value) {
+        Ok(said) => said.as_str() == text,
+        Err(_) => false,
     }
 }
 
@@ -29,7 +36,7 @@ const NOT_YET: LineFault = LineFault {
 };
 
 #[test]
-fn faults_of_a_run(rt: HostRuntime) -> Result<(), Fail> {
+fn faults_of_a_run(rt: HostRuntime) {
     let rows = [
         (RunFault::Workers, "workers"),
         (RunFault::Read, "cannot read"),
@@ -38,39 +45,52 @@ fn faults_of_a_run(rt: HostRuntime) -> Result<(), Fail> {
         (RunFault::Memory, "memory"),
     ];
     for (fault, text) in rows {
-        assert_eq!(rt; text_of(rt.alloc(), &fault)?.as_str(), text);
+        assert!(rt; says(rt.alloc(), &fault, text), "{text}");
     }
-    assert_eq!(rt;
-        text_of(rt.alloc(), &ReadFault::Read)?.as_str(),
-        "cannot read"
-    );
-    assert_eq!(rt; text_of(rt.alloc(), &ReadFault::Memory)?.as_str(), "memory");
-    assert_eq!(rt; text_of(rt.alloc(), &WriteFault)?.as_str(), "cannot write");
-    assert_eq!(rt; text_of(rt.alloc(), &WordsFault::Usage)?.as_str(), "usage");
-    assert_eq!(rt;
-        text_of(rt.alloc(), &WordsFault::Memory)?.as_str(),
-        "memory"
-    );
-    Ok(())
 }
 
 #[test]
-fn faults_of_the_program(rt: HostRuntime) -> Result<(), Fail> {
-    let read = ProgramFault::Read {
-        file: word_of(rt.alloc(), "dir/a b")?,
-    };
-    let rows = [
-        (ProgramFault::Usage, "usage", 2),
-        (read, "cannot read dir/a b", 2),
-        (ProgramFault::Trace(NOT_YET), "line 4: not yet, have 1", 2),
-        (ProgramFault::Write, "cannot write", 2),
-        (ProgramFault::Memory, "memory", 3),
-    ];
-    for (fault, text, number) in rows {
-        assert_eq!(rt; text_of(rt.alloc(), &fault)?.as_str(), text);
-        assert_eq!(rt; fault.number(), number);
+fn faults_of_streams_and_words(rt: HostRuntime) {
+    let alloc = rt.alloc();
+    assert!(rt; says(alloc, &ReadFault::Read, "cannot read"));
+    assert!(rt; says(alloc, &ReadFault::Memory, "memory"));
+    assert!(rt; says(alloc, &WriteFault, "cannot write"));
+    assert!(rt; says(alloc, &WordsFault::Usage, "usage"));
+    assert!(rt; says(alloc, &WordsFault::Memory, "memory"));
+}
+
+/// Whether the fault has this text and exit status.
+fn ends_with(alloc: Global, fault: ProgramFault, text: &str, number: u8) -> bool {
+    says(alloc, &fault, text) && fault.number() == number
+}
+
+/// Whether the fault of a file that can't be read has this text and exit status.
+fn ends_unread(alloc: Global, file: &str, text: &str, number: u8) -> bool {
+    match word_of(alloc, file) {
+        Ok(file) => ends_with(alloc, ProgramFault::Read { file }, text, number),
+        Err(_) => false,
     }
-    assert_eq!(rt; Status::Good.number(), 0);
-    assert_eq!(rt; Status::Bad.number(), 1);
-    Ok(())
+}
+
+#[test]
+fn faults_of_the_program(rt: HostRuntime) {
+    let alloc = rt.alloc();
+    assert!(rt; ends_with(alloc, ProgramFault::Usage, "usage", 2));
+    assert!(rt; ends_unread(alloc, "dir/a b", "cannot read dir/a b", 2));
+    assert!(rt;
+        ends_with(
+            alloc,
+            ProgramFault::Trace(NOT_YET),
+            "line 4: not yet, have 1",
+            2
+        )
+    );
+    assert!(rt; ends_with(alloc, ProgramFault::Write, "cannot write", 2));
+    assert!(rt; ends_with(alloc, ProgramFault::Memory, "memory", 3));
+}
+
+#[test]
+fn statuses_have_numbers(rt: HostRuntime) {
+    assert!(rt; Status::Good.number() == 0);
+    assert!(rt; Status::Bad.number() == 1);
 }

@@ -2,7 +2,7 @@
 ghost use Rattle.std.specs.Prelude.{IfOk};
 ghost use Rattle.specification.specs.Conflict.{IsConflictNumber};
 
-use super::recordings::{graph, recording};
+use super::recordings::ask_on;
 use crate::{Gate, NoGate, SearchFault, conflict_number};
 use order_graph::OrderGraph;
 use std::alloc::Global;
@@ -70,6 +70,19 @@ fn all_refuse(rt: &(impl Threads + Sync), alloc: Global, graph: &OrderGraph) -> 
     true
 }
 
+/// Whether any number of workers that is allowed, and no other, finds this conflict number of the recording
+/// that a text spells.
+fn is_found(
+    rt: &(impl Threads + Sync),
+    alloc: Global,
+    text: &str,
+    number: Option<u32>,
+) -> Result<bool, Fail> {
+    ask_on(rt, alloc, text, |graph| {
+        Ok(all_find(rt, alloc, graph, number)? && all_refuse(rt, alloc, graph))
+    })
+}
+
 /// What is found of the recording that a text spells.
 pub fn number_on<H: Threads + Sync, G: Gate>(
     rt: &H,
@@ -78,9 +91,9 @@ pub fn number_on<H: Threads + Sync, G: Gate>(
     workers: u32,
     gate: &G,
 ) -> Result<Option<u32>, Fail> {
-    let recording = recording(alloc, text)?;
-    let graph = graph(rt, alloc, &recording)?;
-    Ok(number_of(rt, alloc, &graph, workers, gate)?)
+    ask_on(rt, alloc, text, |graph| {
+        Ok(number_of(rt, alloc, graph, workers, gate)?)
+    })
 }
 
 #[test]
@@ -95,10 +108,7 @@ fn worked_recordings_for_any_number_of_workers(rt: HostRuntime) -> Result<(), Fa
         (EMPTY, None),
     ];
     for (text, number) in rows {
-        let recording = recording(alloc, text)?;
-        let graph = graph(&rt, alloc, &recording)?;
-        assert!(rt; all_find(&rt, alloc, &graph, number)?);
-        assert!(rt; all_refuse(&rt, alloc, &graph));
+        assert!(rt; is_found(&rt, alloc, text, number)?, "at {text}");
     }
     Ok(())
 }

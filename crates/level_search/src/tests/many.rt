@@ -2,7 +2,7 @@
 ghost use Rattle.std.specs.Prelude.{◌<◌};
 
 use super::conflicts::{THREE_WAY_CYCLE, number_of};
-use super::recordings::{add, graph, push, push_name, recording};
+use super::recordings::{add, ask_of, push, push_name, recording};
 use crate::Gate;
 use events::{Body, Name, Recording, Response};
 use std::alloc::Global;
@@ -33,17 +33,25 @@ fn numbered(n: u8) -> Result<Name, Fail>
     Ok(Name::new(&[b'e', b'0' + n / 10, b'0' + n % 10])?)
 }
 
+/// The elements that are seen and, behind them, those with the numbers below n.
+fn shown(alloc: Global, seen: &[&str], n: u8) -> Result<Response, Fail>
+    requires { n < 100 }
+{
+    let mut response = Response::new(alloc);
+    for text in seen {
+        push(&mut response, text)?;
+    }
+    for i in 0..n {
+        push_name(&mut response, numbered(i)?)?;
+    }
+    Ok(response)
+}
+
 /// Lets replica 0 put many elements behind those that it sees, one after the other.
 fn put_behind(alloc: Global, recording: &mut Recording, seen: &[&str]) -> Result<(), Fail> {
     for n in 0..MANY {
-        let mut response = Response::new(alloc);
-        for text in seen {
-            push(&mut response, text)?;
-        }
-        for i in 0..n {
-            push_name(&mut response, numbered(i)?)?;
-        }
         let name = numbered(n)?;
+        let mut response = shown(alloc, seen, n)?;
         let at = u32::try_from(response.len())?;
         push_name(&mut response, name)?;
         add(recording, 0, Body::Ins { name, at, response })?;
@@ -51,7 +59,14 @@ fn put_behind(alloc: Global, recording: &mut Recording, seen: &[&str]) -> Result
     Ok(())
 }
 
-/// The conflict number of a recording with many elements behind those that replica 0 sees at its end.
+/// A recording with many elements behind those that replica 0 sees at its end.
+fn recording_behind(alloc: Global, text: &str, seen: &[&str]) -> Result<Recording, Fail> {
+    let mut recording = recording(alloc, text)?;
+    put_behind(alloc, &mut recording, seen)?;
+    Ok(recording)
+}
+
+/// The conflict number of such a recording.
 fn number_behind<G: Gate>(
     rt: &(impl Threads + Sync),
     alloc: Global,
@@ -59,10 +74,10 @@ fn number_behind<G: Gate>(
     seen: &[&str],
     gate: &G,
 ) -> Result<Option<u32>, Fail> {
-    let mut recording = recording(alloc, text)?;
-    put_behind(alloc, &mut recording, seen)?;
-    let graph = graph(rt, alloc, &recording)?;
-    Ok(number_of(rt, alloc, &graph, 2, gate)?)
+    let recording = recording_behind(alloc, text, seen)?;
+    ask_of(rt, alloc, &recording, |graph| {
+        Ok(number_of(rt, alloc, graph, 2, gate)?)
+    })
 }
 
 #[test]

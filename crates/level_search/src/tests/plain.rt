@@ -1,8 +1,13 @@
 //! A plain, slow search: it looks through every response, and follows all walks step by step.
 ghost use Rattle.std.specs.Prelude.{◌<◌};
 
+use super::generated::{Random, generated};
+use super::recordings::ask_of;
 use events::{Body, Name, Recording, Response};
 use order_graph::OrderGraph;
+use std::alloc::Global;
+use std::test::Fail;
+use std::thread::Threads;
 
 /// As many elements as a generated recording has at most.
 const ELEMENTS: usize = 6;
@@ -69,6 +74,22 @@ pub fn table_of(recording: &Recording, graph: &OrderGraph) -> Table {
         table[a as usize] = row_of(recording, graph, a);
     }
     table
+}
+
+/// What a question has for an answer that is asked of the next generated recording: of what stands before
+/// what in it, and of its graph.
+pub fn ask_next<A, Q: FnOnce(&Table, &OrderGraph) -> Result<A, Fail>>(
+    rt: &(impl Threads + Sync),
+    alloc: Global,
+    random: &mut Random,
+    question: Q,
+) -> Result<A, Fail>
+    requires { Q.IsAlwaysCallable question }
+{
+    let recording = generated(alloc, random)?;
+    ask_of(rt, alloc, &recording, |graph| {
+        question(&table_of(&recording, graph), graph)
+    })
 }
 
 /// The elements behind one of these.

@@ -110,7 +110,7 @@ fn fault(
 }
 
 /// The graph of a recording, which must be sound.
-pub fn graph(
+fn graph(
     rt: &(impl Threads + Sync),
     alloc: Global,
     recording: &Recording,
@@ -122,4 +122,31 @@ pub fn graph(
             Err(Memory) => Ok(OrderGraph::of(alloc, recording)?),
         },
     }
+}
+
+/// What a question has for an answer that is asked of the graph of a recording, which must be sound. A test
+/// that holds no graph of its own is proved with far less work.
+pub fn ask_of<A, Q: FnOnce(&OrderGraph) -> Result<A, Fail>>(
+    rt: &(impl Threads + Sync),
+    alloc: Global,
+    recording: &Recording,
+    question: Q,
+) -> Result<A, Fail>
+    requires { Q.IsAlwaysCallable question }
+{
+    let graph = graph(rt, alloc, recording)?;
+    question(&graph)
+}
+
+/// The same, for the recording that a text spells.
+pub fn ask_on<A, Q: FnOnce(&OrderGraph) -> Result<A, Fail>>(
+    rt: &(impl Threads + Sync),
+    alloc: Global,
+    text: &str,
+    question: Q,
+) -> Result<A, Fail>
+    requires { Q.IsAlwaysCallable question }
+{
+    let recording = recording(alloc, text)?;
+    ask_of(rt, alloc, &recording, question)
 }

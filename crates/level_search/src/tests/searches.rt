@@ -1,7 +1,7 @@
 use super::conflicts::{OPPOSITE_PAIR, RING_OF_FOUR};
-use super::generated::{Random, generated};
-use super::plain::{Table, shortest, table_of};
-use super::recordings::{graph, recording};
+use super::generated::Random;
+use super::plain::{Table, ask_next, shortest};
+use super::recordings::ask_on;
 use super::sources::FallingBound;
 use crate::{BoundSource, PlainBound, Scratch, distances, search};
 use events::Memory;
@@ -41,44 +41,78 @@ fn searched_below(
     searched(graph, s, scratch, &mut PlainBound { least })
 }
 
+/// What a search from the first element finds, between what its scratch looked at before and after it.
+fn looked_round(alloc: Global, graph: &OrderGraph) -> Result<(u64, Option<u32>, u64), Fail> {
+    let mut scratch = scratch(alloc, graph)?;
+    let before = scratch.looked();
+    let found = searched_below(graph, 0, &mut scratch, 4294967295)?;
+    Ok((before, found, scratch.looked()))
+}
+
 #[test]
-fn a_search_of_the_ring_of_four_under_bounds(rt: HostRuntime) -> Result<(), Fail> {
+fn what_a_search_of_the_ring_of_four_looks_at(rt: HostRuntime) -> Result<(), Fail> {
     let alloc = rt.alloc();
-    let recording = recording(alloc, RING_OF_FOUR)?;
-    let ring = graph(&rt, alloc, &recording)?;
-    let mut scratch = scratch(alloc, &ring)?;
-    assert_eq!(rt; scratch.looked(), 0);
-    assert_eq!(rt;
-        searched_below(&ring, 0, &mut scratch, 4294967295)?,
-        Some(4)
-    );
-    assert_eq!(rt; scratch.looked(), 8);
-    assert_eq!(rt; searched_below(&ring, 0, &mut scratch, 5)?, Some(4));
-    assert_eq!(rt; searched_below(&ring, 0, &mut scratch, 4)?, None);
+    let answer = ask_on(&rt, alloc, RING_OF_FOUR, |ring| looked_round(alloc, ring))?;
+    assert_eq!(rt; answer, (0, Some(4), 8));
     Ok(())
+}
+
+/// What searches from the first element find under one bound after the other, with one scratch.
+fn found_below(
+    alloc: Global,
+    graph: &OrderGraph,
+    bounds: [u32; 3],
+) -> Result<[Option<u32>; 3], Fail> {
+    let mut scratch = scratch(alloc, graph)?;
+    let mut all = [None; 3];
+    for (bound, found) in bounds.iter().zip(&mut all) {
+        *found = searched_below(graph, 0, &mut scratch, *bound)?;
+    }
+    Ok(all)
+}
+
+#[test]
+fn searches_of_the_ring_of_four_under_bounds(rt: HostRuntime) -> Result<(), Fail> {
+    let alloc = rt.alloc();
+    let all = ask_on(&rt, alloc, RING_OF_FOUR, |ring| {
+        found_below(alloc, ring, [4294967295, 5, 4])
+    })?;
+    assert_eq!(rt; all, [Some(4), Some(4), None]);
+    Ok(())
+}
+
+/// What a search from the first element finds under a bound that falls.
+fn found_under(
+    alloc: Global,
+    graph: &OrderGraph,
+    mut falling: FallingBound,
+) -> Result<Option<u32>, Fail> {
+    searched(graph, 0, &mut scratch(alloc, graph)?, &mut falling)
 }
 
 #[test]
 fn a_search_reads_its_bound_again(rt: HostRuntime) -> Result<(), Fail> {
     let alloc = rt.alloc();
-    let recording = recording(alloc, RING_OF_FOUR)?;
-    let ring = graph(&rt, alloc, &recording)?;
-    let mut scratch = scratch(alloc, &ring)?;
-    let mut falling = FallingBound::new(5, 3);
-    assert_eq!(rt; searched(&ring, 0, &mut scratch, &mut falling)?, None);
+    let found = ask_on(&rt, alloc, RING_OF_FOUR, |ring| {
+        found_under(alloc, ring, FallingBound::new(5, 3))
+    })?;
+    assert_eq!(rt; found, None);
     Ok(())
+}
+
+/// Whether a scratch for the one graph fits it, and whether it fits the other.
+fn fits(alloc: Global, graph: &OrderGraph, other: &OrderGraph) -> Result<(bool, bool), Fail> {
+    let scratch = scratch(alloc, graph)?;
+    Ok((scratch.fits(graph), scratch.fits(other)))
 }
 
 #[test]
 fn a_scratch_fits_its_graph_alone(rt: HostRuntime) -> Result<(), Fail> {
     let alloc = rt.alloc();
-    let four = recording(alloc, RING_OF_FOUR)?;
-    let ring = graph(&rt, alloc, &four)?;
-    let two = recording(alloc, OPPOSITE_PAIR)?;
-    let pair = graph(&rt, alloc, &two)?;
-    let scratch = scratch(alloc, &ring)?;
-    assert!(rt; scratch.fits(&ring));
-    assert!(rt; !scratch.fits(&pair));
+    let fitting = ask_on(&rt, alloc, RING_OF_FOUR, |ring| {
+        ask_on(&rt, alloc, OPPOSITE_PAIR, |pair| fits(alloc, ring, pair))
+    })?;
+    assert_eq!(rt; fitting, (true, false));
     Ok(())
 }
 
@@ -124,32 +158,44 @@ fn searches_of_generated_recordings_agree_with_the_plain_search(
     let alloc = rt.alloc();
     let mut random = Random(1978);
     for _ in 0..200 {
-        let recording = generated(alloc, &mut random)?;
-        let graph = graph(&rt, alloc, &recording)?;
-        let table = table_of(&recording, &graph);
-        assert!(rt; agrees(alloc, &table, &graph)?);
+        let agreed = ask_next(&rt, alloc, &mut random, |table, graph| {
+            agrees(alloc, table, graph)
+        })?;
+        assert!(rt; agreed);
     }
     Ok(())
+}
+
+/// The distances from an element of a graph of four up to a limit; 7 where there are none.
+fn distances_of_four(graph: &OrderGraph, s: u32, limit: u32, scratch: &mut Scratch) -> [u32; 4] {
+    let mut depths = [7; 4];
+    if s < graph.elements() && graph.elements() == 4 && scratch.fits(graph) {
+        distances(graph, s, limit, scratch, &mut depths);
+    }
+    depths
+}
+
+/// The same for one element and limit after the other, with one scratch.
+fn all_distances(
+    alloc: Global,
+    graph: &OrderGraph,
+    rows: [(u32, u32); 4],
+) -> Result<[[u32; 4]; 4], Fail> {
+    let mut scratch = scratch(alloc, graph)?;
+    let mut all = [[7; 4]; 4];
+    for ((s, limit), depths) in rows.iter().zip(&mut all) {
+        *depths = distances_of_four(graph, *s, *limit, &mut scratch);
+    }
+    Ok(all)
 }
 
 #[test]
 fn distances_in_the_ring_of_four(rt: HostRuntime) -> Result<(), Fail> {
     let alloc = rt.alloc();
-    let recording = recording(alloc, RING_OF_FOUR)?;
-    let ring = graph(&rt, alloc, &recording)?;
-    let mut scratch = scratch(alloc, &ring)?;
-    let rows = [
-        (0, 9, [0, 1, 2, 3]),
-        (3, 9, [1, 2, 3, 0]),
-        (0, 2, [0, 1, 2, 2]),
-        (0, 0, [0, 0, 0, 0]),
-    ];
-    for (s, limit, wanted) in rows {
-        let mut depths = [7; 4];
-        if s < ring.elements() && ring.elements() == 4 && scratch.fits(&ring) {
-            distances(&ring, s, limit, &mut scratch, &mut depths);
-        }
-        assert_eq!(rt; depths, wanted);
-    }
+    let all = ask_on(&rt, alloc, RING_OF_FOUR, |ring| {
+        all_distances(alloc, ring, [(0, 9), (3, 9), (0, 2), (0, 0)])
+    })?;
+    let wanted = [[0, 1, 2, 3], [1, 2, 3, 0], [0, 1, 2, 2], [0, 0, 0, 0]];
+    assert_eq!(rt; all, wanted);
     Ok(())
 }

@@ -3,7 +3,7 @@ ghost use Rattle.std.specs.Prelude.{IfOk};
 ghost use Rattle.specification.specs.Search.{IsShortestLength};
 
 use super::conflicts::{OPPOSITE_PAIR, PAIR_APART, RING_OF_FOUR, THREE_WAY_CYCLE, number_of};
-use super::recordings::{graph, operation, recording};
+use super::recordings::{ask_on, operation};
 use crate::{NoGate, SearchFault, Step, Steps, least_cycle};
 use events::{Memory, Name};
 use order_graph::OrderGraph;
@@ -67,33 +67,40 @@ fn leads_round(
     text: &str,
     expected: &[Shown],
 ) -> Result<bool, Fail> {
-    let recording = recording(alloc, text)?;
-    let graph = graph(rt, alloc, &recording)?;
-    match steps_of(rt, alloc, &graph)? {
+    let found = ask_on(rt, alloc, text, |graph| Ok(steps_of(rt, alloc, graph)?))?;
+    match found {
         Some(steps) => are(&steps, expected),
         None => Ok(false),
     }
 }
 
+const RING_STEPS: [Shown; 4] = [
+    Shown("a", "b", 2, 1),
+    Shown("b", "c", 3, 1),
+    Shown("c", "d", 4, 2),
+    Shown("d", "a", 5, 2),
+];
+
+const CYCLE_STEPS: [Shown; 3] = [
+    Shown("x", "b", 2, 1),
+    Shown("b", "a", 0, 3),
+    Shown("a", "x", 1, 1),
+];
+
+const PAIR_STEPS: [Shown; 2] = [Shown("a", "b", 0, 2), Shown("b", "a", 1, 2)];
+
+const APART_STEPS: [Shown; 2] = [Shown("a", "c", 0, 3), Shown("c", "a", 1, 1)];
+
 #[test]
 fn steps_of_worked_recordings(rt: HostRuntime) -> Result<(), Fail> {
-    let alloc = rt.alloc();
-    let ring = [
-        Shown("a", "b", 2, 1),
-        Shown("b", "c", 3, 1),
-        Shown("c", "d", 4, 2),
-        Shown("d", "a", 5, 2),
+    let rows = [
+        (RING_OF_FOUR, RING_STEPS.as_slice()),
+        (THREE_WAY_CYCLE, CYCLE_STEPS.as_slice()),
+        (OPPOSITE_PAIR, PAIR_STEPS.as_slice()),
+        (PAIR_APART, APART_STEPS.as_slice()),
     ];
-    assert!(rt; leads_round(&rt, alloc, RING_OF_FOUR, &ring)?);
-    let cycle = [
-        Shown("x", "b", 2, 1),
-        Shown("b", "a", 0, 3),
-        Shown("a", "x", 1, 1),
-    ];
-    assert!(rt; leads_round(&rt, alloc, THREE_WAY_CYCLE, &cycle)?);
-    let pair = [Shown("a", "b", 0, 2), Shown("b", "a", 1, 2)];
-    assert!(rt; leads_round(&rt, alloc, OPPOSITE_PAIR, &pair)?);
-    let apart = [Shown("a", "c", 0, 3), Shown("c", "a", 1, 1)];
-    assert!(rt; leads_round(&rt, alloc, PAIR_APART, &apart)?);
+    for (text, expected) in rows {
+        assert!(rt; leads_round(&rt, rt.alloc(), text, expected)?, "at {text}");
+    }
     Ok(())
 }

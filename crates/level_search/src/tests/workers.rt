@@ -1,10 +1,12 @@
 //! Generated recordings, searched by one worker and by several.
 use super::conflicts::number_of;
-use super::generated::{Random, generated};
-use super::plain::{Table, shortest, table_of};
-use super::recordings::graph;
-use crate::NoGate;
+use super::generated::Random;
+use super::plain::{Table, ask_next, shortest};
+use crate::{NoGate, SearchFault};
+use order_graph::OrderGraph;
+use std::alloc::Global;
 use std::test::Fail;
+use std::thread::Threads;
 
 /// The length of a shortest cycle, by the plain search from each element.
 fn least(table: &Table) -> Option<u32> {
@@ -19,16 +21,27 @@ fn least(table: &Table) -> Option<u32> {
     least
 }
 
+/// The conflict number that one worker finds, and the one that eight find.
+fn by_one_and_eight(
+    rt: &(impl Threads + Sync),
+    alloc: Global,
+    graph: &OrderGraph,
+) -> Result<[Option<u32>; 2], SearchFault> {
+    Ok([
+        number_of(rt, alloc, graph, 1, &NoGate)?,
+        number_of(rt, alloc, graph, 8, &NoGate)?,
+    ])
+}
+
 #[test]
 fn one_and_eight_workers_agree_with_the_plain_search(rt: HostRuntime) -> Result<(), Fail> {
     let alloc = rt.alloc();
     let mut random = Random(2024);
     for _ in 0..200 {
-        let recording = generated(alloc, &mut random)?;
-        let graph = graph(&rt, alloc, &recording)?;
-        let expected = least(&table_of(&recording, &graph));
-        assert_eq!(rt; number_of(&rt, alloc, &graph, 1, &NoGate)?, expected);
-        assert_eq!(rt; number_of(&rt, alloc, &graph, 8, &NoGate)?, expected);
+        let (found, expected) = ask_next(&rt, alloc, &mut random, |table, graph| {
+            Ok((by_one_and_eight(&rt, alloc, graph)?, least(table)))
+        })?;
+        assert_eq!(rt; found, [expected, expected]);
     }
     Ok(())
 }

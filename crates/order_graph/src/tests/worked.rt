@@ -1,8 +1,11 @@
 use super::plain::agrees;
-use super::recordings::{graph, operation, recording};
-use crate::{Looked, Spot};
-use events::Name;
+use super::recordings::{graph, recording};
+use crate::{Looked, OrderGraph, Spot};
+use events::{Name, OpName};
+use std::alloc::Global;
+use std::process::Abort;
 use std::test::Fail;
+use std::thread::Threads;
 
 const RING_OF_FOUR: &str =
     "trace 1\nreplicas 6\n0 ins a 0 : a\n1 ins b 0 : b\n2 recv 0 1\n2 recv 1 1\n2 read : a b\n3 recv 1 1\n3 ins c 1 : b c\n4 recv 3 1\n4 del b : c\n4 ins d 1 : c d\n5 recv 4 2\n5 del c : d\n5 recv 0 1\n5 read : d a\n";
@@ -13,101 +16,154 @@ const THREE_WAY_CYCLE: &str =
 const OPPOSITE_PAIR: &str =
     "trace 1\nreplicas 2\n0 ins a 0 : a\n1 ins b 0 : b\n0 recv 1 1\n1 recv 0 1\n0 read : a b\n1 read : b a\n";
 
-#[test]
-fn marks_of_the_ring_of_four(rt: HostRuntime) -> Result<(), Fail> {
-    let alloc = rt.alloc();
-    let recording = recording(alloc, RING_OF_FOUR)?;
-    let ring = graph(&rt, alloc, &recording)?;
+const LEAST_OF_TWO_READS: &str =
+    "trace 1\nreplicas 2\n1 ins b 0 : b\n1 ins c 1 : b c\n0 recv 1 2\n0 read : c b\n0 read : c b\n1 read : b c\n";
+
+const LATER_REPLICA_FIRST: &str = "trace 1\nreplicas 2\n1 ins a 0 : a\n0 ins b 0 : b\n";
+
+const NOTHING: &str = "trace 1\nreplicas 1\n";
+
+/// Deleted where nobody else sees it, before anybody reads.
+const DELETED_UNSEEN: &str = "trace 1\nreplicas 1\n0 ins a 0 : a\n0 del a :\n0 read :\n";
+
+/// Two elements by their numbers, and the numbers of the least operation that shows the one before the
+/// other; none where no operation does.
+#[derive(Clone, Copy)]
+struct Shown(u32, u32, Option<(u32, u32)>);
+
+/// The numbers of an operation's name.
+fn numbers(name: Option<OpName>) -> Option<(u32, u32)> {
+    match name {
+        Some(name) => Some((name.replica, name.n)),
+        None => None,
+    }
+}
+
+/// Asserts which operation is the least that shows two elements in each of these orders.
+fn assert_shown(rt: &impl Abort, graph: &OrderGraph, expected: &[Shown]) {
+    for Shown(a, b, by) in expected {
+        assert_eq!(rt; numbers(graph.before(*a, *b)), *by, "{a} before {b}");
+    }
+}
+
+/// The same of the graph of the recording that a text spells, which agrees with the plain programs.
+fn assert_steps(
+    rt: &(impl Abort + Threads + Sync),
+    alloc: Global,
+    text: &str,
+    expected: &[Shown],
+) -> Result<(), Fail> {
+    let recording = recording(alloc, text)?;
+    let graph = graph(rt, alloc, &recording)?;
+    assert_shown(rt, &graph, expected);
+    assert!(rt; agrees(&recording, &graph));
+    Ok(())
+}
+
+/// The ring has four elements and a list for each of its eight operations.
+fn assert_sizes(rt: &impl Abort, ring: &OrderGraph) {
     assert_eq!(rt; ring.elements(), 4);
     assert_eq!(rt; ring.lists(), 8);
     assert_eq!(rt; ring.length(7), 2);
     assert_eq!(rt; ring.spots(0), 3);
+}
+
+/// The last list of the ring is the last read's, of d and then a.
+fn assert_last_list(rt: &impl Abort, ring: &OrderGraph) {
+    assert_eq!(rt; numbers(ring.shown_by(7)), Some((5, 2)));
     assert_eq!(rt; ring.spot(0, 2), Some(Spot { list: 7, place: 1 }));
+}
+
+/// Only a place that is there counts as looked at, and so does an element that is expanded.
+fn assert_looked(rt: &impl Abort, ring: &OrderGraph) {
     let mut looked = Looked::new();
     assert_eq!(rt; looked.count(), 0);
     assert_eq!(rt; ring.place(7, 0, &mut looked), Some(3));
     assert_eq!(rt; ring.place(7, 2, &mut looked), None);
     looked.expand();
     assert_eq!(rt; looked.count(), 2);
-    assert_eq!(rt; ring.shown_by(7), Some(operation(5, 2)?));
-    assert_eq!(rt; ring.before(3, 0), Some(operation(5, 2)?));
-    assert_eq!(rt; ring.before(0, 3), None);
-    assert!(rt; agrees(&recording, &ring));
+}
+
+#[test]
+fn marks_of_the_ring_of_four(rt: HostRuntime) -> Result<(), Fail> {
+    let alloc = rt.alloc();
+    let recording = recording(alloc, RING_OF_FOUR)?;
+    let ring = graph(&rt, alloc, &recording)?;
+    assert_sizes(&rt, &ring);
+    assert_last_list(&rt, &ring);
+    assert_looked(&rt, &ring);
     Ok(())
+}
+
+#[test]
+fn steps_of_the_ring_of_four(rt: HostRuntime) -> Result<(), Fail> {
+    let expected = [Shown(3, 0, Some((5, 2))), Shown(0, 3, None)];
+    assert_steps(&rt, rt.alloc(), RING_OF_FOUR, &expected)
 }
 
 #[test]
 fn steps_of_the_three_way_cycle(rt: HostRuntime) -> Result<(), Fail> {
-    let alloc = rt.alloc();
-    let recording = recording(alloc, THREE_WAY_CYCLE)?;
-    let cycle = graph(&rt, alloc, &recording)?;
     // x, a and b have the numbers 0, 1 and 2.
-    assert_eq!(rt; cycle.before(0, 2), Some(operation(2, 1)?));
-    assert_eq!(rt; cycle.before(2, 1), Some(operation(0, 3)?));
-    assert_eq!(rt; cycle.before(1, 0), Some(operation(1, 1)?));
-    assert_eq!(rt; cycle.before(0, 1), None);
-    assert!(rt; agrees(&recording, &cycle));
-    Ok(())
+    let expected = [
+        Shown(0, 2, Some((2, 1))),
+        Shown(2, 1, Some((0, 3))),
+        Shown(1, 0, Some((1, 1))),
+        Shown(0, 1, None),
+    ];
+    assert_steps(&rt, rt.alloc(), THREE_WAY_CYCLE, &expected)
 }
 
 #[test]
 fn steps_of_the_opposite_pair(rt: HostRuntime) -> Result<(), Fail> {
-    let alloc = rt.alloc();
-    let recording = recording(alloc, OPPOSITE_PAIR)?;
-    let pair = graph(&rt, alloc, &recording)?;
-    assert_eq!(rt; pair.before(0, 1), Some(operation(0, 2)?));
-    assert_eq!(rt; pair.before(1, 0), Some(operation(1, 2)?));
-    assert_eq!(rt; pair.before(0, 0), None);
-    assert!(rt; agrees(&recording, &pair));
-    Ok(())
+    let expected = [
+        Shown(0, 1, Some((0, 2))),
+        Shown(1, 0, Some((1, 2))),
+        Shown(0, 0, None),
+    ];
+    assert_steps(&rt, rt.alloc(), OPPOSITE_PAIR, &expected)
 }
 
 #[test]
 fn the_least_operation_is_shown(rt: HostRuntime) -> Result<(), Fail> {
-    let alloc = rt.alloc();
-    let lines =
-        "trace 1\nreplicas 2\n1 ins b 0 : b\n1 ins c 1 : b c\n0 recv 1 2\n0 read : c b\n0 read : c b\n1 read : b c\n";
-    let recording = recording(alloc, lines)?;
-    let graph = graph(&rt, alloc, &recording)?;
-    assert_eq!(rt; graph.before(0, 1), Some(operation(1, 2)?));
-    assert_eq!(rt; graph.before(1, 0), Some(operation(0, 1)?));
-    assert!(rt; agrees(&recording, &graph));
+    let expected = [Shown(0, 1, Some((1, 2))), Shown(1, 0, Some((0, 1)))];
+    assert_steps(&rt, rt.alloc(), LEAST_OF_TWO_READS, &expected)
+}
+
+/// The first element is b, the second a, and c is none.
+fn assert_numbered(rt: &impl Abort, graph: &OrderGraph) -> Result<(), Fail> {
+    assert_eq!(rt; graph.name(0), Some(Name::new(b"b")?));
+    assert_eq!(rt; graph.number(&Name::new(b"a")?), Some(1));
+    assert_eq!(rt; graph.number(&Name::new(b"c")?), None);
     Ok(())
 }
 
 #[test]
 fn elements_are_numbered_by_operations_and_not_by_arrival(rt: HostRuntime) -> Result<(), Fail> {
     let alloc = rt.alloc();
-    let lines = "trace 1\nreplicas 2\n1 ins a 0 : a\n0 ins b 0 : b\n";
-    let recording = recording(alloc, lines)?;
+    let recording = recording(alloc, LATER_REPLICA_FIRST)?;
     let graph = graph(&rt, alloc, &recording)?;
-    assert_eq!(rt; graph.name(0), Some(Name::new(b"b")?));
-    assert_eq!(rt; graph.number(&Name::new(b"a")?), Some(1));
-    assert_eq!(rt; graph.number(&Name::new(b"c")?), None);
+    assert_numbered(&rt, &graph)?;
     assert!(rt; agrees(&recording, &graph));
+    Ok(())
+}
+
+#[test]
+fn a_recording_with_no_element(rt: HostRuntime) -> Result<(), Fail> {
+    let alloc = rt.alloc();
+    let nothing = recording(alloc, NOTHING)?;
+    let none = graph(&rt, alloc, &nothing)?;
+    assert_eq!(rt; (none.elements(), none.lists()), (0, 0));
+    assert!(rt; agrees(&nothing, &none));
     Ok(())
 }
 
 #[test]
 fn an_element_that_no_response_shows(rt: HostRuntime) -> Result<(), Fail> {
     let alloc = rt.alloc();
-    let nothing = recording(
-        alloc,
-        "trace 1
-replicas 1
-",
-    )?;
-    let none = graph(&rt, alloc, &nothing)?;
-    assert_eq!(rt; none.elements(), 0);
-    assert_eq!(rt; none.lists(), 0);
-    assert!(rt; agrees(&nothing, &none));
-    // Deleted where nobody else sees it, before anybody reads.
-    let lines = "trace 1\nreplicas 1\n0 ins a 0 : a\n0 del a :\n0 read :\n";
-    let deleted = recording(alloc, lines)?;
+    let deleted = recording(alloc, DELETED_UNSEEN)?;
     let shown = graph(&rt, alloc, &deleted)?;
-    assert_eq!(rt; shown.lists(), 3);
-    assert_eq!(rt; shown.length(1), 0);
-    assert_eq!(rt; shown.before(0, 0), None);
+    assert_eq!(rt; (shown.lists(), shown.length(1)), (3, 0));
+    assert_shown(&rt, &shown, &[Shown(0, 0, None)]);
     assert!(rt; agrees(&deleted, &shown));
     Ok(())
 }
