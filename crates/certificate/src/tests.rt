@@ -5,7 +5,7 @@ use events::Recording;
 use std::alloc::Global;
 use std::sync::atomic::{AtomicU64, Ordering};
 use std::thread::Threads;
-use trace_text::read;
+use trace_text::{LineFault, read};
 
 const THREE_WAY: &str =
     "trace 1\nreplicas 3\n0 ins x 0 : x\n1 recv 0 1\n2 recv 0 1\n1 ins a 0 : a x\n2 ins b 1 : x b\n0 del x :\n0 recv 1 1\n0 recv 2 1\n0 read : b a\n";
@@ -17,7 +17,7 @@ const TWO_ORDERS: &str =
     "trace 1\nreplicas 2\n0 ins a 0 : a\n1 ins b 0 : b\n0 recv 1 1\n0 read : b a\n";
 
 /// What a test looks at of a verdict.
-#[derive(Clone, Copy, Debug, PartialEq, Eq)]
+#[derive(Clone, Copy, PartialEq, Eq)]
 enum Said {
     Faulty,
     Accepted(usize),
@@ -43,6 +43,14 @@ fn judged<H: Threads + Sync, G: Gate>(
     }
 }
 
+/// The recording that the text spells; where the first call finds no memory, what the second gives.
+fn recording_of(alloc: Global, text: &str) -> Result<Recording, LineFault> {
+    match read(alloc, text.as_bytes()) {
+        Err(_) => read(alloc, text.as_bytes()),
+        recording => recording,
+    }
+}
+
 /// What is said of the recording that the text spells; where memory is wanted, what the second call says.
 fn answered<H: Threads + Sync, G: Gate>(
     rt: &H,
@@ -51,12 +59,8 @@ fn answered<H: Threads + Sync, G: Gate>(
     workers: u32,
     gate: &G,
 ) -> Said {
-    let recording = match read(alloc, text.as_bytes()) {
-        Ok(recording) => recording,
-        Err(_) => match read(alloc, text.as_bytes()) {
-            Ok(recording) => recording,
-            Err(_) => return Said::NoText,
-        },
+    let Ok(recording) = recording_of(alloc, text) else {
+        return Said::NoText;
     };
     match judged(rt, alloc, &recording, workers, gate) {
         Said::Memory => judged(rt, alloc, &recording, workers, gate),
@@ -64,33 +68,36 @@ fn answered<H: Threads + Sync, G: Gate>(
     }
 }
 
+/// What is said of texts by four workers.
+static ROWS: [(&str, Said); 5] = [
+    (THREE_WAY, Said::Refused(3, 3)),
+    (OPPOSITE, Said::Refused(2, 2)),
+    (TWO_ORDERS, Said::Accepted(2)),
+    ("trace 1\nreplicas 1\n", Said::Accepted(0)),
+    ("trace 1\nreplicas 1\n0 read : a\n", Said::Faulty),
+];
+
 #[test]
 fn verdicts_of_worked_recordings(rt: HostRuntime) {
-    let rows = [
-        (THREE_WAY, Said::Refused(3, 3)),
-        (OPPOSITE, Said::Refused(2, 2)),
-        (TWO_ORDERS, Said::Accepted(2)),
-        ("trace 1\nreplicas 1\n", Said::Accepted(0)),
-        ("trace 1\nreplicas 1\n0 read : a\n", Said::Faulty),
-    ];
-    for (text, wanted) in rows {
-        assert_eq!(&rt; answered(&rt, rt.alloc(), text, 4, &NoGate), wanted);
+    for (text, wanted) in ROWS.iter().copied() {
+        let said = answered(&rt, rt.alloc(), text, 4, &NoGate);
+        assert!(rt; said == wanted, "at {text}");
     }
 }
 
 #[test]
 fn any_number_of_workers(rt: HostRuntime) {
     for workers in [1, 2, 7, 64] {
-        assert_eq!(&rt;
-            answered(&rt, rt.alloc(), THREE_WAY, workers, &NoGate),
-            Said::Refused(3, 3)
-        );
+        let said = answered(&rt, rt.alloc(), THREE_WAY, workers, &NoGate);
+        assert!(rt; said == Said::Refused(3, 3), "{workers}");
     }
+}
+
+#[test]
+fn workers_out_of_range(rt: HostRuntime) {
     for workers in [0, 65, 4294967295] {
-        assert_eq!(&rt;
-            answered(&rt, rt.alloc(), THREE_WAY, workers, &NoGate),
-            Said::Workers
-        );
+        let said = answered(&rt, rt.alloc(), THREE_WAY, workers, &NoGate);
+        assert!(rt; said == Said::Workers, "{workers}");
     }
 }
 
@@ -131,7 +138,7 @@ fn two_searches_at_once(rt: HostRuntime) {
         seen: AtomicU64::new(0),
     };
     let answer = answered(&rt, rt.alloc(), THREE_WAY, 2, &hold);
-    assert_eq!(&rt; answer, Said::Refused(3, 3));
-    assert_eq!(&rt; hold.seen.load(Ordering::SeqCst), 1);
-    assert_eq!(&rt; hold.ended.load(Ordering::SeqCst), 3);
+    assert!(rt; answer == Said::Refused(3, 3));
+    assert!(rt; hold.seen.load(Ordering::SeqCst) == 1);
+    assert!(rt; hold.ended.load(Ordering::SeqCst) == 3);
 }

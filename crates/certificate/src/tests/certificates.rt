@@ -1,10 +1,14 @@
-use super::{OPPOSITE, THREE_WAY, TWO_ORDERS};
-use crate::{NoGate, certify, judge};
-use events::Memory;
+ghost use Rattle.std.specs.Prelude.{IfOk};
+ghost use Rattle.specification.specs.CertificateText.{IsSpellable};
+ghost use Rattle.specification.specs.Verdict.{IsVerdict};
+ghost use Rattle.certificate_text.specs.CertificateOf.{certificate_of};
+ghost use Rattle.certificate.specs.VerdictOf.{verdict_of};
+
+use super::{OPPOSITE, THREE_WAY, TWO_ORDERS, recording_of};
+use crate::{Certificate, NoGate, SearchFault, Verdict, certify, judge};
+use events::{Memory, Recording};
 use std::alloc::Global;
-use std::test::Fail;
 use std::thread::Threads;
-use trace_text::read;
 
 const RING_OF_FOUR: &str =
     "trace 1\nreplicas 6\n0 ins a 0 : a\n1 ins b 0 : b\n2 recv 0 1\n2 recv 1 1\n2 read : a b\n3 recv 1 1\n3 ins c 1 : b c\n4 recv 3 1\n4 del b : c\n4 ins d 1 : c d\n5 recv 4 2\n5 del c : d\n5 recv 0 1\n5 read : d a\n";
@@ -12,60 +16,96 @@ const RING_OF_FOUR: &str =
 const PAST_A_NEIGHBOUR: &str =
     "trace 1\nreplicas 7\n0 ins a 0 : a\n1 ins b 0 : b\n2 ins c 0 : c\n3 ins d 0 : d\n4 recv 0 1\n4 recv 1 1\n4 recv 2 1\n4 read : a b c\n5 recv 2 1\n5 recv 3 1\n5 read : c d\n6 recv 3 1\n6 recv 0 1\n6 read : d a\n";
 
-/// The text of the certificate of the recording that a text spells. A call that finds no memory is made again.
-fn certified<H: Threads + Sync>(rt: &H, alloc: Global, text: &str) -> Result<Vec<u8>, Fail> {
-    let recording = match read(alloc, text.as_bytes()) {
-        Ok(recording) => recording,
-        Err(_) => read(alloc, text.as_bytes())?,
-    };
-    let verdict = match judge(rt, alloc, &recording, 4, &NoGate) {
-        Ok(verdict) => verdict,
-        Err(_) => judge(rt, alloc, &recording, 4, &NoGate)?,
-    };
-    let certificate = match certify(alloc, &recording, &verdict) {
-        Ok(certificate) => certificate,
-        Err(Memory) => certify(alloc, &recording, &verdict)?,
-    };
-    match certificate.write(alloc) {
-        Ok(text) => Ok(text),
-        Err(Memory) => Ok(certificate.write(alloc)?),
+/// The verdict; where the first call finds no memory, what the second gives.
+fn verdict_on<H: Threads + Sync>(
+    rt: &H,
+    alloc: Global,
+    recording: &Recording,
+) -> Result<Verdict, SearchFault>
+    ensures { IfOk result (λ v. IsVerdict recording.now (verdict_of v)) }
+{
+    match judge(rt, alloc, recording, 4, &NoGate) {
+        Err(_) => judge(rt, alloc, recording, 4, &NoGate),
+        verdict => verdict,
     }
 }
 
-#[test]
-fn certificates_of_worked_recordings(rt: HostRuntime) -> Result<(), Fail> {
-    let rows = [
-        (
-            THREE_WAY,
-            "cert 1\nrefused 3\nstep x b 2.1\nstep b a 0.3\nstep a x 1.1\nlayers x / b\nlayers a / x\nlayers b / a\n",
-        ),
-        (OPPOSITE, "cert 1\nrefused 2\nstep a b 0.2\nstep b a 1.2\n"),
-        (
-            RING_OF_FOUR,
-            "cert 1\nrefused 4\nstep a b 2.1\nstep b c 3.1\nstep c d 4.2\nstep d a 5.2\nlayers a / b / c\nlayers b / c / d\nlayers c / d / a\nlayers d / a / b\n",
-        ),
-        (
-            PAST_A_NEIGHBOUR,
-            "cert 1\nrefused 3\nstep a c 4.1\nstep c d 5.1\nstep d a 6.1\nlayers a / b c\nlayers b / c\nlayers c / d\nlayers d / a\n",
-        ),
-        (TWO_ORDERS, "cert 1\naccepted\norder : b a\n"),
-        ("trace 1\nreplicas 1\n", "cert 1\naccepted\norder :\n"),
-        (
-            "trace 1\nreplicas 2\n0 ins a 0 : a\n1 ins a 0 : a\n",
-            "cert 1\ndoubled 0.1 1.1\n",
-        ),
-        (
-            "trace 1\nreplicas 1\n0 read : a\n",
-            "cert 1\ncontents 0.1\n",
-        ),
-        (
-            "trace 1\nreplicas 1\n0 ins a 0 : a\n0 ins b 0 : a b\n",
-            "cert 1\nposition 0.2\n",
-        ),
-    ];
-    for (text, certificate) in rows {
-        let written = certified(&rt, rt.alloc(), text)?;
-        assert_eq!(rt; written.as_slice(), certificate.as_bytes(), "at {text}");
+/// The certificate; where the first call finds no memory, what the second gives.
+fn certificate_for(
+    alloc: Global,
+    recording: &Recording,
+    verdict: &Verdict,
+) -> Result<Certificate, Memory>
+    requires { IsVerdict recording.now (verdict_of verdict.now) }
+    ensures { IfOk result (λ c. IsSpellable (certificate_of c)) }
+{
+    match certify(alloc, recording, verdict) {
+        Err(Memory) => certify(alloc, recording, verdict),
+        certificate => certificate,
     }
-    Ok(())
+}
+
+/// The certificate's text; where the first call finds no memory, what the second gives.
+fn written(alloc: Global, certificate: &Certificate) -> Result<Vec<u8>, Memory>
+    requires { IsSpellable (certificate_of certificate.now) }
+{
+    match certificate.write(alloc) {
+        Err(Memory) => certificate.write(alloc),
+        text => text,
+    }
+}
+
+/// The text of the certificate of the recording that a text spells.
+fn certified<H: Threads + Sync>(rt: &H, alloc: Global, text: &str) -> Option<Vec<u8>> {
+    let recording = recording_of(alloc, text).ok()?;
+    let verdict = verdict_on(rt, alloc, &recording).ok()?;
+    let certificate = certificate_for(alloc, &recording, &verdict).ok()?;
+    written(alloc, &certificate).ok()
+}
+
+/// Whether the recording that the text spells has this certificate.
+fn has_certificate<H: Threads + Sync>(rt: &H, alloc: Global, text: &str, wanted: &str) -> bool {
+    match certified(rt, alloc, text) {
+        Some(certificate) => certificate.as_slice() == wanted.as_bytes(),
+        None => false,
+    }
+}
+
+/// Recordings with their certificates.
+static ROWS: [(&str, &str); 9] = [
+    (
+        THREE_WAY,
+        "cert 1\nrefused 3\nstep x b 2.1\nstep b a 0.3\nstep a x 1.1\nlayers x / b\nlayers a / x\nlayers b / a\n",
+    ),
+    (OPPOSITE, "cert 1\nrefused 2\nstep a b 0.2\nstep b a 1.2\n"),
+    (
+        RING_OF_FOUR,
+        "cert 1\nrefused 4\nstep a b 2.1\nstep b c 3.1\nstep c d 4.2\nstep d a 5.2\nlayers a / b / c\nlayers b / c / d\nlayers c / d / a\nlayers d / a / b\n",
+    ),
+    (
+        PAST_A_NEIGHBOUR,
+        "cert 1\nrefused 3\nstep a c 4.1\nstep c d 5.1\nstep d a 6.1\nlayers a / b c\nlayers b / c\nlayers c / d\nlayers d / a\n",
+    ),
+    (TWO_ORDERS, "cert 1\naccepted\norder : b a\n"),
+    ("trace 1\nreplicas 1\n", "cert 1\naccepted\norder :\n"),
+    (
+        "trace 1\nreplicas 2\n0 ins a 0 : a\n1 ins a 0 : a\n",
+        "cert 1\ndoubled 0.1 1.1\n",
+    ),
+    (
+        "trace 1\nreplicas 1\n0 read : a\n",
+        "cert 1\ncontents 0.1\n",
+    ),
+    (
+        "trace 1\nreplicas 1\n0 ins a 0 : a\n0 ins b 0 : a b\n",
+        "cert 1\nposition 0.2\n",
+    ),
+];
+
+#[test]
+fn certificates_of_worked_recordings(rt: HostRuntime) {
+    for (text, certificate) in ROWS.iter().copied() {
+        let certified = has_certificate(&rt, rt.alloc(), text, certificate);
+        assert!(rt; certified, "at {text}");
+    }
 }
