@@ -1,7 +1,6 @@
 use super::{Answer, Kind, Reason, check};
 use events::{Memory, Name, OpName};
 use std::alloc::Global;
-use std::test::Fail;
 use std::thread::Threads;
 
 /// Three replicas that each see two of the three elements in an order, in a ring.
@@ -34,87 +33,140 @@ fn answer(
     }
 }
 
-#[test]
-fn valid_certificates(rt: HostRuntime) -> Result<(), Fail> {
-    let rows = [
-        (
-            THREE_WAY,
-            "cert 1\nrefused 3\nstep x b 2.1\nstep b a 0.3\nstep a x 1.1\nlayers x / b\nlayers a / x\nlayers b / a\n",
-            Kind::Refused,
-        ),
-        (
-            OPPOSITE,
-            "cert 1\nrefused 2\nstep a b 0.2\nstep b a 1.2\n",
-            Kind::Refused,
-        ),
-        (READ_BACK, "cert 1\naccepted\norder : b a\n", Kind::Accepted),
-        (EMPTY, "cert 1\naccepted\norder :\n", Kind::Accepted),
-        (SHOWS_DELETED, "cert 1\ncontents 0.3\n", Kind::Contents),
-        (
-            "trace 1\nreplicas 1\n0 ins a 0 : a\n0 ins b 0 : a b\n",
-            "cert 1\nposition 0.2\n",
-            Kind::Position,
-        ),
-        (
-            "trace 1\nreplicas 2\n0 ins a 0 : a\n1 ins a 0 : a\n",
-            "cert 1\ndoubled 0.1 1.1\n",
-            Kind::Doubled,
-        ),
-    ];
-    for (trace, cert, kind) in rows {
-        let said = answer(&rt, rt.alloc(), trace, cert)?;
-        assert_eq!(rt; said, Answer::Yes(kind), "at {cert}");
-        assert!(rt; said != Answer::No(Reason::Trace));
+/// Whether the checker says that the certificate is valid, and so shows this.
+fn is_valid<H: Threads + Sync>(rt: &H, alloc: Global, trace: &str, cert: &str, kind: Kind) -> bool {
+    match answer(rt, alloc, trace, cert) {
+        Ok(said) => said == Answer::Yes(kind) && said != Answer::No(Reason::Trace),
+        Err(Memory) => false,
     }
-    Ok(())
 }
 
-#[test]
-fn reasons_against_certificates(rt: HostRuntime) -> Result<(), Fail> {
-    let (a, b) = (Name::new(b"a")?, Name::new(b"b")?);
-    let read = OpName { replica: 0, n: 2 };
-    let rows = [
-        ("trace 1\n", "cert 2\n", Reason::Trace),
-        (EMPTY, "", Reason::CertText),
-        (THREE_WAY, "cert 1\nrefused 3\n", Reason::CertText),
-        (EMPTY, "cert 1\ncontents 0.1\n", Reason::WrongFault),
-        (
-            SHOWS_DELETED,
-            "cert 1\naccepted\norder : a\n",
-            Reason::WrongFault,
-        ),
-        (SHOWS_DELETED, "cert 1\ncontents 0.2\n", Reason::WrongFault),
-        (EMPTY, "cert 1\naccepted\norder : a\n", Reason::NotOrder),
-        (
-            READ_BACK,
-            "cert 1\naccepted\norder : a b\n",
-            Reason::NotFollowed { at: read },
-        ),
-        (
-            THREE_WAY,
-            "cert 1\nrefused 3\nstep b x 2.1\nstep b a 0.3\nstep a x 1.1\nlayers x / b\nlayers a / x\nlayers b / a\n",
-            Reason::NoCycle { step: 1 },
-        ),
-        (
-            THREE_WAY,
-            "cert 1\nrefused 3\nstep x b 2.1\nstep b a 0.3\nstep a x 1.1\nlayers x / b\nlayers a / x\n",
-            Reason::MissingLayer { source: b },
-        ),
-        (
-            THREE_WAY,
-            "cert 1\nrefused 3\nstep x b 2.1\nstep b a 0.3\nstep a x 1.1\nlayers x / b\nlayers a / x\nlayers b / a\nlayers b / a\n",
-            Reason::ExtraLayer { source: b },
-        ),
-        (
-            OPPOSITE,
-            "cert 1\nrefused 4\nstep a b 0.2\nstep b a 1.2\nstep a b 0.2\nstep b a 1.2\nlayers a / b /\nlayers b / a /\n",
-            Reason::ShortLayer { source: a },
-        ),
-    ];
-    for (trace, cert, why) in rows {
-        let said = answer(&rt, rt.alloc(), trace, cert)?;
-        assert_eq!(rt; said, Answer::No(why), "at {cert}");
-        assert!(rt; said != Answer::Yes(Kind::Refused));
+/// A reason as plain data, which a static may hold.
+#[derive(Clone, Copy)]
+enum Why {
+    Trace,
+    CertText,
+    WrongFault,
+    NotOrder,
+    NotFollowed { replica: u32, n: u32 },
+    NoCycle { step: u32 },
+    MissingLayer { source: &'static str },
+    ShortLayer { source: &'static str },
+    ExtraLayer { source: &'static str },
+}
+
+/// The reason; none where a text is no name.
+fn reason(why: Why) -> Option<Reason> {
+    match why {
+        Why::Trace => Some(Reason::Trace),
+        Why::CertText => Some(Reason::CertText),
+        Why::WrongFault => Some(Reason::WrongFault),
+        Why::NotOrder => Some(Reason::NotOrder),
+        Why::NotFollowed { replica, n } => Some(Reason::NotFollowed {
+            at: OpName::new(replica, n)?,
+        }),
+        Why::NoCycle { step } => Some(Reason::NoCycle { step }),
+        Why::MissingLayer { source } => Some(Reason::MissingLayer {
+            source: name(source)?,
+        }),
+        Why::ShortLayer { source } => Some(Reason::ShortLayer {
+            source: name(source)?,
+        }),
+        Why::ExtraLayer { source } => Some(Reason::ExtraLayer {
+            source: name(source)?,
+        }),
     }
-    Ok(())
+}
+
+fn name(text: &str) -> Option<Name> {
+    Name::new(text.as_bytes()).ok()
+}
+
+/// Whether the checker says that the certificate is not valid, and why.
+fn is_invalid<H: Threads + Sync>(rt: &H, alloc: Global, trace: &str, cert: &str, why: Why) -> bool {
+    match (answer(rt, alloc, trace, cert), reason(why)) {
+        (Ok(said), Some(why)) => { said == Answer::No(why) && said != Answer::Yes(Kind::Refused) }
+        _ => false,
+    }
+}
+
+/// Traces with valid certificates.
+static VALID: [(&str, &str, Kind); 7] = [
+    (
+        THREE_WAY,
+        "cert 1\nrefused 3\nstep x b 2.1\nstep b a 0.3\nstep a x 1.1\nlayers x / b\nlayers a / x\nlayers b / a\n",
+        Kind::Refused,
+    ),
+    (
+        OPPOSITE,
+        "cert 1\nrefused 2\nstep a b 0.2\nstep b a 1.2\n",
+        Kind::Refused,
+    ),
+    (READ_BACK, "cert 1\naccepted\norder : b a\n", Kind::Accepted),
+    (EMPTY, "cert 1\naccepted\norder :\n", Kind::Accepted),
+    (SHOWS_DELETED, "cert 1\ncontents 0.3\n", Kind::Contents),
+    (
+        "trace 1\nreplicas 1\n0 ins a 0 : a\n0 ins b 0 : a b\n",
+        "cert 1\nposition 0.2\n",
+        Kind::Position,
+    ),
+    (
+        "trace 1\nreplicas 2\n0 ins a 0 : a\n1 ins a 0 : a\n",
+        "cert 1\ndoubled 0.1 1.1\n",
+        Kind::Doubled,
+    ),
+];
+
+#[test]
+fn valid_certificates(rt: HostRuntime) {
+    for (trace, cert, kind) in VALID.iter().copied() {
+        assert!(rt; is_valid(&rt, rt.alloc(), trace, cert, kind), "at {cert}");
+    }
+}
+
+/// Traces with certificates that are not valid, and why.
+static INVALID: [(&str, &str, Why); 12] = [
+    ("trace 1\n", "cert 2\n", Why::Trace),
+    (EMPTY, "", Why::CertText),
+    (THREE_WAY, "cert 1\nrefused 3\n", Why::CertText),
+    (EMPTY, "cert 1\ncontents 0.1\n", Why::WrongFault),
+    (
+        SHOWS_DELETED,
+        "cert 1\naccepted\norder : a\n",
+        Why::WrongFault,
+    ),
+    (SHOWS_DELETED, "cert 1\ncontents 0.2\n", Why::WrongFault),
+    (EMPTY, "cert 1\naccepted\norder : a\n", Why::NotOrder),
+    (
+        READ_BACK,
+        "cert 1\naccepted\norder : a b\n",
+        Why::NotFollowed { replica: 0, n: 2 },
+    ),
+    (
+        THREE_WAY,
+        "cert 1\nrefused 3\nstep b x 2.1\nstep b a 0.3\nstep a x 1.1\nlayers x / b\nlayers a / x\nlayers b / a\n",
+        Why::NoCycle { step: 1 },
+    ),
+    (
+        THREE_WAY,
+        "cert 1\nrefused 3\nstep x b 2.1\nstep b a 0.3\nstep a x 1.1\nlayers x / b\nlayers a / x\n",
+        Why::MissingLayer { source: "b" },
+    ),
+    (
+        THREE_WAY,
+        "cert 1\nrefused 3\nstep x b 2.1\nstep b a 0.3\nstep a x 1.1\nlayers x / b\nlayers a / x\nlayers b / a\nlayers b / a\n",
+        Why::ExtraLayer { source: "b" },
+    ),
+    (
+        OPPOSITE,
+        "cert 1\nrefused 4\nstep a b 0.2\nstep b a 1.2\nstep a b 0.2\nstep b a 1.2\nlayers a / b /\nlayers b / a /\n",
+        Why::ShortLayer { source: "a" },
+    ),
+];
+
+#[test]
+fn reasons_against_certificates(rt: HostRuntime) {
+    for (trace, cert, why) in INVALID.iter().copied() {
+        assert!(rt; is_invalid(&rt, rt.alloc(), trace, cert, why), "at {cert}");
+    }
 }

@@ -1,5 +1,5 @@
 use super::{Cause, LineFault, read, write};
-use events::{Body, Memory, Recording, Refusal};
+use events::{Body, Entry, Memory, Name, Recording, Refusal, Response};
 use std::alloc::{AllocError, Global};
 use std::test::Fail;
 
@@ -60,6 +60,7 @@ fn text_of(alloc: Global, fault: &LineFault) -> Result<String, AllocError> {
     }
 }
 
+/// The words of a cause, in the same manner.
 fn words_of(alloc: Global, cause: &Cause) -> Result<String, AllocError> {
     match cause.to_string(alloc) {
         Err(_) => cause.to_string(alloc),
@@ -67,197 +68,294 @@ fn words_of(alloc: Global, cause: &Cause) -> Result<String, AllocError> {
     }
 }
 
+/// How many entries a text has, and whether it is written again as it was.
+fn count_and_again(alloc: Global, text: &[u8]) -> Result<(u32, bool), Fail> {
+    let recording = reading(alloc, text)?;
+    let again = writing(alloc, &recording)?;
+    Ok((recording.len(), again.as_slice() == text))
+}
+
+const WORKED: &[&str] = &[
+    "trace 1\nreplicas 1\n",
+    "trace 1\nreplicas 16\n",
+    "trace 1\nreplicas 1\n0 ins a 0 : a\n0 del a :\n0 read :\n",
+    "trace 1\nreplicas 1\n0 ins a 0 : a\n0 ins b 4294967295 : a b\n",
+    "trace 1\nreplicas 1\n0 del a :\n0 ins a 0 :\n",
+    "trace 1\nreplicas 2\n0 ins a 0 : a\n1 recv 0 1\n1 recv 0 1\n1 read : a\n",
+    // The three-way cycle.
+    "trace 1\nreplicas 3\n0 ins x 0 : x\n1 recv 0 1\n2 recv 0 1\n1 ins a 0 : a x\n2 ins b 1 : x b\n0 del x :\n0 recv 1 1\n0 recv 2 1\n0 read : b a\n",
+    // The opposite pair.
+    "trace 1\nreplicas 2\n0 ins a 0 : a\n1 ins b 0 : b\n0 recv 1 1\n1 recv 0 1\n0 read : a b\n1 read : b a\n",
+    // The ring of four.
+    "trace 1\nreplicas 6\n0 ins a 0 : a\n1 ins b 0 : b\n2 recv 0 1\n2 recv 1 1\n2 read : a b\n3 recv 1 1\n3 ins c 1 : b c\n4 recv 3 1\n4 del b : c\n4 ins d 1 : c d\n5 recv 4 2\n5 del c : d\n5 recv 0 1\n5 read : d a\n",
+    // Names of each kind of byte, of the greatest length, and like the format's own words.
+    "trace 1\nreplicas 1\n0 ins .-_ 0 : .-_\n0 ins A.0 1 : .-_ A.0\n0 ins nnnnnnnnnnnnnnnnnnnnnnnnnnnnnnnn 0 : nnnnnnnnnnnnnnnnnnnnnnnnnnnnnnnn .-_ A.0\n",
+    "trace 1\nreplicas 1\n0 ins read 0 : read\n0 ins 0.1 1 : read 0.1\n0 del ins : read 0.1\n",
+];
+
+/// The first of these texts that is written as another; none where each comes back.
+fn first_changed(alloc: Global, texts: &[&'static str]) -> Result<Option<&'static str>, Fail> {
+    for text in texts {
+        let (_, is_same) = count_and_again(alloc, text.as_bytes())?;
+        if !is_same {
+            return Ok(Some(*text));
+        }
+    }
+    Ok(None)
+}
+
 #[test]
 fn worked_texts_are_read_and_written_again(rt: HostRuntime) -> Result<(), Fail> {
-    let texts = [
-        "trace 1\nreplicas 1\n",
-        "trace 1\nreplicas 16\n",
-        "trace 1\nreplicas 1\n0 ins a 0 : a\n0 del a :\n0 read :\n",
-        "trace 1\nreplicas 1\n0 ins a 0 : a\n0 ins b 4294967295 : a b\n",
-        "trace 1\nreplicas 1\n0 del a :\n0 ins a 0 :\n",
-        "trace 1\nreplicas 2\n0 ins a 0 : a\n1 recv 0 1\n1 recv 0 1\n1 read : a\n",
-        // The three-way cycle.
-        "trace 1\nreplicas 3\n0 ins x 0 : x\n1 recv 0 1\n2 recv 0 1\n1 ins a 0 : a x\n2 ins b 1 : x b\n0 del x :\n0 recv 1 1\n0 recv 2 1\n0 read : b a\n",
-        // The opposite pair.
-        "trace 1\nreplicas 2\n0 ins a 0 : a\n1 ins b 0 : b\n0 recv 1 1\n1 recv 0 1\n0 read : a b\n1 read : b a\n",
-        // The ring of four.
-        "trace 1\nreplicas 6\n0 ins a 0 : a\n1 ins b 0 : b\n2 recv 0 1\n2 recv 1 1\n2 read : a b\n3 recv 1 1\n3 ins c 1 : b c\n4 recv 3 1\n4 del b : c\n4 ins d 1 : c d\n5 recv 4 2\n5 del c : d\n5 recv 0 1\n5 read : d a\n",
-        // Names of each kind of byte, of the greatest length, and like the format's own words.
-        "trace 1\nreplicas 1\n0 ins .-_ 0 : .-_\n0 ins A.0 1 : .-_ A.0\n0 ins nnnnnnnnnnnnnnnnnnnnnnnnnnnnnnnn 0 : nnnnnnnnnnnnnnnnnnnnnnnnnnnnnnnn .-_ A.0\n",
-        "trace 1\nreplicas 1\n0 ins read 0 : read\n0 ins 0.1 1 : read 0.1\n0 del ins : read 0.1\n",
-    ];
-    for text in texts {
-        let recording = reading(rt.alloc(), text.as_bytes())?;
-        let again = writing(rt.alloc(), &recording)?;
-        assert_eq!(rt; again.as_slice(), text.as_bytes(), "at {text}");
-    }
+    assert_eq!(rt; first_changed(rt.alloc(), WORKED)?, None);
     Ok(())
+}
+
+/// Whether an entry is replica 0's insert of `x` at 7, with a response of two names of which the second is `y`.
+fn is_insert(entry: &Entry) -> bool {
+    match &entry.body {
+        Body::Ins { name, at, response } => {
+            entry.replica == 0 && is_named(name, b"x") && *at == 7 && is_pair(response)
+        }
+        _ => false,
+    }
+}
+
+fn is_named(name: &Name, text: &[u8]) -> bool {
+    name.bytes() == text
+}
+
+fn is_pair(response: &Response) -> bool {
+    match response.get(1) {
+        Some(second) => response.len() == 2 && is_named(&second, b"y"),
+        None => false,
+    }
+}
+
+/// Whether an entry is replica 2's receipt of the first operation of replica 0.
+fn is_receipt(entry: &Entry) -> bool {
+    match &entry.body {
+        Body::Recv { seen } => entry.replica == 2 && seen.replica == 0 && seen.n == 1,
+        _ => false,
+    }
+}
+
+/// How many replicas and entries a recording has, and whether its entries are this insert and this receipt.
+fn facts(recording: &Recording) -> (u32, u32, bool, bool) {
+    (
+        recording.replicas(),
+        recording.len(),
+        recording.entry(0).is_some_and(is_insert),
+        recording.entry(1).is_some_and(is_receipt),
+    )
 }
 
 #[test]
 fn a_text_gives_its_entries(rt: HostRuntime) -> Result<(), Fail> {
     let text = "trace 1\nreplicas 3\n0 ins x 7 : x y\n2 recv 0 1\n";
     let recording = reading(rt.alloc(), text.as_bytes())?;
-    assert_eq!(rt; recording.replicas(), 3);
-    assert_eq!(rt; recording.len(), 2);
-    match recording.entry(0) {
-        Some(entry) => {
-            assert_eq!(rt; entry.replica, 0);
-            match &entry.body {
-                Body::Ins { name, at, response } => {
-                    assert_eq!(rt; name.bytes(), b"x".as_slice());
-                    assert_eq!(rt; *at, 7);
-                    assert_eq!(rt; response.len(), 2);
-                    let second = response.get(1).ok_or("one name")?;
-                    assert_eq!(rt; second.bytes(), b"y".as_slice());
-                }
-                _ => assert!(rt; false, "no insert"),
-            }
-        }
-        None => assert!(rt; false, "no entry"),
-    }
-    match recording.entry(1) {
-        Some(entry) => {
-            assert_eq!(rt; entry.replica, 2);
-            match &entry.body {
-                Body::Recv { seen } => {
-                    assert_eq!(rt; seen.replica, 0);
-                    assert_eq!(rt; seen.n, 1);
-                }
-                _ => assert!(rt; false, "no receipt"),
-            }
-        }
-        None => assert!(rt; false, "no second entry"),
-    }
+    assert_eq!(rt; facts(&recording), (3, 2, true, true));
     Ok(())
 }
+
+/// The fault of a text; none where it is read.
+fn fault_of(alloc: Global, text: &[u8]) -> Option<LineFault> {
+    match reading(alloc, text) {
+        Ok(_) => None,
+        Err(fault) => Some(fault),
+    }
+}
+
+/// How many entries the text has that these pieces make.
+fn entries_in(alloc: Global, pieces: &Pieces) -> Result<u32, Fail> {
+    let text = pieces.join(alloc)?;
+    Ok(reading(alloc, text.as_slice())?.len())
+}
+
+/// The fault of the text that these pieces make; none where it is read.
+fn fault_in(alloc: Global, pieces: &Pieces) -> Result<Option<LineFault>, Memory> {
+    let text = pieces.join(alloc)?;
+    Ok(fault_of(alloc, text.as_slice()))
+}
+
+/// How many entries the text of the first pieces has, and the fault of the text of the others.
+fn count_and_fault(
+    alloc: Global,
+    full: &Pieces,
+    fuller: &Pieces,
+) -> Result<(u32, Option<LineFault>), Fail> {
+    Ok((entries_in(alloc, full)?, fault_in(alloc, fuller)?))
+}
+
+/// The fault of the text of a front and an entry.
+fn fault_behind(alloc: Global, front: &[u8], entry: &str) -> Result<Option<LineFault>, Memory> {
+    let text = Pieces {
+        front,
+        piece: entry.as_bytes(),
+        count: 1,
+        back: b"",
+    };
+    fault_in(alloc, &text)
+}
+
+/// The first of the rows whose text, behind a front, has not this fault at this line; none where all have.
+fn first_wrong(
+    alloc: Global,
+    front: &[u8],
+    rows: &[(&'static str, u32, Cause)],
+) -> Result<Option<&'static str>, Memory> {
+    for (text, line, cause) in rows {
+        let fault = LineFault {
+            line: *line,
+            cause: *cause,
+        };
+        if fault_behind(alloc, front, text)? != Some(fault) {
+            return Ok(Some(*text));
+        }
+    }
+    Ok(None)
+}
+
+/// Texts, the first faulty line of each, and what is wrong with it.
+const FIRST_TWO_LINES: &[(&str, u32, Cause)] = &[
+    ("", 1, Cause::Header),
+    ("\n", 1, Cause::Header),
+    ("trace 1", 1, Cause::Cut),
+    ("tra", 1, Cause::Cut),
+    ("cert 1\nreplicas 1\n", 1, Cause::Header),
+    ("trace 2\nreplicas 1\n", 1, Cause::Header),
+    ("trace 1 \nreplicas 1\n", 1, Cause::Header),
+    ("trace 1\r\nreplicas 1\r\n", 1, Cause::Header),
+    ("trace 1\n", 2, Cause::Replicas),
+    ("trace 1\n\n", 2, Cause::Replicas),
+    ("trace 1\nreplicas 0\n", 2, Cause::Replicas),
+    ("trace 1\nreplicas 17\n", 2, Cause::Replicas),
+    ("trace 1\nreplicas 01\n", 2, Cause::Replicas),
+    ("trace 1\nreplicas  1\n", 2, Cause::Replicas),
+    ("trace 1\nreplicas 1 \n", 2, Cause::Replicas),
+    ("trace 1\nreplicas\n", 2, Cause::Replicas),
+    ("trace 1\nreplicas 4294967297\n", 2, Cause::Replicas),
+    ("trace 1\nreplicas 1", 2, Cause::Cut),
+];
 
 #[test]
 fn the_first_two_lines(rt: HostRuntime) -> Result<(), Fail> {
-    let rows = [
-        ("", 1, Cause::Header),
-        ("\n", 1, Cause::Header),
-        ("trace 1", 1, Cause::Cut),
-        ("tra", 1, Cause::Cut),
-        ("cert 1\nreplicas 1\n", 1, Cause::Header),
-        ("trace 2\nreplicas 1\n", 1, Cause::Header),
-        ("trace 1 \nreplicas 1\n", 1, Cause::Header),
-        ("trace 1\r\nreplicas 1\r\n", 1, Cause::Header),
-        ("trace 1\n", 2, Cause::Replicas),
-        ("trace 1\n\n", 2, Cause::Replicas),
-        ("trace 1\nreplicas 0\n", 2, Cause::Replicas),
-        ("trace 1\nreplicas 17\n", 2, Cause::Replicas),
-        ("trace 1\nreplicas 01\n", 2, Cause::Replicas),
-        ("trace 1\nreplicas  1\n", 2, Cause::Replicas),
-        ("trace 1\nreplicas 1 \n", 2, Cause::Replicas),
-        ("trace 1\nreplicas\n", 2, Cause::Replicas),
-        ("trace 1\nreplicas 4294967297\n", 2, Cause::Replicas),
-        ("trace 1\nreplicas 1", 2, Cause::Cut),
-    ];
-    for (text, line, cause) in rows {
-        let answer = reading(rt.alloc(), text.as_bytes()).err();
-        assert_eq!(rt; answer, Some(LineFault { line, cause }), "at {text}");
+    assert_eq!(rt; first_wrong(rt.alloc(), b"", FIRST_TWO_LINES)?, None);
+    Ok(())
+}
+
+/// What is wrong with a malformed third line.
+fn shape_or_cut(entry: &str) -> LineFault {
+    let cause = if entry.ends_with('\n') {
+        Cause::Shape
+    } else {
+        Cause::Cut
+    };
+    LineFault { line: 3, cause }
+}
+
+/// The first of these third lines that has not its fault; none where all have.
+fn first_well_formed(
+    alloc: Global,
+    entries: &[&'static str],
+) -> Result<Option<&'static str>, Memory> {
+    for entry in entries {
+        let fault = fault_behind(alloc, b"trace 1\nreplicas 1\n", entry)?;
+        if fault != Some(shape_or_cut(entry)) {
+            return Ok(Some(*entry));
+        }
     }
+    Ok(None)
+}
+
+/// Third lines that spell no entry, or are cut.
+const MALFORMED: &[&str] = &[
+    "0 read :",
+    "\n",
+    " \n",
+    "0\n",
+    "0 \n",
+    "0  read :\n",
+    "01 read :\n",
+    "+0 read :\n",
+    "-1 read :\n",
+    "0 read : \n",
+    "0 read :  a\n",
+    "0 read :a\n",
+    "0 read: a\n",
+    "0 read\n",
+    "0 Read :\n",
+    "0 view :\n",
+    " 0 read :\n",
+    "0 read :\r\n",
+    "0\tread :\n",
+    "0 recv 0\n",
+    "0 recv 1 0\n",
+    "0 recv 1 01\n",
+    "0 recv 1 1 \n",
+    "0 recv 1 1 1\n",
+    "0 recv 1.1\n",
+    "0 ins a : a\n",
+    "0 ins a 00 : a\n",
+    "0 ins a 4294967296 : a\n",
+    "0 ins a 99999999999999999999 : a\n",
+    "0 ins  0 : a\n",
+    "0 ins a/b 0 : a\n",
+    "0 ins \u{e9} 0 :\n",
+    "0 del nnnnnnnnnnnnnnnnnnnnnnnnnnnnnnnnn : a\n",
+    "0 del : a\n",
+    "4294967296 read :\n",
+    // What `record` would refuse too.
+    "9 read : a  b\n",
+];
+
+#[test]
+fn malformed_entries(rt: HostRuntime) -> Result<(), Fail> {
+    assert_eq!(rt; first_well_formed(rt.alloc(), MALFORMED)?, None);
     Ok(())
 }
 
 #[test]
-fn malformed_entries(rt: HostRuntime) -> Result<(), Fail> {
-    let rows = [
-        "0 read :",
-        "\n",
-        " \n",
-        "0\n",
-        "0 \n",
-        "0  read :\n",
-        "01 read :\n",
-        "+0 read :\n",
-        "-1 read :\n",
-        "0 read : \n",
-        "0 read :  a\n",
-        "0 read :a\n",
-        "0 read: a\n",
-        "0 read\n",
-        "0 Read :\n",
-        "0 view :\n",
-        " 0 read :\n",
-        "0 read :\r\n",
-        "0\tread :\n",
-        "0 recv 0\n",
-        "0 recv 1 0\n",
-        "0 recv 1 01\n",
-        "0 recv 1 1 \n",
-        "0 recv 1 1 1\n",
-        "0 recv 1.1\n",
-        "0 ins a : a\n",
-        "0 ins a 00 : a\n",
-        "0 ins a 4294967296 : a\n",
-        "0 ins a 99999999999999999999 : a\n",
-        "0 ins  0 : a\n",
-        "0 ins a/b 0 : a\n",
-        "0 ins \u{e9} 0 :\n",
-        "0 del nnnnnnnnnnnnnnnnnnnnnnnnnnnnnnnnn : a\n",
-        "0 del : a\n",
-        "4294967296 read :\n",
-        // What `record` would refuse too.
-        "9 read : a  b\n",
-    ];
-    for entry in rows {
-        let text = Pieces {
-            front: b"trace 1\nreplicas 1\n",
-            piece: entry.as_bytes(),
-            count: 1,
-            back: b"",
-        };
-        let text = text.join(rt.alloc())?;
-        let cause = if entry.ends_with('\n') {
-            Cause::Shape
-        } else {
-            Cause::Cut
-        };
-        let answer = reading(rt.alloc(), text.as_slice()).err();
-        assert_eq!(rt; answer, Some(LineFault { line: 3, cause }), "at {entry}");
-    }
+fn a_byte_outside_of_names(rt: HostRuntime) {
     let bytes = b"trace 1\nreplicas 1\n0 read : \xff\n";
-    let answer = reading(rt.alloc(), bytes.as_slice()).err();
     let shape = LineFault {
         line: 3,
         cause: Cause::Shape,
     };
-    assert_eq!(rt; answer, Some(shape));
-    Ok(())
+    assert_eq!(rt; fault_of(rt.alloc(), bytes.as_slice()), Some(shape));
 }
+
+/// Lines behind three, with the line of the fault and what is wrong with it.
+const REFUSED: &[(&str, u32, Cause)] = &[
+    ("0 read  : a\n0 read", 4, Cause::Shape),
+    ("rubbish", 4, Cause::Cut),
+    ("2 read :\n", 4, Cause::Refused(Refusal::NoReplica)),
+    ("16 read :\n", 4, Cause::Refused(Refusal::NoReplica)),
+    ("4294967295 read :\n", 4, Cause::Refused(Refusal::NoReplica)),
+    ("1 recv 2 1\n", 4, Cause::Refused(Refusal::NoReplica)),
+    ("2 recv 2 1\n", 4, Cause::Refused(Refusal::NoReplica)),
+    ("0 recv 0 1\n", 4, Cause::Refused(Refusal::OwnReceipt)),
+    ("0 recv 0 7\n", 4, Cause::Refused(Refusal::OwnReceipt)),
+    (
+        "0 recv 1 1\n",
+        4,
+        Cause::Refused(Refusal::NotYet { have: 0 }),
+    ),
+    (
+        "1 recv 0 2\n",
+        4,
+        Cause::Refused(Refusal::NotYet { have: 1 }),
+    ),
+    (
+        "1 recv 0 4294967295\n",
+        4,
+        Cause::Refused(Refusal::NotYet { have: 1 }),
+    ),
+];
 
 #[test]
 fn refused_entries(rt: HostRuntime) -> Result<(), Fail> {
-    let rows = [
-        ("0 read  : a\n0 read", Cause::Shape),
-        ("rubbish", Cause::Cut),
-        ("2 read :\n", Cause::Refused(Refusal::NoReplica)),
-        ("16 read :\n", Cause::Refused(Refusal::NoReplica)),
-        ("4294967295 read :\n", Cause::Refused(Refusal::NoReplica)),
-        ("1 recv 2 1\n", Cause::Refused(Refusal::NoReplica)),
-        ("2 recv 2 1\n", Cause::Refused(Refusal::NoReplica)),
-        ("0 recv 0 1\n", Cause::Refused(Refusal::OwnReceipt)),
-        ("0 recv 0 7\n", Cause::Refused(Refusal::OwnReceipt)),
-        ("0 recv 1 1\n", Cause::Refused(Refusal::NotYet { have: 0 })),
-        ("1 recv 0 2\n", Cause::Refused(Refusal::NotYet { have: 1 })),
-        (
-            "1 recv 0 4294967295\n",
-            Cause::Refused(Refusal::NotYet { have: 1 }),
-        ),
-    ];
-    for (entry, cause) in rows {
-        let text = Pieces {
-            front: b"trace 1\nreplicas 2\n0 ins a 0 : a\n",
-            piece: entry.as_bytes(),
-            count: 1,
-            back: b"",
-        };
-        let text = text.join(rt.alloc())?;
-        let answer = reading(rt.alloc(), text.as_slice()).err();
-        assert_eq!(rt; answer, Some(LineFault { line: 4, cause }), "at {entry}");
-    }
+    let front = b"trace 1\nreplicas 2\n0 ins a 0 : a\n";
+    assert_eq!(rt; first_wrong(rt.alloc(), front, REFUSED)?, None);
     Ok(())
 }
 
@@ -271,21 +369,20 @@ fn entries<'a>(piece: &'a [u8], count: u32, back: &'a [u8]) -> Pieces<'a> {
     }
 }
 
+/// Entries, how many of them there may be, the line behind them, and why one more is refused.
+const LIMITS: [(&str, u32, u32, Refusal); 2] = [
+    ("1 ins n 0 :\n", 256, 259, Refusal::InsertsFull),
+    ("1 read :\n", 4096, 4099, Refusal::EntriesFull),
+];
+
 #[test]
 fn limits(rt: HostRuntime) -> Result<(), Fail> {
-    let rows = [
-        ("1 ins n 0 :\n", 256, Refusal::InsertsFull),
-        ("1 read :\n", 4096, Refusal::EntriesFull),
-    ];
-    for (entry, most, why) in rows {
-        let full = entries(entry.as_bytes(), most, b"").join(rt.alloc())?;
-        assert_eq!(rt; reading(rt.alloc(), full.as_slice())?.len(), most);
-        let fuller = entries(entry.as_bytes(), most, entry.as_bytes()).join(rt.alloc())?;
-        let fault = LineFault {
-            line: most + 3,
-            cause: Cause::Refused(why),
-        };
-        assert_eq!(rt; reading(rt.alloc(), fuller.as_slice()).err(), Some(fault));
+    for (entry, most, line, why) in LIMITS {
+        let full = entries(entry.as_bytes(), most, b"");
+        let fuller = entries(entry.as_bytes(), most, entry.as_bytes());
+        let cause = Cause::Refused(why);
+        let answer = count_and_fault(rt.alloc(), &full, &fuller)?;
+        assert_eq!(rt; answer, (most, Some(LineFault { line, cause })));
     }
     Ok(())
 }
@@ -303,14 +400,12 @@ fn long_read<'a>(front: &'a [u8], names: u32) -> Pieces<'a> {
 #[test]
 fn long_responses(rt: HostRuntime) -> Result<(), Fail> {
     let front = b"trace 1\nreplicas 2\n1 read :";
-    let long = long_read(front, 4096).join(rt.alloc())?;
-    assert_eq!(rt; reading(rt.alloc(), long.as_slice())?.len(), 1);
-    let longer = long_read(front, 4097).join(rt.alloc())?;
     let fault = LineFault {
         line: 3,
         cause: Cause::Refused(Refusal::LongResponse),
     };
-    assert_eq!(rt; reading(rt.alloc(), longer.as_slice()).err(), Some(fault));
+    let answer = count_and_fault(rt.alloc(), &long_read(front, 4096), &long_read(front, 4097))?;
+    assert_eq!(rt; answer, (1, Some(fault)));
     Ok(())
 }
 
@@ -318,43 +413,67 @@ fn long_responses(rt: HostRuntime) -> Result<(), Fail> {
 fn full_places(rt: HostRuntime) -> Result<(), Fail> {
     let read = long_read(b"1 read :", 4096).join(rt.alloc())?;
     let full = entries(read.as_slice(), 64, b"").join(rt.alloc())?;
-    let recording = reading(rt.alloc(), full.as_slice())?;
-    assert_eq!(rt; recording.len(), 64);
-    assert_eq!(rt;
-        writing(rt.alloc(), &recording)?.as_slice(),
-        full.as_slice()
-    );
-    let fuller = entries(read.as_slice(), 64, b"1 read : q\n").join(rt.alloc())?;
-    let fault = LineFault {
-        line: 67,
-        cause: Cause::Refused(Refusal::PlacesFull),
-    };
-    assert_eq!(rt; reading(rt.alloc(), fuller.as_slice()).err(), Some(fault));
+    let answer = count_and_again(rt.alloc(), full.as_slice())?;
+    assert_eq!(rt; answer, (64, true));
     Ok(())
 }
 
 #[test]
-fn words_of_the_faults(rt: HostRuntime) -> Result<(), Fail> {
-    let rows = [
-        (Cause::Header, "header"),
-        (Cause::Replicas, "replicas"),
-        (Cause::Shape, "shape"),
-        (Cause::Cut, "cut"),
-        (Cause::Refused(Refusal::NoReplica), "no such replica"),
-        (Cause::Refused(Refusal::OwnReceipt), "own receipt"),
-        (
-            Cause::Refused(Refusal::NotYet { have: 1 }),
-            "not yet, have 1",
-        ),
-        (Cause::Refused(Refusal::EntriesFull), "entries full"),
-        (Cause::Refused(Refusal::InsertsFull), "inserts full"),
-        (Cause::Refused(Refusal::LongResponse), "long response"),
-        (Cause::Refused(Refusal::PlacesFull), "places full"),
-        (Cause::Refused(Refusal::Memory), "memory"),
-    ];
+fn more_than_full_places(rt: HostRuntime) -> Result<(), Fail> {
+    let read = long_read(b"1 read :", 4096).join(rt.alloc())?;
+    let fuller = entries(read.as_slice(), 64, b"1 read : q\n");
+    let fault = LineFault {
+        line: 67,
+        cause: Cause::Refused(Refusal::PlacesFull),
+    };
+    assert_eq!(rt; fault_in(rt.alloc(), &fuller)?, Some(fault));
+    Ok(())
+}
+
+/// Whether a cause is said in these words.
+fn is_said(alloc: Global, cause: &Cause, words: &str) -> Result<bool, AllocError> {
+    Ok(words_of(alloc, cause)?.as_str() == words)
+}
+
+/// The first of these words that its cause is not said in; none where each is.
+fn first_unsaid(
+    alloc: Global,
+    rows: &[(Cause, &'static str)],
+) -> Result<Option<&'static str>, AllocError> {
     for (cause, words) in rows {
-        assert_eq!(rt; words_of(rt.alloc(), &cause)?.as_str(), words);
+        if !is_said(alloc, cause, words)? {
+            return Ok(Some(*words));
+        }
     }
+    Ok(None)
+}
+
+const WORDS: &[(Cause, &str)] = &[
+    (Cause::Header, "header"),
+    (Cause::Replicas, "replicas"),
+    (Cause::Shape, "shape"),
+    (Cause::Cut, "cut"),
+    (Cause::Refused(Refusal::NoReplica), "no such replica"),
+    (Cause::Refused(Refusal::OwnReceipt), "own receipt"),
+    (
+        Cause::Refused(Refusal::NotYet { have: 1 }),
+        "not yet, have 1",
+    ),
+    (Cause::Refused(Refusal::EntriesFull), "entries full"),
+    (Cause::Refused(Refusal::InsertsFull), "inserts full"),
+    (Cause::Refused(Refusal::LongResponse), "long response"),
+    (Cause::Refused(Refusal::PlacesFull), "places full"),
+    (Cause::Refused(Refusal::Memory), "memory"),
+];
+
+#[test]
+fn words_of_the_faults(rt: HostRuntime) -> Result<(), Fail> {
+    assert_eq!(rt; first_unsaid(rt.alloc(), WORDS)?, None);
+    Ok(())
+}
+
+#[test]
+fn words_of_a_line_with_its_fault(rt: HostRuntime) -> Result<(), Fail> {
     let fault = LineFault {
         line: 4,
         cause: Cause::Refused(Refusal::NotYet { have: 1 }),

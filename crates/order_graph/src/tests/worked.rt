@@ -60,28 +60,36 @@ fn assert_steps(
     Ok(())
 }
 
-/// The ring has four elements and a list for each of its eight operations.
-fn assert_sizes(rt: &impl Abort, ring: &OrderGraph) {
-    assert_eq!(rt; ring.elements(), 4);
-    assert_eq!(rt; ring.lists(), 8);
-    assert_eq!(rt; ring.length(7), 2);
-    assert_eq!(rt; ring.spots(0), 3);
+/// Whether there are four elements, and a list for each of the eight operations of the ring.
+fn has_sizes(ring: &OrderGraph) -> bool {
+    ring.elements() == 4 && ring.lists() == 8 && ring.length(7) == 2 && ring.spots(0) == 3
 }
 
-/// The last list of the ring is the last read's, of d and then a.
-fn assert_last_list(rt: &impl Abort, ring: &OrderGraph) {
-    assert_eq!(rt; numbers(ring.shown_by(7)), Some((5, 2)));
-    assert_eq!(rt; ring.spot(0, 2), Some(Spot { list: 7, place: 1 }));
+/// Whether a spot is there, and at this place of this list.
+fn is_spot(spot: Option<Spot>, list: u32, place: u32) -> bool {
+    match spot {
+        Some(spot) => spot.list == list && spot.place == place,
+        None => false,
+    }
 }
 
-/// Only a place that is there counts as looked at, and so does an element that is expanded.
-fn assert_looked(rt: &impl Abort, ring: &OrderGraph) {
+/// Whether a name is there, and of the n-th operation of this replica.
+fn is_operation(name: Option<OpName>, replica: u32, n: u32) -> bool {
+    match name {
+        Some(name) => name.replica == replica && name.n == n,
+        None => false,
+    }
+}
+
+/// Whether only a place that is there counts as looked at, and so does an element that is expanded. The
+/// last list of the ring is of d and then a.
+fn counts_looks(ring: &OrderGraph) -> bool {
     let mut looked = Looked::new();
-    assert_eq!(rt; looked.count(), 0);
-    assert_eq!(rt; ring.place(7, 0, &mut looked), Some(3));
-    assert_eq!(rt; ring.place(7, 2, &mut looked), None);
+    let starts = looked.count() == 0;
+    let finds = ring.place(7, 0, &mut looked) == Some(3);
+    let ends = ring.place(7, 2, &mut looked).is_none();
     looked.expand();
-    assert_eq!(rt; looked.count(), 2);
+    starts && finds && ends && looked.count() == 2
 }
 
 #[test]
@@ -89,9 +97,10 @@ fn marks_of_the_ring_of_four(rt: HostRuntime) -> Result<(), Fail> {
     let alloc = rt.alloc();
     let recording = recording(alloc, RING_OF_FOUR)?;
     let ring = graph(&rt, alloc, &recording)?;
-    assert_sizes(&rt, &ring);
-    assert_last_list(&rt, &ring);
-    assert_looked(&rt, &ring);
+    assert!(rt; has_sizes(&ring));
+    assert!(rt; is_spot(ring.spot(0, 2), 7, 1));
+    assert!(rt; is_operation(ring.shown_by(7), 5, 2));
+    assert!(rt; counts_looks(&ring));
     Ok(())
 }
 
@@ -129,12 +138,10 @@ fn the_least_operation_is_shown(rt: HostRuntime) -> Result<(), Fail> {
     assert_steps(&rt, rt.alloc(), LEAST_OF_TWO_READS, &expected)
 }
 
-/// The first element is b, the second a, and c is none.
-fn assert_numbered(rt: &impl Abort, graph: &OrderGraph) -> Result<(), Fail> {
-    assert_eq!(rt; graph.name(0), Some(Name::new(b"b")?));
-    assert_eq!(rt; graph.number(&Name::new(b"a")?), Some(1));
-    assert_eq!(rt; graph.number(&Name::new(b"c")?), None);
-    Ok(())
+/// Whether the first element is b, the second a, and c is none.
+fn is_b_and_a(graph: &OrderGraph) -> Result<bool, Fail> {
+    let (a, b, c) = (Name::new(b"a")?, Name::new(b"b")?, Name::new(b"c")?);
+    Ok(graph.name(0) == Some(b) && graph.number(&a) == Some(1) && graph.number(&c).is_none())
 }
 
 #[test]
@@ -142,7 +149,7 @@ fn elements_are_numbered_by_operations_and_not_by_arrival(rt: HostRuntime) -> Re
     let alloc = rt.alloc();
     let recording = recording(alloc, LATER_REPLICA_FIRST)?;
     let graph = graph(&rt, alloc, &recording)?;
-    assert_numbered(&rt, &graph)?;
+    assert!(rt; is_b_and_a(&graph)?);
     assert!(rt; agrees(&recording, &graph));
     Ok(())
 }
@@ -152,7 +159,7 @@ fn a_recording_with_no_element(rt: HostRuntime) -> Result<(), Fail> {
     let alloc = rt.alloc();
     let nothing = recording(alloc, NOTHING)?;
     let none = graph(&rt, alloc, &nothing)?;
-    assert_eq!(rt; (none.elements(), none.lists()), (0, 0));
+    assert!(rt; none.elements() == 0 && none.lists() == 0);
     assert!(rt; agrees(&nothing, &none));
     Ok(())
 }
@@ -162,7 +169,7 @@ fn an_element_that_no_response_shows(rt: HostRuntime) -> Result<(), Fail> {
     let alloc = rt.alloc();
     let deleted = recording(alloc, DELETED_UNSEEN)?;
     let shown = graph(&rt, alloc, &deleted)?;
-    assert_eq!(rt; (shown.lists(), shown.length(1)), (3, 0));
+    assert!(rt; shown.lists() == 3 && shown.length(1) == 0);
     assert_shown(&rt, &shown, &[Shown(0, 0, None)]);
     assert!(rt; agrees(&deleted, &shown));
     Ok(())
