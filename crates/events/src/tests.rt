@@ -3,7 +3,6 @@ use super::{
 };
 use std::alloc::Global;
 use std::fmt::Display;
-use std::test::Fail;
 
 /// The name; the bytes are those of a name wherever it is called.
 fn name(text: &str) -> Result<Name, NameFault> {
@@ -203,36 +202,36 @@ fn has_at(response: &Response, place: usize, text: &str) -> bool {
 }
 
 /// The names `a`, `a` and `b`.
-fn listed(alloc: Global) -> Result<Response, Fail> {
-    let mut made = response(alloc, name("a")?, 2)?;
-    pushed(&mut made, name("b")?)?;
-    Ok(made)
+fn listed(alloc: Global) -> Option<Response> {
+    let a = name("a").ok()?;
+    let b = name("b").ok()?;
+    let mut made = response(alloc, a, 2).ok()?;
+    pushed(&mut made, b).ok()?;
+    Some(made)
 }
 
 /// The same names, copied, taken out and put together again.
-fn listed_again(alloc: Global) -> Result<Response, Fail> {
+fn listed_again(alloc: Global) -> Option<Response> {
     let made = listed(alloc)?;
     let copied = match made.copy(alloc) {
-        Err(Memory) => made.copy(alloc)?,
+        Err(Memory) => made.copy(alloc).ok()?,
         Ok(copied) => copied,
     };
-    Ok(Response::from_names(copied.into_names()))
+    Some(Response::from_names(copied.into_names()))
 }
 
 #[test]
-fn responses_are_lists(rt: HostRuntime) -> Result<(), Fail> {
-    let made = listed(rt.alloc())?;
+fn responses_are_lists(rt: HostRuntime) {
+    let made = listed(rt.alloc()).expect(&rt, "a response");
     assert!(rt; made.len() == 3 && made.get(3).is_none());
     assert!(rt; has_at(&made, 0, "a") && has_at(&made, 2, "b"));
-    Ok(())
 }
 
 #[test]
-fn responses_are_copied(rt: HostRuntime) -> Result<(), Fail> {
-    let again = listed_again(rt.alloc())?;
+fn responses_are_copied(rt: HostRuntime) {
+    let again = listed_again(rt.alloc()).expect(&rt, "a response");
     assert!(rt; again.len() == 3);
     assert!(rt; has_at(&again, 1, "a") && has_at(&again, 2, "b"));
-    Ok(())
 }
 
 /// Whether a recording is opened with so many replicas and no entry.
@@ -254,9 +253,9 @@ fn a_recording_has_one_to_sixteen_replicas(rt: HostRuntime) {
 
 // Receipts too early, of one's own, and repeated.
 #[test]
-fn receipts_are_refused_in_their_order(rt: HostRuntime) -> Result<(), Fail> {
-    let a = name("a")?;
-    let mut recording = opened(rt.alloc(), 2)?;
+fn receipts_are_refused_in_their_order(rt: HostRuntime) {
+    let a = name("a").expect(&rt, "a name");
+    let mut recording = opened(rt.alloc(), 2).expect(&rt, "a recording");
     assert!(rt; insert(&mut recording, rt.alloc(), 0, a) == Ok(1));
     let rows = [
         (1, 0, 2, Err(Refusal::NotYet { have: 1 })),
@@ -271,28 +270,26 @@ fn receipts_are_refused_in_their_order(rt: HostRuntime) -> Result<(), Fail> {
         assert!(rt; said == Some(reply), "{replica} {of} {n}");
     }
     assert!(rt; insert(&mut recording, rt.alloc(), 2, a) == Err(Refusal::NoReplica));
-    Ok(())
 }
 
 /// An insert, its receipt at the other replica, and a read there.
-fn inserted_and_read(alloc: Global) -> Result<Recording, Fail> {
-    let a = name("a")?;
-    let mut recording = opened(alloc, 2)?;
-    insert(&mut recording, alloc, 0, a)?;
-    receive(&mut recording, 1, 0, 1).ok_or("no name")??;
-    read(&mut recording, alloc, 1, a, 1)?;
-    Ok(recording)
+fn inserted_and_read(alloc: Global) -> Option<Recording> {
+    let a = name("a").ok()?;
+    let mut recording = opened(alloc, 2).ok()?;
+    insert(&mut recording, alloc, 0, a).ok()?;
+    receive(&mut recording, 1, 0, 1)?.ok()?;
+    read(&mut recording, alloc, 1, a, 1).ok()?;
+    Some(recording)
 }
 
 #[test]
-fn entries_and_operations_are_counted(rt: HostRuntime) -> Result<(), Fail> {
-    let recording = inserted_and_read(rt.alloc())?;
+fn entries_and_operations_are_counted(rt: HostRuntime) {
+    let recording = inserted_and_read(rt.alloc()).expect(&rt, "a recording");
     assert!(rt; recording.len() == 3);
     for (replica, entries, operations) in [(0, 1, 1), (1, 2, 1), (2, 0, 0)] {
         assert!(rt; recording.stream_len(replica) == entries, "{replica}");
         assert!(rt; recording.count(replica) == operations, "{replica}");
     }
-    Ok(())
 }
 
 /// Whether the entry is a receipt at this replica.
@@ -310,15 +307,14 @@ fn is_read(recording: &Recording, replica: u32, n: u32) -> Option<bool> {
 }
 
 #[test]
-fn entries_and_operations_are_found(rt: HostRuntime) -> Result<(), Fail> {
-    let recording = inserted_and_read(rt.alloc())?;
+fn entries_and_operations_are_found(rt: HostRuntime) {
+    let recording = inserted_and_read(rt.alloc()).expect(&rt, "a recording");
     assert!(rt; is_receipt_at(recording.entry(1), 1));
     assert!(rt; recording.entry(3).is_none());
     assert!(rt; matches!(recording.stream(1, 1), Some(Body::Read { .. })));
     assert!(rt; recording.stream(1, 2).is_none() && recording.stream(2, 0).is_none());
     assert!(rt; is_read(&recording, 1, 1) == Some(true));
     assert!(rt; is_read(&recording, 1, 2).is_none() && is_read(&recording, 2, 1).is_none());
-    Ok(())
 }
 
 /// Whether it is a read of this name three times.
@@ -341,34 +337,32 @@ fn hands_back(recording: &mut Recording, body: Body, name: Name) -> bool {
 
 // A refused entry comes back as it was handed in.
 #[test]
-fn a_refused_entry_is_handed_back(rt: HostRuntime) -> Result<(), Fail> {
-    let kept = name("kept")?;
-    let response = response(rt.alloc(), kept, 3)?;
-    let mut recording = opened(rt.alloc(), 1)?;
+fn a_refused_entry_is_handed_back(rt: HostRuntime) {
+    let kept = name("kept").expect(&rt, "a name");
+    let response = response(rt.alloc(), kept, 3).expect(&rt, "a response");
+    let mut recording = opened(rt.alloc(), 1).expect(&rt, "a recording");
     assert!(rt; hands_back(&mut recording, Body::Read { response }, kept));
     assert!(rt; recording.len() == 0);
-    Ok(())
 }
 
 #[test]
-fn a_replica_has_at_most_256_inserts(rt: HostRuntime) -> Result<(), Fail> {
+fn a_replica_has_at_most_256_inserts(rt: HostRuntime) {
     let alloc = rt.alloc();
-    let a = name("a")?;
-    let mut recording = opened(alloc, 2)?;
+    let a = name("a").expect(&rt, "a name");
+    let mut recording = opened(alloc, 2).expect(&rt, "a recording");
     for n in 1..257 {
         assert!(rt; insert(&mut recording, alloc, 0, a) == Ok(n), "{n}");
     }
     assert!(rt; insert(&mut recording, alloc, 0, a) == Err(Refusal::InsertsFull));
     assert!(rt; read(&mut recording, alloc, 0, a, 0) == Ok(257));
     assert!(rt; insert(&mut recording, alloc, 1, a) == Ok(1));
-    Ok(())
 }
 
 #[test]
-fn a_replica_has_at_most_4096_entries(rt: HostRuntime) -> Result<(), Fail> {
+fn a_replica_has_at_most_4096_entries(rt: HostRuntime) {
     let alloc = rt.alloc();
-    let a = name("a")?;
-    let mut recording = opened(alloc, 2)?;
+    let a = name("a").expect(&rt, "a name");
+    let mut recording = opened(alloc, 2).expect(&rt, "a recording");
     for n in 1..4097 {
         assert!(rt; read(&mut recording, alloc, 1, a, 0) == Ok(n), "{n}");
     }
@@ -377,21 +371,19 @@ fn a_replica_has_at_most_4096_entries(rt: HostRuntime) -> Result<(), Fail> {
     assert!(rt; read(&mut recording, alloc, 1, a, 4097) == Err(Refusal::EntriesFull));
     assert!(rt; read(&mut recording, alloc, 0, a, 0) == Ok(1));
     assert!(rt; recording.len() == 4097);
-    Ok(())
 }
 
 #[test]
-fn a_replica_has_at_most_262144_names_in_responses(rt: HostRuntime) -> Result<(), Fail> {
+fn a_replica_has_at_most_262144_names_in_responses(rt: HostRuntime) {
     let alloc = rt.alloc();
-    let a = name("a")?;
-    let mut recording = opened(alloc, 1)?;
+    let a = name("a").expect(&rt, "a name");
+    let mut recording = opened(alloc, 1).expect(&rt, "a recording");
     assert!(rt; read(&mut recording, alloc, 0, a, 4097) == Err(Refusal::LongResponse));
     for n in 1..65 {
         assert!(rt; read(&mut recording, alloc, 0, a, 4096) == Ok(n), "{n}");
     }
     assert!(rt; read(&mut recording, alloc, 0, a, 1) == Err(Refusal::PlacesFull));
     assert!(rt; read(&mut recording, alloc, 0, a, 0) == Ok(65));
-    Ok(())
 }
 
 /// Whether these are the words of an error; where the first call finds no memory, of what the second gives.
