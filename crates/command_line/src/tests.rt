@@ -22,24 +22,36 @@ fn words_of(alloc: Global, line: &str) -> Result<Vec<String>, AllocError> {
     Ok(words)
 }
 
-/// What the words ask for, and whether the file is the one that was meant. A certificate is to be `c`.
+/// What a task asks for, and whether the file is the one that was meant. A certificate is to be `c`.
+fn task_asks(task: &Task, meant: &str) -> (Request, bool) {
+    match task {
+        Task::Verdict {
+            workers,
+            form,
+            file,
+        } => (Request::Workers(*workers, *form), file.as_str() == meant),
+        Task::Cert { file } => (Request::Cert, file.as_str() == meant),
+        Task::Verify { file, cert } => (
+            Request::Verify,
+            file.as_str() == meant && cert.as_str() == "c",
+        ),
+    }
+}
+
+/// What words that are no task ask for, and whether there is a text of help.
+fn fault_asks(fault: &WordsFault) -> (Request, bool) {
+    match fault {
+        WordsFault::Usage => (Request::Usage, true),
+        WordsFault::Memory => (Request::Memory, true),
+        WordsFault::Help { text } => (Request::Help, !text.is_empty()),
+    }
+}
+
+/// What the words ask for, and whether the file is the one that was meant.
 fn asked_once(alloc: Global, words: &[String], file: &str) -> (Request, bool) {
     match read_words(alloc, words) {
-        Ok(
-            Task::Verdict {
-                workers,
-                form,
-                file: word,
-            },
-        ) => (Request::Workers(workers, form), word.as_str() == file),
-        Ok(Task::Cert { file: word }) => (Request::Cert, word.as_str() == file),
-        Ok(Task::Verify { file: word, cert }) => (
-            Request::Verify,
-            word.as_str() == file && cert.as_str() == "c",
-        ),
-        Err(WordsFault::Usage) => (Request::Usage, true),
-        Err(WordsFault::Memory) => (Request::Memory, true),
-        Err(WordsFault::Help { text }) => (Request::Help, !text.is_empty()),
+        Ok(task) => task_asks(&task, file),
+        Err(fault) => fault_asks(&fault),
     }
 }
 
@@ -51,109 +63,161 @@ fn asked(alloc: Global, words: &[String], file: &str) -> (Request, bool) {
     }
 }
 
+/// The words of a line; where the first try finds no memory, by a second.
+fn words_in(alloc: Global, line: &str) -> Result<Vec<String>, AllocError> {
+    match words_of(alloc, line) {
+        Ok(words) => Ok(words),
+        Err(_) => words_of(alloc, line),
+    }
+}
+
 fn line_asks(alloc: Global, line: &str, file: &str) -> Result<(Request, bool), AllocError> {
-    let words = match words_of(alloc, line) {
-        Ok(words) => words,
-        Err(_) => words_of(alloc, line)?,
-    };
+    let words = words_in(alloc, line)?;
     Ok(asked(alloc, words.as_slice(), file))
 }
 
+/// The first of the lines that does not ask for this of this file; none where all do.
+fn first_wrong(
+    alloc: Global,
+    rows: &[(&'static str, Request, &'static str)],
+) -> Result<Option<&'static str>, AllocError> {
+    for (line, request, file) in rows {
+        if line_asks(alloc, line, file)? != (*request, true) {
+            return Ok(Some(*line));
+        }
+    }
+    Ok(None)
+}
+
+/// The same, where all the lines are to ask for one thing.
+fn first_other(
+    alloc: Global,
+    lines: &[&'static str],
+    request: Request,
+) -> Result<Option<&'static str>, AllocError> {
+    for line in lines {
+        if line_asks(alloc, line, "t")? != (request, true) {
+            return Ok(Some(*line));
+        }
+    }
+    Ok(None)
+}
+
+const CERTIFICATES: &[(&str, Request, &str)] = &[
+    ("cert t", Request::Cert, "t"),
+    ("cert -- --json", Request::Cert, "--json"),
+    ("verify t c", Request::Verify, "t"),
+    ("verify - c", Request::Verify, "-"),
+    ("cert", Request::Usage, ""),
+    ("cert t u", Request::Usage, ""),
+    ("verify t", Request::Usage, ""),
+    ("verify --json t c", Request::Usage, ""),
+];
+
 #[test]
 fn words_of_certificates(rt: HostRuntime) -> Result<(), Fail> {
-    let rows = [
-        ("cert t", Request::Cert, "t"),
-        ("cert -- --json", Request::Cert, "--json"),
-        ("verify t c", Request::Verify, "t"),
-        ("verify - c", Request::Verify, "-"),
-        ("cert", Request::Usage, ""),
-        ("cert t u", Request::Usage, ""),
-        ("verify t", Request::Usage, ""),
-        ("verify --json t c", Request::Usage, ""),
-    ];
-    for (line, request, file) in rows {
-        assert_eq!(rt;
-            line_asks(rt.alloc(), line, file)?,
-            (request, true),
-            "at {line}"
-        );
-    }
+    assert_eq!(rt; first_wrong(rt.alloc(), CERTIFICATES)?, None);
     Ok(())
 }
+
+const VERDICTS: &[(&str, Request, &str)] = &[
+    ("", Request::Workers(4, Form::Text), "-"),
+    ("verdict t", Request::Workers(4, Form::Text), "t"),
+    ("verdict -", Request::Workers(4, Form::Text), "-"),
+    (
+        "verdict --workers 7 t",
+        Request::Workers(7, Form::Text),
+        "t",
+    ),
+    (
+        "verdict --workers=7 t",
+        Request::Workers(7, Form::Text),
+        "t",
+    ),
+    (
+        "verdict t --workers 7",
+        Request::Workers(7, Form::Text),
+        "t",
+    ),
+    (
+        "verdict --workers 1 t",
+        Request::Workers(1, Form::Text),
+        "t",
+    ),
+    (
+        "verdict --workers 64 -",
+        Request::Workers(64, Form::Text),
+        "-",
+    ),
+    (
+        "verdict -- --workers",
+        Request::Workers(4, Form::Text),
+        "--workers",
+    ),
+    ("verdict --json t", Request::Workers(4, Form::Json), "t"),
+    ("verdict t --json", Request::Workers(4, Form::Json), "t"),
+    (
+        "verdict --workers 2 --json -",
+        Request::Workers(2, Form::Json),
+        "-",
+    ),
+    (
+        "verdict -- --json",
+        Request::Workers(4, Form::Text),
+        "--json",
+    ),
+];
 
 #[test]
 fn words_of_a_command_line(rt: HostRuntime) -> Result<(), Fail> {
-    let rows = [
-        ("", 4, Form::Text, "-"),
-        ("verdict t", 4, Form::Text, "t"),
-        ("verdict -", 4, Form::Text, "-"),
-        ("verdict --workers 7 t", 7, Form::Text, "t"),
-        ("verdict --workers=7 t", 7, Form::Text, "t"),
-        ("verdict t --workers 7", 7, Form::Text, "t"),
-        ("verdict --workers 1 t", 1, Form::Text, "t"),
-        ("verdict --workers 64 -", 64, Form::Text, "-"),
-        ("verdict -- --workers", 4, Form::Text, "--workers"),
-        ("verdict --json t", 4, Form::Json, "t"),
-        ("verdict t --json", 4, Form::Json, "t"),
-        ("verdict --workers 2 --json -", 2, Form::Json, "-"),
-        ("verdict -- --json", 4, Form::Text, "--json"),
-    ];
-    for (line, workers, form, file) in rows {
-        let answer = line_asks(rt.alloc(), line, file)?;
-        assert_eq!(rt;
-            answer,
-            (Request::Workers(workers, form), true),
-            "at {line}"
-        );
-    }
+    assert_eq!(rt; first_wrong(rt.alloc(), VERDICTS)?, None);
     Ok(())
 }
+
+const NO_COMMAND_LINES: &[&str] = &[
+    "verdict",
+    "verdict --workers 7",
+    "verdict --workers",
+    "verdict --workers 0 t",
+    "verdict --workers 65 t",
+    "verdict --workers 07 t",
+    "verdict --workers +7 t",
+    "verdict --workers -7 t",
+    "verdict --workers 7x t",
+    "verdict --workers seven t",
+    "verdict --workers 4294967303 t",
+    "verdict --workers 7 --workers 8 t",
+    "verdict t u",
+    "verdict --json",
+    "verdict --json=yes t",
+    "verdict --quick t",
+    "live t",
+    "t",
+    "-",
+    "--workers 7 t",
+    "help t",
+];
 
 #[test]
 fn no_command_line(rt: HostRuntime) -> Result<(), Fail> {
-    let rows = [
-        "verdict",
-        "verdict --workers 7",
-        "verdict --workers",
-        "verdict --workers 0 t",
-        "verdict --workers 65 t",
-        "verdict --workers 07 t",
-        "verdict --workers +7 t",
-        "verdict --workers -7 t",
-        "verdict --workers 7x t",
-        "verdict --workers seven t",
-        "verdict --workers 4294967303 t",
-        "verdict --workers 7 --workers 8 t",
-        "verdict t u",
-        "verdict --json",
-        "verdict --json=yes t",
-        "verdict --quick t",
-        "live t",
-        "t",
-        "-",
-        "--workers 7 t",
-        "help t",
-    ];
-    for line in rows {
-        let answer = line_asks(rt.alloc(), line, "t")?;
-        assert_eq!(rt; answer, (Request::Usage, true), "at {line}");
-    }
+    assert_eq!(rt;
+        first_other(rt.alloc(), NO_COMMAND_LINES, Request::Usage)?,
+        None
+    );
     Ok(())
 }
 
+const HELP_LINES: &[&str] = &[
+    "--help",
+    "-h",
+    "help",
+    "verdict --help",
+    "verdict -h",
+    "help verdict",
+];
+
 #[test]
 fn help_is_asked_for(rt: HostRuntime) -> Result<(), Fail> {
-    let rows = [
-        "--help",
-        "-h",
-        "help",
-        "verdict --help",
-        "verdict -h",
-        "help verdict",
-    ];
-    for line in rows {
-        let answer = line_asks(rt.alloc(), line, "t")?;
-        assert_eq!(rt; answer, (Request::Help, true), "at {line}");
-    }
+    assert_eq!(rt; first_other(rt.alloc(), HELP_LINES, Request::Help)?, None);
     Ok(())
 }
