@@ -1,5 +1,5 @@
 use super::plain::first_order;
-use super::recordings::{least_order, push_name, recording};
+use super::recordings::{least_order, recording};
 use crate::Order;
 use events::Name;
 use std::alloc::Global;
