@@ -1,10 +1,13 @@
-/* Refuses one request for memory: the one whose number, counted from 1, stands in REFUSED_REQUEST. */
+/* Refuses one request for memory: the one whose number, counted from 1, stands in REFUSED_REQUEST. Where there is one, the
+   file that REFUSED_TOLD names is made. */
 #define _GNU_SOURCE
 #include <dlfcn.h>
 #include <errno.h>
+#include <fcntl.h>
 #include <stdatomic.h>
 #include <stddef.h>
 #include <stdlib.h>
+#include <unistd.h>
 
 static atomic_long requests;
 static atomic_long refused = -1;
@@ -14,7 +17,10 @@ static int is_refused(void) {
         const char *text = getenv("REFUSED_REQUEST");
         refused = text ? atol(text) : 0;
     }
-    return ++requests == refused;
+    if (++requests != refused) return 0;
+    const char *told = getenv("REFUSED_TOLD");
+    if (told) close(open(told, O_CREAT | O_WRONLY, 0600));
+    return 1;
 }
 
 void *malloc(size_t size) {
