@@ -140,5 +140,7 @@ fn two_searches_at_once(rt: HostRuntime) {
     let answer = answered(&rt, rt.alloc(), THREE_WAY, 2, &hold);
     assert!(rt; answer == Said::Refused(3, 3));
     assert!(rt; hold.seen.load(Ordering::SeqCst) == 1);
-    assert!(rt; hold.ended.load(Ordering::SeqCst) == 3);
+    // Where memory is wanted behind the three searches, they are made again.
+    let ended = hold.ended.load(Ordering::SeqCst);
+    assert!(rt; ended == 3 || ended == 6);
 }

@@ -31,6 +31,7 @@ impl<'a> Worker<'a> {
     ) -> Result<Worker<'a>, Memory>
         requires bound { seat.bound ≡ bound.now }
         requires fresh { (seat.claimed ≡ []) × (seat.offered ≡ []) × (seat.low ≤ NO_OFFER) }
+        ensures number { IfOk result (λ w. w.number ≡ number) }
         ensures seat { IfOk result (λ w. w.seat ≡ seat) }
         ensures ready { IfOk result (λ w. (sources : List ℕ) → IsReady graph.now sources w) }
     {

@@ -72,7 +72,7 @@ fn a_gate_is_called_round_each_search(rt: HostRuntime) -> Result<(), Fail> {
 const TURNS: u32 = 50_000_000;
 
 /// Holds up the first search until so many have begun and so many have ended, or for `TURNS` turns, and
-/// notes whether it saw them.
+/// notes whether it saw them. It counts the searches that each of two workers has begun.
 #[derive(Drop)]
 struct Hold {
     until_begun: u64,
@@ -80,6 +80,8 @@ struct Hold {
     begun: AtomicU64,
     ended: AtomicU64,
     seen: AtomicU64,
+    by_first: AtomicU64,
+    by_second: AtomicU64,
 }
 
 impl Hold {
@@ -90,7 +92,16 @@ impl Hold {
             begun: AtomicU64::new(0),
             ended: AtomicU64::new(0),
             seen: AtomicU64::new(0),
+            by_first: AtomicU64::new(0),
+            by_second: AtomicU64::new(0),
         }
+    }
+
+    /// Whether the first search saw the others, and both workers have begun some.
+    fn saw_both(&self) -> bool {
+        self.seen.load(Ordering::SeqCst) == 1
+            && self.by_first.load(Ordering::SeqCst) > 0
+            && self.by_second.load(Ordering::SeqCst) > 0
     }
 
     fn is_over(&self) -> bool {
@@ -100,7 +111,12 @@ impl Hold {
 }
 
 impl Gate for Hold {
-    fn before(&self, _worker: u32, _source: u32) {
+    fn before(&self, worker: u32, _source: u32) {
+        match worker {
+            0 => self.by_first.fetch_add(1, Ordering::SeqCst),
+            1 => self.by_second.fetch_add(1, Ordering::SeqCst),
+            _ => 0,
+        };
         if self.begun.fetch_add(1, Ordering::SeqCst) != 0 {
             return;
         }
@@ -122,7 +138,7 @@ fn two_searches_at_once(rt: HostRuntime) -> Result<(), Fail> {
     let hold = Hold::until(2, 0);
     let found = number_on(&rt, rt.alloc(), THREE_WAY_CYCLE, 2, &hold)?;
     assert_eq!(rt; found, Some(3));
-    assert_eq!(rt; hold.seen.load(Ordering::SeqCst), 1);
+    assert!(rt; hold.saw_both());
     Ok(())
 }
 
@@ -131,6 +147,6 @@ fn a_search_held_until_the_others_have_ended(rt: HostRuntime) -> Result<(), Fail
     let hold = Hold::until(0, 3);
     let found = number_on(&rt, rt.alloc(), RING_OF_FOUR, 2, &hold)?;
     assert_eq!(rt; found, Some(4));
-    assert_eq!(rt; hold.seen.load(Ordering::SeqCst), 1);
+    assert!(rt; hold.saw_both());
     Ok(())
 }
