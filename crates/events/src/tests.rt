@@ -1,5 +1,6 @@
 use super::{
-    Body, Entry, Memory, Name, NameFault, NewFault, OpName, Recording, Refusal, Refused, Response,
+    Body, Entry, Memory, Name, NameFault, NewFault, OpName, PushFault, Recording, Refusal, Refused,
+    Response,
 };
 use std::alloc::Global;
 use std::fmt::Display;
@@ -210,14 +211,37 @@ fn listed(alloc: Global) -> Option<Response> {
     Some(made)
 }
 
-/// The same names, copied, taken out and put together again.
+/// The same names, copied.
 fn listed_again(alloc: Global) -> Option<Response> {
     let made = listed(alloc)?;
-    let copied = match made.copy(alloc) {
-        Err(Memory) => made.copy(alloc).ok()?,
-        Ok(copied) => copied,
-    };
-    Some(Response::from_names(copied.into_names()))
+    match made.copy(alloc) {
+        Err(Memory) => made.copy(alloc).ok(),
+        Ok(copied) => Some(copied),
+    }
+}
+
+/// An empty response with little room.
+fn roomy(alloc: Global) -> Option<Response> {
+    match Response::with_room(alloc, 1, 4) {
+        Err(Memory) => Response::with_room(alloc, 1, 4).ok(),
+        Ok(made) => Some(made),
+    }
+}
+
+/// Puts bytes at the end; where the first call finds no memory, the second is to.
+fn put(made: &mut Response, bytes: &[u8]) -> Result<(), PushFault> {
+    match made.push_bytes(bytes) {
+        Err(PushFault::Memory) => made.push_bytes(bytes),
+        answer => answer,
+    }
+}
+
+/// The bytes of the names `left` and `right`, put into a room that is too small for them.
+fn put_together(alloc: Global) -> Option<Response> {
+    let mut made = roomy(alloc)?;
+    put(&mut made, b"left").ok()?;
+    put(&mut made, b"right").ok()?;
+    Some(made)
 }
 
 #[test]
@@ -232,6 +256,16 @@ fn responses_are_copied(rt: HostRuntime) {
     let again = listed_again(rt.alloc()).expect(&rt, "a response");
     assert!(rt; again.len() == 3);
     assert!(rt; has_at(&again, 1, "a") && has_at(&again, 2, "b"));
+}
+
+#[test]
+fn responses_are_put_together_from_bytes(rt: HostRuntime) {
+    let mut made = put_together(rt.alloc()).expect(&rt, "a response");
+    assert!(rt; made.push_bytes(b"") == Err(PushFault::Name(NameFault::Empty)));
+    assert!(rt; made.push_bytes(b"a b") == Err(PushFault::Name(NameFault::BadByte { at: 1 })));
+    assert!(rt; made.len() == 2 && made.bytes_at(2).is_none());
+    assert!(rt; made.bytes_at(0) == Some(b"left".as_slice()));
+    assert!(rt; has_at(&made, 1, "right"));
 }
 
 /// Whether a recording is opened with so many replicas and no entry.
@@ -424,4 +458,44 @@ fn faults_have_their_words(rt: HostRuntime) {
     assert!(rt; says(alloc, &NewFault::NoReplicas, "no replicas"));
     assert!(rt; says(alloc, &NewFault::ManyReplicas, "many replicas"));
     assert!(rt; says(alloc, &NewFault::Memory, "memory"));
+}
+
+/// An insert and a receipt of it, by replicas 0 and 1.
+fn two_entries(alloc: Global) -> Option<Recording> {
+    let mut recording = opened(alloc, 2).ok()?;
+    insert(&mut recording, alloc, 0, name("a").ok()?).ok()?;
+    receive(&mut recording, 1, 0, 1)?.ok()?;
+    Some(recording)
+}
+
+/// A copy; where the first call finds no memory, what the second gives.
+fn copied(alloc: Global, recording: &Recording) -> Option<Recording> {
+    match recording.copy(alloc) {
+        Err(Memory) => recording.copy(alloc).ok(),
+        Ok(copied) => Some(copied),
+    }
+}
+
+#[test]
+fn copies_go_on_alone(rt: HostRuntime) {
+    let recording = two_entries(rt.alloc()).expect(&rt, "a recording");
+    let mut copy = copied(rt.alloc(), &recording).expect(&rt, "a copy");
+    assert!(rt; copy.len() == 2 && copy.replicas() == 2 && copy.count(0) == 1);
+    assert!(rt; receive(&mut copy, 1, 0, 1).is_some());
+    assert!(rt; copy.stream_len(1) == 2 && recording.stream_len(1) == 1);
+}
+
+#[test]
+fn room_changes_nothing(rt: HostRuntime) {
+    let recording = two_entries(rt.alloc()).expect(&rt, "a recording");
+    let seen = OpName::new(0, 2).expect(&rt, "an operation");
+    let body = Body::Recv { seen };
+    let early = Entry { replica: 1, body };
+    assert!(rt; recording.room(&early) == Err(Refusal::NotYet { have: 1 }));
+    let own = Entry {
+        replica: 0,
+        body: Body::Recv { seen },
+    };
+    assert!(rt; recording.room(&own) == Err(Refusal::OwnReceipt));
+    assert!(rt; recording.len() == 2);
 }
