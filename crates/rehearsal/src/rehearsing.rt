@@ -1,0 +1,178 @@
+//! The rehearsal: a session is opened, its recorders and its watcher act, and it is closed.
+ghost use Rattle.std.specs.Prelude.{◌≡◌, ◌≤◌, ◌<◌, ◌⊎◌, ◌↔◌, ℕ, List, All, IfOk, IsErrOf};
+ghost use Rattle.events.specs.History.{SameStreams, IsLegal};
+ghost use Rattle.sessions.specs.Shown.{PassShown};
+ghost use Rattle.rehearsal.specs.Opened.{AreOpened};
+ghost use Rattle.rehearsal.specs.Replays.{AreReplayed};
+
+use super::fault::{RehearsalFault, foremost, of_watch};
+use super::team::{Back, Team, joined, started};
+use super::watcher::{Returned, Watched, watch_turns};
+use events::{Memory, Recording};
+use level_search::Gate;
+use sessions::{Observer, Pass, Session};
+use std::alloc::Global;
+use std::snapshot::Snapshot;
+use std::sync::Wait;
+use std::thread;
+use std::thread::{Scope, Threads};
+
+/// A session with its passes, and an observer that the first of them made.
+#[derive(Drop)]
+struct Opened {
+    session: Session,
+    passes: Vec<Pass>,
+    observer: Observer,
+}
+
+/// What comes back when all threads have ended.
+#[derive(Drop)]
+struct Returns {
+    passes: Vec<Pass>,
+    observer: Observer,
+}
+
+/// Replays a recording in a session of its own, and answers what the session then has: a recording with the same streams.
+///
+/// For each replica a recorder thread replays its stream, with 1,000,000 tries for each receipt; a watcher judges four
+/// snapshots, each with so many workers, 1 to 64. The gate's `before(r, 0)` and `after(r, 0)` are called round the replay of
+/// replica r, by its thread, and by no search. All threads have ended when it returns. The recording is held twice at the end,
+/// and once more while the watcher judges a snapshot.
+pub fn rehearse<H: Threads + Wait + Sync, G: Gate>(
+    rt: &H,
+    alloc: Global,
+    recording: &Recording,
+    workers: u32,
+    gate: &G,
+) -> Result<Recording, RehearsalFault>
+    ensures streams { IfOk result (λ closed. SameStreams recording.now closed) }
+    ensures workers { IsErrOf result RehearsalFault.Workers ↔ ((workers < 1) ⊎ (64 < workers)) }
+{
+    if workers == 0 || workers > 64 {
+        return Err(RehearsalFault::Workers);
+    }
+    let Opened {
+        session,
+        passes,
+        observer,
+    } = open(alloc, recording.replicas())?;
+    let Returns { passes, observer } =
+        act(rt, alloc, &session, recording, passes, observer, workers, gate)?;
+    Ok(close(session, recording, passes, observer))
+}
+
+/// A session of so many replicas, and an observer that pass 0 made.
+fn open(alloc: Global, replicas: u32) -> Result<Opened, Memory>
+    requires { (1 ≤ replicas) × (replicas ≤ 16) }
+    ensures replicas { IfOk result (λ o. o.session.replicas ≡ replicas) }
+    ensures passes { IfOk result (λ o. AreOpened o.session o.passes.items) }
+    ensures observer { IfOk result (λ o. o.observer.session ≡ o.session) }
+{
+    let Ok((session, mut passes)) = Session::open(alloc, replicas) else {
+        return Err(Memory);
+    };
+    let observer = session.observer(&mut passes[0]);
+    Ok(Opened {
+        session,
+        passes,
+        observer,
+    })
+}
+
+/// Recorders and watcher act in threads of their own, which have ended when it returns.
+fn act<H: Threads + Wait + Sync, G: Gate>(
+    rt: &H,
+    alloc: Global,
+    session: &Session,
+    recording: &Recording,
+    passes: Vec<Pass>,
+    observer: Observer,
+    workers: u32,
+    gate: &G,
+) -> Result<Returns, RehearsalFault>
+    requires passes { All (λ p. p.session ≡ session.now) passes.items }
+    requires observer { observer.session ≡ session.now }
+    ensures replayed { IfOk result (λ r. AreReplayed recording.now passes.items r.passes.items) }
+    ensures observer { IfOk result (λ r. r.observer.session ≡ session.now) }
+    ensures workers { ¬ IsErrOf result RehearsalFault.Workers }
+{
+    thread::scope(
+        thread::scope_env(),
+        rt,
+        move |scope| -> Result<Returns, RehearsalFault>
+            requires passes { All (λ p. p.session ≡ session.now) passes.items }
+            requires observer { observer.session ≡ session.now }
+            ensures replayed { IfOk result (λ r. AreReplayed recording.entry.now passes.items r.passes.items) }
+            ensures observer { IfOk result (λ r. r.observer.session ≡ session.entry.now) }
+            ensures workers { ¬ IsErrOf result RehearsalFault.Workers }
+        { act_in(rt, alloc, scope, session, recording, passes, observer, workers, gate) },
+    )
+}
+
+/// The same, with threads of this scope.
+fn act_in<'s, E, H: Threads + Wait + Sync, G: Gate>(
+    rt: &'s H,
+    alloc: Global,
+    scope: &'s Scope<'s, E>,
+    session: &'s Session,
+    recording: &'s Recording,
+    passes: Vec<Pass>,
+    observer: Observer,
+    workers: u32,
+    gate: &'s G,
+) -> Result<Returns, RehearsalFault>
+    requires passes { All (λ p. p.session ≡ session.now) passes.items }
+    requires observer { observer.session ≡ session.now }
+    ensures replayed { IfOk result (λ r. AreReplayed recording.now passes.items r.passes.items) }
+    ensures observer { IfOk result (λ r. r.observer.session ≡ session.now) }
+    ensures workers { ¬ IsErrOf result RehearsalFault.Workers }
+{
+    let room = Vec::with_capacity(alloc, passes.len()).map_err(|_| RehearsalFault::Memory)?;
+    let promise = Returned {
+        observer: Snapshot::of(&observer),
+    };
+    let Ok(watcher) = scope.spawn_with(
+        promise,
+        move || -> Watched
+            requires { observer.session ≡ session.now }
+            ensures { result.observer.session ≡ session.entry.now }
+        { watch_turns(rt, alloc, session, observer, workers) },
+    ) else {
+        return Err(RehearsalFault::Thread);
+    };
+    let Team { handles, is_whole } = started(rt, alloc, scope, session, recording, gate, passes)?;
+    let Back { passes, fault } = joined(rt, recording, handles, room);
+    let Watched { observer, answer } = watcher.join(rt);
+    let unstarted = if is_whole {
+        None
+    } else {
+        Some(RehearsalFault::Thread)
+    };
+    match foremost(foremost(fault, of_watch(&answer)), unstarted) {
+        None => Ok(Returns { passes, observer }),
+        Some(fault) => Err(fault),
+    }
+}
+
+/// Ends the observer at pass 0 and closes the session, all of whose passes have replayed the recording.
+fn close(
+    session: Session,
+    recording: &Recording,
+    passes: Vec<Pass>,
+    observer: Observer,
+) -> Recording
+    requires legal { IsLegal recording.now }
+    requires replicas { session.replicas ≡ recording.now.replicas }
+    requires observer { observer.session ≡ session }
+    requires replayed { (before : List PassShown) × AreOpened session before × AreReplayed recording.now before passes.items }
+    ensures { SameStreams recording.now result }
+{
+    let mut passes = passes;
+    session.end(observer, &mut passes[0]);
+    let Ok(closed) = session.close(passes) else {
+        unreachable!()
+    };
+    // Its contract has that the recording is legal.
+    let _ = closed.replicas();
+    closed
+}

@@ -1,0 +1,107 @@
+//! The recorders' threads: started one after the other, and joined.
+ghost use Rattle.std.specs.Prelude.{◌≡◌, ◌++◌, ◌∷◌, [], true, All, IfOk, IsOk, None, Some, map};
+ghost use Rattle.rehearsal.specs.Replays.{AreReplayed, HasReplayed};
+ghost use Rattle.rehearsal.specs.declared.fault.RehearsalFault.TheVariants as fault;
+
+use super::fault::{RehearsalFault, foremost, of_replay};
+use super::recorder::{Replayed, Told, replay_stream};
+use events::{Memory, Recording};
+use level_search::Gate;
+use sessions::{Pass, Session};
+use std::alloc::Global;
+use std::snapshot::Snapshot;
+use std::sync::Wait;
+use std::thread::{PromisedHandle, Scope, Threads};
+
+/// The threads of the recorders that could be started, in order of their replicas, and whether all could.
+#[derive(Drop)]
+pub struct Team {
+    pub handles: Vec<PromisedHandle<Told, Replayed>>,
+    pub is_whole: bool,
+}
+
+/// The passes that came back, and the fault to be answered, if there is one.
+#[derive(Drop)]
+pub struct Back {
+    pub passes: Vec<Pass>,
+    pub fault: Option<RehearsalFault>,
+}
+
+/// Starts a recorder with each of the passes, until one can't be started.
+pub fn started<'s, E, R: Wait + Sync, G: Gate>(
+    rt: &'s R,
+    alloc: Global,
+    scope: &'s Scope<'s, E>,
+    session: &'s Session,
+    recording: &'s Recording,
+    gate: &'s G,
+    mut passes: Vec<Pass>,
+) -> Result<Team, Memory>
+    requires { All (λ p. p.session ≡ session.now) passes.items }
+    ensures whole { IfOk result (λ team. team.is_whole ≡ true → map (λ h. h.promise.pass.value) team.handles.items ≡ passes.items) }
+    ensures recording { IfOk result (λ team. All (λ h. h.promise.recording.value ≡ recording.now) team.handles.items) }
+{
+    let mut handles = Vec::with_capacity(alloc, passes.len())?;
+    'starts: while !passes.is_empty() {
+        let pass = passes.remove(0);
+        let promise = Replayed {
+            pass: Snapshot::of(&pass),
+            recording: Snapshot::of(recording),
+        };
+        match scope.spawn_with(
+            promise,
+            move || -> Told
+                requires { pass.session ≡ session.now }
+                ensures { HasReplayed recording.entry.now pass result }
+            { replay_stream(rt, alloc, session, pass, recording, gate) },
+        ) {
+            Ok(handle) => handles.push(handle)?,
+            Err(_) => {
+                return Ok(Team {
+                    handles,
+                    is_whole: false,
+                });
+            }
+        }
+    }
+    Ok(Team {
+        handles,
+        is_whole: true,
+    })
+}
+
+/// Puts a pass that came back at the end, and notes the fault if its replay stopped.
+fn take_back(back: &mut Back, told: Told)
+    ensures none { back.new.fault ≡ None → (back.old.fault ≡ None) × IsOk told.answer × (back.new.passes.items ≡ back.old.passes.items ++ told.pass ∷ []) }
+    ensures workers { (back.old.fault ≡ Some fault.Workers → ⊥) → back.new.fault ≡ Some fault.Workers → ⊥ }
+{
+    let Told { pass, answer } = told;
+    let fault = foremost(back.fault, of_replay(&answer));
+    match back.passes.push(pass) {
+        Ok(()) => back.fault = fault,
+        Err(_) => back.fault = Some(RehearsalFault::Memory),
+    }
+}
+
+/// Joins all recorders, and puts their passes into the empty list, which has room for them.
+pub fn joined<R: Threads>(
+    rt: &R,
+    recording: &Recording,
+    mut handles: Vec<PromisedHandle<Told, Replayed>>,
+    room: Vec<Pass>,
+) -> Back
+    requires room { room.items ≡ [] }
+    requires recording { All (λ h. h.promise.recording.value ≡ recording.now) handles.items }
+    ensures replayed { result.fault ≡ None → AreReplayed recording.now (map (λ h. h.promise.pass.value) handles.items) result.passes.items }
+    ensures workers { result.fault ≡ Some fault.Workers → ⊥ }
+{
+    let mut back = Back {
+        passes: room,
+        fault: None,
+    };
+    while !handles.is_empty() {
+        let told = handles.remove(0).join(rt);
+        take_back(&mut back, told);
+    }
+    back
+}
