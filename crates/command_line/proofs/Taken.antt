@@ -14,12 +14,12 @@ use Rattle.clap.specs.declared.builder.action.ArgAction.{ArgAction}
 use Rattle.clap.specs.declared.builder.action.ArgAction.TheVariants.{Set, SetTrue, Help}
 use Rattle.clap.specs.declared.parser.matches.ValueSource.TheVariants.{CommandLine}
 use Rattle.command_line.specs.Answers.{given_by, kinds_at}
-use Rattle.command_line.specs.Commands.{cert_app, certificate_rule, file_rule, finder_app, json_rule, verdict_app, verify_app, workers_rule}
+use Rattle.command_line.specs.Commands.{cert_app, certificate_rule, file_rule, finder_app, json_rule, live_app, verdict_app, verify_app, workers_rule}
 use Rattle.command_line.specs.Tasks.{AsksFor, HasBadWorkers, IsAnswerToSubcommand, IsFormOf, IsAnswerWhereTaken}
 use Rattle.command_line.specs.declared.task.Form.{Form}
 use Rattle.command_line.specs.declared.task.Form.TheVariants.{Text as PlainText, Json}
 use Rattle.command_line.specs.declared.task.Task.{Task}
-use Rattle.command_line.specs.declared.task.Task.TheVariants.{Verdict, Cert, Verify}
+use Rattle.command_line.specs.declared.task.Task.TheVariants.{Verdict, Cert, Verify, Live}
 use Rattle.command_line.specs.declared.words.WordsFault.{WordsFault}
 use Rattle.command_line.proofs.Filled.{AllKeep, AreFilled, IsAllowed, IsFull, KeepsFilled, StopAllowed, finished-filled, none-wrong, walk-sound, with_values-filled, without-filled}
 
@@ -88,7 +88,8 @@ IsGiven id rows = (v : Text) × (first_of id rows ≡ Some v)
 abbrev pub IsCommand : Text → List Row → Type 0
 IsCommand name rows = ((name ≡ codes "verdict") × IsGiven (codes "FILE") rows)
     ⊎ (((name ≡ codes "cert") × IsGiven (codes "FILE") rows)
-    ⊎ ((name ≡ codes "verify") × IsGiven (codes "FILE") rows × IsGiven (codes "CERT") rows))
+    ⊎ (((name ≡ codes "verify") × IsGiven (codes "FILE") rows × IsGiven (codes "CERT") rows)
+    ⊎ ((name ≡ codes "live") × IsGiven (codes "FILE") rows)))
 
 abbrev pub IsWhole : Option (Text × List Row) → Type 0
 IsWhole None = ⊥
@@ -159,6 +160,12 @@ verify-keeps = (
   (set-keeps false (at_place 2 certificate_rule) refl refl refl, (help-keeps false (at_place 3 help_rule) refl, tt)),
 )
 
+live-keeps : AllKeep false (built_leaf_of live_app).rules
+live-keeps = (
+  set-keeps false (at_place 1 workers_rule) refl refl refl,
+  (set-keeps false (at_place 1 file_rule) refl refl refl, (help-keeps false (at_place 2 help_rule) refl, tt)),
+)
+
 program-keeps : AllKeep false whole_app.top.rules
 program-keeps = (help-keeps false (at_place 1 help_rule) refl, tt)
 
@@ -183,7 +190,14 @@ verify-whole words e =
     let end = leaf-passes (built_leaf_of verify_app) verify-keeps words e in
     let given = neither (is_given (codes "FILE") rows) (not (is_given (codes "CERT") rows) || false) (checks-false false false _ end.1).2 in
     let certificate = neither (is_given (codes "CERT") rows) false given.1 in
-    inr (inr (refl, first-given (codes "FILE") rows end.0 given.0, first-given (codes "CERT") rows end.0 certificate.0))
+    inr (inr (inl (refl, first-given (codes "FILE") rows end.0 given.0, first-given (codes "CERT") rows end.0 certificate.0)))
+
+live-whole : (words : List Text) → level_fault (built_leaf_of live_app) [] nothing_held words false [] ≡ []
+    → IsWhole (Some (rows_at (built_leaf_of live_app) words))
+live-whole words e =
+    let rows = rows_after (built_leaf_of live_app).rules [] words in
+    let end = leaf-passes (built_leaf_of live_app) live-keeps words e in
+    inr (inr (inr (refl, first-given (codes "FILE") rows end.0 (neither (is_given (codes "FILE") rows) false (checks-false false false _ end.1).2).0)))
 
 -- the subcommand that was found, if it passes, has what it wants
 abbrev IsWholeAt : List Text → Option Shape → Type 0
@@ -199,7 +213,7 @@ entered-whole : (stop : Option (Text × List Text)) → entered_fault whole_app 
     → StopAllowed whole_app.top stop → IsWhole (entered whole_app stop)
 entered-whole None passes has allowed = absurd (let wrong : false ≡ true = has in cc)
 entered-whole (Some p) passes has allowed =
-    first (answers_to p.0 (codes "verdict", [])) (answers_to p.0 (codes "cert", [])) (answers_to p.0 (codes "verify", []))
+    first (answers_to p.0 (codes "verdict", [])) (answers_to p.0 (codes "cert", [])) (answers_to p.0 (codes "verify", [])) (answers_to p.0 (codes "live", []))
     (answers_to p.0 (codes "help", [])) no-help passes has
   where
     no-help : answers_to p.0 (codes "help", []) ≡ true → ⊥
@@ -208,13 +222,14 @@ entered-whole (Some p) passes has allowed =
         let asked : IsAllowed whole_app.top (codes "help") = subst (λ n. IsAllowed whole_app.top n) (sym is) allowed in
         absurd (let wrong : 2 ≡ 0 = ap (λ (kinds : Kinds). length kinds) asked in omega arith)
 
-    first : (a b d e : Bool) → (e ≡ true → ⊥)
-        → IsWholeAt p.1 (cond a (Some (built_leaf_of verdict_app)) (cond b (Some (built_leaf_of cert_app)) (cond d (Some (built_leaf_of verify_app)) (cond e (Some (built_leaf help_shape)) None))))
-    first true b d e never ok has = verdict-whole p.1 ok
-    first false true d e never ok has = cert-whole p.1 ok
-    first false false true e never ok has = verify-whole p.1 ok
-    first false false false true never ok has = absurd (never refl)
-    first false false false false never ok has = absurd (let bad : false ≡ true = has in cc)
+    first : (a b d l e : Bool) → (e ≡ true → ⊥)
+        → IsWholeAt p.1 (cond a (Some (built_leaf_of verdict_app)) (cond b (Some (built_leaf_of cert_app)) (cond d (Some (built_leaf_of verify_app)) (cond l (Some (built_leaf_of live_app)) (cond e (Some (built_leaf help_shape)) None)))))
+    first true b d l e never ok has = verdict-whole p.1 ok
+    first false true d l e never ok has = cert-whole p.1 ok
+    first false false true l e never ok has = verify-whole p.1 ok
+    first false false false true e never ok has = live-whole p.1 ok
+    first false false false false true never ok has = absurd (never refl)
+    first false false false false false never ok has = absurd (let bad : false ≡ true = has in cc)
 
 pub named-whole : (words : List Text) → kinds_at words ≡ [] → IsWhole (given_by words)
 named-whole words e =
@@ -244,14 +259,15 @@ form-for (Some t) = go (bytes_eq t (codes "true")) refl
 none-asked : (given : Option (Text × List Row)) → IsWhole given → ((task : Task) → AsksFor given task → ⊥) → HasBadWorkers given
 none-asked None whole never = absurd whole
 none-asked (Some given) (inl verdict) never = (
-  verdict.0,
+  inl verdict.0,
   λ n right.
       let form = form-for (one_of (codes "json") given.1) in
       never (Verdict n form.0 verdict.1.0) (verdict.0, right, form.1, verdict.1.1),
 )
 none-asked (Some given) (inr (inl cert)) never = absurd (never (Cert cert.1.0) (cert.0, cert.1.1))
-none-asked (Some given) (inr (inr verify)) never =
+none-asked (Some given) (inr (inr (inl verify))) never =
     absurd (never (Verify verify.1.0 verify.2.0) (verify.0, verify.1.1, verify.2.1))
+none-asked (Some given) (inr (inr (inr live))) never = (inr live.0, λ n right. never (Live n live.1.0) (live.0, right, live.1.1))
 
 pub taken-as : (given : Option (Text × List Row)) (answer : Result Task WordsFault) → IsWhole given → IsAnswerToSubcommand given answer → IsAnswerWhereTaken given answer
 taken-as given (Ok task) whole h = h

@@ -37,6 +37,10 @@ cert_app = with_rule (new_app (codes "cert")) file_rule
 abbrev pub verify_app : App
 verify_app = with_rule (with_rule (new_app (codes "verify")) file_rule) certificate_rule
 
+-- `live [--workers N] FILE`
+abbrev pub live_app : App
+live_app = with_rule (with_rule (new_app (codes "live")) workers_rule) file_rule
+
 -- the program without its commands: one of them is to be named, and the words begin with its name
 abbrev pub bare_app : App
 bare_app = record (new_app (codes "finder")) {
@@ -45,7 +49,7 @@ bare_app = record (new_app (codes "finder")) {
 
 -- the program
 abbrev pub finder_app : App
-finder_app = with_subcommand (with_subcommand (with_subcommand bare_app verdict_app.top) cert_app.top) verify_app.top
+finder_app = with_subcommand (with_subcommand (with_subcommand (with_subcommand bare_app verdict_app.top) cert_app.top) verify_app.top) live_app.top
 
 -- the command takes what the app says, and none of its arguments is global
 abbrev pub IsCommandOf : App → Command → Type 0

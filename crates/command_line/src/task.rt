@@ -68,6 +68,13 @@ pub enum Task {
     Cert {
         file: Word,
     },
+    /// The report of a recording that recorder threads replay into one session, while a watcher judges snapshots of it; `-`
+    /// is standard input.
+    Live {
+        /// How many workers search: 1 to 64.
+        workers: u32,
+        file: Word,
+    },
     /// Whether a certificate is valid for the recording that a file spells; `-` is standard input, which
     /// is read to its end for the trace and then again for the certificate where both are so.
     Verify {

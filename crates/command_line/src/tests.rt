@@ -8,6 +8,7 @@ enum Request {
     Workers(u32, Form),
     Cert,
     Verify,
+    Live(u32),
     Usage,
     Help,
     Memory,
@@ -30,6 +31,7 @@ fn task_asks(task: &Task, meant: &str) -> (Request, bool) {
             form,
             file,
         } => (Request::Workers(*workers, *form), file.as_str() == meant),
+        Task::Live { workers, file } => (Request::Live(*workers), file.as_str() == meant),
         Task::Cert { file } => (Request::Cert, file.as_str() == meant),
         Task::Verify { file, cert } => (
             Request::Verify,
@@ -174,6 +176,20 @@ fn words_of_a_command_line(rt: HostRuntime) -> Result<(), Fail> {
     Ok(())
 }
 
+const REHEARSALS: &[(&str, Request, &str)] = &[
+    ("live t", Request::Live(4), "t"),
+    ("live -", Request::Live(4), "-"),
+    ("live --workers 64 t", Request::Live(64), "t"),
+    ("live t --workers 1", Request::Live(1), "t"),
+    ("live -- --workers", Request::Live(4), "--workers"),
+];
+
+#[test]
+fn words_of_a_rehearsal(rt: HostRuntime) -> Result<(), Fail> {
+    assert_eq!(rt; first_wrong(rt.alloc(), REHEARSALS)?, None);
+    Ok(())
+}
+
 const NO_COMMAND_LINES: &[&str] = &[
     "verdict",
     "verdict --workers 7",
@@ -191,7 +207,12 @@ const NO_COMMAND_LINES: &[&str] = &[
     "verdict --json",
     "verdict --json=yes t",
     "verdict --quick t",
-    "live t",
+    "live",
+    "live --workers 0 t",
+    "live --workers 65 t",
+    "live --json t",
+    "live t u",
+    "alive t",
     "t",
     "-",
     "--workers 7 t",
@@ -214,6 +235,7 @@ const HELP_LINES: &[&str] = &[
     "verdict --help",
     "verdict -h",
     "help verdict",
+    "live --help",
 ];
 
 #[test]

@@ -3,7 +3,7 @@
 ghost use Rattle.std.specs.Prelude.{◌≡◌, ◌≢◌, [], Some, IfOk, MatchResult, codes, false, map, string_bytes, true};
 ghost use Rattle.clap.specs.Words.{first_value, found_of, kind_of, one_text, rows_of, rule_of, subcommand_rows_of, takes};
 ghost use Rattle.command_line.specs.Answers.{IsAnswerToWords, IsFaultOf, given_by};
-ghost use Rattle.command_line.specs.Commands.{IsCommandOf, cert_app, certificate_rule, file_rule, finder_app, json_rule, verdict_app, verify_app, workers_rule};
+ghost use Rattle.command_line.specs.Commands.{IsCommandOf, cert_app, certificate_rule, file_rule, finder_app, json_rule, live_app, verdict_app, verify_app, workers_rule};
 ghost use Rattle.command_line.specs.Tasks.{HasWorkers, IsAnswerToSubcommand, IsDefault, IsFormOf, IsAnswerWhereTaken, IsWordOf};
 ghost use Rattle.command_line.specs.Workers.{IsPositiveOf, IsWorkersOf};
 
@@ -44,8 +44,8 @@ impl From<AllocError> for WordsFault {
 
 /// The task that the words ask for: those behind the program's name.
 ///
-/// The commands are `verdict [--workers N] [--json] FILE`, `cert FILE` and `verify FILE CERT`; N is 1 to 64, in
-/// digits and without leading zeros, and 4 where it is not given. No words mean `verdict -`.
+/// The commands are `verdict [--workers N] [--json] FILE`, `cert FILE`, `verify FILE CERT` and
+/// `live [--workers N] FILE`; N is 1 to 64, in digits and without leading zeros, and 4 where it is not given. No words mean `verdict -`.
 ///
 /// What other words mean is what `clap` makes of them for `finder_app`, which writes these commands out: the task has
 /// what they give for each argument, `Help` comes where they ask for help, and `Usage` where `clap` finds a mistake,
@@ -86,7 +86,8 @@ fn finder_command<'a>(alloc: Global) -> Result<Command<'a>, AllocError>
         .subcommand_required(true)
         .subcommand(verdict_command(alloc)?)?
         .subcommand(cert_command(alloc)?)?
-        .subcommand(verify_command(alloc)?)
+        .subcommand(verify_command(alloc)?)?
+        .subcommand(live_command(alloc)?)
 }
 
 fn verdict_command<'a>(alloc: Global) -> Result<Command<'a>, AllocError>
@@ -116,6 +117,17 @@ fn verify_command<'a>(alloc: Global) -> Result<Command<'a>, AllocError>
         .about("Says whether a certificate is valid for a recording, without a search")
         .arg(trace_word(alloc))?
         .arg(certificate_word(alloc))
+}
+
+fn live_command<'a>(alloc: Global) -> Result<Command<'a>, AllocError>
+    ensures { IfOk result (IsCommandOf live_app) }
+{
+    Command::new(alloc, "live")
+        .about(
+            "Replays a recording by threads in one session beside a watcher, and judges what the session has",
+        )
+        .arg(workers_word(alloc))?
+        .arg(trace_word(alloc))
 }
 
 fn workers_word<'a>(alloc: Global) -> Arg<'a>
@@ -183,6 +195,10 @@ fn task_given(alloc: Global, name: &str, given: &ArgMatches<'_>) -> Result<Task,
         "verify" => Ok(Task::Verify {
             file: word_of(alloc, given, "FILE")?,
             cert: word_of(alloc, given, "CERT")?,
+        }),
+        "live" => Ok(Task::Live {
+            workers: workers_of(given)?,
+            file: word_of(alloc, given, "FILE")?,
         }),
         _ => Err(WordsFault::Usage),
     }

@@ -17,6 +17,8 @@ abbrev pub number_of_fault : ProgramFault → ℕ
 number_of_fault program.Usage = 2
 number_of_fault (program.Read file) = 2
 number_of_fault (program.Trace fault) = 2
+number_of_fault program.Thread = 2
+number_of_fault program.Stalled = 2
 number_of_fault program.Write = 2
 number_of_fault program.Memory = 3
 
@@ -25,6 +27,8 @@ abbrev pub IsFaultOfRun : RunFault → List ℕ → ProgramFault → Type 0
 IsFaultOfRun run.Workers file answer = answer ≡ program.Usage
 IsFaultOfRun run.Read file answer = answer ≡ program.Read file
 IsFaultOfRun (run.Trace fault) file answer = answer ≡ program.Trace fault
+IsFaultOfRun run.Thread file answer = answer ≡ program.Thread
+IsFaultOfRun run.Stalled file answer = answer ≡ program.Stalled
 IsFaultOfRun run.Write file answer = answer ≡ program.Write
 IsFaultOfRun run.Memory file answer = answer ≡ program.Memory
 
@@ -33,6 +37,8 @@ abbrev pub NamesFile : List ℕ → ProgramFault → Type 0
 NamesFile file (program.Read named) = named ≡ file
 NamesFile file program.Usage = Unit {0}
 NamesFile file (program.Trace fault) = Unit {0}
+NamesFile file program.Thread = Unit {0}
+NamesFile file program.Stalled = Unit {0}
 NamesFile file program.Write = Unit {0}
 NamesFile file program.Memory = Unit {0}
 
@@ -46,4 +52,6 @@ IsOfWords program.Usage = Unit {0}
 IsOfWords program.Memory = Unit {0}
 IsOfWords (program.Read named) = ⊥
 IsOfWords (program.Trace fault) = ⊥
+IsOfWords program.Thread = ⊥
+IsOfWords program.Stalled = ⊥
 IsOfWords program.Write = ⊥

@@ -51,6 +51,8 @@ NamesFirstFault text run.Workers = Unit {0}
 NamesFirstFault text run.Read = Unit {0}
 NamesFirstFault text run.Write = Unit {0}
 NamesFirstFault text run.Memory = Unit {0}
+NamesFirstFault text run.Thread = Unit {0}
+NamesFirstFault text run.Stalled = Unit {0}
 
 -- no fault but the text's own and want of memory
 abbrev pub IsOfText : RunFault → Type 0
@@ -59,6 +61,18 @@ IsOfText run.Memory = Unit {0}
 IsOfText run.Workers = ⊥
 IsOfText run.Read = ⊥
 IsOfText run.Write = ⊥
+IsOfText run.Thread = ⊥
+IsOfText run.Stalled = ⊥
+
+-- no fault but the text's own, those of threads, and out of memory
+abbrev pub IsOfRehearsal : RunFault → Type 0
+IsOfRehearsal (run.Trace fault) = Unit {0}
+IsOfRehearsal run.Thread = Unit {0}
+IsOfRehearsal run.Stalled = Unit {0}
+IsOfRehearsal run.Memory = Unit {0}
+IsOfRehearsal run.Workers = ⊥
+IsOfRehearsal run.Read = ⊥
+IsOfRehearsal run.Write = ⊥
 
 -- no fault but that of reading and want of memory
 abbrev pub IsOfReading : RunFault → Type 0
@@ -67,6 +81,8 @@ IsOfReading run.Memory = Unit {0}
 IsOfReading (run.Trace fault) = ⊥
 IsOfReading run.Workers = ⊥
 IsOfReading run.Write = ⊥
+IsOfReading run.Thread = ⊥
+IsOfReading run.Stalled = ⊥
 
 -- no fault but those of reading and writing, and want of memory
 abbrev pub IsOfVerifying : RunFault → Type 0
@@ -75,6 +91,8 @@ IsOfVerifying run.Memory = Unit {0}
 IsOfVerifying run.Write = Unit {0}
 IsOfVerifying (run.Trace fault) = ⊥
 IsOfVerifying run.Workers = ⊥
+IsOfVerifying run.Thread = ⊥
+IsOfVerifying run.Stalled = ⊥
 
 -- outside 1 to 64
 abbrev pub IsNoWorkers : ℕ → Type 0

@@ -1,12 +1,13 @@
 //! The program `finder`: reads a recording of collaborative editors, judges it, and writes the report or a
-//! certificate; or checks a certificate.
+//! certificate; or checks a certificate; or replays a recording by threads in one session.
 //!
-//! `run`, `run_cert` and `run_verify` are the engines, over any readers and writers; `program` joins them and
+//! `run`, `run_cert`, `run_verify` and `live` are the engines, over any readers and writers; `program` joins them and
 //! the words of the command line to files, standard streams and exit statuses.
 #![tactic(auto)]
 
 mod answer_line;
 mod certified;
+mod live;
 mod output;
 mod program;
 mod run;

@@ -2,20 +2,24 @@
 
 ghost use Rattle.std.specs.Prelude.{◌≡◌, ◌↔◌, true, IfOk, IfErr, IfSome, IsErrOf, MatchResult};
 ghost use Rattle.std.specs.Io.KnownBytes.{Appends};
+ghost use Rattle.command_line.specs.declared.task.Form.TheVariants.{Text};
 ghost use Rattle.finder_cli.specs.Runs.{Reports, IsNoWorkers};
 ghost use Rattle.finder_cli.specs.Certified.{Certifies, Verifies};
 ghost use Rattle.finder_cli.specs.Endings.{number_of_fault, IsFaultOfRun, NamesFile, NamesEither, IsOfWords};
 
 use super::certified::run_cert;
+use super::live::live;
 use super::run::run;
 use super::status::{RunFault, Status};
 use super::verified::run_verify;
 use byte_streams::{Sink, Source};
+use certificate::NoGate;
 use command_line::{Form, Task, Word, WordsFault, read_words};
 use std::alloc::Global;
 use std::env::Env;
 use std::io::{ErrorKind, Input, Print, Read, Write};
 use std::rt::Files;
+use std::sync::Wait;
 use std::thread::Threads;
 use std::{env, fs, io};
 use thiserror::Error;
@@ -33,6 +37,12 @@ pub enum ProgramFault {
     /// The text spells no recording.
     #[error("{0}")]
     Trace(LineFault),
+    /// A thread couldn't be started.
+    #[error("thread")]
+    Thread,
+    /// A recorder gave up on a receipt of an operation that had not come.
+    #[error("stalled")]
+    Stalled,
     /// Standard output can't be written.
     #[error("cannot write")]
     Write,
@@ -54,7 +64,7 @@ impl ProgramFault {
 }
 
 /// Does what the words ask for, with standard input and output.
-pub fn finder<H: Env + Files + Input + Print + AllocGlobal + Threads + Sync>(
+pub fn finder<H: Env + Files + Input + Print + AllocGlobal + Threads + Wait + Sync>(
     rt: &H,
 ) -> Result<Status, ProgramFault> {
     let words = words_of(rt)?;
@@ -68,6 +78,7 @@ pub fn finder<H: Env + Files + Input + Print + AllocGlobal + Threads + Sync>(
         ) => judge_file(rt, file, workers, form),
         Ok(Task::Cert { file }) => certify_file(rt, file),
         Ok(Task::Verify { file, cert }) => verify_files(rt, file, cert),
+        Ok(Task::Live { workers, file }) => rehearse_file(rt, file, workers),
         Err(WordsFault::Usage) => Err(ProgramFault::Usage),
         Err(WordsFault::Memory) => Err(ProgramFault::Memory),
         Err(WordsFault::Help { text }) => show(&mut Sink::new(io::writer(rt)), text.as_bytes()),
@@ -140,6 +151,43 @@ fn judge<H: AllocGlobal + Threads + Sync, R: Read + Drop, W: Write + Drop>(
     ensures file { IfErr result (λ fault. NamesFile file fault) }
 {
     match run(rt, rt.alloc(), source, sink, workers, form) {
+        Ok(status) => Ok(status),
+        Err(fault) => Err(fault_of_run(fault, file)),
+    }
+}
+
+/// Writes the report on the recording that the file spells, by way of a session; `-` is standard input.
+fn rehearse_file<H: Files + Input + Print + AllocGlobal + Threads + Wait + Sync>(
+    rt: &H,
+    file: Word,
+    workers: u32,
+) -> Result<Status, ProgramFault>
+    ensures { IfErr result (λ fault. NamesFile file fault) }
+{
+    let mut sink = Sink::new(io::writer(rt));
+    if file.as_str() == "-" {
+        return rehearse(rt, &mut Source::new(rt.reader()), &mut sink, file, workers);
+    }
+    match fs::open(rt, file.as_str()) {
+        Ok(opened) => rehearse(rt, &mut Source::new(opened), &mut sink, file, workers),
+        Err(_) => Err(ProgramFault::Read { file }),
+    }
+}
+
+/// Writes the report on the recording that the source spells, by way of a session, where it is the source of this
+/// file.
+fn rehearse<H: AllocGlobal + Threads + Wait + Sync, R: Read + Drop, W: Write + Drop>(
+    rt: &H,
+    source: &mut Source<R>,
+    sink: &mut Sink<W>,
+    file: Word,
+    workers: u32,
+) -> Result<Status, ProgramFault>
+    ensures report { IfOk result (λ status. IfSome source.old.bytes (λ text. Reports text Text sink.old.bytes sink.new.bytes status)) }
+    ensures usage { IsErrOf result ProgramFault.Usage ↔ IsNoWorkers workers }
+    ensures file { IfErr result (λ fault. NamesFile file fault) }
+{
+    match live(rt, rt.alloc(), source, sink, workers, &NoGate) {
         Ok(status) => Ok(status),
         Err(fault) => Err(fault_of_run(fault, file)),
     }
@@ -240,6 +288,8 @@ fn fault_of_run(fault: RunFault, file: Word) -> ProgramFault
         RunFault::Workers => ProgramFault::Usage,
         RunFault::Read => ProgramFault::Read { file },
         RunFault::Trace(fault) => ProgramFault::Trace(fault),
+        RunFault::Thread => ProgramFault::Thread,
+        RunFault::Stalled => ProgramFault::Stalled,
         RunFault::Write => ProgramFault::Write,
         RunFault::Memory => ProgramFault::Memory,
     }

@@ -28,8 +28,8 @@ impl Status {
     }
 }
 
-/// Why an engine wrote no output, or not the whole of it. `Workers` is tested first; want of memory is answered
-/// where it is met.
+/// Why an engine wrote no output, or not the whole of it. `Workers` is tested first; out of memory is answered
+/// where it is met. `Thread` and `Stalled` are of `live` alone.
 #[derive(Clone, Copy, Debug, PartialEq, Eq, Error)]
 pub enum RunFault {
     /// The number of workers is not 1 to 64.
@@ -41,6 +41,12 @@ pub enum RunFault {
     /// The text spells no recording: its first faulty line.
     #[error(transparent)]
     Trace(LineFault),
+    /// A thread couldn't be started.
+    #[error("thread")]
+    Thread,
+    /// A recorder gave up on a receipt of an operation that had not come.
+    #[error("stalled")]
+    Stalled,
     /// A write failed or took no byte. A front of the output was written.
     #[error("cannot write")]
     Write,

@@ -1,11 +1,11 @@
-use Rattle.std.proofs.Common.{codes}
+use Rattle.std.proofs.Common.{codes, inl, inr}
 use Rattle.clap.specs.Words.{found_of}
-use Rattle.command_line.proofs.Asked.{fault-kept, no-cert, no-file, no-workers, verdict-asked, word-read}
+use Rattle.command_line.proofs.Asked.{fault-kept, no-cert, no-file, live-asked, no-workers, verdict-asked, word-read}
 use Rattle.command_line.proofs.words.task_given.Goals as goal
 
 pub returns-in_err-workers_of-in-verdict : goal.returns-in_err-workers_of-in-verdict
 returns-in_err-workers_of-in-verdict c =
-    fault-kept (found_of c.args.given.now) c.args.name.now _ _ c.from_residual.ensures.1 (no-workers (found_of c.args.given.now) c.args.name.now _ c.in-verdict.is c.in_err-workers_of-in-verdict.ensures)
+    fault-kept (found_of c.args.given.now) c.args.name.now _ _ c.from_residual.ensures.1 (no-workers (found_of c.args.given.now) c.args.name.now _ (inl c.in-verdict.is) c.in_err-workers_of-in-verdict.ensures)
 
 pub returns-in_err-word_of-in-verdict : goal.returns-in_err-word_of-in-verdict
 returns-in_err-word_of-in-verdict c =
@@ -40,3 +40,18 @@ returns-in_ok-word_of-in-verify-2 c = (
   word-read (found_of c.args.given.now) (codes "FILE") c.in_ok-word_of-in-verify.field-0 c.in_ok-word_of-in-verify.ensures,
   word-read (found_of c.args.given.now) (codes "CERT") c.in_ok-word_of-in-verify-2.field-0 c.in_ok-word_of-in-verify-2.ensures,
 )
+
+pub returns-in_err-workers_of-in-live : goal.returns-in_err-workers_of-in-live
+returns-in_err-workers_of-in-live c =
+    fault-kept (found_of c.args.given.now) c.args.name.now _ _ c.from_residual-in_err-workers_of-in-live.ensures.1
+    (no-workers (found_of c.args.given.now) c.args.name.now _ (inr c.in-live.is) c.in_err-workers_of-in-live.ensures)
+
+pub returns-in_err-word_of-in-live : goal.returns-in_err-word_of-in-live
+returns-in_err-word_of-in-live c =
+    fault-kept (found_of c.args.given.now) c.args.name.now _ _ c.from_residual-in_err-word_of-in-live.ensures.1
+    (no-file (found_of c.args.given.now) c.args.name.now _ c.in_err-word_of-in-live.ensures)
+
+pub returns-in_ok-word_of-in-live : goal.returns-in_ok-word_of-in-live
+returns-in_ok-word_of-in-live c =
+    let asked = live-asked (found_of c.args.given.now) c.in_ok-workers_of-in-live.field-0 c.in_ok-word_of-in-live.field-0 c.in_ok-workers_of-in-live.ensures c.in_ok-word_of-in-live.ensures in
+    (c.in-live.is, asked.1, asked.2)

@@ -1,0 +1,102 @@
+//! A trace in, the report out of what recorder threads made of it in one session beside a watcher.
+
+ghost use Rattle.std.specs.Prelude.{◌≡◌, ◌≢◌, ◌↔◌, ◌≤◌, true, false, IfOk, IfErr, IfSome, OnOk, IsErrOf};
+ghost use Rattle.std.specs.Io.KnownBytes.{IsAtEnd};
+ghost use Rattle.byte_streams.specs.Streams.{IsClosed};
+ghost use Rattle.command_line.specs.declared.task.Form.TheVariants.{Text};
+ghost use Rattle.events.specs.History.{SameStreams};
+ghost use Rattle.finder_cli.specs.Runs.{IsReportOf, Reports, ReportsFront, NamesFirstFault, IsOfRehearsal, IsNoWorkers};
+
+use super::output::{Output, recording_on, status_of, verdict_on, whole_text, write_output};
+use super::status::{RunFault, Status};
+use byte_streams::{Sink, Source};
+use certificate::Gate;
+use command_line::MOST_WORKERS;
+use events::Recording;
+use rehearsal::{RehearsalFault, rehearse};
+use report::reports_are_of_streams;
+use specification::verdicts_are_of_streams;
+use std::alloc::Global;
+use std::io::{Read, Write};
+use std::sync::Wait;
+use std::thread::Threads;
+
+/// Reads a trace to its end, has its streams replayed by recorder threads in one session, beside a watcher that judges
+/// four snapshots, and writes the report of the verdict on what the session has in the end.
+///
+/// The number of workers is tested before anything is read; so many search at each snapshot, and at the end. For each
+/// replica r the gate's `before(r, 0)` and `after(r, 0)` are called round its replay, and no search calls it. After all
+/// threads are joined, out of memory in any of them is answered before `Thread`, and `Thread` before `Stalled`. Nothing
+/// is written before the whole report is made.
+pub fn live<H: Threads + Wait + Sync, R: Read + Drop, W: Write + Drop, G: Gate>(
+    rt: &H,
+    alloc: Global,
+    source: &mut Source<R>,
+    sink: &mut Sink<W>,
+    workers: u32,
+    gate: &G,
+) -> Result<Status, RunFault>
+    ensures report { IfOk result (λ status. IfSome source.old.bytes (λ text. Reports text Text sink.old.bytes sink.new.bytes status)) }
+    ensures end { OnOk result (IsAtEnd source.new.bytes) }
+    ensures workers { IsErrOf result RunFault.Workers ↔ IsNoWorkers workers }
+    ensures unread { IsNoWorkers workers → source.new ≡ source.old }
+    ensures read { IfErr result (λ fault. fault ≡ RunFault.Read → IsClosed source.new) }
+    ensures memory { IfErr result (λ fault. fault ≡ RunFault.Memory → source.new.failed ≡ false) }
+    ensures trace { IfErr result (λ fault. IfSome source.old.bytes (λ text. NamesFirstFault text fault)) }
+    ensures write { IfErr result (λ fault. fault ≡ RunFault.Write → (sink.new.failed ≡ true) × IfSome source.old.bytes (λ text. ReportsFront text Text sink.old.bytes sink.new.bytes)) }
+    ensures unwritten { IfErr result (λ fault. fault ≢ RunFault.Write → sink.new ≡ sink.old) }
+{
+    if workers == 0 || workers > MOST_WORKERS {
+        return Err(RunFault::Workers);
+    }
+    let text = whole_text(alloc, source)?;
+    let report = rehearsed_report(rt, alloc, &text, workers, gate)?;
+    write_output(sink, &report)
+}
+
+/// The report on the recording that the text spells, by way of a session.
+fn rehearsed_report<H: Threads + Wait + Sync, G: Gate>(
+    rt: &H,
+    alloc: Global,
+    text: &[u8],
+    workers: u32,
+    gate: &G,
+) -> Result<Output, RunFault>
+    requires workers { (1 ≤ workers) × (workers ≤ 64) }
+    ensures ok { IfOk result (λ report. IsReportOf text.now Text report.bytes.items report.status) }
+    ensures trace { IfErr result (λ fault. NamesFirstFault text.now fault × IsOfRehearsal fault) }
+{
+    let recording = recording_on(alloc, text)?;
+    let closed = rehearsed(rt, alloc, &recording, workers, gate)?;
+    let verdict = verdict_on(rt, alloc, &closed, workers)?;
+    let bytes = report::text(alloc, &closed, &verdict)?;
+    // The verdict and the report are those of the recording too, since it has the same streams.
+    verdicts_are_of_streams();
+    reports_are_of_streams();
+    Ok(Output {
+        bytes,
+        status: status_of(&verdict),
+    })
+}
+
+/// What a session has after the recording was replayed in it.
+fn rehearsed<H: Threads + Wait + Sync, G: Gate>(
+    rt: &H,
+    alloc: Global,
+    recording: &Recording,
+    workers: u32,
+    gate: &G,
+) -> Result<Recording, RunFault>
+    requires workers { (1 ≤ workers) × (workers ≤ 64) }
+    ensures ok { IfOk result (λ closed. SameStreams recording.now closed) }
+    ensures fault { IfErr result IsOfRehearsal }
+    ensures no_line { IfErr result (λ fault. (line : _) → fault ≢ RunFault.Trace line) }
+{
+    match rehearse(rt, alloc, recording, workers, gate) {
+        Ok(closed) => Ok(closed),
+        Err(RehearsalFault::Thread) => Err(RunFault::Thread),
+        Err(RehearsalFault::Stalled) => Err(RunFault::Stalled),
+        Err(RehearsalFault::Memory) => Err(RunFault::Memory),
+        Err(RehearsalFault::Workers) => unreachable!(),
+    }
+}
