@@ -1,0 +1,52 @@
+"""Finds the proved program and runs it. It is the only judge: all verdicts here are its own."""
+import json
+import os
+import shutil
+import subprocess
+from pathlib import Path
+from typing import NamedTuple
+
+VARIABLE = "DOMEPEELER"
+COMMAND = "domepeeler"
+TOOLS = Path(__file__).resolve().parent.parent
+# Where the program lies beside these tools: as the repository builds it, and as tools/install puts it.
+BESIDE = [TOOLS.parent / "crates/finder_cli/out/finder_cli", TOOLS.parent.parent / "bin" / COMMAND]
+WAYS = (f"The program is the one that --program names; else that of the variable {VARIABLE}; else `{COMMAND}` on the PATH; "
+        "else the one that was built in this repository, or installed beside this tool.")
+
+
+class NoProgram(Exception):
+    """There is no program to ask."""
+
+
+class Judged(NamedTuple):
+    """How the program ended: its exit status, its report where it has one, and its line on standard error."""
+
+    status: int
+    report: dict | None
+    error: str
+
+
+def find_program(asked: str | None) -> str:
+    """The program's path, or NoProgram. A program that was asked for by name must be there: no other is taken."""
+    for named, way in (asked, "--program"), (os.environ.get(VARIABLE), VARIABLE):
+        if named:
+            found = shutil.which(named)
+            if found is None:
+                raise NoProgram(f"{named} of {way} can't be run")
+            return os.path.abspath(found)
+    found = shutil.which(COMMAND)
+    if found is not None:
+        return os.path.abspath(found)
+    for path in BESIDE:
+        if os.access(path, os.X_OK):
+            return str(path)
+    raise NoProgram(f"no program found. {WAYS}")
+
+
+def judge(program: str, trace: bytes) -> Judged:
+    """What the program says of a trace."""
+    done = subprocess.run([program, "verdict", "--json", "-"], input=trace, capture_output=True)
+    error = done.stderr.decode(errors="replace").rstrip("\n")
+    report = json.loads(done.stdout) if done.returncode in (0, 1) else None
+    return Judged(done.returncode, report, error)
