@@ -3,6 +3,7 @@
 The verdict is the program's. What is computed here must agree with it; where it doesn't, Unexplained says so."""
 from .recordings import Operation, Recording, place_asked
 
+MOST_ARRIVED = 6  # receipts that are told one by one
 MOST_ELEMENTS = 4  # of a fault of contents, on each side, that are followed through the trace
 
 
@@ -57,6 +58,8 @@ class Evidence:
         if not self.repeated + self.surplus + self.missing:
             raise Unexplained(f"the response of {operation.name} holds what is visible")
         self._name(operation, self.repeated + self.surplus)
+        before, arrived = self.before(operation)
+        self.lines.update(entry.line for entry in [*before, *arrived[:MOST_ARRIVED]])
         followed = self.missing[:MOST_ELEMENTS] + self.surplus[:MOST_ELEMENTS] + self.repeated[:MOST_ELEMENTS]
         self.elements = list(dict.fromkeys(followed))
 
@@ -80,6 +83,13 @@ class Evidence:
             self.lines.add(change.line)
             if operation.has_seen(change):
                 self.lines.update(receipt.line for receipt in self.recording.way(change, operation))
+            elif (late := self.recording.arrival(change, operation.replica)) is not None:
+                self.lines.add(late.line)
+
+    def before(self, operation: Operation) -> tuple:
+        """The replica's operation before, if there is one, and what the replica received since then."""
+        before = self.recording.streams[operation.replica][:operation.n - 1][-1:]
+        return before, [receipt for receipt in self.recording.receipts[operation.replica] if receipt.before == operation.n - 1]
 
     def changes(self, element: str, operation: Operation) -> list:
         """The inserts of the element and its deletes: those that the operation has seen, and of a fault's elements, where it

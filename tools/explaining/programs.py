@@ -44,9 +44,21 @@ def find_program(asked: str | None) -> str:
     raise NoProgram(f"no program found. {WAYS}")
 
 
+def run(program: str, words: list, trace: bytes) -> subprocess.CompletedProcess:
+    try:
+        return subprocess.run([program, *words], input=trace, capture_output=True)
+    except OSError as error:
+        raise NoProgram(f"{program} can't be run: {error.strerror}") from error
+
+
 def judge(program: str, trace: bytes) -> Judged:
     """What the program says of a trace."""
-    done = subprocess.run([program, "verdict", "--json", "-"], input=trace, capture_output=True)
+    done = run(program, ["verdict", "--json", "-"], trace)
     error = done.stderr.decode(errors="replace").rstrip("\n")
     report = json.loads(done.stdout) if done.returncode in (0, 1) else None
     return Judged(done.returncode, report, error)
+
+
+def report_text(program: str, trace: bytes) -> str:
+    """The report as text, of a trace that reads."""
+    return run(program, ["verdict", "-"], trace).stdout.decode()

@@ -3,7 +3,7 @@
 A name in brackets is one of the names that the verdict is about; names themselves have no brackets."""
 from typing import NamedTuple
 
-from .evidence import Evidence
+from .evidence import MOST_ARRIVED, Evidence
 from .recordings import Operation, Recording, place_asked
 
 MOST_NAMES = 24  # of a list that is shown whole
@@ -65,7 +65,7 @@ def refused(evidence: Evidence) -> Explanation:
     headline = f"refused {k}: {counted(k)} responses can't be right together.{fewer} {weak}"
     shown = []
     for step, operation in zip(steps, evidence.operations):
-        shown.append(f"[{step['from']}] before [{step['to']}] in {did(operation)}: {answer(evidence, operation)}")
+        shown.append(f"[{step['from']}] before [{step['to']}]: {did(operation)}, answered {answer(evidence, operation)}")
     elements = []
     for name in evidence.elements:
         made = [f"inserted by {at(change)}" for change in evidence.recording.inserts[name]]
@@ -93,6 +93,7 @@ def contents(evidence: Evidence) -> Explanation:
         did(operation),
         f"answered: {answer(evidence, operation)}",
         f"expected, in whatever order: {marked(wanted, wrong)}",
+        since(evidence, operation),
     ])]
     for title, names in ("Missing", evidence.missing), ("Too many", evidence.surplus), ("Named more than once", evidence.repeated):
         if names:
@@ -102,6 +103,17 @@ def contents(evidence: Evidence) -> Explanation:
     sections.append(Section("Where to look", [LOOK["contents"]]))
     return Explanation(f"contents {operation.name}: this response does not hold exactly what is visible to it. "
                        "Strong and weak list specification fail.", sections)
+
+
+def since(evidence: Evidence, operation: Operation) -> str:
+    """What came to the replica since its operation before, which is right: the program names the first fault."""
+    before, receipts = evidence.before(operation)
+    arrived = [f"line {receipt.line} ({receipt.text})" for receipt in receipts]
+    more = f" and {len(arrived) - MOST_ARRIVED} more" if len(arrived) > MOST_ARRIVED else ""
+    came = "received " + ", ".join(arrived[:MOST_ARRIVED]) + more if arrived else "received nothing"
+    if not before:
+        return f"before it: replica {operation.replica} did nothing, and {came}"
+    return f"before it: {at(before[0])} is still right; since then replica {operation.replica} {came}"
 
 
 def facts(evidence: Evidence, name: str, operation: Operation) -> list:
