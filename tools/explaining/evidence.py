@@ -82,9 +82,10 @@ class Evidence:
         for change in self.changes(element, operation):
             self.lines.add(change.line)
             if operation.has_seen(change):
-                self.lines.update(receipt.line for receipt in self.recording.way(change, operation))
+                for receipt in self.recording.way(change, operation):
+                    self.lines.update((receipt.line, receipt.seen.line))
             elif (late := self.recording.arrival(change, operation.replica)) is not None:
-                self.lines.add(late.line)
+                self.lines.update((late.line, late.seen.line))
 
     def before(self, operation: Operation) -> tuple:
         """The replica's operation before, if there is one, and what the replica received since then."""

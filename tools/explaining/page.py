@@ -10,6 +10,8 @@ from .words import Explanation, Section
 MOST_ROWS = 80  # entries that are shown at once
 MOST_FOLDED = 2000  # entries that are on the page at all
 MARKED = re.compile(r"\[([A-Za-z0-9_.-]+)\]")
+WIDTH = re.compile(r'width="(\d+)"')
+SMALLEST = 0.7  # how far a picture shrinks on a narrow screen before it is scrolled
 LINE = re.compile(r"\bline (\d+)\b")
 
 STYLE = """\
@@ -32,12 +34,15 @@ mark { background: var(--mark); color: var(--mark-ink); border-radius: 3px; padd
 a { color: var(--way) }
 pre { background: var(--card); padding: .75rem; overflow-x: auto; border-radius: 6px }
 .scroll { overflow-x: auto; padding-bottom: 5rem }
-.session { position: relative; min-width: calc(3rem + var(--lanes) + 9rem) }
+.session { position: relative; min-width: calc(2.5rem + var(--lanes) + 12rem) }
 .session ol { list-style: none; margin: 0; padding: var(--row) 0 0 }
-.session li { position: relative; height: var(--row); line-height: var(--row); padding-left: calc(3.5rem + var(--lanes)) }
-.lanes { position: absolute; left: 3rem; top: 0; pointer-events: none; z-index: 1 }
-.line { position: absolute; left: 0; width: 2.6rem; text-align: right; color: var(--dim) }
+.session li { position: relative; height: var(--row); line-height: var(--row); padding-left: calc(2.7rem + var(--lanes)) }
+.lanes { position: absolute; left: 2.5rem; top: 0; pointer-events: none; z-index: 1 }
+.line { position: absolute; left: 0; width: 2.4rem; text-align: right; color: var(--dim) }
 .said { display: block; overflow: hidden; white-space: nowrap; text-overflow: ellipsis; padding: 0 .4rem; border-radius: 4px }
+.whole { display: none }
+.session li:hover .whole, .session li:focus .whole, .session li:target .whole { display: inline }
+.session li:hover .brief, .session li:focus .brief, .session li:target .brief { display: none }
 .who { display: none; font-family: system-ui, sans-serif; color: var(--dim) }
 .receipt .said, .gap .said { color: var(--dim) } .matters .said { color: var(--ink) }
 .gap { font-style: italic }
@@ -46,7 +51,7 @@ pre { background: var(--card); padding: .75rem; overflow-x: auto; border-radius:
 .session li.verdict:hover, .session li.verdict:focus { background: var(--alarm-ground) }
 .session li:focus .line, .session li:target .line { color: var(--way); font-weight: bold }
 .session li:hover .said, .session li:focus .said, .session li:target .said { position: absolute; right: 0; z-index: 2;
-  left: calc(3.1rem + var(--lanes)); line-height: 1.5; padding: .2rem .8rem; white-space: normal; overflow-wrap: anywhere;
+  left: calc(2.4rem + var(--lanes)); line-height: 1.5; padding: .2rem .8rem; white-space: normal; overflow-wrap: anywhere;
   background: var(--card); box-shadow: 0 0 0 2px var(--way); max-height: 60vh; overflow-y: auto }
 .session li:focus .said { z-index: 3 } .session li:hover .said { z-index: 4 }
 .session li:hover .who, .session li:focus .who, .session li:target .who { display: block }
@@ -62,7 +67,7 @@ path.receipt.matters { stroke: var(--way); stroke-width: 2; opacity: 1 }
 .arrived { fill: var(--dim) } .arrived.matters { fill: var(--way) } #receipt-head path { fill: var(--dim) }
 #matters-head path { fill: var(--way) } #head path { fill: var(--alarm) }
 .heads { position: absolute; width: 0; height: 0 }
-.cycle { overflow-x: auto } .cycle svg { display: block; max-width: 100%; height: auto; min-width: 20rem }
+.cycle { overflow-x: auto } .cycle svg { display: block; max-width: 100%; height: auto; min-width: var(--least) }
 .cycle text { font: 14px ui-monospace, Menlo, Consolas, monospace; fill: var(--dim) }
 .cycle .element { fill: var(--ground); stroke: var(--ink); stroke-width: 1.5 }
 .cycle .name { fill: var(--ink); text-anchor: middle } .cycle .number { font-family: system-ui, sans-serif; text-anchor: middle }
@@ -123,7 +128,9 @@ def section_of(section: Section, session: str) -> str:
 def cycle_of(evidence: Evidence) -> str:
     if evidence.report["verdict"] != "refused":
         return ""
-    return f'<h2>The cycle</h2>\n<div class="cycle">\n{picture(evidence.report)}</div>\n'
+    drawn = picture(evidence.report)
+    least = int(WIDTH.search(drawn)[1]) * SMALLEST
+    return f'<h2>The cycle</h2>\n<div class="cycle" style="--least: {least:.0f}px">\n{drawn}</div>\n'
 
 
 def session_of(evidence: Evidence) -> str:

@@ -4,6 +4,7 @@ The lanes with operations and receipts are one picture; the text beside them is 
 reached by the keyboard. A row is as high as the picture says."""
 from html import escape
 
+from .cycle_picture import shortened
 from .evidence import Evidence
 from .recordings import Operation, Receipt
 
@@ -49,9 +50,9 @@ class Rows:
             said = f'<span class="said"><span class="who">{who}</span><code>{escape(row.text)}</code></span>'
             return f'<li id="{self.prefix}{row.line}" class="receipt{matters}" tabindex="0">{number}{said}</li>'
         verdict = " verdict" if row in self.evidence.operations else ""
-        asked, _, _ = row.text.partition(" :")
+        asked = row.text.partition(" :")[0].partition(" ")[2]
         said = (f'<span class="said"><span class="who">{escape(self.who(row))}</span><b>{row.name}</b> '
-                f'<code>{escape(asked)} :</code> <code class="names">{self.names(row)}</code></span>')
+                f'<code>{escape(asked)} : {self.names(row)}</code></span>')
         return f'<li id="{self.prefix}{row.line}" class="operation{matters}{verdict}" tabindex="0">{number}{said}</li>'
 
     def who(self, operation: Operation) -> str:
@@ -61,12 +62,18 @@ class Rows:
         return f"replica {operation.replica} {did}; the response has {count} name{'' if count == 1 else 's'}"
 
     def names(self, operation: Operation) -> str:
-        """The response, with the names marked that the verdict is about."""
-        response = operation.response
+        """The response, with the names marked that the verdict is about; at first, of a long one, not much more than these."""
         marks = self.evidence.marks.get(operation.name, [])
-        told = [f"<mark>{escape(name)}</mark>" if name in marks else escape(name) for name in response[:MOST_NAMES]]
+        response = operation.response
         left = len(response) - MOST_NAMES
-        return " ".join(told) + (f" \u2026 and {left} more" if left > 0 else "")
+        whole = self.marked(response[:MOST_NAMES], marks) + (f" \u2026 and {left} more" if left > 0 else "")
+        brief = shortened(response, tuple(marks)) if marks else response
+        if brief == response:
+            return whole
+        return f'<span class="brief">{self.marked(brief, marks)}</span><span class="whole">{whole}</span>'
+
+    def marked(self, names: list, marks: list) -> str:
+        return " ".join(f"<mark>{escape(name)}</mark>" if name in marks else escape(name) for name in names)
 
     def at(self, replica: int, line: int) -> tuple:
         return replica * self.lane + self.lane / 2, (self.places[line] + 1.5) * ROW

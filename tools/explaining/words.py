@@ -18,8 +18,10 @@ LOOK = {
                 "elements may still stand; and at whether the recorder writes the position that was asked for.",
     "doubled": "At the recorder, most often: each inserted element needs a name of its own, for ever. Equal letters, a paste and "
                "the undoing of a delete make new elements with new names.",
-    "two": "At the order of concurrent inserts: the two responses show two elements in opposite orders, so two replicas, or one "
-           "at two times, put elements that were inserted at the same place in different orders.",
+    "concurrent": "At the order of concurrent inserts: no author of the two elements had seen the other one, and two replicas, or "
+                  "one at two times, have put them in different orders.",
+    "seen": "At where a replica puts an insert that arrives: {later} inserted {new} when it had seen {old}, so these are no "
+            "concurrent inserts, and yet the two are put in different orders.",
     "more": "At positions beside deleted elements: any fewer of these responses fit together, so no two replicas disagree openly. "
             "An insert beside an element that another replica has deleted loses its place there: see which of the elements are "
             "deleted before a response that leaves them out.",
@@ -73,8 +75,29 @@ def refused(evidence: Evidence) -> Explanation:
         more = f", and by {len(gone) - 2} more" if len(gone) > 2 else ""
         elements.append(f"{name}: {', '.join(made + gone[:2])}{more}")
     return Explanation(headline, [Section("What they show, each element before the next, and round again", shown),
-                                  Section("The elements", elements),
-                                  Section("Where to look in the editor", [LOOK["two" if k == 2 else "more"]])])
+                                  Section("The elements", elements + gone_before(evidence)),
+                                  Section("Where to look in the editor", [LOOK["more"] if k > 2 else look_at_two(evidence)])])
+
+
+def gone_before(evidence: Evidence) -> list:
+    """Which of the elements had been deleted for the responses, so that they leave them out."""
+    lines = []
+    for operation in evidence.operations:
+        for name in evidence.elements:
+            inserted = any(map(operation.has_seen, evidence.recording.inserts[name]))
+            delete = next(filter(operation.has_seen, evidence.recording.deletes.get(name, [])), None)
+            if inserted and delete is not None:
+                lines.append(f"for {at(operation)}, {name} is deleted, by {at(delete)}")
+    return lines
+
+
+def look_at_two(evidence: Evidence) -> str:
+    """Where to look at two elements in opposite orders: whether one author had seen the other's element."""
+    first, then = (evidence.recording.inserts[name][0] for name in evidence.elements)
+    if not first.has_seen(then) and not then.has_seen(first):
+        return LOOK["concurrent"]
+    later, old = (first, then) if first.has_seen(then) else (then, first)
+    return LOOK["seen"].format(later=at(later), new=later.element, old=old.element)
 
 
 def doubled(evidence: Evidence) -> Explanation:
