@@ -59,7 +59,7 @@ class Tally:
 
 def need(command: str, package: str) -> None:
     """Ends the script where the command is missing and Debian's package can't be installed: no test is passed over."""
-    if shutil.which(command) is None:
+    if shutil.which(command) is None and shutil.which("apt-get") is not None:
         for words in ["update"], ["install", "-y", "--no-install-recommends", package]:
             subprocess.run(["apt-get", *words], stdout=subprocess.DEVNULL, stderr=subprocess.DEVNULL, check=False)
     if shutil.which(command) is None:

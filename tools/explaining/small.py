@@ -3,7 +3,7 @@ that bear on it.
 
 What is visible to which operation stays as it was, so what was right stays right: of the elements that are kept, all inserts
 and all deletes that anything kept has seen are kept too. Receipts are made anew, since one may have named an operation that
-is gone. Replicas keep their numbers; operations are counted anew."""
+is gone. Replicas keep their numbers; operations are counted anew, and one that changed another element is a read."""
 from typing import NamedTuple
 
 from .evidence import Evidence
@@ -61,11 +61,12 @@ class Projection:
         return self.recording.streams[replica][self.counts[replica].index(n) - 1]
 
     def entry(self, operation: Operation) -> str:
+        """The line of an operation; what inserts or deletes another element is a read of those that are kept."""
         response = [name for name in operation.response if name in self.elements]
-        words = [str(operation.replica), operation.kind, *([operation.element] if operation.element else [])]
-        if operation.kind == "ins":
+        words = [operation.kind, operation.element] if operation.element in self.elements else ["read"]
+        if words[0] == "ins":
             words.append(str(self.place(operation, response)))
-        return " ".join([*words, ":", *response])
+        return " ".join([str(operation.replica), *words, ":", *response])
 
     def place(self, operation: Operation, response: list) -> int:
         """Where the element stands now; of one that is misplaced, where that stands which it ought to have stood before."""
@@ -100,7 +101,7 @@ def candidates(evidence: Evidence) -> list:
     if evidence.report["verdict"] != "doubled":
         told = with_changes(recording, elements, told)
     every = [operation for stream in recording.streams for operation in stream]
-    names = elements.union(recording.inserts, *(operation.response for operation in evidence.operations))
+    names = elements.union(recording.inserts, recording.deletes, *(operation.response for operation in evidence.operations))
     return [Projection(recording, elements, fewer(recording, evidence, elements, told), misplaced),
             Projection(recording, elements, told, misplaced),
             Projection(recording, names, every, misplaced)]
