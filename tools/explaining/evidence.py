@@ -59,7 +59,8 @@ class Evidence:
             raise Unexplained(f"the response of {operation.name} holds what is visible")
         self._name(operation, self.repeated + self.surplus)
         before, arrived = self.before(operation)
-        self.lines.update(entry.line for entry in [*before, *arrived[:MOST_ARRIVED]])
+        told = arrived[:MOST_ARRIVED]
+        self.lines.update(entry.line for entry in [*before, *told, *(receipt.seen for receipt in told)])
         followed = self.missing[:MOST_ELEMENTS] + self.surplus[:MOST_ELEMENTS] + self.repeated[:MOST_ELEMENTS]
         self.elements = list(dict.fromkeys(followed))
 

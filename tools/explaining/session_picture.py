@@ -9,7 +9,8 @@ from .evidence import Evidence
 from .recordings import Operation, Receipt
 
 ROW = 30  # the height of a row
-LANE, NARROW_LANE, MANY = 36, 24, 6  # the width of a lane, and of one where there are many
+LANES = 130  # how wide the lanes are together, where each is not too narrow or too wide
+NARROWEST, WIDEST = 24, 56  # lanes
 NODE = 9  # the radius of an operation
 BOW = 0.7  # how far arrows bend towards their ends: straight ones of one operation would lie on one another
 SIGNS = {"ins": "+", "del": "\u2212", "read": "="}
@@ -31,11 +32,12 @@ class Rows:
         left = len(evidence.recording.lines) - last
         self.rows += [left] if left else []
         self.places = {row.line: place for place, row in enumerate(self.rows) if not isinstance(row, int)}
-        self.replicas = evidence.recording.replicas
-        self.lane = LANE if self.replicas <= MANY else NARROW_LANE
+        replicas = sorted({entry.replica for entry in entries})
+        self.lanes = {replica: lane for lane, replica in enumerate(replicas)}  # none for a replica without a row
+        self.lane = max(NARROWEST, min(WIDEST, LANES // max(len(replicas), 1)))
 
     def html(self) -> str:
-        width = self.replicas * self.lane
+        width = len(self.lanes) * self.lane
         rows = "\n".join(self.row(row) for row in self.rows)
         return (f'<div class="scroll"><div class="session" style="--lanes: {width}px; --row: {ROW}px">\n{self.picture(width)}\n'
                 f"<ol>\n{rows}\n</ol></div></div>")
@@ -76,14 +78,14 @@ class Rows:
         return " ".join(f"<mark>{escape(name)}</mark>" if name in marks else escape(name) for name in names)
 
     def at(self, replica: int, line: int) -> tuple:
-        return replica * self.lane + self.lane / 2, (self.places[line] + 1.5) * ROW
+        return (self.lanes[replica] + 0.5) * self.lane, (self.places[line] + 1.5) * ROW
 
     def picture(self, width: int) -> str:
         """The lanes, with an arrow for each receipt whose operation is shown."""
         height = (len(self.rows) + 1) * ROW
         parts = [f'<svg class="lanes" width="{width}" height="{height}" viewBox="0 0 {width} {height}" aria-hidden="true">']
-        for replica in range(self.replicas):
-            x = replica * self.lane + self.lane / 2
+        for replica, lane in self.lanes.items():
+            x = (lane + 0.5) * self.lane
             parts.append(f'<text class="title" x="{x}" y="{ROW / 2 + 5}">{replica}</text>')
             parts.append(f'<path class="lane" d="M {x} {ROW} V {height}"/>')
         entries = [row for row in self.rows if not isinstance(row, int)]
