@@ -18,12 +18,19 @@ from program import Ended, Tally, program_of, run
 from traces import trace as long_trace
 
 ROOT = Path(__file__).resolve().parent.parent
+sys.path.insert(0, str(ROOT / "tools"))
+from explaining.evidence import Evidence
+from explaining.recordings import Recording
+from explaining.small import smallest
+
 EXPLAIN = str(ROOT / "tools" / "explain")
 SEED = 20261123
 
 # How many small traces are made of each kind of verdict.
 SMALL = {"refused": 300, "contents": 60, "position": 40, "doubled": 20}
 MOST_TRIES = 20_000
+
+THREE_WAY = "0 ins x 0 : x|1 recv 0 1|2 recv 0 1|1 ins a 0 : a x|2 ins b 1 : x b|0 del x :|0 recv 1 1|0 recv 2 1|0 read : b a"
 
 # By name: how many replicas, the entries, and lines that stand in the explanation one behind the other, the first in front.
 WORDS = [
@@ -44,13 +51,21 @@ WORDS = [
      "[b] before [a]: line 7, 0.2: replica 0 read the list, answered [b] [a]|"
      "At where a replica puts an insert that arrives: 1.1 (line 5) inserted b when it had seen a, so these are no concurrent "
      "inserts, and yet the two are put in different orders."),
-    ("three-way cycle", 3, "0 ins x 0 : x|1 recv 0 1|2 recv 0 1|1 ins a 0 : a x|2 ins b 1 : x b|0 del x :|0 recv 1 1|0 recv 2 1|"
-     "0 read : b a",
+    ("three-way cycle", 3, THREE_WAY,
      "refused 3: three responses can't be right together. Any two of them can. The strong list specification fails, the weak one "
      "holds.|[x] before [b]: line 7, 2.1: replica 2 inserted b at position 1, answered [x] [b]|"
      "[b] before [a]: line 11, 0.3: replica 0 read the list, answered [b] [a]|"
      "[a] before [x]: line 6, 1.1: replica 1 inserted a at position 0, answered [a] [x]|"
-     "x: inserted by 0.1 (line 3), deleted by 0.2 (line 8)|for 0.3 (line 11), x is deleted, by 0.2 (line 8)"),
+     "x: inserted by 0.1 (line 3), deleted by 0.2 (line 8)|for 0.3 (line 11), x is deleted, by 0.2 (line 8)|"
+     "At positions beside deleted elements: no two of these responses disagree openly, and an insert beside an element that another "
+     "replica has deleted may have lost its place there. Above stands which elements are deleted for which of the responses."),
+    ("a ring of three that hear of one another", 3, "0 ins a 0 : a|1 ins b 0 : b|2 ins c 0 : c|0 recv 1 1|0 read : a b|1 recv 2 1|"
+     "1 read : b c|2 recv 0 1|2 read : c a",
+     "[a] before [b]: line 7, 0.2: replica 0 read the list, answered [a] [b]|"
+     "[b] before [c]: line 9, 1.2: replica 1 read the list, answered [b] [c]|"
+     "[c] before [a]: line 11, 2.2: replica 2 read the list, answered [c] [a]|"
+     "At how a replica orders elements of which it shows only some: no two of these responses disagree openly, and none of the "
+     "elements is deleted for any of them, so each replica has yet to hear of some."),
     ("an element lost that came by way of another replica", 3,
      "0 ins a 0 : a|1 recv 0 1|1 ins b 1 : a b|2 recv 1 1|2 read : b",
      "contents 2.1: this response does not hold exactly what is visible to it. Strong and weak list specification fail.|"
@@ -331,6 +346,24 @@ def small(tally: Tally, program: str, folder: str) -> None:
             tally.check("small: of a fault", most.get(report["verdict"], True), f"{whole}\nto\n{text}")
 
 
+def kept_more(tally: Tally) -> None:
+    """Where the program says otherwise of a small trace, more is kept, up to the whole."""
+    whole = text_of(3, THREE_WAY)
+    report = {"verdict": "refused", "k": 3, "steps": [
+        {"from": "x", "to": "b", "shown": "2.1", "response": ["x", "b"]}, {"from": "b", "to": "a", "shown": "0.3", "response": ["b", "a"]},
+        {"from": "a", "to": "x", "shown": "1.1", "response": ["a", "x"]}]}
+    evidence = Evidence(Recording(whole), report)
+    seen = []
+
+    def only_the_last(trace: bytes) -> dict:
+        seen.append(trace)
+        return report if len(seen) == 3 else {"verdict": "accepted"}
+
+    kept = smallest(evidence, only_the_last)
+    tally.check("small: the whole as the last", kept.text.encode() == seen[2] and sorted(kept.text) == sorted(whole), kept)
+    tally.check("small: none", smallest(evidence, lambda trace: None) is None)
+
+
 def main() -> None:
     program = program_of(sys.argv)
     tally = Tally()
@@ -343,6 +376,7 @@ def main() -> None:
         hostile(tally, program, folder)
         long_sessions(tally, program, folder)
         svg(tally, program, folder)
+        kept_more(tally)
         small(tally, program, folder)
     tally.close()
 

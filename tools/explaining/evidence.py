@@ -1,6 +1,8 @@
 """What in a recording bears on its verdict: the operations, the elements, and the lines that make them visible.
 
 The verdict is the program's. What is computed here must agree with it; where it doesn't, Unexplained says so."""
+from collections import Counter
+
 from .recordings import Operation, Recording, place_asked
 
 MOST_ARRIVED = 6  # receipts that are told one by one
@@ -28,6 +30,7 @@ class Evidence:
                 self._follow(element, operation)
 
     def _accepted(self) -> None:
+        """The last response of each replica is enough to notice the report of another trace."""
         for stream in self.recording.streams:
             if stream and not follows(stream[-1].response, self.report["order"]):
                 raise Unexplained(f"the response of {stream[-1].name} does not follow the order")
@@ -52,9 +55,10 @@ class Evidence:
     def _contents(self) -> None:
         operation = self.recording.operation(self.report["at"])
         answered, expected = operation.response, self.recording.expected(operation)
-        self.repeated = sorted({name for name in answered if answered.count(name) > 1})
+        missing = expected.difference(answered)
+        self.repeated = [name for name, count in Counter(answered).items() if count > 1]
         self.surplus = [name for name in dict.fromkeys(answered) if name not in expected]
-        self.missing = [name for name in self.recording.inserts if name in expected.difference(answered)]
+        self.missing = [name for name in self.recording.inserts if name in missing]
         if not self.repeated + self.surplus + self.missing:
             raise Unexplained(f"the response of {operation.name} holds what is visible")
         self._name(operation, self.repeated + self.surplus)
@@ -85,8 +89,9 @@ class Evidence:
             if operation.has_seen(change):
                 for receipt in self.recording.way(change, operation):
                     self.lines.update((receipt.line, receipt.seen.line))
-            elif (late := self.recording.arrival(change, operation.replica)) is not None:
-                self.lines.update((late.line, late.seen.line))
+            elif self.report["verdict"] == "contents":
+                late = self.recording.arrival(change, operation.replica)
+                self.lines.update((late.line, late.seen.line) if late is not None else ())
 
     def before(self, operation: Operation) -> tuple:
         """The replica's operation before, if there is one, and what the replica received since then."""
@@ -94,8 +99,8 @@ class Evidence:
         return before, [receipt for receipt in self.recording.receipts[operation.replica] if receipt.before == operation.n - 1]
 
     def changes(self, element: str, operation: Operation) -> list:
-        """The inserts of the element and its deletes: those that the operation has seen, and of a fault's elements, where it
-        has seen none, the others."""
+        """An insert of the element and a delete of it: those that the operation has seen, if it has; else the insert all the
+        same, and of wrong contents the delete too, since it may be what should have arrived."""
         inserts, deletes = self.recording.inserts.get(element, []), self.recording.deletes.get(element, [])
         found = []
         for changes in inserts, deletes:

@@ -41,21 +41,21 @@ pre { background: var(--card); padding: .75rem; overflow-x: auto; border-radius:
 .line { position: absolute; left: 0; width: 2.4rem; text-align: right; color: var(--dim) }
 .said { display: block; overflow: hidden; white-space: nowrap; text-overflow: ellipsis; padding: 0 .4rem; border-radius: 4px }
 .whole { display: none }
-.session li:hover .whole, .session li:focus .whole, .session li:target .whole { display: inline }
-.session li:hover .brief, .session li:focus .brief, .session li:target .brief { display: none }
+.session li[tabindex]:hover .whole, .session li:focus .whole, .session li:target .whole { display: inline }
+.session li[tabindex]:hover .brief, .session li:focus .brief, .session li:target .brief { display: none }
 .who { display: none; font-family: system-ui, sans-serif; color: var(--dim) }
 .receipt .said, .gap .said { color: var(--dim) } .matters .said { color: var(--ink) }
 .gap { font-style: italic }
 .verdict { background: var(--alarm-ground) }
-.session li:hover, .session li:focus { background: var(--card); outline: none }
-.session li.verdict:hover, .session li.verdict:focus { background: var(--alarm-ground) }
+.session li[tabindex]:hover, .session li:focus { background: var(--card); outline: none }
+.session li.verdict[tabindex]:hover, .session li.verdict:focus { background: var(--alarm-ground) }
 .session li:focus .line, .session li:target .line { color: var(--way); font-weight: bold }
-.session li:hover .said, .session li:focus .said, .session li:target .said { position: absolute; right: 0; z-index: 2;
+.session li[tabindex]:hover .said, .session li:focus .said, .session li:target .said { position: absolute; right: 0; z-index: 2;
   left: calc(2.4rem + var(--lanes)); line-height: 1.5; padding: .2rem .8rem; white-space: normal; overflow-wrap: anywhere;
   background: var(--card); box-shadow: 0 0 0 2px var(--way); max-height: 60vh; overflow-y: auto }
-.session li:focus .said { z-index: 3 } .session li:hover .said { z-index: 4 }
-.session li:hover .who, .session li:focus .who, .session li:target .who { display: block }
-.gap:hover .who, .gap:hover .said { box-shadow: none }
+.session li:focus .said { z-index: 3 } .session li[tabindex]:hover .said { z-index: 4 }
+.session li[tabindex]:hover .who, .session li:focus .who, .session li:target .who { display: block }
+.session li[tabindex]:hover:not(:focus) .said { pointer-events: none } /* else it would be in the way to the next line */
 .lane { stroke: var(--faint); stroke-width: 2 }
 .title { fill: var(--dim); font: bold 14px system-ui, sans-serif; text-anchor: middle }
 .node { fill: var(--ground); stroke: var(--dim); stroke-width: 1.5 } .node.matters { stroke: var(--way); stroke-width: 2.5 }

@@ -4,6 +4,7 @@ that bear on it.
 What is visible to which operation stays as it was, so what was right stays right: of the elements that are kept, all inserts
 and all deletes that anything kept has seen are kept too. Receipts are made anew, since one may have named an operation that
 is gone. Replicas keep their numbers; operations are counted anew, and one that changed another element is a read."""
+from collections.abc import Callable
 from typing import NamedTuple
 
 from .evidence import Evidence
@@ -102,23 +103,25 @@ def candidates(evidence: Evidence) -> list:
         told = with_changes(recording, elements, told)
     every = [operation for stream in recording.streams for operation in stream]
     names = elements.union(recording.inserts, recording.deletes, *(operation.response for operation in evidence.operations))
-    return [Projection(recording, elements, fewer(recording, evidence, elements, told), misplaced),
+    return [Projection(recording, elements, fewer(told, evidence.operations), misplaced),
             Projection(recording, elements, told, misplaced),
             Projection(recording, names, every, misplaced)]
 
 
-def fewer(recording: Recording, evidence: Evidence, elements: set, kept: list) -> list:
-    """The operations without deletes that repeat what another one does for all that have seen them."""
-    for delete in [change for change in kept if change.kind == "del" and change not in evidence.operations]:
+def fewer(kept: list, named: list) -> list:
+    """The operations without deletes that repeat what another one does for all that have seen them; those that the verdict
+    names stay."""
+    for delete in [change for change in kept if change.kind == "del" and change not in named]:
         others = [other for other in kept if other is not delete]
         same = [other for other in others if other.kind == "del" and other.element == delete.element]
-        if all(any(operation.has_seen(other) for other in same) for operation in others if operation.has_seen(delete)):
+        if all(any(map(operation.has_seen, same)) for operation in others if operation.has_seen(delete)):
             kept = others
     return kept
 
 
-def smallest(evidence: Evidence, judge) -> Small | None:
-    """The smallest of these traces whose report, by `judge`, has the verdict and the number of the whole one."""
+def smallest(evidence: Evidence, judge: Callable) -> Small | None:
+    """The smallest of these traces whose report, by `judge`, has the verdict and the number of the whole one. It should be the
+    first of them; but the program has the last word, and where it says otherwise more is kept."""
     wanted = [evidence.report.get(key) for key in ("verdict", "k")]
     for projection in candidates(evidence):
         small = projection.small()

@@ -16,15 +16,17 @@ LOOK = {
                 "docs/recording.md says where receipts go.",
     "position": "At the mapping between the positions that a user sees and the places of the editor's own list, where deleted "
                 "elements may still stand; and at whether the recorder writes the position that was asked for.",
-    "doubled": "At the recorder, most often: each inserted element needs a name of its own, for ever. Equal letters, a paste and "
-               "the undoing of a delete make new elements with new names.",
+    "doubled": "At the recorder, most often: each inserted element needs a name of its own, for ever. Equal letters are "
+               "different elements, each element of a paste is a new one, and so is an undone delete where the editor makes one anew.",
     "concurrent": "At the order of concurrent inserts: no author of the two elements had seen the other one, and two replicas, or "
                   "one at two times, have put them in different orders.",
     "seen": "At where a replica puts an insert that arrives: {later} inserted {new} when it had seen {old}, so these are no "
             "concurrent inserts, and yet the two are put in different orders.",
-    "more": "At positions beside deleted elements: any fewer of these responses fit together, so no two replicas disagree openly. "
-            "An insert beside an element that another replica has deleted loses its place there: see which of the elements are "
-            "deleted before a response that leaves them out.",
+    "deleted": "At positions beside deleted elements: no two of these responses disagree openly, and an insert beside an element "
+               "that another replica has deleted may have lost its place there. Above stands which elements are deleted for which "
+               "of the responses.",
+    "apart": "At how a replica orders elements of which it shows only some: no two of these responses disagree openly, and none of "
+             "the elements is deleted for any of them, so each replica has yet to hear of some.",
 }
 
 
@@ -63,20 +65,25 @@ def accepted(evidence: Evidence) -> Explanation:
 def refused(evidence: Evidence) -> Explanation:
     steps, k = evidence.report["steps"], evidence.report["k"]
     weak = "Strong and weak list specification fail." if k == 2 else "The strong list specification fails, the weak one holds."
-    fewer = "" if k == 2 else f" Any {NUMBERS[k - 1] if k <= len(NUMBERS) else k - 1} of them can."
+    fewer = "" if k == 2 else f" Any {counted(k - 1)} of them can."
     headline = f"refused {k}: {counted(k)} responses can't be right together.{fewer} {weak}"
     shown = []
     for step, operation in zip(steps, evidence.operations):
         shown.append(f"[{step['from']}] before [{step['to']}]: {did(operation)}, answered {answer(evidence, operation)}")
-    elements = []
-    for name in evidence.elements:
-        made = [f"inserted by {at(change)}" for change in evidence.recording.inserts[name]]
-        gone = [f"deleted by {at(change)}" for change in evidence.recording.deletes.get(name, [])]
-        more = f", and by {len(gone) - 2} more" if len(gone) > 2 else ""
-        elements.append(f"{name}: {', '.join(made + gone[:2])}{more}")
+    elements = [life(evidence.recording, name) for name in evidence.elements]
+    gone = gone_before(evidence)
+    look = look_at_two(evidence) if k == 2 else LOOK["deleted" if gone else "apart"]
     return Explanation(headline, [Section("What they show, each element before the next, and round again", shown),
-                                  Section("The elements", elements + gone_before(evidence)),
-                                  Section("Where to look in the editor", [LOOK["more"] if k > 2 else look_at_two(evidence)])])
+                                  Section("The elements", elements + gone),
+                                  Section("Where to look in the editor", [look])])
+
+
+def life(recording: Recording, name: str) -> str:
+    """Which operations insert and delete an element, seen or not."""
+    made = [f"inserted by {at(change)}" for change in recording.inserts[name]]
+    gone = [f"deleted by {at(change)}" for change in recording.deletes.get(name, [])]
+    more = f", and by {len(gone) - 2} more" if len(gone) > 2 else ""
+    return f"{name}: {', '.join(made + gone[:2])}{more}"
 
 
 def gone_before(evidence: Evidence) -> list:
