@@ -245,7 +245,7 @@ def pages(tally: Tally, program: str, folder: str) -> None:
         lines = trace.splitlines()[2:]
         tree = page(tally, program, folder, example.name, trace)
         rows = {node.get("id"): told(node) for node in tree.iter("li") if node.get("id")}
-        if len(lines) <= 80:
+        if len(lines) <= 40:
             tally.check(f"page of {example.name}: its lines", list(rows) == [f"line-{i}" for i in range(3, len(lines) + 3)], list(rows))
             shown = all(line.partition(" ")[2] in rows[f"line-{i}"] for i, line in enumerate(lines, 3) if len(line.split()) < 12)
             tally.check(f"page of {example.name}: what the lines say", shown, rows)
@@ -254,7 +254,8 @@ def pages(tally: Tally, program: str, folder: str) -> None:
         report = json.loads(run(program, ["verdict", "--json", str(example)]).out)
         steps = report.get("steps", [])
         named = {step["shown"] for step in steps} | {report[key] for key in ("at", "first", "again") if key in report}
-        tally.check(f"page of {example.name}: its responses marked", len(by_class(tree, "li", "verdict")) == len(named), named)
+        shown = {node.get("id") for node in by_class(tree, "li", "verdict") if node.get("id").startswith("line-")}
+        tally.check(f"page of {example.name}: its responses marked", len(shown) == len(named), named)
         tally.check(f"page of {example.name}: its cycle", len(by_class(tree, "path", "step")) == len(steps), len(steps))
 
 

@@ -20,11 +20,11 @@ FAILING = {
     "with 'blanks' and $signs.trace": "0 ins x 0 : x|1 recv 0 1|2 recv 0 1|1 ins a 0 : a x|2 ins b 1 : x b|0 del x :|0 recv 1 1|"
                                       "0 recv 2 1|0 read : b a",
     "lost.trace": "0 ins a 0 : a|0 read :",
-    "moved.trace": "0 ins a 0 : a|0 ins b 0 : a b|0 read : a b",
+    "-moved {#}.trace": "0 ins a 0 : a|0 ins b 0 : a b|0 read : a b",
     "twice.trace": "0 ins a 0 : a|1 ins a 0 : a|0 read : a|1 read : a",
 }
 # The smallest that fails first, by lines; then those that are accepted, by name.
-ROWS = [("lost.trace", "contents", "-", "4"), ("moved.trace", "position", "-", "5"), ("twice.trace", "doubled", "-", "6"),
+ROWS = [("lost.trace", "contents", "-", "4"), ("-moved {#}.trace", "position", "-", "5"), ("twice.trace", "doubled", "-", "6"),
         ("long.trace", "refused", "2", "8"), ("with 'blanks' and $signs.trace", "refused", "3", "11"),
         ("b.trace", "accepted", "-", "3"), ("deep/er/a.trace", "accepted", "-", "4")]
 

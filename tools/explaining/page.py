@@ -7,7 +7,7 @@ from .evidence import Evidence
 from .session_picture import Rows
 from .words import Explanation, Section
 
-MOST_ROWS = 80  # entries that are shown at once
+MOST_ROWS = 40  # entries that are shown at once
 MOST_FOLDED = 2000  # entries that are on the page at all
 MARKED = re.compile(r"\[([A-Za-z0-9_.-]+)\]")
 WIDTH = re.compile(r'width="(\d+)"')
