@@ -140,7 +140,7 @@ FAULTS = [
      "a replica has at most 4,096 entries, receipts counted: record shorter sessions, or fewer reads"),
 ]
 
-HOSTILE = ["ins", "del", "read", "recv", "0", "-", ".", "--", "..", "__proto__", "lt", "amp", "NaN", "e-1", "x" * 32]
+HOSTILE = ["ins", "del", "read", "recv", "5", "line", "0", "-", ".", "--", "..", "__proto__", "lt", "amp", "NaN", "e-1", "x" * 32]
 
 
 def text_of(replicas: int, entries: str) -> str:
@@ -181,6 +181,8 @@ def faults(tally: Tally, program: str, folder: str) -> None:
     Path(good).write_text(text_of(1, "0 ins a 0 : a"))
     tally.same("no such program", run(EXPLAIN, ["--program", missing, good]),
                Ended(2, b"", f"explain: {missing} of --program can't be run\n".encode()))
+    tally.same("a program that answers nothing", run(EXPLAIN, ["--program", "/bin/false", good]),
+               Ended(2, b"", b"explain: /bin/false ended with status 1 and without a report\n"))
     got = explain(program, ["--html", f"{folder}/no/such", good])
     tally.check("a page that can't be written", got.status == 2 and b"cannot write" in got.err and b"Traceback" not in got.err, got)
 
@@ -209,7 +211,7 @@ def contradicted(tally: Tally, folder: str) -> None:
     trace = text_of(1, "0 ins a 0 : a|0 ins b 1 : a b").encode()
     steps = [{"from": "a", "to": "b", "shown": "0.2", "response": ["a", "b"]}, {"from": "b", "to": "a", "shown": "0.1", "response": ["a"]}]
     lies = [{"verdict": "contents", "at": "0.2"}, {"verdict": "position", "at": "0.2"}, {"verdict": "refused", "k": 2, "steps": steps},
-            {"verdict": "doubled", "first": "0.1", "again": "0.2"}, {"verdict": "accepted", "operations": 2, "order": ["b", "a"]}]
+            {"verdict": "doubled", "first": "0.1", "again": "0.2"}, {"verdict": "accepted", "operations": 2, "order": ["b", "a"]}, {"verdict": "guessed"}]
     for lie in lies:
         liar.write_text(f"#!/bin/sh\ncat > /dev/null\necho '{json.dumps(lie)}'\nexit 1\n")
         liar.chmod(0o755)
@@ -269,6 +271,8 @@ def hostile(tally: Tally, program: str, folder: str) -> None:
     tally.check("hostile: the file's name", title.endswith("<b>&amp;\"'.trace"), title)
     marks = {told(node) for node in tree.iter("mark")}
     tally.check("hostile: names", {"ins", "del"} <= marks, marks)
+    links = [node for node in tree.iter("a") if node.get("href") == "#line-5"]
+    tally.check("hostile: the names `line` and `5` are no link", not links, links)
     got = explain(program, ["--small", f"{folder}/small", "-"], trace.encode())
     small = Path(folder, "small").read_text()
     tally.check("hostile: the small trace", small == text_of(2, "0 ins ins 0 : ins|0 ins del 1 : ins del|1 recv 0 2|1 read : del ins"),

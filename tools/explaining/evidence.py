@@ -23,6 +23,8 @@ class Evidence:
         self.missing, self.surplus, self.repeated = [], [], []
         gather = {"accepted": self._accepted, "refused": self._refused, "doubled": self._doubled,
                   "contents": self._contents, "position": self._position}
+        if report["verdict"] not in gather:
+            raise Unexplained(f"it knows no verdict `{report['verdict']}`")
         gather[report["verdict"]]()
         for operation in self.operations:
             self.lines.add(operation.line)

@@ -55,7 +55,10 @@ def judge(program: str, trace: bytes) -> Judged:
     """What the program says of a trace."""
     done = run(program, ["verdict", "--json", "-"], trace)
     error = done.stderr.decode(errors="replace").rstrip("\n")
-    report = json.loads(done.stdout) if done.returncode in (0, 1) else None
+    try:
+        report = json.loads(done.stdout) if done.returncode in (0, 1) else None
+    except ValueError as fault:
+        raise NoProgram(f"{program} ended with status {done.returncode} and without a report") from fault
     return Judged(done.returncode, report, error)
 
 
