@@ -109,6 +109,16 @@ def errors(tally: Tally, program: str, folder: str) -> None:
     tally.check("another parallel", got.returncode == 2 and b"GNU parallel is needed" in got.stderr, got)
 
 
+def closed_output(tally: Tally, program: str, folder: str) -> None:
+    """A reader that has enough, as `head` has, is not told of as an error."""
+    reader, writer = os.pipe()
+    os.close(reader)
+    for tool, what in (TOOL, folder), (str(ROOT / "tools" / "explain"), f"{folder}/lost.trace"):
+        got = subprocess.run([tool, "--program", program, what], stdout=writer, stderr=subprocess.PIPE)
+        tally.check(f"closed output: {tool}", got.returncode == 2 and not got.stderr, got)
+    os.close(writer)
+
+
 def main() -> None:
     program = program_of(sys.argv)
     need("parallel", "parallel")
@@ -119,6 +129,7 @@ def main() -> None:
         json_lines(tally, program, folder)
         statuses(tally, program, folder, other)
         errors(tally, program, third)
+        closed_output(tally, program, folder)
     tally.close()
 
 
