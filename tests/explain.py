@@ -72,7 +72,15 @@ WORDS = [
      "line 7, 2.1: replica 2 read the list|answered: b|expected, in whatever order: b [a]|"
      "before it: replica 2 did nothing, and received line 6 (2 recv 1 1)|Missing|"
      "[a] inserted by 0.1 (line 3), arrived at replica 1 in line 4 (1 recv 0 1), and from there arrived at replica 2 in line 6 "
-     "(2 recv 1 1)|[a] nothing deletes it"),
+     "(2 recv 1 1)|[a] no receipt at replica 2 names it by then: it counts as arrived since 1.1 (line 5) had seen it. Where each "
+     "operation travels by itself, it was missing, and the exchange is not causal|[a] nothing deletes it"),
+    ("an element lost that arrived behind what had seen it", 3,
+     "0 ins a 0 : a|1 recv 0 1|1 ins b 1 : a b|2 recv 1 1|2 recv 0 1|2 read : b",
+     "line 8, 2.1: replica 2 read the list|[a] line 7 (2 recv 0 1) names it, behind line 6 (2 recv 1 1) which brings it: an operation "
+     "arrived before what its author had seen, and the exchange is not causal|[a] nothing deletes it"),
+    ("an element lost that arrived by itself before", 3,
+     "0 ins a 0 : a|2 recv 0 1|1 recv 0 1|1 ins b 1 : a b|2 recv 1 1|2 read : b",
+     "[a] inserted by 0.1 (line 3), arrived at replica 2 in line 4 (2 recv 0 1)|[a] nothing deletes it"),
     ("an element of one's own lost, whose delete has not arrived", 2, "0 ins a 0 : a|1 recv 0 1|1 del a :|0 read :|0 recv 1 1",
      "contents 0.2: this response does not hold exactly what is visible to it. Strong and weak list specification fail.|"
      "answered: (nothing)|expected, in whatever order: [a]|"

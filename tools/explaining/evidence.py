@@ -85,15 +85,15 @@ class Evidence:
         self.marks.setdefault(operation.name, []).extend(marks)
 
     def _follow(self, element: str, operation: Operation) -> None:
-        """Notes the lines that insert and delete the element, and those that make this visible to the operation."""
+        """Notes the lines that insert and delete the element, and those that make this visible to the operation; of wrong
+        contents also where that arrived by itself, or too late."""
         for change in self.changes(element, operation):
             self.lines.add(change.line)
-            if operation.has_seen(change):
-                for receipt in self.recording.way(change, operation):
-                    self.lines.update((receipt.line, receipt.seen.line))
-            elif self.report["verdict"] == "contents":
-                late = self.recording.arrival(change, operation.replica)
-                self.lines.update((late.line, late.seen.line) if late is not None else ())
+            receipts = self.recording.way(change, operation) if operation.has_seen(change) else []
+            if self.report["verdict"] == "contents":
+                receipts += [self.recording.arrival(change, operation.replica), self.recording.receipt_of(change, operation.replica)]
+            for receipt in filter(None, receipts):
+                self.lines.update((receipt.line, receipt.seen.line))
 
     def before(self, operation: Operation) -> tuple:
         """The replica's operation before, if there is one, and what the replica received since then."""

@@ -99,6 +99,11 @@ class Recording:
             to = receipt.seen
         return way[::-1]
 
+    def receipt_of(self, operation: Operation, replica: int) -> Receipt | None:
+        """The first receipt in a replica's log that names the operation, or a later one of the same author, if one does."""
+        return next((receipt for receipt in self.receipts[replica]
+                     if receipt.seen.replica == operation.replica and receipt.seen.n >= operation.n), None)
+
     def arrival(self, operation: Operation, replica: int) -> Receipt | None:
         """The first receipt in a replica's log that brings the operation, if one does."""
         return next((receipt for receipt in self.receipts[replica] if receipt.seen.has_seen(operation)), None)

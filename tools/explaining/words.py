@@ -155,6 +155,7 @@ def facts(evidence: Evidence, name: str, operation: Operation) -> list:
     for change in evidence.changes(name, operation):
         verb = "inserted" if change.kind == "ins" else "deleted"
         lines.append(f"{verb} by {at(change)}, {arrived(recording, change, operation)}")
+        lines += by_others(recording, change, operation)
     if name in recording.inserts and name not in recording.deletes:
         lines.append("nothing deletes it")
     return [f"[{name}] {line}" for line in lines]
@@ -171,6 +172,22 @@ def arrived(recording: Recording, seen: Operation, operation: Operation) -> str:
         return f"an earlier operation of replica {operation.replica}"
     hops = [f"arrived at replica {receipt.replica} in line {receipt.line} ({receipt.text})" for receipt in way]
     return ", and from there ".join(hops)
+
+
+def by_others(recording: Recording, seen: Operation, operation: Operation) -> list:
+    """Of an operation that others brought along: whether it had arrived by itself too. Where it had not, the exchange may not be
+    causal, which is what a new recorder meets first."""
+    way = recording.way(seen, operation) if operation.has_seen(seen) else []
+    if len(way) < 2:
+        return []
+    brought, named = way[-1], recording.receipt_of(seen, operation.replica)
+    if named is None or named.before >= operation.n:
+        return [f"no receipt at replica {operation.replica} names it by then: it counts as arrived since {at(brought.seen)} had seen "
+                "it. Where each operation travels by itself, it was missing, and the exchange is not causal"]
+    if named.line > brought.line:
+        return [f"line {named.line} ({named.text}) names it, behind line {brought.line} ({brought.text}) which brings it: an operation "
+                "arrived before what its author had seen, and the exchange is not causal"]
+    return []
 
 
 def not_arrived(recording: Recording, seen: Operation, operation: Operation) -> str:
