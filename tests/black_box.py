@@ -185,17 +185,6 @@ def runs_shown(page: Path) -> list:
     return shown
 
 
-def readme(tally: Tally, program: str) -> None:
-    """Each report, certificate and line of the checker that the README shows is what the program prints."""
-    runs = runs_shown(ROOT / "README.md")
-    tally.check("README: runs", {words[1] for words, _ in runs} == {"verdict", "cert", "verify"}, runs)
-    for words, printed in runs:
-        tally.check(f"README: {words}", words[0] == "crates/finder_cli/out/finder_cli")
-        is_good = printed.split(b"\n")[1] == b"accepted" or printed.startswith(b"yes ")
-        got = run(program, [words[1], *(str(ROOT / word) for word in words[2:])])
-        tally.same(f"README: {words}", got, Ended(0 if is_good else 1, printed, b""))
-
-
 def gallery(tally: Tally, program: str) -> None:
     """Each example is in the gallery with its report, and the picture of each cycle is the one that is drawn from it."""
     page = ROOT / "docs" / "gallery.md"
@@ -319,7 +308,6 @@ def main() -> None:
     malformed(tally, program)
     vectors(tally, program)
     workers(tally, program)
-    readme(tally, program)
     gallery(tally, program)
     command_line(tally, program)
     with tempfile.TemporaryDirectory() as folder:

@@ -1,5 +1,6 @@
 """Runs the built program as a user would, and keeps count of what holds."""
 import os
+import shutil
 import subprocess
 import sys
 from pathlib import Path
@@ -54,6 +55,15 @@ class Tally:
         """Prints the counts and ends the script: with status 1 where something failed."""
         print(f"{self.passed} passed, {self.failed} failed")
         sys.exit(1 if self.failed else 0)
+
+
+def need(command: str, package: str) -> None:
+    """Ends the script where the command is missing and Debian's package can't be installed: no test is passed over."""
+    if shutil.which(command) is None and shutil.which("apt-get") is not None:
+        for words in ["update"], ["install", "-y", "--no-install-recommends", package]:
+            subprocess.run(["apt-get", *words], stdout=subprocess.DEVNULL, stderr=subprocess.DEVNULL, check=False)
+    if shutil.which(command) is None:
+        sys.exit(f"{command} is needed, and apt-get could not install the package {package}")
 
 
 def short(ended: Ended) -> str:

@@ -1,0 +1,398 @@
+#!/usr/bin/env python3
+"""explain.py PROGRAM: what `tools/explain` says of each kind of verdict, the pages that it draws, and its small traces.
+
+The words are compared with lines that were written by hand. Each small trace is judged again by the program."""
+import json
+import os
+import random
+import subprocess
+import sys
+import tempfile
+import xml.etree.ElementTree as ElementTree
+from collections import Counter
+from concurrent.futures import ThreadPoolExecutor
+from pathlib import Path
+
+from generated import session, with_fault
+from program import Ended, Tally, program_of, run
+from traces import trace as long_trace
+
+ROOT = Path(__file__).resolve().parent.parent
+sys.path.insert(0, str(ROOT / "tools"))
+from explaining.evidence import Evidence
+from explaining.recordings import Recording
+from explaining.small import smallest
+
+EXPLAIN = str(ROOT / "tools" / "explain")
+SEED = 20261123
+
+# How many small traces are made of each kind of verdict.
+SMALL = {"refused": 300, "contents": 60, "position": 40, "doubled": 20}
+MOST_TRIES = 20_000
+
+THREE_WAY = "0 ins x 0 : x|1 recv 0 1|2 recv 0 1|1 ins a 0 : a x|2 ins b 1 : x b|0 del x :|0 recv 1 1|0 recv 2 1|0 read : b a"
+
+# By name: how many replicas, the entries, and lines that stand in the explanation one behind the other, the first in front.
+WORDS = [
+    ("accepted", 2, "0 ins a 0 : a|1 recv 0 1|1 ins b 1 : a b",
+     "accepted: well done, all 2 responses fit one order of the elements. Strong and weak list specification hold.|a b"),
+    ("accepted, nothing", 1, "", "accepted: well done, all 0 responses fit one order of the elements. Strong and weak list "
+     "specification hold.|(there are no elements)"),
+    ("two concurrent inserts", 2, "0 ins a 0 : a|1 ins b 0 : b|0 recv 1 1|1 recv 0 1|0 read : a b|1 read : b a",
+     "refused 2: two responses can't be right together. Strong and weak list specification fail.|"
+     "[a] before [b]: line 7, 0.2: replica 0 read the list, answered [a] [b]|"
+     "[b] before [a]: line 8, 1.2: replica 1 read the list, answered [b] [a]|"
+     "a: inserted by 0.1 (line 3)|b: inserted by 1.1 (line 4)|"
+     "At the order of concurrent inserts: no author of the two elements had seen the other one, and two replicas, or one at two "
+     "times, have put them in different orders."),
+    ("an insert that had seen the other", 2, "0 ins a 0 : a|1 recv 0 1|1 ins b 1 : a b|0 recv 1 1|0 read : b a",
+     "refused 2: two responses can't be right together. Strong and weak list specification fail.|"
+     "[a] before [b]: line 5, 1.1: replica 1 inserted b at position 1, answered [a] [b]|"
+     "[b] before [a]: line 7, 0.2: replica 0 read the list, answered [b] [a]|"
+     "At where a replica puts an insert that arrives: 1.1 (line 5) inserted b when it had seen a, so these are no concurrent "
+     "inserts, and yet the two are put in different orders."),
+    ("three-way cycle", 3, THREE_WAY,
+     "refused 3: three responses can't be right together. Any two of them can. The strong list specification fails, the weak one "
+     "holds.|[x] before [b]: line 7, 2.1: replica 2 inserted b at position 1, answered [x] [b]|"
+     "[b] before [a]: line 11, 0.3: replica 0 read the list, answered [b] [a]|"
+     "[a] before [x]: line 6, 1.1: replica 1 inserted a at position 0, answered [a] [x]|"
+     "x: inserted by 0.1 (line 3), deleted by 0.2 (line 8)|for 0.3 (line 11), x is deleted, by 0.2 (line 8)|"
+     "At positions beside deleted elements: no two of these responses disagree openly, and an insert beside an element that another "
+     "replica has deleted may have lost its place there. Above stands which elements are deleted for which of the responses."),
+    ("a ring of three that hear of one another", 3, "0 ins a 0 : a|1 ins b 0 : b|2 ins c 0 : c|0 recv 1 1|0 read : a b|1 recv 2 1|"
+     "1 read : b c|2 recv 0 1|2 read : c a",
+     "[a] before [b]: line 7, 0.2: replica 0 read the list, answered [a] [b]|"
+     "[b] before [c]: line 9, 1.2: replica 1 read the list, answered [b] [c]|"
+     "[c] before [a]: line 11, 2.2: replica 2 read the list, answered [c] [a]|"
+     "At how a replica orders elements of which it shows only some: no two of these responses disagree openly, and none of the "
+     "elements is deleted for any of them, so each replica has yet to hear of some."),
+    ("an element lost that came by way of another replica", 3,
+     "0 ins a 0 : a|1 recv 0 1|1 ins b 1 : a b|2 recv 1 1|2 read : b",
+     "contents 2.1: this response does not hold exactly what is visible to it. Strong and weak list specification fail.|"
+     "line 7, 2.1: replica 2 read the list|answered: b|expected, in whatever order: b [a]|"
+     "before it: replica 2 did nothing, and received line 6 (2 recv 1 1)|Missing|"
+     "[a] inserted by 0.1 (line 3), arrived at replica 1 in line 4 (1 recv 0 1), and from there arrived at replica 2 in line 6 "
+     "(2 recv 1 1)|[a] no receipt at replica 2 names it by then: it counts as arrived since 1.1 (line 5) had seen it. Where each "
+     "operation travels by itself, it was missing, and the exchange is not causal|[a] nothing deletes it"),
+    ("an element lost that arrived behind what had seen it", 3,
+     "0 ins a 0 : a|1 recv 0 1|1 ins b 1 : a b|2 recv 1 1|2 recv 0 1|2 read : b",
+     "line 8, 2.1: replica 2 read the list|[a] line 7 (2 recv 0 1) names it, behind line 6 (2 recv 1 1) which brings it: an operation "
+     "arrived before what its author had seen, and the exchange is not causal|[a] nothing deletes it"),
+    ("an element lost that arrived by itself before", 3,
+     "0 ins a 0 : a|2 recv 0 1|1 recv 0 1|1 ins b 1 : a b|2 recv 1 1|2 read : b",
+     "[a] inserted by 0.1 (line 3), arrived at replica 2 in line 4 (2 recv 0 1)|[a] nothing deletes it"),
+    ("an element of one's own lost, whose delete has not arrived", 2, "0 ins a 0 : a|1 recv 0 1|1 del a :|0 read :|0 recv 1 1",
+     "contents 0.2: this response does not hold exactly what is visible to it. Strong and weak list specification fail.|"
+     "answered: (nothing)|expected, in whatever order: [a]|"
+     "before it: 0.1 (line 3) is still right; since then replica 0 received nothing|"
+     "[a] inserted by 0.1 (line 3), an earlier operation of replica 0|"
+     "[a] deleted by 1.1 (line 5), not visible to 0.2: the first receipt that brings it is line 7 (0 recv 1 1), behind this response"),
+    ("a deleted element shown", 2, "0 ins a 0 : a|0 del a :|1 recv 0 2|1 read : a",
+     "answered: [a]|expected, in whatever order: (nothing)|Too many|"
+     "[a] inserted by 0.1 (line 3), arrived at replica 1 in line 5 (1 recv 0 2)|"
+     "[a] deleted by 0.2 (line 4), arrived at replica 1 in line 5 (1 recv 0 2)"),
+    ("an element shown that never arrived", 2, "0 ins a 0 : a|1 read : a",
+     "Too many|[a] inserted by 0.1 (line 3), not visible to 1.1: no receipt in replica 1's log brings it"),
+    ("an element shown before it is inserted", 1, "0 read : a|0 ins a 0 : a",
+     "Too many|[a] inserted by 0.2 (line 4), not visible to 0.1: a later operation of replica 0"),
+    ("a name that nothing inserts", 1, "0 ins a 0 : a|0 read : a q", "answered: a [q]|expected, in whatever order: a|Too many|"
+     "[q] no operation of this trace inserts it"),
+    ("a name twice", 1, "0 ins a 0 : a|0 read : a a", "answered: [a] [a]|expected, in whatever order: a|Named more than once|"
+     "[a] inserted by 0.1 (line 3), an earlier operation of replica 0"),
+    ("its own delete", 1, "0 ins a 0 : a|0 del a : a", "[a] inserted by 0.1 (line 3), an earlier operation of replica 0|"
+     "[a] deleted by 0.2 (line 4), this operation itself"),
+    ("past the end, elsewhere", 1, "0 ins a 0 : a|0 ins b 4294967295 : b a",
+     "position 0.2: b does not stand where it was asked for. Strong and weak list specification fail.|"
+     "line 4, 0.2: replica 0 inserted b at position 4294967295|answered: [b] [a]|"
+     "asked for: position 4294967295, past the end, so the last place, 1, where [a] stands|found at: position 0"),
+    ("a position", 1, "0 ins a 0 : a|0 ins b 1 : a b|0 ins c 1 : a b c",
+     "answered: a [b] [c]|asked for: position 1, where [b] stands|found at: position 2"),
+    ("an insert that was deleted before", 2, "1 del a :|0 recv 1 1|0 ins a 0 :",
+     "position 0.1: a does not stand where it was asked for. Strong and weak list specification fail.|"
+     "asked for: a place in the list, but the response is empty|"
+     "found at: no position, since 1.1 (line 3) deletes it, arrived at replica 0 in line 4 (0 recv 1 1)"),
+    ("doubled", 2, "0 ins a 0 : a|0 ins b 1 : a b|1 ins b 0 : b",
+     "doubled: 0.2 and 1.1 insert the same name, b. The specifications know an element by its name, so nothing else was judged.|"
+     "line 4, 0.2: replica 0 inserted b at position 1|line 5, 1.1: replica 1 inserted b at position 0"),
+]
+
+# Texts that do not read: the words of the fault, and a line of what is said of it.
+FAULTS = [
+    (b"", "line 1: header", "line 1 is missing"),
+    (b"trace 1\r\nreplicas 1\r\n", "line 1: header", "the line ends with CR LF, where a trace has LF alone"),
+    (b"trace 1\nreplicas 17\n", "line 2: replicas", "the second line is `replicas R`, with R from 1 to 16"),
+    (b"trace 1\nreplicas 1\n0 read :", "line 3: cut", "line 3 is: 0 read :"),
+    (b"trace 1\nreplicas 1\n0 read\n", "line 3: shape",
+     "the colon between the operation and its response is missing, or not a word by itself"),
+    (b"trace 1\nreplicas 1\n0 add a 0 : a\n", "line 3: shape", "`add`, the second word, is not `ins`, `del`, `read` or `recv`"),
+    (b"trace 1\nreplicas 1\n0  read :\n", "line 3: shape", "there is a blank too many: two together, or one at an end of the line"),
+    (b"trace 1\nreplicas 1\n01 read :\n", "line 3: shape",
+     "`01`, the first word, is not a number (digits without leading zeros, at most 4294967295)"),
+    (b"trace 1\nreplicas 1\n0 ins a,1 0 : a,1\n", "line 3: shape",
+     "`a,1`, behind `ins`, is not a name (1 to 32 letters, digits, `_`, `-` or `.`)"),
+    (b"trace 1\nreplicas 1\n0 ins a first : a\n", "line 3: shape",
+     "`first`, behind the element, is not a number (digits without leading zeros, at most 4294967295)"),
+    (b"trace 1\nreplicas 1\n0 read : a@1\n", "line 3: shape",
+     "`a@1`, in the response, is not a name (1 to 32 letters, digits, `_`, `-` or `.`)"),
+    (b"trace 1\nreplicas 1\n0 read : \xc3\xa4\n", "line 3: shape",
+     "byte 10 of the line is 195, which no word may have: words are of ASCII"),
+    (b"trace 1\nreplicas 2\n0 ins a 0 : a\n1 recv 0 0\n", "line 4: shape",
+     "behind `recv` stand a replica's number and that of its operation, from 1, and nothing else"),
+    (b"trace 1\nreplicas 1\n1 read :\n", "line 3: no such replica",
+     "line 2 says 1 replicas, and they count from 0: their numbers are below 1"),
+    (b"trace 1\nreplicas 2\n0 ins a 0 : a\n1 recv 0 2\n", "line 4: not yet, have 1",
+     "replica 0 has 1 operations in the lines before, and operation 2 is not among them"),
+    (b"trace 1\nreplicas 2\n0 ins a 0 : a\n0 recv 0 1\n", "line 4: own receipt",
+     "a replica receives what others did: its own operations are visible to it without a receipt"),
+    (b"trace 1\nreplicas 1\n" + b"0 read :\n" * 4097, "line 4099: entries full",
+     "a replica has at most 4,096 entries, receipts counted: record shorter sessions, or fewer reads"),
+]
+
+HOSTILE = ["ins", "del", "read", "recv", "5", "line", "0", "-", ".", "--", "..", "__proto__", "lt", "amp", "NaN", "e-1", "x" * 32]
+
+
+def text_of(replicas: int, entries: str) -> str:
+    return "".join(line + "\n" for line in ["trace 1", f"replicas {replicas}", *entries.split("|")] if line)
+
+
+def explain(program: str, words: list, trace: bytes = b"") -> Ended:
+    return run(EXPLAIN, ["--program", program, *words], trace)
+
+
+def stand_in_order(lines: list, wanted: list) -> str | None:
+    """The first of the wanted lines that does not stand behind those before it."""
+    left = iter(line.strip() for line in lines)
+    return next((line for line in wanted if line not in left), None)
+
+
+def words(tally: Tally, program: str) -> None:
+    for name, replicas, entries, wanted in WORDS:
+        trace = text_of(replicas, entries).encode()
+        got = explain(program, ["-"], trace)
+        missing = stand_in_order(got.out.decode().splitlines(), wanted.split("|"))
+        tally.check(f"words: {name}", missing is None and not got.err, f"no `{missing}` in\n{got.out.decode()}{got.err}")
+        tally.check(f"status: {name}", got.status == run(program, ["verdict", "-"], trace).status, got.status)
+
+
+def faults(tally: Tally, program: str, folder: str) -> None:
+    for trace, fault, said in FAULTS:
+        got = explain(program, ["-"], trace)
+        lines = got.err.decode().splitlines()
+        own = run(program, ["verdict", "-"], trace).err.decode().rstrip("\n")
+        tally.check(f"fault: {fault}", own.endswith(f": {fault}") and lines[0] == own, lines)
+        tally.check(f"fault: {fault}, {said}", said in [line.strip() for line in lines], lines)
+        tally.check(f"fault: {fault}, status", got.status == 2 and not got.out, got)
+    missing = f"{folder}/missing"
+    tally.same("a missing file", explain(program, [missing]),
+               Ended(2, b"", f"explain: cannot read {missing}: No such file or directory\n".encode()))
+    good = f"{folder}/good"
+    Path(good).write_text(text_of(1, "0 ins a 0 : a"))
+    tally.same("no such program", run(EXPLAIN, ["--program", missing, good]),
+               Ended(2, b"", f"explain: {missing} of --program can't be run\n".encode()))
+    tally.same("a program that answers nothing", run(EXPLAIN, ["--program", "/bin/false", good]),
+               Ended(2, b"", b"explain: /bin/false ended with status 1 and without a report\n"))
+    got = explain(program, ["--html", f"{folder}/no/such", good])
+    tally.check("a page that can't be written", got.status == 2 and b"cannot write" in got.err and b"Traceback" not in got.err, got)
+
+
+def finding(tally: Tally, program: str, folder: str) -> None:
+    """Which program is asked: that of --program, of the variable, of the PATH."""
+    good = Path(folder, "good.trace")
+    good.write_text(text_of(1, "0 ins a 0 : a"))
+    told = {}
+    for name in "asked", "variable", "domepeeler":
+        told[name] = Path(folder, name)
+        report = {"verdict": "accepted", "operations": 1, "inserts": 1, "replicas": 1, "order": ["a", name], "strong": True, "weak": True}
+        told[name].write_text(f"#!/bin/sh\ncat > /dev/null\necho '{json.dumps(report)}'\n")
+        told[name].chmod(0o755)
+    here = {"PATH": f"{folder}:{os.environ['PATH']}"}
+    ways = [("asked", ["--program", str(told["asked"])], {"DOMEPEELER": str(told["variable"])}),
+            ("variable", [], {"DOMEPEELER": str(told["variable"])}), ("domepeeler", [], {})]
+    for name, asked, variables in ways:
+        done = subprocess.run([EXPLAIN, *asked, str(good)], capture_output=True, text=True, env=here | variables)
+        tally.check(f"the program asked: {name}", f"  a {name}\n" in done.stdout, done)
+
+
+def contradicted(tally: Tally, folder: str) -> None:
+    """A program whose verdict can't be: the tool says that it can't explain it, shows the report, and takes its status."""
+    liar = Path(folder, "liar")
+    trace = text_of(1, "0 ins a 0 : a|0 ins b 1 : a b").encode()
+    steps = [{"from": "a", "to": "b", "shown": "0.2", "response": ["a", "b"]}, {"from": "b", "to": "a", "shown": "0.1", "response": ["a"]}]
+    lies = [{"verdict": "contents", "at": "0.2"}, {"verdict": "position", "at": "0.2"}, {"verdict": "refused", "k": 2, "steps": steps},
+            {"verdict": "doubled", "first": "0.1", "again": "0.2"}, {"verdict": "accepted", "operations": 2, "order": ["b", "a"]}, {"verdict": "guessed"}]
+    for lie in lies:
+        liar.write_text(f"#!/bin/sh\ncat > /dev/null\necho '{json.dumps(lie)}'\nexit 1\n")
+        liar.chmod(0o755)
+        got = explain(str(liar), ["-"], trace)
+        tally.check(f"a contradiction: {lie['verdict']}", got.status == 1 and not got.out and b"can't explain" in got.err, got)
+
+
+def page(tally: Tally, program: str, folder: str, name: str, trace: str) -> ElementTree.Element:
+    """The page of a trace: well-formed, without other files or scripts, with each line of a short one."""
+    path = Path(folder, name)
+    path.write_text(trace)
+    got = explain(program, ["--html", f"{folder}/page.html", str(path)])
+    tally.check(f"page of {name}: written", got.status in (0, 1) and not got.err, got)
+    text = Path(folder, "page.html").read_text()
+    tree = ElementTree.fromstring(text)
+    tags = Counter(node.tag for node in tree.iter())
+    tally.check(f"page of {name}: no script, no other file", not tags["script"] + tags["link"] + tags["img"] and "url(http" not in text
+                and text.count("http") == text.count('xmlns="http://www.w3.org/2000/svg"'), tags)
+    return tree
+
+
+def by_class(tree: ElementTree.Element, tag: str, name: str) -> list:
+    return [node for node in tree.iter() if node.tag.endswith(tag) and name in node.get("class", "").split()]
+
+
+def told(node: ElementTree.Element) -> str:
+    return " ".join("".join(node.itertext()).split())
+
+
+def pages(tally: Tally, program: str, folder: str) -> None:
+    for example in sorted(ROOT.glob("examples/*.trace")):
+        trace = example.read_text()
+        lines = trace.splitlines()[2:]
+        tree = page(tally, program, folder, example.name, trace)
+        rows = {node.get("id"): told(node) for node in tree.iter("li") if node.get("id")}
+        if len(lines) <= 40:
+            tally.check(f"page of {example.name}: its lines", list(rows) == [f"line-{i}" for i in range(3, len(lines) + 3)], list(rows))
+            shown = all(line.partition(" ")[2] in rows[f"line-{i}"] for i, line in enumerate(lines, 3) if len(line.split()) < 12)
+            tally.check(f"page of {example.name}: what the lines say", shown, rows)
+            arrows = by_class(tree, "path", "receipt")
+            tally.check(f"page of {example.name}: arrows", len(arrows) == sum(" recv " in line for line in lines), len(arrows))
+        report = json.loads(run(program, ["verdict", "--json", str(example)]).out)
+        steps = report.get("steps", [])
+        named = {step["shown"] for step in steps} | {report[key] for key in ("at", "first", "again") if key in report}
+        shown = {node.get("id") for node in by_class(tree, "li", "verdict") if node.get("id").startswith("line-")}
+        tally.check(f"page of {example.name}: its responses marked", len(shown) == len(named), named)
+        tally.check(f"page of {example.name}: its cycle", len(by_class(tree, "path", "step")) == len(steps), len(steps))
+
+
+def hostile(tally: Tally, program: str, folder: str) -> None:
+    """Names that look like words of the formats, and a file whose name looks like a tag."""
+    inserts = [f"0 ins {name} {i} : {' '.join(HOSTILE[:i + 1])}" for i, name in enumerate(HOSTILE)]
+    back = " ".join(HOSTILE[::-1])
+    trace = text_of(2, "|".join([*inserts, f"1 recv 0 {len(HOSTILE)}", f"1 read : {back}"]))
+    tree = page(tally, program, folder, "<b>&amp;\"'.trace", trace)
+    title = tree.find(".//title").text
+    tally.check("hostile: the file's name", title.endswith("<b>&amp;\"'.trace"), title)
+    marks = {told(node) for node in tree.iter("mark")}
+    tally.check("hostile: names", {"ins", "del"} <= marks, marks)
+    links = [node for node in tree.iter("a") if node.get("href") == "#line-5"]
+    tally.check("hostile: the names `line` and `5` are no link", not links, links)
+    got = explain(program, ["--small", f"{folder}/small", "-"], trace.encode())
+    small = Path(folder, "small").read_text()
+    tally.check("hostile: the small trace", small == text_of(2, "0 ins ins 0 : ins|0 ins del 1 : ins del|1 recv 0 2|1 read : del ins"),
+                f"{small}{got}")
+
+
+def long_sessions(tally: Tally, program: str, folder: str) -> None:
+    """Of a long session the page has what matters, and the rest folded or left out; the small cycle is found again."""
+    trace = long_trace("small_cycle", "S")
+    path = Path(folder, "long.trace")
+    tree = page(tally, program, folder, path.name, trace.decode())
+    tally.check("long: folded", len(by_class(tree, "li", "gap")) > 0 and len(list(tree.iter("details"))) == 1)
+    shown = [node for node in by_class(tree, "li", "verdict") if node.get("id").startswith("line-")]
+    tally.check("long: three responses are shown first", len(shown) == 3, len(shown))
+    explain(program, ["--small", f"{folder}/small", str(path)])
+    small = Path(folder, "small").read_text().splitlines()
+    kinds = Counter(line.split()[1] for line in small[2:])
+    tally.check("long: the small cycle alone", kinds == {"ins": 3, "del": 1, "read": 1, "recv": 4}, small)
+    tree = page(tally, program, folder, "longer.trace", long_trace("ring", "M").decode())
+    tally.check("longer: not folded but left out", not list(tree.iter("details")))
+
+
+def svg(tally: Tally, program: str, folder: str) -> None:
+    for picture in sorted(ROOT.glob("docs/gallery/*.svg")):
+        example = ROOT / "examples" / f"{picture.stem}.trace"
+        explain(program, ["--svg", f"{folder}/cycle.svg", str(example)])
+        tally.check(f"svg of {example.name}", Path(folder, "cycle.svg").read_bytes() == picture.read_bytes())
+    got = explain(program, ["--svg", f"{folder}/none.svg", str(ROOT / "examples" / "lost_element.trace")])
+    tally.check("no svg where there is no cycle", not Path(folder, "none.svg").exists() and b"is not written" in got.out, got)
+    got = explain(program, ["--small", f"{folder}/none.trace", str(ROOT / "examples" / "insert_delete_read.trace")])
+    tally.check("no small trace of an accepted one", not Path(folder, "none.trace").exists() and b"is not written" in got.out, got)
+
+
+def recordings(program: str) -> list:
+    """Generated traces with the program's reports, as many of each kind as are wanted."""
+    rnd = random.Random(SEED)
+    left, made = Counter(SMALL), {}
+    for _ in range(MOST_TRIES):
+        text = session(rnd)
+        if rnd.random() < (0.1 if left["refused"] > 0 else 1):
+            text = with_fault(rnd, text)
+        if text in made or not +left:
+            continue
+        report = json.loads(run(program, ["verdict", "--json", "-"], text.encode()).out)
+        if left[report["verdict"]] > 0:
+            left[report["verdict"]] -= 1
+            made[text] = report
+    return list(made.items())
+
+
+def small(tally: Tally, program: str, folder: str) -> None:
+    """A small trace has the verdict and the number of the whole one, and of its elements only those that it is about."""
+    cases = recordings(program)
+    kinds = Counter(report["verdict"] for _, report in cases)
+    numbers = Counter(report["k"] for _, report in cases if "k" in report)
+    print(", ".join(f"{kinds[kind]} {kind}" for kind in SMALL), "small traces; refused", dict(sorted(numbers.items())))
+    tally.check("small: of all kinds", kinds == SMALL and {2, 3, 4} <= set(numbers), (kinds, numbers))
+
+    def make(at: int) -> tuple:
+        path = f"{folder}/small{at}"
+        got = explain(program, ["--small", path, "-"], cases[at][0].encode())
+        text = Path(path).read_text() if os.path.exists(path) else ""
+        return got, text, run(program, ["verdict", "--json", "-"], text.encode())
+
+    with ThreadPoolExecutor(2) as pool:
+        for (whole, report), (got, text, again) in zip(cases, pool.map(make, range(len(cases)))):
+            judged = json.loads(again.out or b"{}")
+            same = [judged.get(key) == report.get(key) for key in ("verdict", "k")]
+            tally.check("small: the same verdict and number", all(same) and got.status == 1, f"{whole}\nto\n{text}{got}")
+            tally.check("small: no longer", len(text.splitlines()) <= len(whole.splitlines()), f"{whole}\nto\n{text}")
+            if report["verdict"] == "refused":
+                cycle = {step["from"] for step in report["steps"]}
+                names = {line.split()[2] for line in text.splitlines()[2:] if line.split()[1] == "ins"}
+                tally.check("small: the cycle's elements", names == cycle and judged["inserts"] == report["k"], f"{whole}\nto\n{text}")
+            most = {"position": judged.get("inserts") in (1, 2), "doubled": judged.get("operations") == 2}
+            tally.check("small: of a fault", most.get(report["verdict"], True), f"{whole}\nto\n{text}")
+
+
+def kept_more(tally: Tally) -> None:
+    """Where the program says otherwise of a small trace, more is kept, up to the whole."""
+    whole = text_of(3, THREE_WAY)
+    report = {"verdict": "refused", "k": 3, "steps": [
+        {"from": "x", "to": "b", "shown": "2.1", "response": ["x", "b"]}, {"from": "b", "to": "a", "shown": "0.3", "response": ["b", "a"]},
+        {"from": "a", "to": "x", "shown": "1.1", "response": ["a", "x"]}]}
+    evidence = Evidence(Recording(whole), report)
+    seen = []
+
+    def only_the_last(trace: bytes) -> dict:
+        seen.append(trace)
+        return report if len(seen) == 3 else {"verdict": "accepted"}
+
+    kept = smallest(evidence, only_the_last)
+    tally.check("small: the whole as the last", kept.text.encode() == seen[2] and sorted(kept.text) == sorted(whole), kept)
+    tally.check("small: none", smallest(evidence, lambda trace: None) is None)
+
+
+def main() -> None:
+    program = program_of(sys.argv)
+    tally = Tally()
+    words(tally, program)
+    with tempfile.TemporaryDirectory() as folder:
+        faults(tally, program, folder)
+        finding(tally, program, folder)
+        contradicted(tally, folder)
+        pages(tally, program, folder)
+        hostile(tally, program, folder)
+        long_sessions(tally, program, folder)
+        svg(tally, program, folder)
+        kept_more(tally)
+        small(tally, program, folder)
+    tally.close()
+
+
+if __name__ == "__main__":
+    main()

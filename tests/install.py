@@ -1,0 +1,112 @@
+#!/usr/bin/env python3
+"""install.py PROGRAM: what `tools/install` puts below a folder, and that it works from there, wherever the folder is moved."""
+import os
+import shutil
+import subprocess
+import sys
+import tempfile
+from pathlib import Path
+
+from program import Ended, Tally, need, program_of, run
+
+ROOT = Path(__file__).resolve().parent.parent
+INSTALL = str(ROOT / "tools" / "install")
+EXAMPLE = str(ROOT / "examples" / "lost_element.trace")
+REPORT = b"replicas 3 operations 3 inserts 2\ncontents 2.1\nstrong no\nweak no\n"
+TOOLS = ["domepeeler", "domepeeler-explain", "domepeeler-judge-many"]
+
+# What is completed in bash: the words of a line, the last of them begun, and what is offered for it.
+COMPLETED = [
+    (["domepeeler", ""], {"verdict", "cert", "verify", "--help", "--version"}),
+    (["domepeeler", "ver"], {"verdict", "verify"}),
+    (["domepeeler", "verdict", "--"], {"--workers", "--json", "--help"}),
+    (["domepeeler", "cert", "--"], {"--help"}),
+    (["domepeeler", "verdict", "--workers", "1"], {"1", "16"}),
+    (["domepeeler-explain", "--s"], {"--small", "--svg"}),
+    (["domepeeler-judge-many", "--j"], {"--json", "--jobs"}),
+]
+
+
+def installed(program: str, folder: str) -> subprocess.CompletedProcess:
+    return subprocess.run([INSTALL, folder], capture_output=True, text=True, env=os.environ | {"DOMEPEELER": program})
+
+
+def files(tally: Tally, program: str, folder: str) -> None:
+    done = installed(program, folder)
+    tally.check("install: ends well", done.returncode == 0 and not done.stderr, done)
+    wanted = [*(f"bin/{tool}" for tool in TOOLS), *(f"share/man/man1/{tool}.1" for tool in TOOLS),
+              *(f"share/bash-completion/completions/{tool}" for tool in TOOLS), "share/zsh/site-functions/_domepeeler",
+              *(f"share/doc/domepeeler/{name}" for name in ("LICENSE", "LICENSE-APACHE", "LICENSE-MIT"))]
+    for name in wanted:
+        tally.check(f"install: {name}", Path(folder, name).is_file())
+    for tool in TOOLS:
+        tally.check(f"install: {tool} can be run", os.access(f"{folder}/bin/{tool}", os.X_OK))
+    again = installed(program, folder)
+    tally.check("install: a second time", again.returncode == 0, again)
+
+
+def errors(tally: Tally, folder: str) -> None:
+    for words in [], [""], ["a", "b"], ["--prefix"]:
+        got = run(INSTALL, words)
+        tally.check(f"install: usage {words}", got.status == 2 and got.err.startswith(b"usage: tools/install PREFIX"), got)
+    done = installed(f"{folder}/missing", folder)
+    tally.check("install: no program", done.returncode == 2 and "is not there: build it first" in done.stderr, done)
+
+
+def runs(tally: Tally, folder: str) -> None:
+    """The tools ask the program beside them, with no variable and none on the PATH."""
+    here = {"PATH": os.pathsep.join({os.path.dirname(shutil.which(tool)) for tool in ("python3", "parallel", "sh", "perl")})}
+    ended = [subprocess.run([f"{folder}/bin/{words[0]}", *words[1:]], capture_output=True, env=here)
+             for words in (["domepeeler", "verdict", EXAMPLE], ["domepeeler-explain", EXAMPLE], ["domepeeler-judge-many", EXAMPLE])]
+    verdict, explained, many = [Ended(done.returncode, done.stdout, done.stderr) for done in ended]
+    tally.same(f"runs in {folder}: the program", verdict, Ended(1, REPORT, b""))
+    tally.check(f"runs in {folder}: explain", explained.status == 1 and explained.out.startswith(b"contents 2.1: "), explained)
+    tally.check(f"runs in {folder}: judge_many", many.status == 1 and many.out.endswith(b"1 trace: 1 contents\n"), many)
+
+
+def manual(tally: Tally, folder: str) -> None:
+    for words in ["-l", f"{folder}/share/man/man1/domepeeler.1"], *([tool] for tool in TOOLS):
+        done = subprocess.run(["man", *words], capture_output=True, text=True, errors="replace",
+                              env=os.environ | {"MANPATH": f"{folder}/share/man", "MANWIDTH": "80", "LC_ALL": "C"})
+        heads = [line for line in done.stdout.splitlines() if line and not line.startswith(" ")]
+        tally.check(f"man {words[-1]}", {"NAME", "SYNOPSIS", "VERDICTS", "EXIT STATUS"} <= set(heads), (heads, done.stderr))
+    done = subprocess.run(["man", "--warnings", "-l", f"{folder}/share/man/man1/domepeeler.1"], capture_output=True, text=True)
+    tally.check("man: no warnings", not done.stderr, done.stderr)
+
+
+def completions(tally: Tally, folder: str) -> None:
+    path = f"{folder}/share/bash-completion/completions/domepeeler"
+    for words, offered in COMPLETED:
+        script = (f"compopt() {{ :; }}; source '{path}'; COMP_WORDS=({' '.join(repr(word) for word in words)}); "
+                  f"COMP_CWORD={len(words) - 1}; _domepeeler; printf '%s\\n' \"${{COMPREPLY[@]}}\"")
+        done = subprocess.run(["bash", "-c", script], capture_output=True, text=True)
+        tally.check(f"bash: {words}", set(done.stdout.split()) == offered and not done.stderr, done)
+    script = f"source '{path}'; complete -p {' '.join(TOOLS)}"
+    done = subprocess.run(["bash", "-c", script], capture_output=True, text=True)
+    tally.check("bash: of each command", done.stdout.count("-F _domepeeler") == 3, done)
+    if shutil.which("zsh") is None:
+        print("zsh is not there: its completions are not tried")
+        return
+    script = f"fpath=('{folder}/share/zsh/site-functions' $fpath); autoload -U compinit; compinit -u -D; print ${{_comps[{TOOLS[1]}]}}; autoload +X _domepeeler"
+    done = subprocess.run(["zsh", "-f", "-c", script], capture_output=True, text=True)
+    tally.check("zsh: found and read", done.stdout == "_domepeeler\n" and done.returncode == 0 and not done.stderr, done)
+
+
+def main() -> None:
+    program = program_of(sys.argv)
+    need("parallel", "parallel")
+    need("man", "man-db")
+    tally = Tally()
+    with tempfile.TemporaryDirectory() as folder:
+        errors(tally, folder)
+        files(tally, program, f"{folder}/a place")
+        runs(tally, f"{folder}/a place")
+        manual(tally, f"{folder}/a place")
+        completions(tally, f"{folder}/a place")
+        os.rename(f"{folder}/a place", f"{folder}/moved")
+        runs(tally, f"{folder}/moved")
+    tally.close()
+
+
+if __name__ == "__main__":
+    main()

@@ -1,0 +1,99 @@
+#!/usr/bin/env python3
+"""readme_commands.py PROGRAM: the commands that the pages show are run as written, and must print what the pages show.
+
+A command stands behind `    $ `, its further lines behind `    > `, and below it what it prints; where nothing is shown,
+only the status is looked at. PROGRAM must be the repository's own, since the pages name it. `tests/black_box.py` does this for
+the gallery."""
+import os
+import re
+import subprocess
+import sys
+import tempfile
+from pathlib import Path
+from typing import NamedTuple
+
+from program import Tally, need, program_of
+
+ROOT = Path(__file__).resolve().parent.parent
+BUILT = ROOT / "crates" / "finder_cli" / "out" / "finder_cli"
+
+# The pages, and how many commands each must show at least.
+PAGES = {"README.md": 12, "docs/many.md": 4}
+
+# Indented lines of the pages that are commands and are not run here, each with the reason.
+NOT_RUN = {
+    "(cd crates/finder_cli && rt run -- verdict ../../examples/libinfinity_three_way_cycle.trace)":
+        "it proves and builds the program, which the gate does by itself",
+    "tests/every_check": "it is the gate, which runs this script",
+}
+
+SECONDS = 60  # of a page
+MARK = "=== ended with"
+TIME = re.compile(r"\b\d+\.\d{3}\b")  # a time in seconds, which no two runs share
+
+
+class Shown(NamedTuple):
+    """A command on a page, and what it prints by the page."""
+
+    command: str
+    printed: str
+
+
+def blocks(page: str) -> list:
+    """The indented blocks of a page, without their indent; a blank line may stand within one."""
+    found = re.findall(r"(?:^(?: {4}.*)?\n)+", page, re.MULTILINE)
+    texts = [re.sub(r"^ {4}", "", block, flags=re.MULTILINE).strip("\n") for block in found]
+    return [text for text in texts if text]
+
+
+def commands(block: str) -> list:
+    shown = []
+    for part in re.split(r"^\$ ", block, flags=re.MULTILINE)[1:]:
+        lines = part.split("\n")
+        count = 1
+        while lines[count:] and lines[count].startswith("> "):
+            count += 1
+        command = "\n".join([lines[0], *(line[2:] for line in lines[1:count])])
+        shown.append(Shown(command, "".join(line + "\n" for line in lines[count:]).strip("\n")))
+    return shown
+
+
+def run_all(shown: list, home: str) -> list:
+    """How each command of a page ends, as (status, printed), in one shell that begins in the repository's folder."""
+    ending = f"shown_status=$?; printf '\\n{MARK} %s\\n' $shown_status"
+    script = "".join(f"{command}\n{ending}\n" for command, _ in shown)
+    surroundings = {"HOME": home, "PATH": f"{home}/.local/bin:{os.environ['PATH']}", "LC_ALL": "C.UTF-8"}
+    done = subprocess.run(["sh", "-c", script], cwd=ROOT, env=surroundings, stdin=subprocess.DEVNULL, stdout=subprocess.PIPE,
+                          stderr=subprocess.STDOUT, text=True, timeout=SECONDS)
+    parts = re.split(rf"\n{MARK} (\d+)\n", done.stdout)
+    return list(zip(map(int, parts[1::2]), parts[::2]))
+
+
+def check_page(tally: Tally, page: str, least: int) -> None:
+    shown = [command for block in blocks((ROOT / page).read_text()) for command in commands(block)]
+    tally.check(f"{page}: has its commands", len(shown) >= least, len(shown))
+    with tempfile.TemporaryDirectory() as home:
+        ended = run_all(shown, home)
+    tally.check(f"{page}: all its commands are run", len(ended) == len(shown), f"{len(ended)} of {len(shown)}")
+    for (command, printed), (status, got) in zip(shown, ended):
+        tally.check(f"{page}: `{command}` ends", status in (0, 1), f"{status}: {got}")
+        if printed:
+            got, wanted = (TIME.sub("#", told).rstrip("\n") for told in (got, printed))
+            tally.check(f"{page}: `{command}` prints what is shown", got == wanted, f"\ngot\n{got}\nwanted\n{wanted}")
+
+
+def main() -> None:
+    program = program_of(sys.argv)
+    need("parallel", "parallel")
+    tally = Tally()
+    tally.check("the program is the one of the pages", BUILT.exists() and os.path.samefile(program, BUILT), f"{program}, {BUILT}")
+    for page, least in PAGES.items():
+        check_page(tally, page, least)
+    front = (ROOT / "README.md").read_text()
+    for line, reason in NOT_RUN.items():
+        tally.check(f"README.md shows `{line}`, not run since {reason}", f"\n    {line}\n" in front)
+    tally.close()
+
+
+if __name__ == "__main__":
+    main()

@@ -1,0 +1,110 @@
+"""What is wrong with a line that the program refuses, and what would be right."""
+import re
+
+CAUSE = re.compile(r"line (\d+): ([a-z ]+)(?:, have (\d+))?$")  # in the program's line on standard error
+MOST_SHOWN = 120  # characters of a faulty line
+GREATEST = 4294967295
+NUMBER = "a number (digits without leading zeros, at most 4294967295)"
+NAME = "a name (1 to 32 letters, digits, `_`, `-` or `.`)"
+ENTRIES = ["an entry is one of these, with one blank between two words and none at the end:",
+           "  r ins a k : Names    replica r inserted a at position k, and answered Names",
+           "  r del a : Names      replica r deleted a",
+           "  r read : Names       replica r read the list",
+           "  r recv q n           operation n of replica q has arrived at r"]
+LIMITS = {
+    "entries full": "a replica has at most 4,096 entries, receipts counted: record shorter sessions, or fewer reads",
+    "inserts full": "a replica makes at most 256 inserts: record shorter sessions",
+    "long response": "a response has at most 4,096 names: record shorter documents, or a line or paragraph as one element",
+    "places full": "the responses of a replica have at most 262,144 names together: read less often, or record shorter sessions",
+}
+KINDS = {"ins": 4, "del": 3, "read": 2}  # how many words stand before the colon
+
+
+def about_fault(error: str, trace: bytes) -> list:
+    """The faulty line with what would be right, where the program's error names a line; else nothing."""
+    found = CAUSE.search(error)
+    if found is None:
+        return []
+    number, cause, have = int(found[1]), found[2].strip(), found[3]
+    lines = trace.split(b"\n")
+    line = lines[number - 1] if number <= len(lines) else b""
+    is_there = number < len(lines) or line
+    shown = [f"line {number} is: {readable(line)}" if is_there else f"line {number} is missing"]
+    return shown + right(cause, have, line, lines)
+
+
+def readable(line: bytes) -> str:
+    """The line with escapes for all that is no plain ASCII, cut where it is long."""
+    text = ascii(line[:MOST_SHOWN].decode("utf-8", "backslashreplace"))[1:-1]
+    return text + (f".. ({len(line)} bytes)" if len(line) > MOST_SHOWN else "")
+
+
+def right(cause: str, have: str | None, line: bytes, lines: list) -> list:
+    words = line.decode("ascii", "replace").split(" ")
+    if cause in LIMITS:
+        return [LIMITS[cause]]
+    if cause == "header":
+        return ["the first line of a trace is `trace 1`, and nothing else", *ending(line)]
+    if cause == "replicas":
+        return ["the second line is `replicas R`, with R from 1 to 16", *ending(line)]
+    if cause == "cut":
+        return ["the last line has no line feed at its end: write one behind each line, and see that the file is whole"]
+    if cause == "no such replica":
+        count = lines[1].decode().split()[1]
+        return [f"line 2 says {count} replicas, and they count from 0: their numbers are below {count}"]
+    if cause == "own receipt":
+        return ["a replica receives what others did: its own operations are visible to it without a receipt"]
+    if cause == "not yet":
+        return [f"replica {words[2]} has {have} operations in the lines before, and operation {words[3]} is not among them",
+                "a receipt stands behind the operation that it names, also where logs of several machines are merged;",
+                "operations count from 1, and receipts are not counted"]
+    return [*what_is_wrong(line), *ENTRIES]
+
+
+def ending(line: bytes) -> list:
+    return ["the line ends with CR LF, where a trace has LF alone"] if line.endswith(b"\r") else []
+
+
+def what_is_wrong(line: bytes) -> list:
+    """What keeps a line from being an entry, where that can be told."""
+    if not line:
+        return ["an empty line is no entry"]
+    if ending(line):
+        return ending(line)
+    other = next((place for place, byte in enumerate(line) if not 32 <= byte < 127), None)
+    if other is not None:
+        return [f"byte {other + 1} of the line is {line[other]}, which no word may have: words are of ASCII"]
+    words = line.decode().split(" ")
+    if "" in words:
+        return ["there is a blank too many: two together, or one at an end of the line"]
+    wrong = wrong_word(words)
+    return [wrong] if wrong else []
+
+
+def wrong_word(words: list) -> str | None:
+    """The first word that can't stand where it does."""
+    if not is_number(words[0]):
+        return f"`{words[0]}`, the first word, is not {NUMBER}"
+    kind = words[1] if len(words) > 1 else ""
+    if kind == "recv":
+        is_right = len(words) == 4 and is_number(words[2]) and is_number(words[3]) and words[3] != "0"
+        return None if is_right else "behind `recv` stand a replica's number and that of its operation, from 1, and nothing else"
+    if kind not in KINDS:
+        return f"`{kind}`, the second word, is not `ins`, `del`, `read` or `recv`"
+    colon = KINDS[kind]
+    if kind != "read" and not (len(words) > 2 and is_name(words[2])):
+        return f"`{words[2] if len(words) > 2 else ''}`, behind `{kind}`, is not {NAME}"
+    if kind == "ins" and not (len(words) > 3 and is_number(words[3])):
+        return f"`{words[3] if len(words) > 3 else ''}`, behind the element, is not {NUMBER}"
+    if len(words) <= colon or words[colon] != ":":
+        return "the colon between the operation and its response is missing, or not a word by itself"
+    bad = next((word for word in words[colon + 1:] if not is_name(word)), None)
+    return None if bad is None else f"`{bad}`, in the response, is not {NAME}"
+
+
+def is_number(word: str) -> bool:
+    return re.fullmatch("0|[1-9][0-9]{0,9}", word) is not None and int(word) <= GREATEST
+
+
+def is_name(word: str) -> bool:
+    return re.fullmatch("[A-Za-z0-9_.-]{1,32}", word) is not None

@@ -1,0 +1,114 @@
+"""A recording that the program has read, with the line of each entry, and what is visible to which operation.
+
+Only texts that the program takes for traces come here, so nothing is checked again."""
+from collections import defaultdict
+from typing import NamedTuple
+
+END = 4294967295  # no position is greater
+
+
+class Operation:
+    """An operation: its name `r.n`, its line in the trace, what it did, and how many operations of each replica are
+    visible to it or are it."""
+
+    def __init__(self, replica: int, n: int, line: int, text: str, clock: list):
+        self.replica, self.n, self.line, self.text, self.clock = replica, n, line, text, clock
+        asked = text.partition(":")[0].split()
+        self.kind = asked[1]
+        self.element = asked[2] if self.kind != "read" else ""
+        self.at = int(asked[3]) if self.kind == "ins" else 0
+
+    @property
+    def name(self) -> str:
+        return f"{self.replica}.{self.n}"
+
+    @property
+    def key(self) -> tuple:
+        """What operations are ordered by."""
+        return self.replica, self.n
+
+    @property
+    def response(self) -> list:
+        """Split only when it is asked for: a trace may have millions of names."""
+        return self.text.partition(":")[2].split()
+
+    def has_seen(self, other: "Operation") -> bool:
+        """Whether the other operation is visible to this one, or is it."""
+        return self.clock[other.replica] >= other.n
+
+
+class Receipt(NamedTuple):
+    """The note in a replica's log that an operation of another has arrived, and how many of its own came before."""
+
+    replica: int
+    line: int
+    text: str
+    seen: Operation
+    before: int
+
+
+class Recording:
+    """The entries of a trace in their order."""
+
+    def __init__(self, text: str):
+        self.lines = text.splitlines()
+        self.replicas = int(self.lines[1].split()[1])
+        self.streams = [[] for _ in range(self.replicas)]  # the operations of each replica
+        self.receipts = [[] for _ in range(self.replicas)]
+        self.entries = []
+        self.inserts, self.deletes = defaultdict(list), defaultdict(list)  # operations by element
+        clocks = [[0] * self.replicas for _ in range(self.replicas)]
+        for number, line in enumerate(self.lines[2:], 3):
+            self._take(number, line, clocks)
+
+    def _take(self, number: int, line: str, clocks: list) -> None:
+        words = line.split(" ", 4)
+        replica = int(words[0])
+        clock, stream = clocks[replica], self.streams[replica]
+        if words[1] == "recv":
+            seen = self.streams[int(words[2])][int(words[3]) - 1]
+            entry = Receipt(replica, number, line, seen, len(stream))
+            self.receipts[replica].append(entry)
+            clocks[replica] = [max(pair) for pair in zip(clock, seen.clock)]
+        else:
+            clock[replica] += 1
+            entry = Operation(replica, clock[replica], number, line, list(clock))
+            stream.append(entry)
+            if entry.kind != "read":
+                (self.inserts if entry.kind == "ins" else self.deletes)[entry.element].append(entry)
+        self.entries.append(entry)
+
+    def operation(self, name: str) -> Operation:
+        replica, n = map(int, name.split("."))
+        return self.streams[replica][n - 1]
+
+    def expected(self, operation: Operation) -> set:
+        """The elements that the operation's response must hold: inserted and not deleted by what it has seen."""
+        live = set()
+        for element, inserts in self.inserts.items():
+            if any(map(operation.has_seen, inserts)) and not any(map(operation.has_seen, self.deletes.get(element, ()))):
+                live.add(element)
+        return live
+
+    def way(self, seen: Operation, to: Operation) -> list:
+        """The receipts by which an operation came to be visible to another, first to last; none within one replica."""
+        way = []
+        while seen.replica != to.replica:
+            receipt = next(receipt for receipt in self.receipts[to.replica] if receipt.seen.has_seen(seen))
+            way.append(receipt)
+            to = receipt.seen
+        return way[::-1]
+
+    def receipt_of(self, operation: Operation, replica: int) -> Receipt | None:
+        """The first receipt in a replica's log that names the operation, or a later one of the same author, if one does."""
+        return next((receipt for receipt in self.receipts[replica]
+                     if receipt.seen.replica == operation.replica and receipt.seen.n >= operation.n), None)
+
+    def arrival(self, operation: Operation, replica: int) -> Receipt | None:
+        """The first receipt in a replica's log that brings the operation, if one does."""
+        return next((receipt for receipt in self.receipts[replica] if receipt.seen.has_seen(operation)), None)
+
+
+def place_asked(operation: Operation, response: list) -> int:
+    """The place in the response where an insert asked for its element to stand: past the end is the end."""
+    return min(operation.at, len(response) - 1)

@@ -1,0 +1,131 @@
+"""The small trace that is left of a fault or a refusal: of all elements those that it is about, and of all operations those
+that bear on it.
+
+What is visible to which operation stays as it was, so what was right stays right: of the elements that are kept, all inserts
+and all deletes that anything kept has seen are kept too. Receipts are made anew, since one may have named an operation that
+is gone. Replicas keep their numbers; operations are counted anew, and one that changed another element is a read."""
+from collections.abc import Callable
+from typing import NamedTuple
+
+from .evidence import Evidence
+from .recordings import Operation, Recording, place_asked
+
+
+class Small(NamedTuple):
+    """The small trace, and for each of its operations the name there and the operation of the whole trace."""
+
+    text: str
+    operations: list
+
+
+class Projection:
+    """A recording with some of its elements and operations."""
+
+    def __init__(self, recording: Recording, elements: set, kept: list, misplaced: Operation | None = None):
+        self.recording, self.elements, self.misplaced = recording, elements, misplaced
+        self.kept = sorted(kept, key=lambda operation: operation.line)
+        self.counts = [[0] * (len(stream) + 1) for stream in recording.streams]
+        for operation in self.kept:
+            self.counts[operation.replica][operation.n] = 1
+        for counts in self.counts:
+            for n in range(1, len(counts)):
+                counts[n] += counts[n - 1]
+
+    def small(self) -> Small:
+        lines = ["trace 1", f"replicas {self.recording.replicas}"]
+        clocks = [[0] * self.recording.replicas for _ in range(self.recording.replicas)]
+        named = []
+        for operation in self.kept:
+            lines += self.receipts(operation, clocks[operation.replica])
+            clocks[operation.replica] = self.clock(operation)
+            lines.append(self.entry(operation))
+            named.append((f"{operation.replica}.{self.number(operation)}", operation))
+        return Small("".join(line + "\n" for line in lines), named)
+
+    def number(self, operation: Operation) -> int:
+        return self.counts[operation.replica][operation.n]
+
+    def clock(self, operation: Operation) -> list:
+        """How many kept operations of each replica the operation has seen."""
+        return [counts[n] for counts, n in zip(self.counts, operation.clock)]
+
+    def receipts(self, operation: Operation, before: list) -> list:
+        """The receipts that an operation needs in front of it, where its replica has seen this much before: none for what
+        another one brings."""
+        clock = self.clock(operation)
+        news = [self.nth(replica, n) for replica, n in enumerate(clock) if replica != operation.replica and n > before[replica]]
+        needed = [new for new in news if not any(other.has_seen(new) for other in news if other is not new)]
+        return [f"{operation.replica} recv {new.replica} {self.number(new)}" for new in needed]
+
+    def nth(self, replica: int, n: int) -> Operation:
+        """The n-th kept operation of a replica."""
+        return self.recording.streams[replica][self.counts[replica].index(n) - 1]
+
+    def entry(self, operation: Operation) -> str:
+        """The line of an operation; what inserts or deletes another element is a read of those that are kept."""
+        response = [name for name in operation.response if name in self.elements]
+        words = [operation.kind, operation.element] if operation.element in self.elements else ["read"]
+        if words[0] == "ins":
+            words.append(str(self.place(operation, response)))
+        return " ".join([str(operation.replica), *words, ":", *response])
+
+    def place(self, operation: Operation, response: list) -> int:
+        """Where the element stands now; of one that is misplaced, where that stands which it ought to have stood before."""
+        wanted = operation.element
+        if operation is self.misplaced:
+            whole = operation.response
+            asked = place_asked(operation, whole)
+            wanted = whole[asked] if asked >= 0 else wanted
+        return response.index(wanted) if wanted in response else 0
+
+
+def with_changes(recording: Recording, elements: set, kept: list) -> list:
+    """The operations with all inserts and deletes of the elements that any of them has seen."""
+    kept = dict.fromkeys(kept)
+    changes = [change for element in elements
+               for change in recording.inserts.get(element, []) + recording.deletes.get(element, [])]
+    is_growing = True
+    while is_growing:
+        seen = [change for change in changes if change not in kept and any(operation.has_seen(change) for operation in kept)]
+        kept.update(dict.fromkeys(seen))
+        is_growing = bool(seen)
+    return list(kept)
+
+
+def candidates(evidence: Evidence) -> list:
+    """Projections that should have the verdict of the whole, the smallest first; the last one is the whole."""
+    recording, elements = evidence.recording, set(evidence.elements)
+    misplaced = evidence.operations[0] if evidence.report["verdict"] == "position" else None
+    told = list(evidence.operations)
+    if evidence.report["verdict"] == "contents":  # what has not arrived there may be what should have
+        told += [change for element in evidence.elements for change in evidence.changes(element, told[0])]
+    if evidence.report["verdict"] != "doubled":
+        told = with_changes(recording, elements, told)
+    every = [operation for stream in recording.streams for operation in stream]
+    names = elements.union(recording.inserts, recording.deletes, *(operation.response for operation in evidence.operations))
+    return [Projection(recording, elements, fewer(told, evidence.operations), misplaced),
+            Projection(recording, elements, told, misplaced),
+            Projection(recording, names, every, misplaced)]
+
+
+def fewer(kept: list, named: list) -> list:
+    """The operations without deletes that repeat what another one does for all that have seen them; those that the verdict
+    names stay."""
+    for delete in [change for change in kept if change.kind == "del" and change not in named]:
+        others = [other for other in kept if other is not delete]
+        same = [other for other in others if other.kind == "del" and other.element == delete.element]
+        if all(any(map(operation.has_seen, same)) for operation in others if operation.has_seen(delete)):
+            kept = others
+    return kept
+
+
+def smallest(evidence: Evidence, judge: Callable) -> Small | None:
+    """The smallest of these traces whose report, by `judge`, has the verdict and the number of the whole one. It should be the
+    first of them; but the program has the last word, and where it says otherwise more is kept."""
+    wanted = [evidence.report.get(key) for key in ("verdict", "k")]
+    for projection in candidates(evidence):
+        small = projection.small()
+        report = judge(small.text.encode())
+        if report is not None and [report.get(key) for key in ("verdict", "k")] == wanted:
+            return small
+    return None

@@ -1,0 +1,257 @@
+"""What a verdict means for its trace, in words: a headline, and sections of lines.
+
+A name in brackets is one of the names that the verdict is about; names themselves have no brackets."""
+from typing import NamedTuple
+
+from .evidence import MOST_ARRIVED, Evidence
+from .recordings import Operation, Recording, place_asked
+
+MOST_NAMES = 24  # of a list that is shown whole
+NUMBERS = "zero one two three four five six seven eight nine ten eleven twelve thirteen fourteen fifteen sixteen".split()
+
+LOOK = {
+    "contents": "At how operations reach a replica and are applied. Most often the recorder or the transport is at fault: a "
+                "receipt that is written before the change was applied, or is missing; operations that arrive before what their "
+                "author had seen; and then an editor that loses an operation, applies it twice, or applies it to another element. "
+                "docs/recording.md says where receipts go.",
+    "position": "At the mapping between the positions that a user sees and the places of the editor's own list, where deleted "
+                "elements may still stand; and at whether the recorder writes the position that was asked for.",
+    "doubled": "At the recorder, most often: each inserted element needs a name of its own, for ever. Equal letters are "
+               "different elements, each element of a paste is a new one, and so is an undone delete where the editor makes one anew.",
+    "concurrent": "At the order of concurrent inserts: no author of the two elements had seen the other one, and two replicas, or "
+                  "one at two times, have put them in different orders.",
+    "seen": "At where a replica puts an insert that arrives: {later} inserted {new} when it had seen {old}, so these are no "
+            "concurrent inserts, and yet the two are put in different orders.",
+    "deleted": "At positions beside deleted elements: no two of these responses disagree openly, and an insert beside an element "
+               "that another replica has deleted may have lost its place there. Above stands which elements are deleted for which "
+               "of the responses.",
+    "apart": "At how a replica orders elements of which it shows only some: no two of these responses disagree openly, and none of "
+             "the elements is deleted for any of them, so each replica has yet to hear of some.",
+}
+
+
+class Section(NamedTuple):
+    title: str
+    lines: list
+
+
+class Explanation(NamedTuple):
+    headline: str
+    sections: list
+
+
+def explanation(evidence: Evidence) -> Explanation:
+    tell = {"accepted": accepted, "refused": refused, "doubled": doubled, "contents": contents, "position": position}
+    return tell[evidence.report["verdict"]](evidence)
+
+
+def text_of(told: Explanation) -> str:
+    """The explanation as lines for a terminal."""
+    lines = [told.headline]
+    for section in told.sections:
+        lines += ["", section.title, *("  " + line for line in section.lines)]
+    return "".join(line + "\n" for line in lines)
+
+
+def accepted(evidence: Evidence) -> Explanation:
+    report = evidence.report
+    order = " ".join(report["order"]) or "(there are no elements)"
+    one = report["operations"] == 1
+    said = "its one response fits" if one else f"all {report['operations']} responses fit"
+    return Explanation(f"accepted: well done, {said} one order of the elements. Strong and weak list specification hold.",
+                       [Section("The first order that they follow, deleted elements too", [order])])
+
+
+def refused(evidence: Evidence) -> Explanation:
+    steps, k = evidence.report["steps"], evidence.report["k"]
+    weak = "Strong and weak list specification fail." if k == 2 else "The strong list specification fails, the weak one holds."
+    fewer = "" if k == 2 else f" Any {counted(k - 1)} of them can."
+    headline = f"refused {k}: {counted(k)} responses can't be right together.{fewer} {weak}"
+    shown = []
+    for step, operation in zip(steps, evidence.operations):
+        shown.append(f"[{step['from']}] before [{step['to']}]: {did(operation)}, answered {answer(evidence, operation)}")
+    elements = [life(evidence.recording, name) for name in evidence.elements]
+    gone = gone_before(evidence)
+    look = look_at_two(evidence) if k == 2 else LOOK["deleted" if gone else "apart"]
+    return Explanation(headline, [Section("What they show, each element before the next, and round again", shown),
+                                  Section("The elements", elements + gone),
+                                  Section("Where to look in the editor", [look])])
+
+
+def life(recording: Recording, name: str) -> str:
+    """Which operations insert and delete an element, seen or not."""
+    made = [f"inserted by {at(change)}" for change in recording.inserts[name]]
+    gone = [f"deleted by {at(change)}" for change in recording.deletes.get(name, [])]
+    more = f", and by {len(gone) - 2} more" if len(gone) > 2 else ""
+    return f"{name}: {', '.join(made + gone[:2])}{more}"
+
+
+def gone_before(evidence: Evidence) -> list:
+    """Which of the elements had been deleted for the responses, so that they leave them out."""
+    lines = []
+    for operation in evidence.operations:
+        for name in evidence.elements:
+            inserted = any(map(operation.has_seen, evidence.recording.inserts[name]))
+            delete = next(filter(operation.has_seen, evidence.recording.deletes.get(name, [])), None)
+            if inserted and delete is not None:
+                lines.append(f"for {at(operation)}, {name} is deleted, by {at(delete)}")
+    return lines
+
+
+def look_at_two(evidence: Evidence) -> str:
+    """Where to look at two elements in opposite orders: whether one author had seen the other's element."""
+    first, then = (evidence.recording.inserts[name][0] for name in evidence.elements)
+    if not first.has_seen(then) and not then.has_seen(first):
+        return LOOK["concurrent"]
+    later, old = (first, then) if first.has_seen(then) else (then, first)
+    return LOOK["seen"].format(later=at(later), new=later.element, old=old.element)
+
+
+def doubled(evidence: Evidence) -> Explanation:
+    first, again = evidence.operations
+    return Explanation(f"doubled: {first.name} and {again.name} insert the same name, {first.element}. "
+                       "The specifications know an element by its name, so nothing else was judged.",
+                       [Section("The two inserts", [did(operation) for operation in evidence.operations]),
+                        Section("Where to look", [LOOK["doubled"]])])
+
+
+def contents(evidence: Evidence) -> Explanation:
+    operation = evidence.operations[0]
+    wrong = set(evidence.missing)
+    wanted = [name for name in dict.fromkeys(operation.response) if name not in evidence.surplus] + evidence.missing
+    sections = [Section("The response", [
+        did(operation),
+        f"answered: {answer(evidence, operation)}",
+        f"expected, in whatever order: {marked(wanted, wrong)}",
+        since(evidence, operation),
+    ])]
+    for title, names in ("Missing", evidence.missing), ("Too many", evidence.surplus), ("Named more than once", evidence.repeated):
+        if names:
+            lines = [line for name in names if name in evidence.elements for line in facts(evidence, name, operation)]
+            left = sum(name not in evidence.elements for name in names)
+            sections.append(Section(title, lines + ([f"and {left} more"] if left else [])))
+    sections.append(Section("Where to look", [LOOK["contents"]]))
+    return Explanation(f"contents {operation.name}: this response does not hold exactly what is visible to it. "
+                       "Strong and weak list specification fail.", sections)
+
+
+def since(evidence: Evidence, operation: Operation) -> str:
+    """What came to the replica since its operation before, which is right: the program names the first fault."""
+    before, receipts = evidence.before(operation)
+    arrived = [f"line {receipt.line} ({receipt.text})" for receipt in receipts]
+    more = f" and {len(arrived) - MOST_ARRIVED} more" if len(arrived) > MOST_ARRIVED else ""
+    came = "received " + ", ".join(arrived[:MOST_ARRIVED]) + more if arrived else "received nothing"
+    if not before:
+        return f"before it: replica {operation.replica} did nothing, and {came}"
+    return f"before it: {at(before[0])} is still right; since then replica {operation.replica} {came}"
+
+
+def facts(evidence: Evidence, name: str, operation: Operation) -> list:
+    """Where an element was inserted and deleted, and whether the operation has seen that."""
+    recording = evidence.recording
+    lines = []
+    if name not in recording.inserts:
+        lines.append("no operation of this trace inserts it")
+    for change in evidence.changes(name, operation):
+        verb = "inserted" if change.kind == "ins" else "deleted"
+        lines.append(f"{verb} by {at(change)}, {arrived(recording, change, operation)}")
+        lines += by_others(recording, change, operation)
+    if name in recording.inserts and name not in recording.deletes:
+        lines.append("nothing deletes it")
+    return [f"[{name}] {line}" for line in lines]
+
+
+def arrived(recording: Recording, seen: Operation, operation: Operation) -> str:
+    """How an operation came to be visible to another, or that it is not."""
+    if seen is operation:
+        return "this operation itself"
+    if not operation.has_seen(seen):
+        return f"not visible to {operation.name}: {not_arrived(recording, seen, operation)}"
+    way = recording.way(seen, operation)
+    if not way:
+        return f"an earlier operation of replica {operation.replica}"
+    hops = [f"arrived at replica {receipt.replica} in line {receipt.line} ({receipt.text})" for receipt in way]
+    return ", and from there ".join(hops)
+
+
+def by_others(recording: Recording, seen: Operation, operation: Operation) -> list:
+    """Of an operation that others brought along: whether it had arrived by itself too. Where it had not, the exchange may not be
+    causal, which is what a new recorder meets first."""
+    way = recording.way(seen, operation) if operation.has_seen(seen) else []
+    if len(way) < 2:
+        return []
+    brought, named = way[-1], recording.receipt_of(seen, operation.replica)
+    if named is None or named.before >= operation.n:
+        return [f"no receipt at replica {operation.replica} names it by then: it counts as arrived since {at(brought.seen)} had seen "
+                "it. Where each operation travels by itself, it was missing, and the exchange is not causal"]
+    if named.line > brought.line:
+        return [f"line {named.line} ({named.text}) names it, behind line {brought.line} ({brought.text}) which brings it: an operation "
+                "arrived before what its author had seen, and the exchange is not causal"]
+    return []
+
+
+def not_arrived(recording: Recording, seen: Operation, operation: Operation) -> str:
+    if seen.replica == operation.replica:
+        return f"a later operation of replica {operation.replica}"
+    late = recording.arrival(seen, operation.replica)
+    if late is None:
+        return f"no receipt in replica {operation.replica}'s log brings it"
+    return f"the first receipt that brings it is line {late.line} ({late.text}), behind this response"
+
+
+def position(evidence: Evidence) -> Explanation:
+    operation = evidence.operations[0]
+    response = operation.response
+    asked = place_asked(operation, response)
+    lines = [did(operation), f"answered: {answer(evidence, operation)}"]
+    if asked < 0:
+        lines.append("asked for: a place in the list, but the response is empty")
+    else:
+        end = f", past the end, so the last place, {asked}" if operation.at > asked else ""
+        lines.append(f"asked for: position {operation.at}{end}, where [{response[asked]}] stands")
+    if operation.element in response:
+        lines.append(f"found at: position {response.index(operation.element)}")
+    else:
+        gone = next(change for change in evidence.recording.deletes[operation.element] if operation.has_seen(change))
+        lines.append(f"found at: no position, since {at(gone)} deletes it, {arrived(evidence.recording, gone, operation)}")
+    return Explanation(f"position {operation.name}: {operation.element} does not stand where it was asked for. Strong and weak "
+                       "list specification fail.",
+                       [Section("The response, positions counted from 0", lines),
+                        Section("Where to look in the editor", [LOOK["position"]])])
+
+
+def counted(k: int) -> str:
+    return NUMBERS[k] if k < len(NUMBERS) else str(k)
+
+
+def at(operation: Operation) -> str:
+    return f"{operation.name} (line {operation.line})"
+
+
+def did(operation: Operation) -> str:
+    """Who did what, in which line."""
+    what = {"ins": f"inserted {operation.element} at position {operation.at}", "del": f"deleted {operation.element}",
+            "read": "read the list"}[operation.kind]
+    return f"line {operation.line}, {operation.name}: replica {operation.replica} {what}"
+
+
+def answer(evidence: Evidence, operation: Operation) -> str:
+    return marked(operation.response, set(evidence.marks.get(operation.name, [])))
+
+
+def marked(names: list, marks: set) -> str:
+    """The names, those to be marked in brackets; of a long list those and their neighbours, dots for the others."""
+    if not names:
+        return "(nothing)"
+    near = set(range(len(names)))
+    if len(names) > MOST_NAMES:
+        places = [place for place, name in enumerate(names) if name in marks][:MOST_NAMES // 3]
+        near = {place + step for place in places or [0] for step in (-1, 0, 1)} | {0, len(names) - 1}
+    shown = []
+    for place, name in enumerate(names):
+        if place in near:
+            shown.append(f"[{name}]" if name in marks else name)
+        elif shown[-1:] != [".."]:
+            shown.append("..")
+    told = f" ({len(names)} names)" if ".." in shown else ""
+    return " ".join(shown) + told

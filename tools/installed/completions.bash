@@ -1,0 +1,30 @@
+# Completion of domepeeler and its tools in bash.
+
+_domepeeler() {
+    local word=${COMP_WORDS[COMP_CWORD]} before=${COMP_WORDS[COMP_CWORD-1]} options
+    case $before in
+        --workers) COMPREPLY=($(compgen -W "1 2 4 8 16 32 64" -- "$word")); return ;;
+        --jobs | --sshlogin) return ;;
+        --program | --html | --small | --svg) compopt -o filenames; COMPREPLY=($(compgen -f -- "$word")); return ;;
+    esac
+    case ${COMP_WORDS[0]##*/} in
+        domepeeler-explain) options="--html --small --svg --program --help" ;;
+        domepeeler-judge-many) options="--json --jobs --sshlogin --program --help" ;;
+        *)
+            if ((COMP_CWORD == 1)); then
+                COMPREPLY=($(compgen -W "verdict cert verify --help --version" -- "$word"))
+                return
+            fi
+            options="--help"
+            [[ ${COMP_WORDS[1]} == verdict ]] && options="--workers --json --help"
+            ;;
+    esac
+    if [[ $word == -* ]]; then
+        COMPREPLY=($(compgen -W "$options" -- "$word"))
+    else
+        compopt -o filenames
+        COMPREPLY=($(compgen -f -- "$word"))
+    fi
+}
+
+complete -F _domepeeler domepeeler domepeeler-explain domepeeler-judge-many

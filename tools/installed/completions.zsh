@@ -1,0 +1,34 @@
+#compdef domepeeler domepeeler-explain domepeeler-judge-many
+# Completion of domepeeler and its tools in zsh.
+
+_domepeeler() {
+    case ${words[1]:t} in
+        domepeeler-explain)
+            _arguments '--html[write a page with the session drawn]:file:_files' \
+                '--small[write the small trace that shows the same]:file:_files' \
+                '--svg[write the picture of the cycle]:file:_files' \
+                '--program[the program that judges]:program:_files' \
+                '--help[show the help]' '1:trace:_files'
+            return ;;
+        domepeeler-judge-many)
+            _arguments '--json[one JSON object a trace]' '--jobs[how many at a time]:number:' \
+                '--sshlogin[machines to judge on]:hosts:_hosts' '--program[the program that judges]:program:_files' \
+                '--help[show the help]' '*:folder:_files'
+            return ;;
+    esac
+    if ((CURRENT == 2)); then
+        local -a commands
+        commands=('verdict:judge a trace' 'cert:make a certificate' 'verify:check a certificate')
+        _describe command commands
+        _arguments '--help[show the help]' '--version[show the version]'
+        return
+    fi
+    case ${words[2]} in
+        verdict) _arguments '--workers[how many share the search]:number:(1 2 4 8 16 32 64)' '--json[print JSON]' '--help[show the help]' \
+            '2:trace:_files' ;;
+        cert) _arguments '--help[show the help]' '2:trace:_files' ;;
+        verify) _arguments '--help[show the help]' '2:trace:_files' '3:certificate:_files' ;;
+    esac
+}
+
+_domepeeler "$@"
