@@ -1,7 +1,9 @@
 #!/usr/bin/env python3
 """refused_memory.py PROGRAM: each command on each vector, with one request for memory refused, for each request.
 
-The program must answer what it answers with ample memory, or want of memory. It needs a C compiler (`cc`)."""
+The program must answer what it answers with ample memory, or that it is out of memory; `live`, which is tried on a few
+vectors since its recorders may wait long for each other, also that a thread couldn't be started. It needs a C compiler
+(`cc`)."""
 import os
 import subprocess
 import sys
@@ -14,6 +16,8 @@ from program import Ended, Tally, program_of, run
 UNTOLD = 40
 HERE = Path(__file__).parent
 MEMORY = Ended(3, b"", b"finder: memory\n")
+THREAD = Ended(2, b"", b"finder: thread\n")
+REHEARSED = ["all-three-way-cycle", "all-opposite-pair", "all-contents"]
 
 
 def shim(folder: str) -> str:
@@ -36,8 +40,9 @@ def refuse_each(tally: Tally, library: str, words: list) -> int:
     while request < last + UNTOLD:
         request += 1
         got = refused(library, words, request)
-        tally.check(f"{words[1:]}, request {request}", got in (ample, MEMORY), got)
-        if got == MEMORY:
+        allowed = (ample, MEMORY, THREAD) if words[1] == "live" else (ample, MEMORY)
+        tally.check(f"{words[1:]}, request {request}", got in allowed, got)
+        if got in allowed[1:]:
             told, last = told + 1, request
     return told
 
@@ -46,6 +51,8 @@ def commands(trace: Path) -> list:
     """The words of each command on the trace."""
     cert = trace.with_suffix(".cert")
     told = [["verdict", str(trace)], ["verdict", "--json", str(trace)], ["cert", str(trace)]]
+    if trace.stem in REHEARSED:
+        told.append(["live", str(trace)])
     return told + ([["verify", str(trace), str(cert)]] if cert.exists() else [])
 
 
