@@ -10,3 +10,6 @@ mod watcher;
 
 pub use fault::RehearsalFault;
 pub use rehearsing::rehearse;
+
+#[cfg(test)]
+mod tests;
