@@ -2,9 +2,10 @@
 use Rattle.std.proofs.Common.{◌≡◌, ℕ, List, [], Option, Result, Ok, Err, sym, ◌∙◌, subst, refl, inl, inr, true}
 use Rattle.clap.specs.Words.{App, FailsBy, HasKind, HasMatchesOf, IsAmong, Row, fault_of, is_simple, is_simple_and_free, kind_of, subcommand_rows_of}
 use Rattle.clap.specs.declared.error.Error.{Error}
-use Rattle.clap.specs.declared.error.ErrorKind.TheVariants.{DisplayHelp, OutOfMemory}
+use Rattle.clap.specs.declared.error.ErrorKind.TheVariants.{DisplayHelp, DisplayVersion, OutOfMemory}
 use Rattle.clap.specs.declared.parser.matches.ArgMatches.{ArgMatches}
-use Rattle.command_line.specs.Answers.{IsAnswerToWords, IsFaultOf, given_by, kinds_at}
+use Rattle.command_line.specs.Answers.{AsksForText, IsAnswerToWords, IsFaultOf, given_by, kinds_at}
+use Rattle.clap.specs.declared.error.ErrorKind.{ErrorKind}
 use Rattle.command_line.specs.Commands.{finder_app}
 use Rattle.command_line.specs.Tasks.{IsAnswerToSubcommand, IsAnswerWhereTaken}
 use Rattle.command_line.proofs.Taken.{named-whole, taken-as}
@@ -37,21 +38,26 @@ matches-answer words (Err Usage) none (inr usage) = inr (none, usage.1)
 matches-answer words (Err (Help text)) none (inl memory) = absurd (let bad : Help text ≡ Memory = memory in cc)
 matches-answer words (Err (Help text)) none (inr usage) = absurd (let bad : Help text ≡ Usage = usage.0 in cc)
 
+-- out of memory is no wish for help or the version
+no-text : (kind : ErrorKind) → AsksForText kind → kind ≡ OutOfMemory → ⊥
+no-text kind (inl help) memory = absurd (let bad : DisplayHelp ≡ OutOfMemory = sym help ∙ memory in cc)
+no-text kind (inr version) memory = absurd (let bad : DisplayVersion ≡ OutOfMemory = sym version ∙ memory in cc)
+
 -- the answer to a fault
 pub fault-answer : (words : List (List ℕ)) (error : Error) (fault : WordsFault) → HasKind (kinds_at words) error → IsFaultOf (kind_of error) fault
     → IsAnswerToWords words (Err fault)
 fault-answer words error Memory kind h = tt
 fault-answer words error Usage (inl memory) h = absurd (h.1 memory)
 fault-answer words error Usage (inr among) h = inl (kind_of error, among, h)
-fault-answer words error (Help text) (inl memory) h = absurd (let bad : DisplayHelp ≡ OutOfMemory = sym h ∙ memory in cc)
-fault-answer words error (Help text) (inr among) h = subst (λ k. IsAmong k (kinds_at words)) h among
+fault-answer words error (Help text) (inl memory) h = absurd (no-text (kind_of error) h memory)
+fault-answer words error (Help text) (inr among) h = (kind_of error, among, h)
 
 -- where memory ran out, that is told
 pub memory-answer : (given : Option (List ℕ × List Row)) (error : Error) (fault : WordsFault) → kind_of error ≡ OutOfMemory → IsFaultOf (kind_of error) fault
     → IsAnswerWhereTaken given (Err fault)
 memory-answer given error Memory memory h = inl refl
 memory-answer given error Usage memory h = absurd (h.1 memory)
-memory-answer given error (Help text) memory h = absurd (let bad : DisplayHelp ≡ OutOfMemory = sym h ∙ memory in cc)
+memory-answer given error (Help text) memory h = absurd (no-text (kind_of error) h memory)
 
 -- the matches that the words give, where nothing is wrong in them, are answered by their task or by the number of workers
 pub given-answer : (words : List (List ℕ)) (given : Option (List ℕ × List Row)) (answer : Result Task WordsFault) → given ≡ given_by words

@@ -6,12 +6,12 @@ use Rattle.std.specs.Str.{bytes_eq}
 use Rattle.std.proofs.lemmas.Slice.Eq.{bytes_eq-Decides}
 use Rattle.clap.specs.Facts.{explicit_source, unwrap_or_range}
 use Rattle.clap.specs.Walk.{Names, Row, Rule, Text, action_of, answers_to, finished, first_of, most_values, nothing_held, one_of, reading_by, rows_after, used_as, values_or_missing, walk, walk_from, without}
-use Rattle.clap.specs.Simple.{App, Shape, built, built_leaf, entered, filled, help_rule, help_shape, inherited, marked_built, names_of, on_top, rows_at, with_index}
+use Rattle.clap.specs.Simple.{App, Shape, built, built_leaf, entered, filled, help_rule, help_shape, inherited, marked_built, names_of, on_top, rows_at, version_rule, with_index}
 use Rattle.clap.specs.Takes.{is_given}
 use Rattle.clap.specs.Faults.{action_fault, check_fault, entered_fault, level_fault, settle_fault, walk_fault}
 use Rattle.clap.specs.Kinds.{Kinds, check_kinds, range_kinds}
 use Rattle.clap.specs.declared.builder.action.ArgAction.{ArgAction}
-use Rattle.clap.specs.declared.builder.action.ArgAction.TheVariants.{Set, SetTrue, Help}
+use Rattle.clap.specs.declared.builder.action.ArgAction.TheVariants.{Set, SetTrue, Help, Version}
 use Rattle.clap.specs.declared.parser.matches.ValueSource.TheVariants.{CommandLine}
 use Rattle.command_line.specs.Answers.{given_by, kinds_at}
 use Rattle.command_line.specs.Commands.{cert_app, certificate_rule, file_rule, finder_app, json_rule, live_app, verdict_app, verify_app, workers_rule}
@@ -54,6 +54,14 @@ help-keeps again a is values rows e f =
     let last : action_fault (action_of a) again a (values_or_missing a values) rows ≡ [] =
     (none-wrong (range_kinds (unwrap_or_range a.range).start_inclusive (most_values a) (length values)) _ e).1 in
     let asked : action_fault Help again a (values_or_missing a values) rows ≡ [] =
+    subst (λ (x : ArgAction). action_fault x again a (values_or_missing a values) rows ≡ []) is last in
+    absurd (let wrong : 1 ≡ 0 = ap length asked in omega arith)
+
+version-keeps : (again : Bool) (a : Rule) → action_of a ≡ Version → KeepsFilled again a
+version-keeps again a is values rows e f =
+    let last : action_fault (action_of a) again a (values_or_missing a values) rows ≡ [] =
+    (none-wrong (range_kinds (unwrap_or_range a.range).start_inclusive (most_values a) (length values)) _ e).1 in
+    let asked : action_fault Version again a (values_or_missing a values) rows ≡ [] =
     subst (λ (x : ArgAction). action_fault x again a (values_or_missing a values) rows ≡ []) is last in
     absurd (let wrong : 1 ≡ 0 = ap length asked in omega arith)
 
@@ -167,7 +175,7 @@ live-keeps = (
 )
 
 program-keeps : AllKeep false whole_app.top.rules
-program-keeps = (help-keeps false (at_place 1 help_rule) refl, tt)
+program-keeps = (help-keeps false (at_place 1 help_rule) refl, (version-keeps false (at_place 1 version_rule) refl, tt))
 
 verdict-whole : (words : List Text) → level_fault (built_leaf_of verdict_app) [] nothing_held words false [] ≡ []
     → IsWhole (Some (rows_at (built_leaf_of verdict_app) words))

@@ -41,10 +41,10 @@ verify_app = with_rule (with_rule (new_app (codes "verify")) file_rule) certific
 abbrev pub live_app : App
 live_app = with_rule (with_rule (new_app (codes "live")) workers_rule) file_rule
 
--- the program without its commands: one of them is to be named, and the words begin with its name
+-- the program without its commands: one of them is to be named, and the words begin with its name; it has a version
 abbrev pub bare_app : App
-bare_app = record (new_app (codes "finder")) {
-  top = record (new_app (codes "finder")).top { no_binary_name = true; subcommand_required = true };
+bare_app = record (new_app (codes "domepeeler")) {
+  top = record (new_app (codes "domepeeler")).top { no_binary_name = true; subcommand_required = true; has_version = true };
 }
 
 -- the program

@@ -236,6 +236,8 @@ const HELP_LINES: &[&str] = &[
     "verdict -h",
     "help verdict",
     "live --help",
+    "--version",
+    "-V",
 ];
 
 #[test]

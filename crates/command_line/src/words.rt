@@ -18,13 +18,16 @@ pub const WORKERS: u32 = 4;
 /// The most workers that may search; the fewest is 1.
 pub const MOST_WORKERS: u32 = 64;
 
+/// The version of the program, which `--version` prints behind its name.
+const VERSION: &str = "0.2.0";
+
 /// Why the words of a command line give no task.
 #[derive(Debug, Drop, Error)]
 pub enum WordsFault {
     /// They are no command, or give a number of workers that is none.
     #[error("usage")]
     Usage,
-    /// They ask for help: its text.
+    /// They ask for help, or for the version: its text.
     #[error("help")]
     Help { text: String },
     /// A growth was refused.
@@ -48,7 +51,7 @@ impl From<AllocError> for WordsFault {
 /// `live [--workers N] FILE`; N is 1 to 64, in digits and without leading zeros, and 4 where it is not given. No words mean `verdict -`.
 ///
 /// What other words mean is what `clap` makes of them for `finder_app`, which writes these commands out: the task has
-/// what they give for each argument, `Help` comes where they ask for help, and `Usage` where `clap` finds a mistake,
+/// what they give for each argument, `Help` comes where they ask for help or for the version, and `Usage` where `clap` finds a mistake,
 /// or finds none and the number of workers is none. No clause says the text of help, or that memory suffices; and where
 /// `help` stands as a command, `clap` leaves open whether it is answered by help or by a usage fault.
 pub fn read_words(alloc: Global, words: &[String]) -> Result<Task, WordsFault>
@@ -81,7 +84,8 @@ fn default_task(alloc: Global) -> Result<Task, WordsFault>
 fn finder_command<'a>(alloc: Global) -> Result<Command<'a>, AllocError>
     ensures { IfOk result (IsCommandOf finder_app) }
 {
-    Command::new(alloc, "finder")
+    Command::new(alloc, "domepeeler")
+        .version(VERSION)
         .no_binary_name(true)
         .subcommand_required(true)
         .subcommand(verdict_command(alloc)?)?
@@ -248,12 +252,12 @@ fn word_of(alloc: Global, given: &ArgMatches<'_>, name: &str) -> Result<Word, Wo
     Ok(Word::new(alloc, word)?)
 }
 
-/// What `clap` found wrong, or the help that was asked for.
+/// What `clap` found wrong, or the help or version that was asked for.
 fn fault_of(alloc: Global, error: &clap::Error) -> WordsFault
     ensures { IsFaultOf (kind_of error.now) result }
 {
     match error.kind() {
-        ErrorKind::DisplayHelp => match error.to_string(alloc) {
+        ErrorKind::DisplayHelp | ErrorKind::DisplayVersion => match error.to_string(alloc) {
             Ok(text) => WordsFault::Help { text },
             Err(_) => WordsFault::Memory,
         },
