@@ -17,7 +17,7 @@ TOOLS = ["domepeeler", "domepeeler-explain", "domepeeler-judge-many"]
 
 # What is completed in bash: the words of a line, the last of them begun, and what is offered for it.
 COMPLETED = [
-    (["domepeeler", ""], {"verdict", "cert", "verify", "--help", "--version"}),
+    (["domepeeler", ""], {"verdict", "cert", "verify", "live", "--help", "--version"}),
     (["domepeeler", "ver"], {"verdict", "verify"}),
     (["domepeeler", "verdict", "--"], {"--workers", "--json", "--help"}),
     (["domepeeler", "cert", "--"], {"--help"}),

@@ -12,11 +12,12 @@ _domepeeler() {
         domepeeler-judge-many) options="--json --jobs --sshlogin --program --help" ;;
         *)
             if ((COMP_CWORD == 1)); then
-                COMPREPLY=($(compgen -W "verdict cert verify --help --version" -- "$word"))
+                COMPREPLY=($(compgen -W "verdict cert verify live --help --version" -- "$word"))
                 return
             fi
             options="--help"
             [[ ${COMP_WORDS[1]} == verdict ]] && options="--workers --json --help"
+            [[ ${COMP_WORDS[1]} == live ]] && options="--workers --help"
             ;;
     esac
     if [[ $word == -* ]]; then

@@ -18,7 +18,7 @@ _domepeeler() {
     esac
     if ((CURRENT == 2)); then
         local -a commands
-        commands=('verdict:judge a trace' 'cert:make a certificate' 'verify:check a certificate')
+        commands=('verdict:judge a trace' 'cert:make a certificate' 'verify:check a certificate' 'live:rehearse a live session')
         _describe command commands
         _arguments '--help[show the help]' '--version[show the version]'
         return
@@ -27,6 +27,7 @@ _domepeeler() {
         verdict) _arguments '--workers[how many share the search]:number:(1 2 4 8 16 32 64)' '--json[print JSON]' '--help[show the help]' \
             '2:trace:_files' ;;
         cert) _arguments '--help[show the help]' '2:trace:_files' ;;
+        live) _arguments '--workers[how many share the search]:number:(1 2 4 8 16 32 64)' '--help[show the help]' '2:trace:_files' ;;
         verify) _arguments '--help[show the help]' '2:trace:_files' '3:certificate:_files' ;;
     esac
 }
