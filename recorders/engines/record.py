@@ -1,0 +1,191 @@
+#!/usr/bin/env python3
+"""record.py ENGINE PROGRAM [--sessions N] [--seed S] [--keep FOLDER]: random sessions of a real engine, judged.
+
+ENGINE is one of these; what each needs is installed from Debian 12 by apt-get where it is missing (as root), and built:
+
+    list_crdt     the Python list CRDT in list_crdt.py; nothing
+    yjs           Yjs, recorded by yjs.mjs; nodejs, node-yjs
+    crdts         the list of the Rust crate crdts, recorded by crdts.rs; cargo, librust-crdts-dev
+    libinfinity   libinfinity, recorded by libinfinity.c; gcc, pkg-config, libinfinity-0.7-dev
+    crdt_el       crdt.el, recorded by crdt_el.el; emacs-nox, elpa-crdt
+
+Prints, for each kind of session, how many were tried, how large they were, and what the program said of how many. Where
+some were not accepted it makes the first of each verdict smaller, as long as the verdict stays, and prints that trace;
+with --keep it writes these traces into the folder. By default it runs within a minute."""
+import argparse
+import os
+import random
+import shutil
+import subprocess
+import sys
+import tempfile
+from collections import Counter
+from concurrent.futures import ThreadPoolExecutor
+from pathlib import Path
+
+import sessions
+from sessions import Plan, Session, smaller
+
+HERE = Path(__file__).parent
+STOPPED = "the engine stopped"
+JUDGES = 3  # how many programs run at the same time
+NODE = {"NODE_PATH": "/usr/share/nodejs"}
+CAUSAL = [sessions.SMALL_PEERS, sessions.SMALL_STAR, sessions.LARGE_PEERS, sessions.LARGE_STAR]
+
+
+class Engine:
+    """What an engine needs, how it is built in a folder, how it is run, and which kinds of session it is asked for."""
+
+    def __init__(self, packages: list, run: list, kinds: list, build: list = (), surroundings: dict = None):
+        self.packages, self.run, self.kinds, self.build = packages, run, kinds, build
+        self.surroundings = {**os.environ, "LC_ALL": "C.UTF-8", **(surroundings or {})}
+
+    def prepare(self, folder: Path) -> list:
+        """Installs and builds it; answers the words that start it."""
+        missing = [name for name in self.packages if not installed(name)]
+        if missing:
+            subprocess.run(["apt-get", "update"], check=True, stdout=subprocess.DEVNULL)
+            subprocess.run(["apt-get", "install", "-y", "--no-install-recommends", *missing], check=True,
+                           stdout=subprocess.DEVNULL, env={**os.environ, "DEBIAN_FRONTEND": "noninteractive"})
+        if self.build:
+            subprocess.run(["sh", "-ec", self.build], check=True, env={**os.environ, "HERE": str(HERE), "OUT": str(folder)})
+        return [word.format(here=HERE, out=folder) for word in self.run]
+
+
+RUST = """
+for file in "$HERE/crdts.rs" "$HERE/../domepeeler.rs"; do cp "$file" "$OUT"; done
+mkdir -p "$OUT/.cargo"
+cat > "$OUT/.cargo/config.toml" <<END
+[source.crates-io]
+replace-with = "debian"
+[source.debian]
+directory = "/usr/share/cargo/registry"
+END
+cat > "$OUT/Cargo.toml" <<END
+[package]
+name = "recorded"
+version = "0.1.0"
+edition = "2021"
+[[bin]]
+name = "recorded"
+path = "crdts.rs"
+[dependencies]
+crdts = "7.2"
+END
+cd "$OUT" && cargo build --quiet --offline
+"""
+C = """gcc -Wall -Wextra -O1 -o "$OUT/recorded" "$HERE/libinfinity.c" $(pkg-config --cflags --libs libinfinity-0.7 libinftext-0.7)"""
+
+ENGINES = {
+    "list_crdt": Engine([], [sys.executable, "{here}/list_crdt.py"], CAUSAL),
+    "yjs": Engine(["nodejs", "node-yjs"], ["node", "{here}/yjs.mjs"], [*CAUSAL, sessions.UNCAUSAL], surroundings=NODE),
+    "crdts": Engine(["librust-crdts-dev"], ["{out}/target/debug/recorded"], [*CAUSAL, sessions.UNCAUSAL], RUST),
+    "libinfinity": Engine(["libinfinity-0.7-dev", "pkg-config"], ["{out}/recorded"], CAUSAL, C),
+    "crdt_el": Engine(["emacs-nox", "elpa-crdt"], ["emacs", "--batch", "-l", "{here}/crdt_el.el"], CAUSAL),
+}
+
+
+def installed(package: str) -> bool:
+    done = subprocess.run(["dpkg-query", "-W", "-f", "${db:Status-Status}", package], capture_output=True)
+    return done.stdout == b"installed"
+
+
+class Driver:
+    """An engine that runs: it takes plans and answers traces. One that stops is started again for the next plan."""
+
+    def __init__(self, words: list, surroundings: dict):
+        self.words, self.surroundings, self.process = words, surroundings, None
+
+    def trace(self, plan: str) -> str:
+        """The recording of a plan; nothing where the engine stopped."""
+        if self.process is None:
+            self.process = subprocess.Popen(self.words, stdin=subprocess.PIPE, stdout=subprocess.PIPE,
+                                            env=self.surroundings)
+        lines = []
+        try:
+            self.process.stdin.write(plan.encode())
+            self.process.stdin.flush()
+            for line in self.process.stdout:
+                if line == b"end\n":
+                    return "".join(lines)
+                lines.append(line.decode())
+        except BrokenPipeError:
+            pass
+        self.close()
+        return ""
+
+    def close(self) -> None:
+        if self.process:
+            self.process.kill()
+            self.process.wait()
+            self.process = None
+
+
+def verdict(program: str, trace: str) -> str:
+    """What the program says, in its own word, with k."""
+    if not trace:
+        return STOPPED
+    done = subprocess.run([program, "verdict", "--workers", "1", "-"], input=trace.encode(), capture_output=True)
+    if done.returncode not in (0, 1):
+        sys.exit(f"record.py: {program}: {done.stderr.decode().strip()}")
+    word, *rest = done.stdout.decode().split("\n")[1].split(" ")
+    return f"{word} {rest[0]}" if word == "refused" else word
+
+
+def smallest(driver: Driver, program: str, session: Session, wanted: str) -> Session:
+    """A session of which no smaller one, with a part left out, has the same verdict."""
+    for candidate in smaller(session):
+        if verdict(program, driver.trace(Plan(candidate).text())) == wanted:
+            return smallest(driver, program, candidate, wanted)
+    return session
+
+
+def tried(kind: sessions.Kind, count: int, rnd: random.Random, driver: Driver, program: str) -> dict:
+    """Records so many sessions of a kind and prints what came out; answers the first session of each other verdict."""
+    found = [sessions.session(kind, rnd) for _ in range(count)]
+    traces = [driver.trace(Plan(one).text()) for one in found]
+    with ThreadPoolExecutor(JUDGES) as pool:
+        verdicts = list(pool.map(lambda trace: verdict(program, trace), traces))
+    sizes = [sum(" : " in line or line.endswith(":") for line in trace.split("\n")) for trace in traces if trace]
+    said = ", ".join(f"{word}: {times}" for word, times in sorted(Counter(verdicts).items()))
+    between = f"{min(sizes)} to {max(sizes)} operations" if sizes else "no recording"
+    print(f"{kind.name}: {count} sessions, {between}: {said}", flush=True)
+    firsts = {}
+    for one, word in sorted(zip(found, verdicts), key=lambda both: len(both[0].steps)):
+        if word != "accepted":
+            firsts.setdefault(word, one)
+    return firsts
+
+
+def main() -> None:
+    parser = argparse.ArgumentParser(description=__doc__.split("\n")[0])
+    parser.add_argument("engine", choices=sorted(ENGINES))
+    parser.add_argument("program")
+    parser.add_argument("--sessions", type=int, default=500, help="small sessions of each kind; large ones are a fiftieth")
+    parser.add_argument("--seed", type=int, default=1)
+    parser.add_argument("--keep", type=Path, help="a folder for the smallest traces that were not accepted")
+    words = parser.parse_args()
+    if not shutil.which(words.program):
+        sys.exit(f"record.py: {words.program} is no program")
+    engine = ENGINES[words.engine]
+    with tempfile.TemporaryDirectory() as folder:
+        driver = Driver(engine.prepare(Path(folder)), engine.surroundings)
+        for kind in engine.kinds:
+            count = max(1, words.sessions // 50) if kind.name.startswith("large") else words.sessions
+            firsts = tried(kind, count, random.Random(f"{words.seed} {kind.name}"), driver, words.program)
+            for word, one in firsts.items():
+                show(words, kind, word, driver.trace(Plan(smallest(driver, words.program, one, word)).text()))
+        driver.close()
+
+
+def show(words: argparse.Namespace, kind: sessions.Kind, verdict_word: str, trace: str) -> None:
+    """Prints a smallest trace, and keeps it where that was asked for."""
+    print(f"the smallest found of {kind.name}, {verdict_word}:\n{trace}", flush=True)
+    if words.keep:
+        words.keep.mkdir(parents=True, exist_ok=True)
+        name = "_".join([words.engine, *kind.name.replace(",", "").split(), *verdict_word.split()])
+        (words.keep / f"{name}.trace").write_text(trace)
+
+
+if __name__ == "__main__":
+    main()
