@@ -21,7 +21,7 @@ impl Group {
     }
 
     fn names(&self, replica: usize) -> Vec<String> {
-        self.lists[replica].read()
+        self.lists[replica].iter().cloned().collect()
     }
 
     fn place(&self, replica: usize, name: &str) -> Option<usize> {

@@ -19,6 +19,7 @@ import shutil
 import subprocess
 import sys
 import tempfile
+import threading
 from collections import Counter
 from concurrent.futures import ThreadPoolExecutor
 from pathlib import Path
@@ -30,7 +31,9 @@ HERE = Path(__file__).parent
 STOPPED = "the engine stopped"
 JUDGES = 3  # how many programs run at the same time
 NODE = {"NODE_PATH": "/usr/share/nodejs"}
-CAUSAL = [sessions.SMALL_PEERS, sessions.SMALL_STAR, sessions.LARGE_PEERS, sessions.LARGE_STAR]
+SECONDS = 20  # after which an engine that has not answered a plan is stopped
+STARS = [sessions.SMALL_STAR, sessions.SMALL_MIDDLE, sessions.LARGE_STAR, sessions.LARGE_MIDDLE]
+ALL = [sessions.SMALL_PEERS, *STARS, sessions.LARGE_PEERS]
 
 
 class Engine:
@@ -71,17 +74,20 @@ name = "recorded"
 path = "crdts.rs"
 [dependencies]
 crdts = "7.2"
+[profile.dev]
+debug = 0
 END
 cd "$OUT" && cargo build --quiet --offline
 """
 C = """gcc -Wall -Wextra -O1 -o "$OUT/recorded" "$HERE/libinfinity.c" $(pkg-config --cflags --libs libinfinity-0.7 libinftext-0.7)"""
 
 ENGINES = {
-    "list_crdt": Engine([], [sys.executable, "{here}/list_crdt.py"], CAUSAL),
-    "yjs": Engine(["nodejs", "node-yjs"], ["node", "{here}/yjs.mjs"], [*CAUSAL, sessions.UNCAUSAL], surroundings=NODE),
-    "crdts": Engine(["librust-crdts-dev"], ["{out}/target/debug/recorded"], [*CAUSAL, sessions.UNCAUSAL], RUST),
-    "libinfinity": Engine(["libinfinity-0.7-dev", "pkg-config"], ["{out}/recorded"], CAUSAL, C),
-    "crdt_el": Engine(["emacs-nox", "elpa-crdt"], ["emacs", "--batch", "-l", "{here}/crdt_el.el"], CAUSAL),
+    "list_crdt": Engine([], [sys.executable, "{here}/list_crdt.py"], ALL),
+    "yjs": Engine(["nodejs", "node-yjs"], ["node", "{here}/yjs.mjs"], [*ALL, sessions.UNCAUSAL], surroundings=NODE),
+    "crdts": Engine(["librust-crdts-dev"], ["{out}/target/debug/recorded"], [*ALL, sessions.UNCAUSAL], RUST),
+    "libinfinity": Engine(["libinfinity-0.7-dev", "pkg-config"], ["{out}/recorded"],
+                          [sessions.SMALL_PEERS, sessions.SMALL_STAR, sessions.SMALL_MIDDLE, sessions.MIDDLING_STAR], C),
+    "crdt_el": Engine(["emacs-nox", "elpa-crdt"], ["emacs", "--batch", "-l", "{here}/crdt_el.el"], STARS),
 }
 
 
@@ -93,15 +99,18 @@ def installed(package: str) -> bool:
 class Driver:
     """An engine that runs: it takes plans and answers traces. One that stops is started again for the next plan."""
 
-    def __init__(self, words: list, surroundings: dict):
-        self.words, self.surroundings, self.process = words, surroundings, None
+    def __init__(self, words: list, surroundings: dict, said: Path):
+        self.words, self.surroundings, self.said, self.process = words, surroundings, said, None
 
     def trace(self, plan: str) -> str:
         """The recording of a plan; nothing where the engine stopped."""
         if self.process is None:
-            self.process = subprocess.Popen(self.words, stdin=subprocess.PIPE, stdout=subprocess.PIPE,
-                                            env=self.surroundings)
+            with self.said.open("w") as said:
+                self.process = subprocess.Popen(self.words, stdin=subprocess.PIPE, stdout=subprocess.PIPE, stderr=said,
+                                                env=self.surroundings)
         lines = []
+        late = threading.Timer(SECONDS, self.process.kill)
+        late.start()
         try:
             self.process.stdin.write(plan.encode())
             self.process.stdin.flush()
@@ -111,6 +120,8 @@ class Driver:
                 lines.append(line.decode())
         except BrokenPipeError:
             pass
+        finally:
+            late.cancel()
         self.close()
         return ""
 
@@ -150,9 +161,11 @@ def tried(kind: sessions.Kind, count: int, rnd: random.Random, driver: Driver, p
     said = ", ".join(f"{word}: {times}" for word, times in sorted(Counter(verdicts).items()))
     between = f"{min(sizes)} to {max(sizes)} operations" if sizes else "no recording"
     print(f"{kind.name}: {count} sessions, {between}: {said}", flush=True)
+    if STOPPED in verdicts:
+        print("the engine's last words: " + (driver.said.read_text().splitlines() or ["none"])[-1], flush=True)
     firsts = {}
     for one, word in sorted(zip(found, verdicts), key=lambda both: len(both[0].steps)):
-        if word != "accepted":
+        if word not in ("accepted", STOPPED):
             firsts.setdefault(word, one)
     return firsts
 
@@ -169,7 +182,7 @@ def main() -> None:
         sys.exit(f"record.py: {words.program} is no program")
     engine = ENGINES[words.engine]
     with tempfile.TemporaryDirectory() as folder:
-        driver = Driver(engine.prepare(Path(folder)), engine.surroundings)
+        driver = Driver(engine.prepare(Path(folder)), engine.surroundings, Path(folder) / "said")
         for kind in engine.kinds:
             count = max(1, words.sessions // 50) if kind.name.startswith("large") else words.sessions
             firsts = tried(kind, count, random.Random(f"{words.seed} {kind.name}"), driver, words.program)

@@ -39,19 +39,24 @@ class Session(NamedTuple):
 
 
 class Kind(NamedTuple):
-    """How sessions are made: how many replicas and steps, whether one is a relay that edits nothing, whether causal."""
+    """How sessions are made: how many replicas and steps, whether all exchange is with the last replica, whether that one
+    edits, and whether exchange is causal."""
 
     name: str
     replicas: tuple
     steps: tuple
     star: bool = False
+    middle_edits: bool = False
     causal: bool = True
 
 
 SMALL_PEERS = Kind("small, peers", (2, 4), (4, 24))
-SMALL_STAR = Kind("small, a star", (3, 5), (4, 24), star=True)
+SMALL_STAR = Kind("small, a star round a relay", (3, 5), (4, 24), star=True)
+SMALL_MIDDLE = Kind("small, a star round an editor", (2, 4), (4, 24), star=True, middle_edits=True)
+MIDDLING_STAR = Kind("middling, a star round a relay", (3, 5), (40, 60), star=True)
 LARGE_PEERS = Kind("large, peers", (4, 6), (300, 600))
-LARGE_STAR = Kind("large, a star", (4, 6), (300, 600), star=True)
+LARGE_STAR = Kind("large, a star round a relay", (4, 6), (300, 600), star=True)
+LARGE_MIDDLE = Kind("large, a star round an editor", (4, 6), (300, 600), star=True, middle_edits=True)
 UNCAUSAL = Kind("small, peers in order of each sender alone", (3, 4), (4, 24), causal=False)
 
 
@@ -59,8 +64,8 @@ def session(kind: Kind, rnd: random.Random) -> Session:
     """A session with bursts of one replica, replicas that are offline for a while, and inserts beside what is deleted. At
     its end everyone has everything, and reads."""
     replicas = rnd.randint(*kind.replicas)
-    relay = replicas - 1 if kind.star else None
-    editors = [r for r in range(replicas) if r != relay]
+    middle = replicas - 1 if kind.star else None
+    editors = [r for r in range(replicas) if r != middle or kind.middle_edits]
     steps, offline = [], set()
     length = rnd.randint(*kind.steps)
     while len(steps) < length:
@@ -70,10 +75,10 @@ def session(kind: Kind, rnd: random.Random) -> Session:
             editor = rnd.choice(editors)
             steps += [act(editor, len(steps) + i, rnd) for i in range(rnd.choice([1, 1, 1, 2, 4]))]
         else:
-            one, other = pair(editors, relay, rnd)
+            one, other = pair(replicas, middle, rnd)
             if not {one, other} & offline:
                 steps.append(Step(TAKE, one, other=other))
-    return Session(replicas, kind.causal, steps + ending(editors, relay))
+    return Session(replicas, kind.causal, steps + ending(replicas, middle))
 
 
 def act(editor: int, number: int, rnd: random.Random) -> Step:
@@ -82,20 +87,19 @@ def act(editor: int, number: int, rnd: random.Random) -> Step:
     return Step(kind, editor, f"e{number}", rnd.choice(["at", "after", "before"]), rnd.random())
 
 
-def pair(editors: list, relay: int, rnd: random.Random) -> list:
+def pair(replicas: int, middle: int, rnd: random.Random) -> list:
     """Who takes from whom."""
-    if relay is None:
-        return rnd.sample(editors, 2)
-    return rnd.sample([rnd.choice(editors), relay], 2)
+    if middle is None:
+        return rnd.sample(range(replicas), 2)
+    return rnd.sample([rnd.choice([r for r in range(replicas) if r != middle]), middle], 2)
 
 
-def ending(editors: list, relay: int) -> list:
-    """Everyone gets everything by way of one, and reads."""
-    middle = editors[0] if relay is None else relay
-    others = [r for r in editors if r != middle]
-    takes = [Step(TAKE, middle, other=r) for r in others] + [Step(TAKE, r, other=middle) for r in others]
-    takes += [Step(TAKE, one, other=two) for one in others for two in others if one != two and relay is None]
-    return takes + [Step(READ, r) for r in sorted([middle, *others])]
+def ending(replicas: int, middle: int) -> list:
+    """Everyone gets everything, in a star by way of its middle, and reads."""
+    others = [r for r in range(replicas) if r != (middle or 0)]
+    takes = [Step(TAKE, middle or 0, other=r) for r in others] + [Step(TAKE, r, other=middle or 0) for r in others]
+    takes += [Step(TAKE, one, other=two) for one in others for two in others if one != two and middle is None]
+    return takes + [Step(READ, r) for r in range(replicas)]
 
 
 class Plan:
