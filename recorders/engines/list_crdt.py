@@ -55,17 +55,19 @@ class Group:
         self.lists = [engine(replica) for replica in range(replicas)]
         self.messages = {}  # of each operation, by author and number; a read has none
 
-    def insert(self, replica: int, name: str, position: int) -> None:
+    def insert(self, replica: int, name: str, position: int) -> int:
         engine = self.lists[replica]
         message = engine.insert(name, position)
         n = self.recording.insert(replica, name, position, engine.names())  # after the local change
         self.messages[replica, n] = message  # the message goes out under the operation's name
+        return n
 
-    def delete(self, replica: int, name: str) -> None:
+    def delete(self, replica: int, name: str) -> int:
         engine = self.lists[replica]
         message = engine.delete(name)
         n = self.recording.delete(replica, name, engine.names())
         self.messages[replica, n] = message
+        return n
 
     def read(self, replica: int) -> None:
         self.recording.read(replica, self.lists[replica].names())

@@ -28,35 +28,30 @@ import sessions
 from sessions import Plan, Session, smaller
 
 HERE = Path(__file__).parent
-STOPPED = "the engine stopped"
+STOPPED = "no answer of the engine"
 JUDGES = 3  # how many programs run at the same time
 NODE = {"NODE_PATH": "/usr/share/nodejs"}
-SECONDS = 20  # after which an engine that has not answered a plan is stopped
-STARS = [sessions.SMALL_STAR, sessions.SMALL_MIDDLE, sessions.LARGE_STAR, sessions.LARGE_MIDDLE]
-ALL = [sessions.SMALL_PEERS, *STARS, sessions.LARGE_PEERS]
+SMALL = [sessions.SMALL_PEERS, sessions.SMALL_STAR, sessions.SMALL_MIDDLE]
+ALL = [*SMALL, sessions.LARGE_PEERS, sessions.LARGE_STAR, sessions.LARGE_MIDDLE]
 
 
 class Engine:
-    """What an engine needs, how it is built in a folder, how it is run, and which kinds of session it is asked for."""
+    """What an engine needs, how it is built in a folder, how it is run, which kinds of session it is asked for, and after
+    how many seconds without the answer to one it is stopped."""
 
-    def __init__(self, packages: list, run: list, kinds: list, build: list = (), surroundings: dict = None):
-        self.packages, self.run, self.kinds, self.build = packages, run, kinds, build
+    def __init__(self, packages: list, run: list, kinds: list, build: str = "", surroundings: dict = None, seconds=20):
+        self.packages, self.run, self.kinds, self.build, self.seconds = packages, run, kinds, build, seconds
         self.surroundings = {**os.environ, "LC_ALL": "C.UTF-8", **(surroundings or {})}
 
     def prepare(self, folder: Path) -> list:
         """Installs and builds it; answers the words that start it."""
-        missing = [name for name in self.packages if not installed(name)]
-        if missing:
-            subprocess.run(["apt-get", "update"], check=True, stdout=subprocess.DEVNULL)
-            subprocess.run(["apt-get", "install", "-y", "--no-install-recommends", *missing], check=True,
-                           stdout=subprocess.DEVNULL, env={**os.environ, "DEBIAN_FRONTEND": "noninteractive"})
+        install(self.packages)
         if self.build:
             subprocess.run(["sh", "-ec", self.build], check=True, env={**os.environ, "HERE": str(HERE), "OUT": str(folder)})
         return [word.format(here=HERE, out=folder) for word in self.run]
 
 
-RUST = """
-for file in "$HERE/crdts.rs" "$HERE/../domepeeler.rs"; do cp "$file" "$OUT"; done
+DEBIAN_CRATES = """
 mkdir -p "$OUT/.cargo"
 cat > "$OUT/.cargo/config.toml" <<END
 [source.crates-io]
@@ -64,6 +59,9 @@ replace-with = "debian"
 [source.debian]
 directory = "/usr/share/cargo/registry"
 END
+"""
+RUST = DEBIAN_CRATES + """
+for file in "$HERE/crdts.rs" "$HERE/../domepeeler.rs"; do cp "$file" "$OUT"; done
 cat > "$OUT/Cargo.toml" <<END
 [package]
 name = "recorded"
@@ -86,8 +84,9 @@ ENGINES = {
     "yjs": Engine(["nodejs", "node-yjs"], ["node", "{here}/yjs.mjs"], [*ALL, sessions.UNCAUSAL], surroundings=NODE),
     "crdts": Engine(["librust-crdts-dev"], ["{out}/target/debug/recorded"], [*ALL, sessions.UNCAUSAL], RUST),
     "libinfinity": Engine(["libinfinity-0.7-dev", "pkg-config"], ["{out}/recorded"],
-                          [sessions.SMALL_PEERS, sessions.SMALL_STAR, sessions.SMALL_MIDDLE, sessions.MIDDLING_STAR], C),
-    "crdt_el": Engine(["emacs-nox", "elpa-crdt"], ["emacs", "--batch", "-l", "{here}/crdt_el.el"], STARS),
+                          [*SMALL, sessions.MIDDLING_STAR], C),
+    "crdt_el": Engine(["emacs-nox", "elpa-crdt"], ["emacs", "--batch", "-l", "{here}/crdt_el.el"],
+                      [sessions.SMALL_STAR, sessions.SMALL_MIDDLE, sessions.MIDDLING_STAR], seconds=2),
 }
 
 
@@ -96,20 +95,29 @@ def installed(package: str) -> bool:
     return done.stdout == b"installed"
 
 
+def install(packages: list) -> None:
+    """Installs those of Debian's packages that are missing."""
+    missing = [name for name in packages if not installed(name)]
+    if missing:
+        subprocess.run(["apt-get", "update"], check=True, stdout=subprocess.DEVNULL)
+        subprocess.run(["apt-get", "install", "-y", "--no-install-recommends", *missing], check=True,
+                       stdout=subprocess.DEVNULL, env={**os.environ, "DEBIAN_FRONTEND": "noninteractive"})
+
+
 class Driver:
     """An engine that runs: it takes plans and answers traces. One that stops is started again for the next plan."""
 
-    def __init__(self, words: list, surroundings: dict, said: Path):
-        self.words, self.surroundings, self.said, self.process = words, surroundings, said, None
+    def __init__(self, engine: Engine, folder: Path):
+        self.engine, self.words, self.said, self.process = engine, engine.prepare(folder), folder / "said", None
 
     def trace(self, plan: str) -> str:
         """The recording of a plan; nothing where the engine stopped."""
         if self.process is None:
             with self.said.open("w") as said:
                 self.process = subprocess.Popen(self.words, stdin=subprocess.PIPE, stdout=subprocess.PIPE, stderr=said,
-                                                env=self.surroundings)
+                                                env=self.engine.surroundings)
         lines = []
-        late = threading.Timer(SECONDS, self.process.kill)
+        late = threading.Timer(self.engine.seconds, self.process.kill)
         late.start()
         try:
             self.process.stdin.write(plan.encode())
@@ -174,7 +182,7 @@ def main() -> None:
     parser = argparse.ArgumentParser(description=__doc__.split("\n")[0])
     parser.add_argument("engine", choices=sorted(ENGINES))
     parser.add_argument("program")
-    parser.add_argument("--sessions", type=int, default=500, help="small sessions of each kind; large ones are a fiftieth")
+    parser.add_argument("--sessions", type=int, default=200, help="how many small sessions of each kind")
     parser.add_argument("--seed", type=int, default=1)
     parser.add_argument("--keep", type=Path, help="a folder for the smallest traces that were not accepted")
     words = parser.parse_args()
@@ -182,9 +190,9 @@ def main() -> None:
         sys.exit(f"record.py: {words.program} is no program")
     engine = ENGINES[words.engine]
     with tempfile.TemporaryDirectory() as folder:
-        driver = Driver(engine.prepare(Path(folder)), engine.surroundings, Path(folder) / "said")
+        driver = Driver(engine, Path(folder))
         for kind in engine.kinds:
-            count = max(1, words.sessions // 50) if kind.name.startswith("large") else words.sessions
+            count = max(1, words.sessions // kind.share)
             firsts = tried(kind, count, random.Random(f"{words.seed} {kind.name}"), driver, words.program)
             for word, one in firsts.items():
                 show(words, kind, word, driver.trace(Plan(smallest(driver, words.program, one, word)).text()))

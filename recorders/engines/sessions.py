@@ -40,7 +40,7 @@ class Session(NamedTuple):
 
 class Kind(NamedTuple):
     """How sessions are made: how many replicas and steps, whether all exchange is with the last replica, whether that one
-    edits, and whether exchange is causal."""
+    edits, and whether exchange is causal. One of these is tried for `share` small ones."""
 
     name: str
     replicas: tuple
@@ -48,15 +48,16 @@ class Kind(NamedTuple):
     star: bool = False
     middle_edits: bool = False
     causal: bool = True
+    share: int = 1
 
 
 SMALL_PEERS = Kind("small, peers", (2, 4), (4, 24))
 SMALL_STAR = Kind("small, a star round a relay", (3, 5), (4, 24), star=True)
 SMALL_MIDDLE = Kind("small, a star round an editor", (2, 4), (4, 24), star=True, middle_edits=True)
-MIDDLING_STAR = Kind("middling, a star round a relay", (3, 5), (40, 60), star=True)
-LARGE_PEERS = Kind("large, peers", (4, 6), (300, 600))
-LARGE_STAR = Kind("large, a star round a relay", (4, 6), (300, 600), star=True)
-LARGE_MIDDLE = Kind("large, a star round an editor", (4, 6), (300, 600), star=True, middle_edits=True)
+MIDDLING_STAR = Kind("middling, a star round a relay", (3, 5), (40, 60), star=True, share=10)
+LARGE_PEERS = Kind("large, peers", (4, 6), (300, 600), share=50)
+LARGE_STAR = Kind("large, a star round a relay", (4, 6), (300, 600), star=True, share=50)
+LARGE_MIDDLE = Kind("large, a star round an editor", (4, 6), (300, 600), star=True, middle_edits=True, share=50)
 UNCAUSAL = Kind("small, peers in order of each sender alone", (3, 4), (4, 24), causal=False)
 
 
