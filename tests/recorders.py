@@ -288,6 +288,34 @@ def check_merge(tally: Tally, program: str, folder: Path) -> None:
                 done.stderr.startswith(b"merge.py: these receipts name"), done)
 
 
+def blocks(page: Path) -> list:
+    """The indented blocks of a page, each as one text."""
+    found, lines = [], []
+    for line in [*page.read_text().split("\n"), "end"]:
+        if line.startswith("    ") or (not line and lines):
+            lines.append(line[4:])
+        elif lines:
+            found.append("\n".join(lines).rstrip("\n") + "\n")
+            lines = []
+    return found
+
+
+def check_guide(tally: Tally, program: str) -> None:
+    """The guide's editor prints what the guide says, and its traces have the reports beside them."""
+    shown = blocks(ROOT / "docs" / "recording.md")
+    code = [block for block in shown if block.startswith("from ")]
+    surroundings = {**os.environ, "DOMEPEELER": program, "PYTHONDONTWRITEBYTECODE": "1",
+                    "PYTHONPATH": f"{ROOT / 'recorders'}:{ROOT / 'recorders' / 'engines'}"}
+    done = subprocess.run([sys.executable, "-c", "\n".join(code)], capture_output=True, env=surroundings)
+    printed = [block for block in shown if block.startswith("trace 1") and block.endswith("\naccepted\n")]
+    tally.check("guide: the editor", len(code) == 2 and [done.stdout.decode()] == printed, done)
+    judged = [block.split("\n\n") for block in shown if block.startswith("trace 1") and block not in printed]
+    tally.check("guide: has traces with reports", len(judged) == 3, judged)
+    for trace, wanted in judged:
+        ended = run(program, ["verdict", "-"], trace.encode() + b"\n")
+        tally.check(f"guide: {trace}", ended.out == wanted.encode(), ended)
+
+
 def main() -> None:
     program = program_of(sys.argv)
     tally = Tally()
@@ -306,6 +334,7 @@ def main() -> None:
             check_judge(tally, recorder, folder)
         check_limits_are_the_programs(tally, program, texts["py"])
         check_merge(tally, program, folder)
+        check_guide(tally, program)
     tally.close()
 
 

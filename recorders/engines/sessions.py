@@ -8,7 +8,7 @@ What an engine is asked is a text, which lists every operation and every exchang
     plan 2 causal
     0 ins e0 at 0            replica 0 inserts e0 at position 0
     1 take 0 : 0.1           replica 1 takes in what replica 0 has and it has not, here the operation 0.1;
-                             where the plan is `uncausal`, only what replica 0 did itself
+                             where the plan is `uncausal`, only what replica 0 itself inserted and deleted
     1 ins e1 after e0        replica 1 inserts e1 where its list has e0, behind it (or `before`)
     1 del e0
     0 read
@@ -124,7 +124,7 @@ class Plan:
         had = set(self.has[step.replica])
         new = [one for one in self.has[step.other] if one not in had]
         if not self.session.causal:
-            new = [one for one in new if one[0] == step.other]
+            new = [one for one in new if one[0] == step.other and self.changes[one][0] != READ]
         if new:
             self.lines.append(f"{step.replica} take {step.other} : " + " ".join(f"{r}.{n}" for r, n in new))
         for operation in new:
@@ -156,10 +156,17 @@ class Plan:
             self.lists[replica].pop(name, None)
 
 
+def moved(step: Step, gone: int) -> Step:
+    """The step where a replica of a lower number is gone."""
+    return step._replace(replica=step.replica - (step.replica > gone), other=step.other - (step.other > gone))
+
+
 def smaller(session: Session) -> list:
-    """The session without some of its steps, halves first and single steps last."""
+    """The session without some of its steps, halves first and single steps last, and without a replica that does nothing."""
     steps = session.steps
     found, width = [], len(steps) // 2
+    for idle in set(range(session.replicas)) - {r for step in steps for r in (step.replica, step.other)}:
+        found.append(Session(session.replicas - 1, session.causal, [moved(step, idle) for step in steps]))
     while width:
         found += [session._replace(steps=steps[:at] + steps[at + width:]) for at in range(0, len(steps), width)]
         width //= 2

@@ -25,7 +25,7 @@ version = "0.1.0"
 edition = "2021"
 [dev-dependencies]
 crdts = "7.2"
-proptest = "1.0"
+proptest = { version = "1.0", default-features = false, features = ["std"] }
 [profile.dev]
 debug = 0
 END
@@ -39,7 +39,7 @@ TESTS = {
                    ["1 failed, 1 passed", "'verdict': 'refused'", "0 ins e0 0 : e0"]),
     "Node's test runner": (["nodejs", "node-yjs"], 'node --test --test-reporter=tap "$HERE/with_node_test.mjs"',
                            ["ok 1 - Yjs", "not ok 2 - a list by fractions", '"verdict":"position"']),
-    "proptest": (["librust-proptest-dev", "librust-crdts-dev"], CARGO,
+    "proptest": (["librust-proptest+std-dev", "librust-crdts-dev"], CARGO,
                  ["1 passed; 1 failed", '"verdict":"contents"', "minimal failing input"]),
 }
 
