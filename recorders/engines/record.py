@@ -36,11 +36,13 @@ ALL = [*SMALL, sessions.LARGE_PEERS, sessions.LARGE_STAR, sessions.LARGE_MIDDLE]
 
 
 class Engine:
-    """What an engine needs, how it is built in a folder, how it is run, which kinds of session it is asked for, and after
-    how many seconds without the answer to one it is stopped."""
+    """What an engine needs, how it is run, which kinds of session it is asked for and how many small ones of each within a
+    minute, how it is built in a folder, and after how many seconds without an answer it is stopped."""
 
-    def __init__(self, packages: list, run: list, kinds: list, build: str = "", surroundings: dict = None, seconds=20):
-        self.packages, self.run, self.kinds, self.build, self.seconds = packages, run, kinds, build, seconds
+    def __init__(self, packages: list, run: list, kinds: list, sessions: int, build: str = "", surroundings: dict = None,
+                 seconds: int = 20):
+        self.packages, self.run, self.kinds, self.sessions = packages, run, kinds, sessions
+        self.build, self.seconds = build, seconds
         self.surroundings = {**os.environ, "LC_ALL": "C.UTF-8", **(surroundings or {})}
 
     def prepare(self, folder: Path) -> list:
@@ -80,13 +82,13 @@ cd "$OUT" && cargo build --quiet --offline
 C = """gcc -Wall -Wextra -O1 -o "$OUT/recorded" "$HERE/libinfinity.c" $(pkg-config --cflags --libs libinfinity-0.7 libinftext-0.7)"""
 
 ENGINES = {
-    "list_crdt": Engine([], [sys.executable, "{here}/list_crdt.py"], ALL),
-    "yjs": Engine(["nodejs", "node-yjs"], ["node", "{here}/yjs.mjs"], [*ALL, sessions.UNCAUSAL], surroundings=NODE),
-    "crdts": Engine(["librust-crdts-dev"], ["{out}/target/debug/recorded"], [*ALL, sessions.UNCAUSAL], RUST),
+    "list_crdt": Engine([], [sys.executable, "{here}/list_crdt.py"], ALL, 1500),
+    "yjs": Engine(["nodejs", "node-yjs"], ["node", "{here}/yjs.mjs"], [*ALL, sessions.UNCAUSAL], 1000, surroundings=NODE),
+    "crdts": Engine(["librust-crdts-dev"], ["{out}/target/debug/recorded"], [*ALL, sessions.UNCAUSAL], 1000, RUST),
     "libinfinity": Engine(["libinfinity-0.7-dev", "pkg-config"], ["{out}/recorded"],
-                          [*SMALL, sessions.MIDDLING_STAR], C),
+                          [*SMALL, sessions.MIDDLING_STAR], 1200, C),
     "crdt_el": Engine(["emacs-nox", "elpa-crdt"], ["emacs", "--batch", "-l", "{here}/crdt_el.el"],
-                      [sessions.SMALL_STAR, sessions.SMALL_MIDDLE, sessions.MIDDLING_STAR], seconds=2),
+                      [sessions.SMALL_STAR, sessions.SMALL_MIDDLE, sessions.MIDDLING_STAR], 120, seconds=2),
 }
 
 
@@ -182,7 +184,7 @@ def main() -> None:
     parser = argparse.ArgumentParser(description=__doc__.split("\n")[0])
     parser.add_argument("engine", choices=sorted(ENGINES))
     parser.add_argument("program")
-    parser.add_argument("--sessions", type=int, default=200, help="how many small sessions of each kind")
+    parser.add_argument("--sessions", type=int, help="how many small sessions of each kind")
     parser.add_argument("--seed", type=int, default=1)
     parser.add_argument("--keep", type=Path, help="a folder for the smallest traces that were not accepted")
     words = parser.parse_args()
@@ -192,7 +194,7 @@ def main() -> None:
     with tempfile.TemporaryDirectory() as folder:
         driver = Driver(engine, Path(folder))
         for kind in engine.kinds:
-            count = max(1, words.sessions // kind.share)
+            count = max(1, (words.sessions or engine.sessions) // kind.share)
             firsts = tried(kind, count, random.Random(f"{words.seed} {kind.name}"), driver, words.program)
             for word, one in firsts.items():
                 show(words, kind, word, driver.trace(Plan(smallest(driver, words.program, one, word)).text()))
