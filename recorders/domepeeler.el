@@ -110,8 +110,11 @@ PROGRAM is by default that of the environment's DOMEPEELER, or \"domepeeler\"."
     (unwind-protect
         (with-temp-buffer
           (insert (domepeeler-text recording))
-          (let ((status (call-process-region (point-min) (point-max) program t (list t errors) nil
-                                             "verdict" "--json" "-")))
+          (let ((status (condition-case why
+                            (call-process-region (point-min) (point-max) program t (list t errors) nil
+                                                 "verdict" "--json" "-")
+                          (file-error (error "%s cannot be run (%s): name the program's path in DOMEPEELER" program
+                                             (error-message-string why))))))
             (goto-char (point-min))
             (unless (and (memq status '(0 1)) (looking-at "{"))
               (error "%s ended with status %s: %s" program status

@@ -270,7 +270,10 @@ static inline char *domepeeler_judge(struct domepeeler *d, const char *program) 
             report = NULL;
             char *why = domepeeler_whole(err);
             if (why) why[strcspn(why, "\n")] = 0;
-            domepeeler_refuse(d, 0, "%s ended with status %d: %.160s", program, status, why ? why : "");
+            if (status == 127)
+                domepeeler_refuse(d, 0, "%s cannot be run: name the program's path in DOMEPEELER", program);
+            else
+                domepeeler_refuse(d, 0, "%s ended with status %d: %.160s", program, status, why ? why : "");
             free(why);
         }
     } else {

@@ -17,6 +17,7 @@ import subprocess
 
 MOST_REPLICAS, MOST_ENTRIES, MOST_INSERTS = 16, 4096, 256
 MOST_NAMES, MOST_PLACES, MOST_POSITION = 4096, 262144, 4294967295
+PATH = "name the program's path in DOMEPEELER"
 NAME = re.compile(r"[A-Za-z0-9_.-]{1,32}", re.ASCII)
 
 
@@ -91,7 +92,10 @@ class Recording:
         if self._only is not None:
             raise Refused("one replica's log is no recording: merge the logs first")
         program = program or os.environ.get("DOMEPEELER", "domepeeler")
-        done = subprocess.run([program, "verdict", "--json", "-"], input=self.text().encode(), capture_output=True)
+        try:
+            done = subprocess.run([program, "verdict", "--json", "-"], input=self.text().encode(), capture_output=True)
+        except OSError as why:
+            raise RuntimeError(f"{program} cannot be run ({why.strerror}): {PATH}") from why
         if done.returncode not in (0, 1) or not done.stdout.startswith(b"{"):
             raise RuntimeError(f"{program} ended with status {done.returncode}: {done.stderr.decode().strip()}")
         return json.loads(done.stdout)

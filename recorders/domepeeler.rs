@@ -177,7 +177,8 @@ impl Recording {
         if self.only.is_some() {
             return Err("one replica's log is no recording: merge the logs first".to_string());
         }
-        let failed = |why: std::io::Error| format!("{program}: {why}");
+        let failed =
+            |why: std::io::Error| format!("{program} cannot be run ({why}): name the program's path in DOMEPEELER");
         let mut child = Command::new(program)
             .args(["verdict", "--json", "-"])
             .stdin(Stdio::piped())

@@ -162,14 +162,20 @@ def check_table(tally: Tally, recorder: Recorder) -> None:
     cases += [(name, script, None) for name, script in REFUSED]
     if recorder.language not in TYPED:
         cases += [(name, script, None) for name, script in REFUSED_UNTYPED]
+    calls, wanted = [], {}
     for name, script, lines in cases:
         pairs = [line.split(" -> ") for line in script.split("\n")[:-1]]
         if lines is None:
             lines = [said for call, reply in pairs for said in line_of(call, reply)]
         replicas = script.split("\n")[0].split(" ")[1]
-        wanted = [reply for _, reply in pairs] + ["| trace 1", f"| replicas {replicas}", *[f"| {line}" for line in lines], "ok"]
-        got = recorder.answers([fields(call) for call, _ in pairs] + ["text"])
-        tally.check(f"{recorder.language}: {name}", got == wanted, f"got {got}, wanted {wanted}")
+        calls += [fields(call) for call, _ in pairs] + ["text"]
+        wanted[name] = [reply for _, reply in pairs]
+        wanted[name] += ["| trace 1", f"| replicas {replicas}", *[f"| {line}" for line in lines], "ok"]
+    got = recorder.answers(calls)
+    tally.check(f"{recorder.language}: lines", len(got) == sum(map(len, wanted.values())), len(got))
+    for name, lines in wanted.items():
+        shown, got = got[:len(lines)], got[len(lines):]
+        tally.check(f"{recorder.language}: {name}", shown == lines, f"got {shown}, wanted {lines}")
 
 
 def line_of(call: str, reply: str) -> list:
@@ -237,9 +243,9 @@ def check_judge(tally: Tally, recorder: Recorder, folder: Path) -> None:
     got = recorder.answers(["new\t1", "judge"], DOMEPEELER=str(faulty))
     wanted = f"failed {faulty} ended with status 2: finder: line 3: shape"
     tally.check(f"{recorder.language}: judge by a program that fails", got == ["ok", wanted], got)
-    for absent in [str(folder / "nowhere"), "/bin/false"]:
+    for absent, why in [(str(folder / "nowhere"), "cannot be run"), ("/bin/false", "ended with status 1: ")]:
         got = recorder.answers(["new\t1", "judge"], DOMEPEELER=absent)
-        tally.check(f"{recorder.language}: judge by {absent}", len(got) == 2 and got[1].startswith("failed "), got)
+        tally.check(f"{recorder.language}: judge by {absent}", got[1:] and got[1].startswith(f"failed {absent} {why}"), got)
 
 
 ONE_LOG = "one replica's log is no recording: merge the logs first"
