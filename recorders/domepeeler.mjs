@@ -87,7 +87,7 @@ export class Recording {
     const { spawnSync } = await import("node:child_process")
     const most = 1 << 28 // bytes: no report is as long
     const done = spawnSync(program, ["verdict", "--json", "-"], { input: this.text(), maxBuffer: most, encoding: "utf8" })
-    if (done.error) {
+    if (done.error && done.status === null) {
       throw new Error(`${program} cannot be run (${done.error.code}): name the program's path in DOMEPEELER`)
     }
     if ((done.status !== 0 && done.status !== 1) || !done.stdout.startsWith("{")) {

@@ -88,7 +88,7 @@ ENGINES = {
     "libinfinity": Engine(["libinfinity-0.7-dev", "pkg-config"], ["{out}/recorded"],
                           [*SMALL, sessions.MIDDLING_STAR], 1200, C),
     "crdt_el": Engine(["emacs-nox", "elpa-crdt"], ["emacs", "--batch", "-l", "{here}/crdt_el.el"],
-                      [sessions.SMALL_STAR, sessions.SMALL_MIDDLE, sessions.MIDDLING_STAR], 120, seconds=2),
+                      [sessions.SMALL_STAR, sessions.SMALL_MIDDLE, sessions.MIDDLING_STAR], 100, seconds=2),
 }
 
 
@@ -111,6 +111,7 @@ class Driver:
 
     def __init__(self, engine: Engine, folder: Path):
         self.engine, self.words, self.said, self.process = engine, engine.prepare(folder), folder / "said", None
+        self.late = False
 
     def trace(self, plan: str) -> str:
         """The recording of a plan; nothing where the engine stopped."""
@@ -119,7 +120,7 @@ class Driver:
                 self.process = subprocess.Popen(self.words, stdin=subprocess.PIPE, stdout=subprocess.PIPE, stderr=said,
                                                 env=self.engine.surroundings)
         lines = []
-        late = threading.Timer(self.engine.seconds, self.process.kill)
+        late = threading.Timer(self.engine.seconds, self.stop)
         late.start()
         try:
             self.process.stdin.write(plan.encode())
@@ -134,6 +135,11 @@ class Driver:
             late.cancel()
         self.close()
         return ""
+
+    def stop(self) -> None:
+        """Ends an engine that has not answered in time."""
+        self.late = True
+        self.process.kill()
 
     def close(self) -> None:
         if self.process:
@@ -172,7 +178,8 @@ def tried(kind: sessions.Kind, count: int, rnd: random.Random, driver: Driver, p
     between = f"{min(sizes)} to {max(sizes)} operations" if sizes else "no recording"
     print(f"{kind.name}: {count} sessions, {between}: {said}", flush=True)
     if STOPPED in verdicts:
-        print("the engine's last words: " + (driver.said.read_text().splitlines() or ["none"])[-1], flush=True)
+        words = [f"none within {driver.engine.seconds} seconds"] if driver.late else driver.said.read_text().splitlines()
+        print("the engine's last words: " + (words or ["none"])[-1], flush=True)
     firsts = {}
     for one, word in sorted(zip(found, verdicts), key=lambda both: len(both[0].steps)):
         if word not in ("accepted", STOPPED):
