@@ -126,8 +126,11 @@ def prepared(folder: Path) -> dict:
     """How each language's driver is run; what has to be compiled is, without a warning."""
     if not shutil.which("emacs"):
         subprocess.run(["apt-get", "update"], stdout=subprocess.DEVNULL)
-        subprocess.run(["apt-get", "install", "-y", "--no-install-recommends", "emacs-nox"], check=True,
-                       stdout=subprocess.DEVNULL, env={**os.environ, "DEBIAN_FRONTEND": "noninteractive"})
+        subprocess.run(["apt-get", "install", "-y", "--no-install-recommends", "emacs-nox"], stdout=subprocess.DEVNULL,
+                       env={**os.environ, "DEBIAN_FRONTEND": "noninteractive"})
+    for needed in ["node", "rustc", "gcc", "emacs"]:
+        if not shutil.which(needed):
+            sys.exit(f"recorders.py: there is no {needed}")
     subprocess.run(["gcc", "-std=c99", "-Wall", "-Wextra", "-Werror", "-D_POSIX_C_SOURCE=200809L", "-o", folder / "c",
                     DRIVERS / "driver.c"], check=True)
     subprocess.run(["rustc", "--edition", "2021", "-D", "warnings", "-o", folder / "rs", DRIVERS / "driver.rs"], check=True)
@@ -187,6 +190,7 @@ def line_of(call: str, reply: str) -> list:
 
 
 def check_other_types(tally: Tally, recorder: Recorder) -> None:
+    """Calls that can't be written in a typed language."""
     got = recorder.answers([f"untyped\t{number}" for number in range(len(OTHER_TYPES))])
     tally.check(f"{recorder.language}: calls with other types", len(got) == len(OTHER_TYPES), got)
     for answer, begin in zip(got, OTHER_TYPES):

@@ -161,9 +161,17 @@ def verdict(program: str, trace: str) -> str:
 
 def smallest(driver: Driver, program: str, session: Session, wanted: str) -> Session:
     """A session of which no smaller one, with a part left out, has the same verdict."""
-    for candidate in smaller(session):
-        if verdict(program, driver.trace(Plan(candidate).text())) == wanted:
-            return smallest(driver, program, candidate, wanted)
+    known = {Plan(session).text(): wanted}  # many smaller ones are the same plan
+
+    def is_wanted(candidate: Session) -> bool:
+        plan = Plan(candidate).text()
+        if plan not in known:
+            known[plan] = verdict(program, driver.trace(plan))
+        return known[plan] == wanted
+
+    found = session
+    while found:
+        session, found = found, next(filter(is_wanted, smaller(found)), None)
     return session
 
 
