@@ -50,7 +50,8 @@
   (and (integerp number) (<= least number most)))
 
 (defun domepeeler-new (replicas &optional only)
-  "A session of so many REPLICAS; with ONLY, the log that this replica keeps on its own machine."
+  "A session of so many REPLICAS.
+With ONLY, the log that this replica keeps on its own machine."
   (unless (domepeeler--whole replicas 1 domepeeler--replicas)
     (domepeeler--refuse "replicas are 1 to %d, not %s" domepeeler--replicas replicas))
   (let ((recording (domepeeler--make
@@ -62,7 +63,8 @@
     recording))
 
 (defun domepeeler-insert (recording replica name position response)
-  "REPLICA inserted NAME at POSITION and then had the list RESPONSE.  Answers the operation's number."
+  "REPLICA inserted NAME at POSITION and then had the list RESPONSE.
+Answers the operation's number."
   (domepeeler--acts recording replica)
   (domepeeler--check-name name)
   (unless (domepeeler--whole position 0 domepeeler--position)
@@ -70,7 +72,8 @@
   (domepeeler--operation recording replica (format "ins %s %d" name position) response 1))
 
 (defun domepeeler-delete (recording replica name response)
-  "REPLICA deleted NAME and then had the list RESPONSE.  Answers the operation's number."
+  "REPLICA deleted NAME and then had the list RESPONSE.
+Answers the operation's number."
   (domepeeler--acts recording replica)
   (domepeeler--check-name name)
   (domepeeler--operation recording replica (format "del %s" name) response 0))
@@ -81,7 +84,8 @@
   (domepeeler--operation recording replica "read" response 0))
 
 (defun domepeeler-received (recording replica author n)
-  "AUTHOR's operation N, and with it all that AUTHOR had seen by then, was applied at REPLICA."
+  "AUTHOR's operation N was applied at REPLICA.
+With it came all that AUTHOR had seen by then."
   (domepeeler--acts recording replica)
   (domepeeler--known recording author)
   (unless (domepeeler--whole n 1 domepeeler--position)

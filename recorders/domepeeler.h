@@ -111,18 +111,18 @@ static inline int domepeeler_full(const struct domepeeler *d) { return d->full; 
 /* The trace; of one replica's log the text that merge.py takes. It stays until the next call. */
 static inline const char *domepeeler_text(const struct domepeeler *d) { return d->text; }
 
-static inline int domepeeler_known(struct domepeeler *d, int replica) {
+static inline unsigned domepeeler_known(struct domepeeler *d, int replica) {
     if (replica >= 0 && replica < d->replicas) return 1;
     return domepeeler_refuse(d, 0, "no replica %d among 0 to %d", replica, d->replicas - 1);
 }
 
-static inline int domepeeler_acts(struct domepeeler *d, int replica) {
+static inline unsigned domepeeler_acts(struct domepeeler *d, int replica) {
     if (!domepeeler_known(d, replica)) return 0;
     if (d->only < 0 || d->only == replica) return 1;
     return domepeeler_refuse(d, 0, "this log is of replica %d alone, not of %d", d->only, replica);
 }
 
-static inline int domepeeler_name(struct domepeeler *d, const char *name) {
+static inline unsigned domepeeler_name(struct domepeeler *d, const char *name) {
     static const char *allowed = "ABCDEFGHIJKLMNOPQRSTUVWXYZabcdefghijklmnopqrstuvwxyz0123456789_-.";
     if (!name) return domepeeler_refuse(d, 0, "a name is a string, not NULL");
     size_t length = strlen(name);
@@ -130,13 +130,13 @@ static inline int domepeeler_name(struct domepeeler *d, const char *name) {
     return domepeeler_refuse(d, 0, "name \"%s\" is not 1 to 32 of A-Z a-z 0-9 _ - .", name);
 }
 
-static inline int domepeeler_room(struct domepeeler *d, int replica) {
+static inline unsigned domepeeler_room(struct domepeeler *d, int replica) {
     if (d->of[replica].entries < DOMEPEELER_ENTRIES) return 1;
     return domepeeler_refuse(d, 1, "replica %d has %d entries, the most that a trace takes", replica, DOMEPEELER_ENTRIES);
 }
 
 /* The limits, in the order in which the program tests them. */
-static inline int domepeeler_fits(struct domepeeler *d, int replica, unsigned inserts, size_t names) {
+static inline unsigned domepeeler_fits(struct domepeeler *d, int replica, unsigned inserts, size_t names) {
     const struct domepeeler_replica *own = &d->of[replica];
     if (!domepeeler_room(d, replica)) return 0;
     if (own->inserts + inserts > DOMEPEELER_INSERTS)

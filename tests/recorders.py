@@ -264,6 +264,8 @@ UNMERGED = [
     (["0 recv 1 1", "2 read :"], "these receipts name operations that no log has before them: 0 recv 1 1"),
     (["0 recv 1 1|0 read :", "1 recv 0 1|1 read :"], "these receipts name operations that no log has before them: "
      "0 recv 1 1, 1 recv 0 1"),
+    (["0 read :|0 recv 1 2|0 read :", "1 recv 0 1|1 read :|1 recv 0 2|1 read :"],
+     "these receipts name operations that no log has before them: 0 recv 1 2, 1 recv 0 2"),
 ]
 
 
