@@ -4,7 +4,7 @@
 
 ;; Records what the replicas of a list editor do and answer, and has Domepeeler judge it.
 ;;
-;; Copy this file into your project; it needs Emacs 27 and nothing else.  docs/recording.md says where the calls go.
+;; Copy this file into your project; it needs Emacs and nothing else.  docs/recording.md says where the calls go.
 ;;
 ;;   (let* ((recording (domepeeler-new 2))
 ;;          (n (domepeeler-insert recording 0 "a" 0 '("a")))) ; replica 0 inserted a at 0; its list is now: a

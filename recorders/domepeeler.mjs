@@ -1,7 +1,6 @@
 // Records what the replicas of a list editor do and answer, and has Domepeeler judge it.
 //
-// Copy this file into your project; it needs a browser or Node.js, and judge() needs Node.js. docs/recording.md says
-// where the calls go.
+// Copy this file into your project. It needs no module; judge() needs Node.js. docs/recording.md says where the calls go.
 //
 //     const recording = new Recording(2)
 //     const n = recording.insert(0, "a", 0, ["a"]) // replica 0 inserted a at position 0, and its list is now: a

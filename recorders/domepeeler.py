@@ -1,6 +1,6 @@
 """Records what the replicas of a list editor do and answer, and has Domepeeler judge it.
 
-Copy this file into your project; it needs Python 3.8 and nothing else. docs/recording.md says where the calls go.
+Copy this file into your project; it needs Python 3 and nothing else. docs/recording.md says where the calls go.
 
     recording = Recording(2)
     n = recording.insert(0, "a", 0, ["a"])   # replica 0 inserted a at position 0, and its list is now: a

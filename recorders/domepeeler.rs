@@ -1,6 +1,6 @@
 //! Records what the replicas of a list editor do and answer, and has Domepeeler judge it.
 //!
-//! Copy this file into your project and write `mod domepeeler;`; it needs the standard library alone, since Rust 1.58.
+//! Copy this file into your project and write `mod domepeeler;`; it needs the standard library alone.
 //! docs/recording.md says where the calls go.
 //!
 //! ```ignore
