@@ -10,8 +10,9 @@ ENGINE is one of these; what each needs is installed from Debian 12 by apt-get w
     crdt_el       crdt.el, recorded by crdt_el.el; emacs-nox, elpa-crdt
 
 Prints, for each kind of session, how many were tried, how large they were, and what the program said of how many. Where
-some were not accepted it makes the first of each verdict smaller, as long as the verdict stays, and prints that trace;
-with --keep it writes these traces into the folder. By default it runs within a minute."""
+some were not accepted it makes the shortest of each verdict smaller, as long as the verdict stays, and prints that trace;
+with --keep it writes these traces into the folder, and of each kind the accepted one with most receipts as it is. By
+default it runs within a minute."""
 import argparse
 import os
 import random
@@ -29,6 +30,7 @@ from sessions import Plan, Session, smaller
 
 HERE = Path(__file__).parent
 STOPPED = "no answer of the engine"
+COMMANDS = {"cargo": "cargo", "emacs-nox": "emacs", "gcc": "gcc", "nodejs": "node", "pkg-config": "pkg-config"}
 JUDGES = 3  # how many programs run at the same time
 NODE = {"NODE_PATH": "/usr/share/nodejs"}
 SMALL = [sessions.SMALL_PEERS, sessions.SMALL_STAR, sessions.SMALL_MIDDLE]
@@ -39,9 +41,9 @@ class Engine:
     """What an engine needs, how it is run, which kinds of session it is asked for and how many small ones of each within a
     minute, how it is built in a folder, and after how many seconds without an answer it is stopped."""
 
-    def __init__(self, packages: list, run: list, kinds: list, sessions: int, build: str = "", surroundings: dict = None,
+    def __init__(self, packages: list, run: list, kinds: list, count: int, build: str = "", surroundings: dict = None,
                  seconds: int = 20):
-        self.packages, self.run, self.kinds, self.sessions = packages, run, kinds, sessions
+        self.packages, self.run, self.kinds, self.count = packages, run, kinds, count
         self.build, self.seconds = build, seconds
         self.surroundings = {**os.environ, "LC_ALL": "C.UTF-8", **(surroundings or {})}
 
@@ -84,8 +86,8 @@ C = """gcc -Wall -Wextra -O1 -o "$OUT/recorded" "$HERE/libinfinity.c" $(pkg-conf
 ENGINES = {
     "list_crdt": Engine([], [sys.executable, "{here}/list_crdt.py"], ALL, 1500),
     "yjs": Engine(["nodejs", "node-yjs"], ["node", "{here}/yjs.mjs"], [*ALL, sessions.UNCAUSAL], 1000, surroundings=NODE),
-    "crdts": Engine(["librust-crdts-dev"], ["{out}/target/debug/recorded"], [*ALL, sessions.UNCAUSAL], 1000, RUST),
-    "libinfinity": Engine(["libinfinity-0.7-dev", "pkg-config"], ["{out}/recorded"],
+    "crdts": Engine(["cargo", "librust-crdts-dev"], ["{out}/target/debug/recorded"], [*ALL, sessions.UNCAUSAL], 1000, RUST),
+    "libinfinity": Engine(["gcc", "pkg-config", "libinfinity-0.7-dev"], ["{out}/recorded"],
                           [*SMALL, sessions.MIDDLING_STAR], 1200, C),
     "crdt_el": Engine(["emacs-nox", "elpa-crdt"], ["emacs", "--batch", "-l", "{here}/crdt_el.el"],
                       [sessions.SMALL_STAR, sessions.SMALL_MIDDLE, sessions.MIDDLING_STAR], 100, seconds=2),
@@ -93,6 +95,9 @@ ENGINES = {
 
 
 def installed(package: str) -> bool:
+    """Whether the package is there, or what it is needed for from elsewhere."""
+    if package in COMMANDS and shutil.which(COMMANDS[package]):
+        return True
     done = subprocess.run(["dpkg-query", "-W", "-f", "${db:Status-Status}", package], capture_output=True)
     return done.stdout == b"installed"
 
@@ -176,7 +181,8 @@ def smallest(driver: Driver, program: str, session: Session, wanted: str) -> Ses
 
 
 def tried(kind: sessions.Kind, count: int, rnd: random.Random, driver: Driver, program: str) -> dict:
-    """Records so many sessions of a kind and prints what came out; answers the first session of each other verdict."""
+    """Records so many sessions of a kind and prints what came out; answers the accepted one with most receipts, and of
+    each other verdict the shortest."""
     found = [sessions.session(kind, rnd) for _ in range(count)]
     traces = [driver.trace(Plan(one).text()) for one in found]
     with ThreadPoolExecutor(JUDGES) as pool:
@@ -192,7 +198,8 @@ def tried(kind: sessions.Kind, count: int, rnd: random.Random, driver: Driver, p
     for one, word in sorted(zip(found, verdicts), key=lambda both: len(both[0].steps)):
         if word not in ("accepted", STOPPED):
             firsts.setdefault(word, one)
-    return firsts
+    accepted = [(trace.count(" recv "), place) for place, trace in enumerate(traces) if verdicts[place] == "accepted"]
+    return {**firsts, **({"accepted": found[max(accepted)[1]]} if accepted else {})}
 
 
 def main() -> None:
@@ -209,16 +216,18 @@ def main() -> None:
     with tempfile.TemporaryDirectory() as folder:
         driver = Driver(engine, Path(folder))
         for kind in engine.kinds:
-            count = max(1, (words.sessions or engine.sessions) // kind.share)
+            count = max(1, (words.sessions or engine.count) // kind.share)
             firsts = tried(kind, count, random.Random(f"{words.seed} {kind.name}"), driver, words.program)
             for word, one in firsts.items():
-                show(words, kind, word, driver.trace(Plan(smallest(driver, words.program, one, word)).text()))
+                kept = one if word == "accepted" else smallest(driver, words.program, one, word)
+                show(words, kind, word, driver.trace(Plan(kept).text()))
         driver.close()
 
 
 def show(words: argparse.Namespace, kind: sessions.Kind, verdict_word: str, trace: str) -> None:
-    """Prints a smallest trace, and keeps it where that was asked for."""
-    print(f"the smallest found of {kind.name}, {verdict_word}:\n{trace}", flush=True)
+    """Prints a trace that was made smaller, and keeps each where that was asked for."""
+    if verdict_word != "accepted":
+        print(f"the smallest found of {kind.name}, {verdict_word}:\n{trace}", flush=True)
     if words.keep:
         words.keep.mkdir(parents=True, exist_ok=True)
         name = "_".join([words.engine, *kind.name.replace(",", "").split(), *verdict_word.split()])

@@ -62,16 +62,16 @@ UNCAUSAL = Kind("small, peers in order of each sender alone", (3, 4), (4, 24), c
 
 
 def session(kind: Kind, rnd: random.Random) -> Session:
-    """A session with bursts of one replica, replicas that are offline for a while, and inserts beside what is deleted. At
-    its end everyone has everything, and reads."""
+    """A session with bursts of one replica, one that is offline for a while, and inserts beside what is deleted. At its end
+    everyone has everything, and reads."""
     replicas = rnd.randint(*kind.replicas)
     middle = replicas - 1 if kind.star else None
     editors = [r for r in range(replicas) if r != middle or kind.middle_edits]
     steps, offline = [], set()
     length = rnd.randint(*kind.steps)
     while len(steps) < length:
-        if rnd.random() < 0.08:
-            offline ^= {rnd.choice(editors)}
+        if rnd.random() < (0.2 if offline else 0.08):
+            offline = set() if offline else {rnd.choice(editors)}
         if rnd.random() < 0.45:
             editor = rnd.choice(editors)
             steps += [act(editor, len(steps) + i, rnd) for i in range(rnd.choice([1, 1, 1, 2, 4]))]
