@@ -12,7 +12,7 @@ ENGINE is one of these; what each needs is installed from Debian 12 by apt-get w
 Prints, for each kind of session, how many were tried, how large they were, and what the program said of how many. Where
 some were not accepted it makes the shortest of each verdict smaller, as long as the verdict stays, and prints that trace;
 with --keep it writes these traces into the folder, and of each kind the accepted one with most receipts as it is. By
-default it runs within a minute."""
+default it runs within a minute, with Debian's cargo, whose build of crdts is slower, in a minute and a half."""
 import argparse
 import os
 import random
