@@ -6,8 +6,11 @@ order; a receipt waits until the operation that it names stands before it. No cl
 same logs have the same report.
 
 Other programs may call `merge(texts)`."""
+import re
 import sys
 from pathlib import Path
+
+ENTRY = re.compile(r"[0-9]+ (recv [0-9]+ [0-9]+|(ins|del|read) .*)", re.ASCII)
 
 
 class Unmerged(ValueError):
@@ -20,12 +23,25 @@ def merge(texts: list) -> str:
     if len(heads) != 1:
         raise Unmerged("the logs begin with different lines: they are of different sessions, or there is none")
     head = heads.pop()
-    waiting = [text.split("\n")[2:-1] for text in texts]
+    waiting = [entries(number, text) for number, text in enumerate(texts, 1)]
     authors = [line.split(" ")[0] for lines in waiting for line in lines[:1]]
     for author in authors:
         if authors.count(author) > 1:
             raise Unmerged(f"two logs are of replica {author}")
     return "\n".join([*head, *merged([lines for lines in waiting if lines])]) + "\n"
+
+
+def entries(number: int, text: str) -> list:
+    """The lines of a log behind the first two; it is the log of one replica."""
+    *lines, rest = text.split("\n")
+    if rest or lines[:1] != ["trace 1"] or not lines[1:2]:
+        raise Unmerged(f"log {number} is no text of a recorder, or was cut off")
+    for place, line in enumerate(lines[2:], 3):
+        if not ENTRY.fullmatch(line):
+            raise Unmerged(f"line {place} of log {number} is no entry: {line}")
+        if line.split(" ")[0] != lines[2].split(" ")[0]:
+            raise Unmerged(f"line {place} of log {number} is of another replica than line 3")
+    return lines[2:]
 
 
 def merged(logs: list) -> list:

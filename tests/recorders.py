@@ -269,6 +269,18 @@ UNMERGED = [
 ]
 
 
+# Texts that are no logs, each beside a log that is one.
+UNREADABLE = [
+    ("trace 1\nreplicas 3\n0 read :", "log 2 is no text of a recorder, or was cut off"),
+    ("trace 1\nreplicas 3", "log 2 is no text of a recorder, or was cut off"),
+    ("trace 2\nreplicas 3\n", "the logs begin"),
+    ("", "the logs begin"),
+    ("trace 1\nreplicas 3\n0 read :\n1 read :\n", "line 4 of log 2 is of another replica than line 3"),
+    ("trace 1\nreplicas 3\n0 recv 1\n", "line 3 of log 2 is no entry: 0 recv 1"),
+    ("trace 1\nreplicas 3\n\n", "line 3 of log 2 is no entry: "),
+]
+
+
 def log_text(lines: str) -> str:
     return "trace 1\nreplicas 3\n" + lines.replace("|", "\n") + "\n"
 
@@ -283,11 +295,13 @@ def check_merge(tally: Tally, program: str, folder: Path) -> None:
     for order in ([0, 1, 2], [2, 1, 0], [1, 2, 0]):
         merged = merge([logs[number] for number in order]).encode()
         tally.same(f"report of the merge {order}", run(program, ["verdict", "--json", "-"], merged), cycle)
-    for lines, why in UNMERGED:
+    refused = [([log_text(log) for log in lines], why) for lines, why in UNMERGED]
+    refused += [([log_text("2 read :"), text], why) for text, why in UNREADABLE]
+    for texts, why in refused:
         try:
-            tally.check(f"merge of {lines}", False, merge([log_text(log) for log in lines]))
-        except Unmerged as refused:
-            tally.check(f"merge of {lines}", str(refused).startswith(why), refused)
+            tally.check(f"merge of {texts}", False, merge(texts))
+        except Unmerged as said:
+            tally.check(f"merge of {texts}", str(said).startswith(why), said)
     files = []
     for number, log in enumerate(logs):
         files.append(folder / f"{number}.log")
