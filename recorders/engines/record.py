@@ -81,7 +81,10 @@ debug = 0
 END
 cd "$OUT" && cargo build --quiet --offline
 """
-C = """gcc -Wall -Wextra -O1 -o "$OUT/recorded" "$HERE/libinfinity.c" $(pkg-config --cflags --libs libinfinity-0.7 libinftext-0.7)"""
+C = """
+gcc -Wall -Wextra -O1 -o "$OUT/recorded" "$HERE/libinfinity.c" \\
+    $(pkg-config --cflags --libs libinfinity-0.7 libinftext-0.7)
+"""
 
 ENGINES = {
     "list_crdt": Engine([], [sys.executable, "{here}/list_crdt.py"], ALL, 1500),
