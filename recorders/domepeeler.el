@@ -1,0 +1,176 @@
+;;; domepeeler.el --- Record a replicated list editor for Domepeeler  -*- lexical-binding: t -*-
+
+;;; Commentary:
+
+;; Records what the replicas of a list editor do and answer, and has Domepeeler judge it.
+;;
+;; Copy this file into your project; it needs Emacs and nothing else.  docs/recording.md says where the calls go.
+;;
+;;   (let* ((recording (domepeeler-new 2))
+;;          (n (domepeeler-insert recording 0 "a" 0 '("a")))) ; replica 0 inserted a at 0; its list is now: a
+;;     (domepeeler-received recording 1 0 n)                  ; that operation was applied at replica 1
+;;     (domepeeler-delete recording 1 "a" nil)                ; replica 1 deleted a; its list is now empty
+;;     (domepeeler-read recording 0 '("a"))                   ; replica 0 read its list
+;;     (princ (domepeeler-text recording)))
+;;
+;; Each call that a trace can't say signals `domepeeler-refused', or `domepeeler-full' at a limit, and leaves the
+;; recording as it was.
+
+;;; Code:
+
+(require 'cl-lib)
+(require 'json)
+(require 'subr-x)
+
+(defconst domepeeler--replicas 16)
+(defconst domepeeler--entries 4096)
+(defconst domepeeler--inserts 256)
+(defconst domepeeler--names 4096)
+(defconst domepeeler--places 262144)
+(defconst domepeeler--position 4294967295)
+
+(define-error 'domepeeler-refused "No trace can say this")
+(define-error 'domepeeler-full "A limit of traces is reached" 'domepeeler-refused)
+
+(cl-defstruct (domepeeler--replica (:copier nil))
+  (entries 0) (operations 0) (inserts 0) (places 0))
+
+(cl-defstruct (domepeeler-recording (:constructor domepeeler--make) (:copier nil))
+  lines     ; the last one first
+  replicas  ; a vector
+  only)
+
+(defun domepeeler--refuse (format &rest words)
+  (signal 'domepeeler-refused (list (apply #'format format words))))
+
+(defun domepeeler--full (format &rest words)
+  (signal 'domepeeler-full (list (apply #'format format words))))
+
+(defun domepeeler--whole (number least most)
+  (and (integerp number) (<= least number most)))
+
+(defun domepeeler-new (replicas &optional only)
+  "A session of so many REPLICAS.
+With ONLY, the log that this replica keeps on its own machine."
+  (unless (domepeeler--whole replicas 1 domepeeler--replicas)
+    (domepeeler--refuse "replicas are 1 to %d, not %s" domepeeler--replicas replicas))
+  (let ((recording (domepeeler--make
+                    :lines (list (format "replicas %d" replicas) "trace 1")
+                    :replicas (cl-map 'vector (lambda (_) (make-domepeeler--replica)) (make-vector replicas nil)))))
+    (when only
+      (domepeeler--known recording only)
+      (setf (domepeeler-recording-only recording) only))
+    recording))
+
+(defun domepeeler-insert (recording replica name position response)
+  "REPLICA inserted NAME at POSITION and then had the list RESPONSE.
+Answers the operation's number."
+  (domepeeler--acts recording replica)
+  (domepeeler--check-name name)
+  (unless (domepeeler--whole position 0 domepeeler--position)
+    (domepeeler--refuse "position %s is not a whole number from 0 to %d" position domepeeler--position))
+  (domepeeler--operation recording replica (format "ins %s %d" name position) response 1))
+
+(defun domepeeler-delete (recording replica name response)
+  "REPLICA deleted NAME and then had the list RESPONSE.
+Answers the operation's number."
+  (domepeeler--acts recording replica)
+  (domepeeler--check-name name)
+  (domepeeler--operation recording replica (format "del %s" name) response 0))
+
+(defun domepeeler-read (recording replica response)
+  "REPLICA read its list, RESPONSE.  Answers the operation's number."
+  (domepeeler--acts recording replica)
+  (domepeeler--operation recording replica "read" response 0))
+
+(defun domepeeler-received (recording replica author n)
+  "AUTHOR's operation N was applied at REPLICA.
+With it came all that AUTHOR had seen by then."
+  (domepeeler--acts recording replica)
+  (domepeeler--known recording author)
+  (unless (domepeeler--whole n 1 domepeeler--position)
+    (domepeeler--refuse "operation number %s is not a whole number from 1 to %d" n domepeeler--position))
+  (when (= author replica)
+    (domepeeler--refuse "replica %d receives no operation of its own" replica))
+  (let ((have (domepeeler--replica-operations (domepeeler--of recording author))))
+    (when (and (> n have) (not (domepeeler-recording-only recording)))
+      (domepeeler--refuse "%d.%d cannot have arrived: replica %d has %d operations so far" author n author have)))
+  (domepeeler--room recording replica)
+  (cl-incf (domepeeler--replica-entries (domepeeler--of recording replica)))
+  (push (format "%d recv %d %d" replica author n) (domepeeler-recording-lines recording))
+  nil)
+
+(defun domepeeler-text (recording)
+  "The trace of RECORDING; of one replica's log the text that merge.py takes."
+  (concat (string-join (reverse (domepeeler-recording-lines recording)) "\n") "\n"))
+
+(defun domepeeler-judge (recording &optional program)
+  "The report of PROGRAM on RECORDING, as an alist.
+PROGRAM is by default that of the environment's DOMEPEELER, or \"domepeeler\"."
+  (when (domepeeler-recording-only recording)
+    (domepeeler--refuse "one replica's log is no recording: merge the logs first"))
+  (let ((program (or program (getenv "DOMEPEELER") "domepeeler"))
+        (errors (make-temp-file "domepeeler")))
+    (unwind-protect
+        (with-temp-buffer
+          (insert (domepeeler-text recording))
+          (let ((status (condition-case why
+                            (call-process-region (point-min) (point-max) program t (list t errors) nil
+                                                 "verdict" "--json" "-")
+                          (file-error (error "%s cannot be run (%s): name the program's path in DOMEPEELER" program
+                                             (error-message-string why))))))
+            (goto-char (point-min))
+            (unless (and (memq status '(0 1)) (looking-at "{"))
+              (error "%s ended with status %s: %s" program status
+                     (with-temp-buffer (insert-file-contents errors) (string-trim (buffer-string)))))
+            (json-read)))
+      (delete-file errors))))
+
+(defun domepeeler--of (recording replica)
+  (aref (domepeeler-recording-replicas recording) replica))
+
+(defun domepeeler--known (recording replica)
+  (let ((last (1- (length (domepeeler-recording-replicas recording)))))
+    (unless (domepeeler--whole replica 0 last)
+      (domepeeler--refuse "no replica %s among 0 to %d" replica last))))
+
+(defun domepeeler--acts (recording replica)
+  (domepeeler--known recording replica)
+  (let ((only (domepeeler-recording-only recording)))
+    (unless (memql only (list nil replica))
+      (domepeeler--refuse "this log is of replica %d alone, not of %d" only replica))))
+
+(defun domepeeler--check-name (name)
+  (unless (stringp name)
+    (domepeeler--refuse "a name is a string, not %S" name))
+  (let ((case-fold-search nil))
+    (unless (string-match-p "\\`[A-Za-z0-9_.-]\\{1,32\\}\\'" name)
+      (domepeeler--refuse "name \"%s\" is not 1 to 32 of A-Z a-z 0-9 _ - ." name))))
+
+(defun domepeeler--room (recording replica)
+  (when (= (domepeeler--replica-entries (domepeeler--of recording replica)) domepeeler--entries)
+    (domepeeler--full "replica %d has %d entries, the most that a trace takes" replica domepeeler--entries)))
+
+(defun domepeeler--operation (recording replica words response inserts)
+  (unless (listp response)
+    (domepeeler--refuse "a response is a list of names"))
+  (mapc #'domepeeler--check-name response)
+  (domepeeler--room recording replica)
+  (let* ((own (domepeeler--of recording replica))
+         (names (length response))
+         (places (+ names (domepeeler--replica-places own))))
+    (when (> (+ inserts (domepeeler--replica-inserts own)) domepeeler--inserts)
+      (domepeeler--full "replica %d has %d inserts, the most that a trace takes" replica domepeeler--inserts))
+    (when (> names domepeeler--names)
+      (domepeeler--full "a response of %d names, the most that a trace takes is %d" names domepeeler--names))
+    (when (> places domepeeler--places)
+      (domepeeler--full "%d names over the responses of replica %d, the most that a trace takes is %d"
+                        places replica domepeeler--places))
+    (cl-incf (domepeeler--replica-entries own))
+    (cl-incf (domepeeler--replica-inserts own) inserts)
+    (setf (domepeeler--replica-places own) places)
+    (push (string-join (cons (format "%d %s :" replica words) response) " ") (domepeeler-recording-lines recording))
+    (cl-incf (domepeeler--replica-operations own))))
+
+(provide 'domepeeler)
+;;; domepeeler.el ends here

@@ -1,0 +1,288 @@
+/* Records what the replicas of a list editor do and answer, and has Domepeeler judge it.
+ *
+ * Copy this file into your project; it needs C99 or C++, POSIX, and nothing else. docs/recording.md says where the calls go.
+ *
+ *     struct domepeeler *recording = domepeeler_new(2);
+ *     const char *list[] = {"a"};
+ *     unsigned n = domepeeler_insert(recording, 0, "a", 0, list, 1); // replica 0 inserted a at 0; its list is now: a
+ *     domepeeler_received(recording, 1, 0, n);                       // that operation was applied at replica 1
+ *     domepeeler_delete(recording, 1, "a", NULL, 0);                 // replica 1 deleted a; its list is now empty
+ *     domepeeler_read(recording, 0, list, 1);                        // replica 0 read its list
+ *     fputs(domepeeler_text(recording), stdout);
+ *     domepeeler_free(recording);
+ *
+ * Each call that a trace can't say answers 0 and leaves the recording as it was; domepeeler_why() then says why, and
+ * domepeeler_full() whether it is that a limit of traces is reached: then end this session, and begin another. */
+#ifndef DOMEPEELER_H
+#define DOMEPEELER_H
+
+#ifndef _POSIX_C_SOURCE
+#define _POSIX_C_SOURCE 200809L
+#endif
+
+#include <stdarg.h>
+#include <stdio.h>
+#include <stdlib.h>
+#include <string.h>
+#include <sys/wait.h>
+#include <unistd.h>
+
+enum {
+    DOMEPEELER_REPLICAS = 16,
+    DOMEPEELER_ENTRIES = 4096,
+    DOMEPEELER_INSERTS = 256,
+    DOMEPEELER_NAMES = 4096,
+    DOMEPEELER_PLACES = 262144
+};
+#define DOMEPEELER_POSITION 4294967295LL
+
+struct domepeeler_replica {
+    unsigned entries, operations, inserts, places;
+};
+
+struct domepeeler {
+    char *text;
+    size_t length, room;
+    int replicas, only; /* only is -1 where all replicas are recorded */
+    struct domepeeler_replica of[DOMEPEELER_REPLICAS];
+    int full;
+    char why[256];
+};
+
+static inline unsigned domepeeler_refuse(struct domepeeler *d, int full, const char *format, ...) {
+    va_list words;
+    va_start(words, format);
+    vsnprintf(d->why, sizeof d->why, format, words);
+    va_end(words);
+    d->full = full;
+    return 0;
+}
+
+/* Room for so many more bytes and the zero behind them. */
+static inline int domepeeler_grow(struct domepeeler *d, size_t more) {
+    size_t room = d->room ? d->room : 256;
+    while (room - d->length <= more) room *= 2;
+    if (room == d->room) return 1;
+    char *text = (char *)realloc(d->text, room);
+    if (!text) return 0;
+    d->text = text;
+    d->room = room;
+    return 1;
+}
+
+/* Appends to the text; there must be room. */
+static inline void domepeeler_put(struct domepeeler *d, const char *words) {
+    size_t length = strlen(words);
+    memcpy(d->text + d->length, words, length + 1);
+    d->length += length;
+}
+
+static inline void domepeeler_free(struct domepeeler *d) {
+    if (d) free(d->text);
+    free(d);
+}
+
+/* The log of one replica of so many, on its own machine; -1 for a recording of all. NULL where the numbers are not 1 to 16
+ * and below that, or memory is wanting. */
+static inline struct domepeeler *domepeeler_new_only(int replicas, int only) {
+    if (replicas < 1 || replicas > DOMEPEELER_REPLICAS || only < -1 || only >= replicas) return NULL;
+    struct domepeeler *d = (struct domepeeler *)calloc(1, sizeof *d);
+    if (!d || !domepeeler_grow(d, 64)) {
+        domepeeler_free(d);
+        return NULL;
+    }
+    d->replicas = replicas;
+    d->only = only;
+    char first[64];
+    snprintf(first, sizeof first, "trace 1\nreplicas %d\n", replicas);
+    domepeeler_put(d, first);
+    return d;
+}
+
+/* A session of so many replicas, 1 to 16; else NULL. */
+static inline struct domepeeler *domepeeler_new(int replicas) { return domepeeler_new_only(replicas, -1); }
+
+/* Why the last refused call was refused. */
+static inline const char *domepeeler_why(const struct domepeeler *d) { return d->why; }
+
+/* Whether that was because a limit of traces is reached. */
+static inline int domepeeler_full(const struct domepeeler *d) { return d->full; }
+
+/* The trace; of one replica's log the text that merge.py takes. It stays until the next call. */
+static inline const char *domepeeler_text(const struct domepeeler *d) { return d->text; }
+
+static inline unsigned domepeeler_known(struct domepeeler *d, int replica) {
+    if (replica >= 0 && replica < d->replicas) return 1;
+    return domepeeler_refuse(d, 0, "no replica %d among 0 to %d", replica, d->replicas - 1);
+}
+
+static inline unsigned domepeeler_acts(struct domepeeler *d, int replica) {
+    if (!domepeeler_known(d, replica)) return 0;
+    if (d->only < 0 || d->only == replica) return 1;
+    return domepeeler_refuse(d, 0, "this log is of replica %d alone, not of %d", d->only, replica);
+}
+
+static inline unsigned domepeeler_name(struct domepeeler *d, const char *name) {
+    static const char *allowed = "ABCDEFGHIJKLMNOPQRSTUVWXYZabcdefghijklmnopqrstuvwxyz0123456789_-.";
+    if (!name) return domepeeler_refuse(d, 0, "a name is a string, not NULL");
+    size_t length = strlen(name);
+    if (length >= 1 && length <= 32 && strspn(name, allowed) == length) return 1;
+    return domepeeler_refuse(d, 0, "name \"%s\" is not 1 to 32 of A-Z a-z 0-9 _ - .", name);
+}
+
+static inline unsigned domepeeler_room(struct domepeeler *d, int replica) {
+    if (d->of[replica].entries < DOMEPEELER_ENTRIES) return 1;
+    return domepeeler_refuse(d, 1, "replica %d has %d entries, the most that a trace takes", replica, DOMEPEELER_ENTRIES);
+}
+
+/* The limits, in the order in which the program tests them. */
+static inline unsigned domepeeler_fits(struct domepeeler *d, int replica, unsigned inserts, size_t names) {
+    const struct domepeeler_replica *own = &d->of[replica];
+    if (!domepeeler_room(d, replica)) return 0;
+    if (own->inserts + inserts > DOMEPEELER_INSERTS)
+        return domepeeler_refuse(d, 1, "replica %d has %d inserts, the most that a trace takes", replica,
+                                 DOMEPEELER_INSERTS);
+    if (names > DOMEPEELER_NAMES)
+        return domepeeler_refuse(d, 1, "a response of %zu names, the most that a trace takes is %d", names,
+                                 DOMEPEELER_NAMES);
+    if (own->places + names > DOMEPEELER_PLACES)
+        return domepeeler_refuse(d, 1,
+                                 "%zu names over the responses of replica %d, the most that a trace takes is %d",
+                                 own->places + names, replica, DOMEPEELER_PLACES);
+    return 1;
+}
+
+static inline unsigned domepeeler_operation(struct domepeeler *d, int replica, const char *words, unsigned inserts,
+                                            const char *const *response, size_t names) {
+    size_t bytes = 16 + strlen(words);
+    for (size_t i = 0; i < names; i++) {
+        if (!domepeeler_name(d, response[i])) return 0;
+        bytes += 1 + strlen(response[i]);
+    }
+    if (!domepeeler_fits(d, replica, inserts, names)) return 0;
+    if (!domepeeler_grow(d, bytes)) return domepeeler_refuse(d, 0, "no memory");
+    struct domepeeler_replica *own = &d->of[replica];
+    own->entries += 1;
+    own->inserts += inserts;
+    own->places += (unsigned)names;
+    char number[16];
+    snprintf(number, sizeof number, "%d ", replica);
+    domepeeler_put(d, number);
+    domepeeler_put(d, words);
+    domepeeler_put(d, " :");
+    for (size_t i = 0; i < names; i++) {
+        domepeeler_put(d, " ");
+        domepeeler_put(d, response[i]);
+    }
+    domepeeler_put(d, "\n");
+    return ++own->operations;
+}
+
+/* The replica inserted the name at the position and then had this list. Answers the operation's number. */
+static inline unsigned domepeeler_insert(struct domepeeler *d, int replica, const char *name, long long position,
+                                         const char *const *response, size_t names) {
+    char words[80];
+    if (!domepeeler_acts(d, replica) || !domepeeler_name(d, name)) return 0;
+    if (position < 0 || position > DOMEPEELER_POSITION)
+        return domepeeler_refuse(d, 0, "position %lld is not a whole number from 0 to %lld", position,
+                                 DOMEPEELER_POSITION);
+    snprintf(words, sizeof words, "ins %s %lld", name, position);
+    return domepeeler_operation(d, replica, words, 1, response, names);
+}
+
+/* The replica deleted the name and then had this list. Answers the operation's number. */
+static inline unsigned domepeeler_delete(struct domepeeler *d, int replica, const char *name,
+                                         const char *const *response, size_t names) {
+    char words[80];
+    if (!domepeeler_acts(d, replica) || !domepeeler_name(d, name)) return 0;
+    snprintf(words, sizeof words, "del %s", name);
+    return domepeeler_operation(d, replica, words, 0, response, names);
+}
+
+/* The replica read its list. Answers the operation's number. */
+static inline unsigned domepeeler_read(struct domepeeler *d, int replica, const char *const *response, size_t names) {
+    if (!domepeeler_acts(d, replica)) return 0;
+    return domepeeler_operation(d, replica, "read", 0, response, names);
+}
+
+/* The author's operation n, and with it all that the author had seen by then, was applied at the replica. Answers 1. */
+static inline unsigned domepeeler_received(struct domepeeler *d, int replica, int author, long long n) {
+    if (!domepeeler_acts(d, replica) || !domepeeler_known(d, author)) return 0;
+    if (n < 1 || n > DOMEPEELER_POSITION)
+        return domepeeler_refuse(d, 0, "operation number %lld is not a whole number from 1 to %lld", n,
+                                 DOMEPEELER_POSITION);
+    if (author == replica) return domepeeler_refuse(d, 0, "replica %d receives no operation of its own", replica);
+    unsigned have = d->of[author].operations;
+    if (n > have && d->only < 0)
+        return domepeeler_refuse(d, 0, "%d.%lld cannot have arrived: replica %d has %u operations so far", author, n,
+                                 author, have);
+    if (!domepeeler_room(d, replica)) return 0;
+    char line[64];
+    snprintf(line, sizeof line, "%d recv %d %lld\n", replica, author, n);
+    if (!domepeeler_grow(d, strlen(line))) return domepeeler_refuse(d, 0, "no memory");
+    domepeeler_put(d, line);
+    d->of[replica].entries += 1;
+    return 1;
+}
+
+/* All that stands in the file, for free(); NULL where it can't be read. */
+static inline char *domepeeler_whole(FILE *file) {
+    long length = fseek(file, 0, SEEK_END) ? -1 : ftell(file);
+    char *text = length < 0 ? NULL : (char *)malloc((size_t)length + 1);
+    if (!text) return NULL;
+    rewind(file);
+    text[fread(text, 1, (size_t)length, file)] = 0;
+    return text;
+}
+
+/* Runs the program with these three files as its streams; answers its exit status, or 127 where it could not run. */
+static inline int domepeeler_run(const char *program, FILE *in, FILE *out, FILE *err) {
+    fflush(NULL); /* or the child would write once more what is still in a buffer */
+    pid_t child = fork();
+    if (child < 0) return 127;
+    if (child == 0) {
+        if (dup2(fileno(in), 0) == 0 && dup2(fileno(out), 1) == 1 && dup2(fileno(err), 2) == 2)
+            execlp(program, program, "verdict", "--json", "-", (char *)NULL);
+        _exit(127);
+    }
+    int status;
+    if (waitpid(child, &status, 0) != child || !WIFEXITED(status)) return 127;
+    return WEXITSTATUS(status);
+}
+
+/* The report, as JSON, of the program on this recording; free() it. NULL where there is none. The program is that of the
+ * environment's DOMEPEELER, or domepeeler, where NULL is given. */
+static inline char *domepeeler_judge(struct domepeeler *d, const char *program) {
+    if (d->only >= 0) {
+        domepeeler_refuse(d, 0, "one replica's log is no recording: merge the logs first");
+        return NULL;
+    }
+    if (!program) program = getenv("DOMEPEELER");
+    if (!program || !*program) program = "domepeeler";
+    FILE *in = tmpfile(), *out = tmpfile(), *err = tmpfile();
+    char *report = NULL;
+    if (in && out && err && fwrite(d->text, 1, d->length, in) == d->length && !fflush(in)) {
+        rewind(in);
+        int status = domepeeler_run(program, in, out, err);
+        if (status == 0 || status == 1) report = domepeeler_whole(out);
+        if (!report || *report != '{') {
+            free(report);
+            report = NULL;
+            char *why = domepeeler_whole(err);
+            if (why) why[strcspn(why, "\n")] = 0;
+            if (status == 127)
+                domepeeler_refuse(d, 0, "%s cannot be run: name the program's path in DOMEPEELER", program);
+            else
+                domepeeler_refuse(d, 0, "%s ended with status %d: %.160s", program, status, why ? why : "");
+            free(why);
+        }
+    } else {
+        domepeeler_refuse(d, 0, "no files for the program's streams");
+    }
+    if (in) fclose(in);
+    if (out) fclose(out);
+    if (err) fclose(err);
+    return report;
+}
+
+#endif

@@ -1,0 +1,66 @@
+#!/usr/bin/env python3
+"""run.py PROGRAM: the three property-based tests, each with what it needs from Debian 12, which is installed by apt-get
+where it is missing (as root). Two minutes at most, most of it for building Rust crates.
+
+Of each file the first test must pass, and the second, of an engine with a fault, must fail with the smallest recording
+found and the program's report on it. Prints that and ends with status 1 where it is not so."""
+import os
+import subprocess
+import sys
+import tempfile
+from pathlib import Path
+
+HERE = Path(__file__).parent
+sys.path.insert(0, str(HERE.parent / "engines"))
+from record import DEBIAN_CRATES, install
+
+CARGO = DEBIAN_CRATES + """
+mkdir -p "$OUT/src"
+cp "$HERE/with_proptest.rs" "$OUT/src/lib.rs"
+cp "$HERE/../domepeeler.rs" "$OUT/src"
+cat > "$OUT/Cargo.toml" <<END
+[package]
+name = "properties"
+version = "0.1.0"
+edition = "2021"
+[dev-dependencies]
+crdts = "7.2"
+proptest = { version = "1.0", default-features = false, features = ["std"] }
+[profile.dev]
+debug = 0
+END
+cd "$OUT" && cargo test --quiet --offline 2>&1
+"""
+
+# Of each test: packages, the command, what it must say of the engine without a fault and of the other.
+TESTS = {
+    "Hypothesis": (["python3-hypothesis", "python3-pytest"],
+                   'cd "$OUT" && /usr/bin/python3 -m pytest -q -p no:cacheprovider "$HERE/with_hypothesis.py"',
+                   ["1 failed, 1 passed", "'verdict': 'refused'", "0 ins e0 0 : e0"]),
+    "Node's test runner": (["nodejs", "node-yjs"], 'node --test --test-reporter=tap "$HERE/with_node_test.mjs"',
+                           ["ok 1 - Yjs", "not ok 2 - a list by fractions", '"verdict":"position"']),
+    "proptest": (["librust-proptest+std-dev", "librust-crdts-dev"], CARGO,
+                 ["1 passed; 1 failed", '"verdict":"contents"', "minimal failing input"]),
+}
+
+
+def main() -> None:
+    if len(sys.argv) != 2 or not os.access(sys.argv[1], os.X_OK):
+        sys.exit("usage: run.py PROGRAM")
+    failed = 0
+    for name, (packages, command, wanted) in TESTS.items():
+        install(packages)
+        with tempfile.TemporaryDirectory() as folder:
+            surroundings = {**os.environ, "DOMEPEELER": os.path.abspath(sys.argv[1]), "HERE": str(HERE.resolve()),
+                            "OUT": folder, "NODE_PATH": "/usr/share/nodejs", "HYPOTHESIS_STORAGE_DIRECTORY": folder,
+                            "PYTHONDONTWRITEBYTECODE": "1"}
+            said = subprocess.run(["sh", "-ec", command], capture_output=True, env=surroundings).stdout.decode()
+        missing = [words for words in wanted if words not in said]
+        print(said)
+        print(f"{name}: " + (f"MISSING {missing}" if missing else "one passes, one fails, as they are meant to"))
+        failed += bool(missing)
+    sys.exit(1 if failed else 0)
+
+
+if __name__ == "__main__":
+    main()

@@ -1,0 +1,80 @@
+#!/usr/bin/env python3
+"""A property-based test by Hypothesis: whatever is done at three replicas, the recording is accepted.
+
+Needs Debian's python3-hypothesis and python3-pytest, and the program's path in DOMEPEELER:
+
+    DOMEPEELER=../../crates/finder_cli/out/finder_cli /usr/bin/python3 -m pytest -q with_hypothesis.py
+
+The second test fails, and is meant to: it shows what a failure looks like."""
+import sys
+from pathlib import Path
+
+from hypothesis import given, settings
+from hypothesis import strategies as st
+
+sys.path.insert(0, str(Path(__file__).parent.parent / "engines"))
+from list_crdt import Group, ListCrdt
+
+REPLICAS = 3
+
+
+class Unsorted(ListCrdt):
+    """The same list CRDT with a fault: of elements behind the same one, that which arrives last comes first."""
+
+    def apply(self, message: tuple) -> None:
+        if message[0] == "delete":
+            super().apply(message)
+            return
+        _, identity, name, behind = message
+        self.items.insert(self.place(behind) + 1 if behind else 0, [identity, name, True])
+        self.clock = max(self.clock, identity[0])
+
+
+# What is done: by which replica, what, and where or to which element or from whom.
+STEPS = st.lists(st.tuples(st.integers(0, REPLICAS - 1), st.sampled_from(["insert", "delete", "take"]), st.integers(0, 7)),
+                 max_size=30)
+
+
+def session(engine: type, steps: list):
+    """The recording of these steps. At the end everyone takes from everyone, and reads."""
+    group = Group(REPLICAS, engine)
+    has = [[] for _ in range(REPLICAS)]  # the operations of each replica, in the order in which they came
+    for number, (replica, what, place) in enumerate(steps):
+        names = group.names(replica)
+        if what == "insert":
+            has[replica].append((replica, group.insert(replica, f"e{number}", place % (len(names) + 1))))
+        elif what == "delete" and names:
+            has[replica].append((replica, group.delete(replica, names[place % len(names)])))
+        elif what == "take":
+            take(group, has, replica, place % REPLICAS)
+    for replica in [*range(REPLICAS), *range(REPLICAS)]:
+        for other in range(REPLICAS):
+            take(group, has, replica, other)
+    for replica in range(REPLICAS):
+        group.read(replica)
+    return group.recording
+
+
+def take(group: Group, has: list, replica: int, other: int) -> None:
+    """The replica takes in what the other has, in the other's order: so exchange is causal."""
+    for operation in [one for one in has[other] if one not in has[replica]]:
+        group.take(replica, *operation)
+        has[replica].append(operation)
+
+
+def check(engine: type, steps: list) -> None:
+    recording = session(engine, steps)
+    report = recording.judge()
+    assert report["verdict"] == "accepted", f"{report}\n{recording.text()}"
+
+
+@settings(deadline=None, max_examples=200, derandomize=True)
+@given(STEPS)
+def test_the_list_crdt(steps):
+    check(ListCrdt, steps)
+
+
+@settings(deadline=None, max_examples=200, derandomize=True)
+@given(STEPS)
+def test_the_list_crdt_with_a_fault(steps):
+    check(Unsorted, steps)

@@ -1,0 +1,121 @@
+//! A property-based test by proptest: whatever is done at three replicas of the list of the crate crdts, the recording is
+//! accepted. Needs Debian's librust-proptest+std-dev and librust-crdts-dev; run.py makes the package round it and runs it.
+//!
+//! The second test fails, and is meant to: it shows what a failure looks like. There an operation may arrive before what
+//! its author had seen, which this list doesn't bear.
+#![cfg(test)]
+mod domepeeler;
+
+use crdts::{list::Op, CmRDT, List};
+use domepeeler::{Recording, Refused};
+use proptest::prelude::*;
+
+const REPLICAS: usize = 3;
+
+/// What is done: by which replica, what, and where or to which element or from whom.
+type Step = (usize, u8, usize);
+
+/// An operation's author and number, and its message.
+type Done = (usize, u32, Op<String, usize>);
+
+struct Group {
+    recording: Recording,
+    lists: Vec<List<String, usize>>,
+    /// The operations of each replica, in the order in which they came.
+    has: Vec<Vec<Done>>,
+}
+
+impl Group {
+    fn new() -> Result<Group, Refused> {
+        let (lists, has) = (vec![List::new(); REPLICAS], vec![Vec::new(); REPLICAS]);
+        Ok(Group { recording: Recording::new(REPLICAS)?, lists, has })
+    }
+
+    fn names(&self, replica: usize) -> Vec<String> {
+        self.lists[replica].iter().cloned().collect()
+    }
+
+    fn insert(&mut self, replica: usize, name: String, place: usize) -> Result<(), Refused> {
+        let position = place % (self.lists[replica].len() + 1);
+        let message = self.lists[replica].insert_index(position, name.clone(), replica);
+        self.lists[replica].apply(message.clone());
+        let names = self.names(replica);
+        let n = self.recording.insert(replica, &name, position as u32, &names)?;
+        self.has[replica].push((replica, n, message));
+        Ok(())
+    }
+
+    fn delete(&mut self, replica: usize, place: usize) -> Result<(), Refused> {
+        let names = self.names(replica);
+        if names.is_empty() {
+            return Ok(());
+        }
+        let place = place % names.len();
+        let message = self.lists[replica].delete_index(place, replica).expect("a place in the list");
+        self.lists[replica].apply(message.clone());
+        let after = self.names(replica);
+        let n = self.recording.delete(replica, &names[place], &after)?;
+        self.has[replica].push((replica, n, message));
+        Ok(())
+    }
+
+    /// The replica takes in what the other has; or, where exchange is not causal, what the other did itself.
+    fn take(&mut self, replica: usize, other: usize, causal: bool) -> Result<(), Refused> {
+        for one in self.has[other].clone() {
+            let known = self.has[replica].iter().any(|had| had.0 == one.0 && had.1 == one.1);
+            if !known && (causal || one.0 == other) {
+                self.lists[replica].apply(one.2.clone());
+                self.recording.received(replica, one.0, one.1)?;
+                self.has[replica].push(one);
+            }
+        }
+        Ok(())
+    }
+}
+
+/// The recording of these steps. At the end everyone takes from everyone, and reads.
+fn session(steps: &[Step], causal: bool) -> Result<Recording, Refused> {
+    let mut group = Group::new()?;
+    for (number, &(replica, what, place)) in steps.iter().enumerate() {
+        match what {
+            0 => group.insert(replica, format!("e{number}"), place)?,
+            1 => group.delete(replica, place)?,
+            _ => group.take(replica, place % REPLICAS, causal)?,
+        }
+    }
+    for replica in (0..REPLICAS).chain(0..REPLICAS) {
+        for other in 0..REPLICAS {
+            group.take(replica, other, causal)?;
+        }
+    }
+    for replica in 0..REPLICAS {
+        let names = group.names(replica);
+        group.recording.read(replica, &names)?;
+    }
+    Ok(group.recording)
+}
+
+fn check(steps: &[Step], causal: bool) -> Result<(), TestCaseError> {
+    let recording = session(steps, causal).map_err(|why| TestCaseError::fail(why.to_string()))?;
+    let report = recording.judge().map_err(TestCaseError::fail)?;
+    prop_assert!(report.contains("\"verdict\":\"accepted\""), "{report}{}", recording.text());
+    Ok(())
+}
+
+fn steps() -> impl Strategy<Value = Vec<Step>> {
+    prop::collection::vec((0..REPLICAS, 0..3u8, 0..8usize), 0..30)
+}
+
+proptest! {
+    #![proptest_config(ProptestConfig { cases: 200, failure_persistence: None, ..ProptestConfig::default() })]
+
+    #[test]
+    fn the_list_of_crdts(steps in steps()) {
+        check(&steps, true)?;
+    }
+
+    #[test]
+    fn the_list_of_crdts_where_exchange_is_not_causal(steps in steps()) {
+        check(&steps, false)?;
+    }
+}

@@ -1,0 +1,69 @@
+/* Makes the calls that stand on standard input, in fields between tabs, of the C recorder: see tests/recorders.py. */
+#include "../../recorders/domepeeler.h"
+
+enum { MOST_WORDS = 5000 };
+
+static char *words[MOST_WORDS];
+static size_t count;
+
+/* Splits the line, without its end, at the tabs. */
+static void split(char *line) {
+    count = 0;
+    line[strcspn(line, "\n")] = 0;
+    for (char *word = line; word; count++) {
+        char *tab = strchr(word, '\t');
+        if (tab) *tab = 0;
+        words[count] = word;
+        word = tab ? tab + 1 : NULL;
+    }
+}
+
+static int is(const char *word) { return strcmp(words[0], word) == 0; }
+
+static void answer(struct domepeeler *d, unsigned n, int numbered) {
+    if (n && numbered) printf("ok %u\n", n);
+    if (n && !numbered) printf("ok\n");
+    if (!n) printf("%s %s\n", domepeeler_full(d) ? "full" : "refused", domepeeler_why(d));
+}
+
+static void judge(struct domepeeler *d) {
+    char *report = domepeeler_judge(d, NULL);
+    if (report) printf("report %s", report);
+    else printf("failed %s\n", domepeeler_why(d));
+    free(report);
+}
+
+static void show(const char *text) {
+    for (const char *line = text; *line; line = strchr(line, '\n') + 1)
+        printf("| %.*s\n", (int)strcspn(line, "\n"), line);
+    puts("ok");
+}
+
+static struct domepeeler *begin(struct domepeeler *old) {
+    struct domepeeler *d = domepeeler_new_only(atoi(words[1]), count > 2 ? atoi(words[2]) : -1);
+    puts(d ? "ok" : "refused");
+    if (!d) return old;
+    domepeeler_free(old);
+    return d;
+}
+
+int main(void) {
+    char *line = NULL;
+    size_t room = 0;
+    struct domepeeler *d = NULL;
+    while (getline(&line, &room, stdin) > 0) {
+        split(line);
+        int replica = count > 1 ? atoi(words[1]) : 0;
+        const char *const *list = (const char *const *)words;
+        if (is("new")) d = begin(d);
+        if (is("insert")) answer(d, domepeeler_insert(d, replica, words[2], atoll(words[3]), list + 4, count - 4), 1);
+        if (is("delete")) answer(d, domepeeler_delete(d, replica, words[2], list + 3, count - 3), 1);
+        if (is("read")) answer(d, domepeeler_read(d, replica, list + 2, count - 2), 1);
+        if (is("received")) answer(d, domepeeler_received(d, replica, atoi(words[2]), atoll(words[3])), 0);
+        if (is("judge")) judge(d);
+        if (is("text")) show(domepeeler_text(d));
+    }
+    domepeeler_free(d);
+    free(line);
+    return 0;
+}

@@ -1,0 +1,45 @@
+;;; Makes the calls that stand on standard input, in fields between tabs: see tests/recorders.py.  -*- lexical-binding: t -*-
+
+(load (expand-file-name "../../recorders/domepeeler.el" (file-name-directory load-file-name)) nil t)
+
+(defvar driver-untyped
+  (list
+   (lambda () (domepeeler-new "2"))
+   (lambda () (domepeeler-new t))
+   (lambda () (domepeeler-read (domepeeler-new 2) 1.0 nil))
+   (lambda () (domepeeler-read (domepeeler-new 2) nil nil))
+   (lambda () (domepeeler-insert (domepeeler-new 2) 0 "a" 0.5 '("a")))
+   (lambda () (domepeeler-insert (domepeeler-new 2) 0 "a" "0" '("a")))
+   (lambda () (domepeeler-insert (domepeeler-new 2) 0 7 0 nil))
+   (lambda () (domepeeler-read (domepeeler-new 2) 0 '("a" 7)))
+   (lambda () (domepeeler-read (domepeeler-new 2) 0 "ab")))
+  "Calls that only a language without types can make, and that a trace can't say.")
+
+(defvar driver-recording nil)
+
+(defun driver-call (words)
+  (let ((number (string-to-number (or (nth 1 words) "0"))))
+    (pcase (car words)
+      ("new" (setq driver-recording (apply #'domepeeler-new (mapcar #'string-to-number (cdr words)))) "ok")
+      ("insert" (format "ok %d" (domepeeler-insert driver-recording number (nth 2 words)
+                                                   (string-to-number (nth 3 words)) (nthcdr 4 words))))
+      ("delete" (format "ok %d" (domepeeler-delete driver-recording number (nth 2 words) (nthcdr 3 words))))
+      ("read" (format "ok %d" (domepeeler-read driver-recording number (nthcdr 2 words))))
+      ("received" (domepeeler-received driver-recording number (string-to-number (nth 2 words))
+                                       (string-to-number (nth 3 words)))
+       "ok")
+      ("judge" (concat "report " (json-encode (domepeeler-judge driver-recording))))
+      ("untyped" (funcall (nth number driver-untyped)))
+      (_ (concat (replace-regexp-in-string "^\\(.\\)" "| \\1" (domepeeler-text driver-recording)) "ok")))))
+
+(defun driver-answer (words)
+  (condition-case why
+      (driver-call words)
+    (domepeeler-full (concat "full " (cadr why)))
+    (domepeeler-refused (concat "refused " (cadr why)))
+    (error (concat "failed " (error-message-string why)))))
+
+(with-temp-buffer
+  (insert-file-contents "/dev/stdin")
+  (dolist (line (butlast (split-string (buffer-string) "\n")))
+    (princ (concat (driver-answer (split-string line "\t")) "\n"))))

@@ -1,0 +1,51 @@
+// Makes the calls that stand on standard input, in fields between tabs, of the JavaScript recorder: see tests/recorders.py.
+import { readFileSync } from "node:fs"
+import { Full, Recording, Refused } from "../../recorders/domepeeler.mjs"
+
+// Calls that only a language without types can make, and that a trace can't say.
+const UNTYPED = [
+  () => new Recording("2"),
+  () => new Recording(true),
+  () => new Recording(2).read(0.5, []),
+  () => new Recording(2).read(undefined, []),
+  () => new Recording(2).insert(0, "a", 0.5, ["a"]),
+  () => new Recording(2).insert(0, "a", "0", ["a"]),
+  () => new Recording(2).insert(0, 7, 0, []),
+  () => new Recording(2).read(0, ["a", 7]),
+  () => new Recording(2).read(0, "ab"),
+]
+
+let recording
+
+async function call(words) {
+  const number = Number(words[1])
+  switch (words[0]) {
+    case "new":
+      recording = new Recording(...words.slice(1).map(Number))
+      return "ok"
+    case "insert":
+      return `ok ${recording.insert(number, words[2], Number(words[3]), words.slice(4))}`
+    case "delete":
+      return `ok ${recording.delete(number, words[2], words.slice(3))}`
+    case "read":
+      return `ok ${recording.read(number, words.slice(2))}`
+    case "received":
+      recording.received(number, Number(words[2]), Number(words[3]))
+      return "ok"
+    case "judge":
+      return "report " + JSON.stringify(await recording.judge())
+    case "untyped":
+      return UNTYPED[number]()
+    default:
+      return recording.text().replace(/.+\n/g, "| $&") + "ok"
+  }
+}
+
+for (const line of readFileSync(0, "utf8").split("\n").slice(0, -1)) {
+  try {
+    console.log(await call(line.split("\t")))
+  } catch (why) {
+    const kind = why instanceof Full ? "full" : why instanceof Refused ? "refused" : "failed"
+    console.log(`${kind} ${why.message}`)
+  }
+}

@@ -1,0 +1,66 @@
+"""Makes the calls that stand on standard input, in fields between tabs, of the Python recorder: see tests/recorders.py."""
+import json
+import sys
+from pathlib import Path
+
+sys.path.insert(0, str(Path(__file__).parent.parent.parent / "recorders"))
+from domepeeler import Full, Recording, Refused
+
+# Calls that only a language without types can make, and that a trace can't say.
+UNTYPED = [
+    lambda: Recording("2"),
+    lambda: Recording(True),
+    lambda: Recording(2).read(1.0, []),
+    lambda: Recording(2).read(None, []),
+    lambda: Recording(2).insert(0, "a", 0.5, ["a"]),
+    lambda: Recording(2).insert(0, "a", "0", ["a"]),
+    lambda: Recording(2).insert(0, 7, 0, []),
+    lambda: Recording(2).read(0, ["a", 7]),
+    lambda: Recording(2).read(0, "ab"),
+]
+
+
+def call(recording: Recording, words: list) -> str:
+    kind, number = words[0], int(words[1]) if len(words) > 1 else 0
+    if kind == "insert":
+        return f"ok {recording.insert(number, words[2], int(words[3]), words[4:])}"
+    if kind == "delete":
+        return f"ok {recording.delete(number, words[2], words[3:])}"
+    if kind == "read":
+        return f"ok {recording.read(number, words[2:])}"
+    if kind == "received":
+        recording.received(number, int(words[2]), int(words[3]))
+        return "ok"
+    if kind == "judge":
+        return "report " + json.dumps(recording.judge())
+    return "".join(f"| {line}\n" for line in recording.text().splitlines()) + "ok"
+
+
+def answer(act) -> str:
+    try:
+        return act()
+    except Full as why:
+        return f"full {why}"
+    except Refused as why:
+        return f"refused {why}"
+    except (OSError, RuntimeError) as why:
+        return f"failed {why}"
+
+
+def main() -> None:
+    recording = None
+
+    def begin(words: list) -> str:
+        nonlocal recording
+        recording = Recording(*map(int, words[1:]))
+        return "ok"
+
+    for line in sys.stdin.read().split("\n")[:-1]:
+        words = line.split("\t")
+        if words[0] == "untyped":
+            print(answer(UNTYPED[int(words[1])]))
+        else:
+            print(answer(lambda: begin(words) if words[0] == "new" else call(recording, words)))
+
+
+main()

@@ -1,0 +1,59 @@
+//! Makes the calls that stand on standard input, in fields between tabs, of the Rust recorder: see tests/recorders.py.
+#[path = "../../recorders/domepeeler.rs"]
+mod domepeeler;
+
+use domepeeler::{Recording, Refused};
+use std::io::Read;
+
+fn number<N: std::str::FromStr>(word: &str) -> N
+where
+    N::Err: std::fmt::Debug,
+{
+    word.parse().expect("a number of this type")
+}
+
+fn begin(words: &[&str]) -> Result<Recording, Refused> {
+    match words {
+        [_, replicas] => Recording::new(number(replicas)),
+        _ => Recording::only(number(words[1]), number(words[2])),
+    }
+}
+
+fn call(recording: &mut Recording, words: &[&str]) -> Result<String, Refused> {
+    let done = |n: u32| format!("ok {n}");
+    match words[0] {
+        "insert" => recording.insert(number(words[1]), words[2], number(words[3]), &words[4..]).map(done),
+        "delete" => recording.delete(number(words[1]), words[2], &words[3..]).map(done),
+        "read" => recording.read(number(words[1]), &words[2..]).map(done),
+        "received" => {
+            recording.received(number(words[1]), number(words[2]), number(words[3])).map(|()| "ok".to_string())
+        }
+        "judge" => Ok(match recording.judge() {
+            Ok(report) => format!("report {}", report.trim()),
+            Err(why) => format!("failed {why}"),
+        }),
+        _ => Ok(recording.text().lines().map(|line| format!("| {line}\n")).collect::<String>() + "ok"),
+    }
+}
+
+fn answer(done: Result<String, Refused>) -> String {
+    done.unwrap_or_else(|why| format!("{} {why}", if why.is_full() { "full" } else { "refused" }))
+}
+
+fn main() {
+    let mut script = String::new();
+    std::io::stdin().read_to_string(&mut script).expect("a script");
+    let mut recording = Recording::new(1).expect("a recording");
+    for line in script.split_terminator('\n') {
+        let words: Vec<&str> = line.split('\t').collect();
+        let done = if words[0] == "new" {
+            begin(&words).map(|new| {
+                recording = new;
+                "ok".to_string()
+            })
+        } else {
+            call(&mut recording, &words)
+        };
+        println!("{}", answer(done));
+    }
+}

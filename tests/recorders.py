@@ -1,0 +1,368 @@
+#!/usr/bin/env python3
+"""recorders.py PROGRAM: each recorder of recorders/ makes the calls of one table, and must answer each as it stands there.
+
+What is expected was written by hand from docs/formats.md. Needs node, rustc and gcc; where emacs is missing it installs
+Debian's emacs-nox, and fails if it can't."""
+import json
+import os
+import shutil
+import subprocess
+import sys
+import tempfile
+from pathlib import Path
+from urllib.parse import unquote
+
+from program import Tally, program_of, run
+
+ROOT = Path(__file__).parent.parent
+DRIVERS = ROOT / "tests" / "recorder_drivers"
+EXAMPLES = ROOT / "examples"
+LANGUAGES = ["py", "mjs", "rs", "c", "el"]
+TYPED = ["rs", "c"]  # languages in which some wrong calls can't be written
+sys.path.insert(0, str(ROOT / "recorders"))
+
+CYCLE = """new 3 -> ok
+insert 0 x 0 x -> ok 1
+received 1 0 1 -> ok
+received 2 0 1 -> ok
+insert 1 a 0 a x -> ok 1
+insert 2 b 1 x b -> ok 1
+delete 0 x -> ok 2
+received 0 1 1 -> ok
+received 0 2 1 -> ok
+read 0 b a -> ok 3
+"""
+CYCLE_REPORT = {
+    "inserts": 3, "k": 3, "operations": 5, "replicas": 3, "strong": False, "verdict": "refused", "weak": True,
+    "steps": [{"from": "x", "response": ["x", "b"], "shown": "2.1", "to": "b"},
+              {"from": "b", "response": ["b", "a"], "shown": "0.3", "to": "a"},
+              {"from": "a", "response": ["a", "x"], "shown": "1.1", "to": "x"}]}
+
+NAME = "is not 1 to 32 of A-Z a-z 0-9 _ - ."
+LETTERS32 = "abcdefghijklmnopqrstuvwxyz_-.019"
+
+# Calls, each with its answer, and the lines of the trace behind the first two. `%` and two digits stand for a byte.
+SAID = [
+    ("the textbook cycle", CYCLE, (EXAMPLES / "libinfinity_three_way_cycle.trace").read_text().splitlines()[2:]),
+    ("nothing", "new 1 -> ok\n", []),
+    ("insert, delete, read", "new 1 -> ok\ninsert 0 a 0 a -> ok 1\ndelete 0 a -> ok 2\nread 0 -> ok 3\n",
+     ["0 ins a 0 : a", "0 del a :", "0 read :"]),
+    ("sixteen replicas", "new 16 -> ok\nread 15 -> ok 1\nreceived 14 15 1 -> ok\n", ["15 read :", "14 recv 15 1"]),
+    ("names of 1 and of 32 bytes", f"new 1 -> ok\ninsert 0 Z 0 Z -> ok 1\nread 0 Z {LETTERS32} -> ok 2\n",
+     ["0 ins Z 0 : Z", f"0 read : Z {LETTERS32}"]),
+    ("the last position", "new 1 -> ok\ninsert 0 a 4294967295 a -> ok 1\n", ["0 ins a 4294967295 : a"]),
+    ("a receipt once more", "new 2 -> ok\nread 0 -> ok 1\nreceived 1 0 1 -> ok\nreceived 1 0 1 -> ok\nread 1 -> ok 1\n",
+     ["0 read :", "1 recv 0 1", "1 recv 0 1", "1 read :"]),
+    ("wrong lists and doubled names are for the judge",
+     "new 1 -> ok\ninsert 0 a 0 b b -> ok 1\ninsert 0 a 0 -> ok 2\ndelete 0 c c -> ok 3\n",
+     ["0 ins a 0 : b b", "0 ins a 0 :", "0 del c : c"]),
+    ("one replica's log", "new 3 1 -> ok\nreceived 1 0 9 -> ok\nread 1 a -> ok 1\nreceived 1 2 4 -> ok\n",
+     ["1 recv 0 9", "1 read : a", "1 recv 2 4"]),
+]
+
+# Calls that are refused, behind calls that are not; the recording stays what it was.
+REFUSED = [
+    ("replica 2 of 2", "new 2 -> ok\nread 2 -> refused no replica 2 among 0 to 1\n"),
+    ("a receipt of replica 2 of 2", "new 2 -> ok\nreceived 0 2 1 -> refused no replica 2 among 0 to 1\n"),
+    ("a receipt at replica 2 of 2", "new 2 -> ok\nreceived 2 0 1 -> refused no replica 2 among 0 to 1\n"),
+    ("an own operation", "new 2 -> ok\nread 0 -> ok 1\n"
+     "received 0 0 1 -> refused replica 0 receives no operation of its own\n"),
+    ("an operation that is not there", "new 2 -> ok\nread 0 -> ok 1\nreceived 1 0 1 -> ok\n"
+     "received 1 0 2 -> refused 0.2 cannot have arrived: replica 0 has 1 operations so far\n"),
+    ("receipts are no operations", "new 2 -> ok\nread 0 -> ok 1\nreceived 1 0 1 -> ok\n"
+     "received 0 1 1 -> refused 1.1 cannot have arrived: replica 1 has 0 operations so far\n"),
+    ("operation 0", "new 2 -> ok\nread 0 -> ok 1\n"
+     "received 1 0 0 -> refused operation number 0 is not a whole number from 1 to 4294967295\n"),
+    ("an own operation that is not there", "new 2 -> ok\n"
+     "received 0 0 5 -> refused replica 0 receives no operation of its own\n"),
+    ("another replica in one's log",
+     "new 3 1 -> ok\nread 0 -> refused this log is of replica 1 alone, not of 0\n"
+     "received 2 1 1 -> refused this log is of replica 1 alone, not of 2\n"
+     "received 1 1 1 -> refused replica 1 receives no operation of its own\n"
+     "received 1 3 1 -> refused no replica 3 among 0 to 2\n"),
+] + [
+    (f"the name {word!r}", f'new 1 -> ok\ninsert 0 {word} 0 b -> refused name "{unquote(shown)}" {NAME}\n'
+     f'delete 0 {word} -> refused name "{unquote(shown)}" {NAME}\nread 0 b {word} -> refused name "{unquote(shown)}" {NAME}\n')
+    for word, shown in [("(empty)", ""), ("a,b", "a,b"), ("a@1", "a@1"), ("a%20b", "a b"), ("a:1", "a:1"), ("%C3%A4", "ä"),
+                        (LETTERS32 + "x", LETTERS32 + "x"), ("a%0D", "a\r")]
+]
+
+# The same, where a typed language can't say the call.
+REFUSED_UNTYPED = [
+    ("a position below 0", "new 1 -> ok\ninsert 0 a -1 a -> refused position -1 is not a whole number from 0 to 4294967295\n"),
+    ("a position of 33 bits",
+     "new 1 -> ok\ninsert 0 a 4294967296 a -> refused position 4294967296 is not a whole number from 0 to 4294967295\n"),
+    ("a negative replica", "new 2 -> ok\nread -1 -> refused no replica -1 among 0 to 1\n"),
+]
+
+# How many replicas there can't be, and what the recorders of languages with errors say.
+WRONG_COUNTS = [("0", "replicas are 1 to 16, not 0"), ("17", "replicas are 1 to 16, not 17"),
+                ("2\t2", "no replica 2 among 0 to 1")]
+
+# Calls with values of other types, numbered in the drivers: what the answers begin with.
+OTHER_TYPES = ["replicas are 1 to 16, not ", "replicas are 1 to 16, not ", "no replica ", "no replica ", "position 0.5 is not",
+               "position 0 is not", "a name is a string, not 7", "a name is a string, not 7", "a response is a list of names"]
+
+ELEMENTS = [f"e{i}" for i in range(4097)]
+FULL = "the most that a trace takes"
+
+# At each limit: the calls that fill the replica; what is still said; what is not, its answer, and the same as a line, with
+# the program's word for it.
+LIMITS = [
+    ("entries", ["read 0"] * 4095, "read 0 -> ok 4096", "read 0", f"replica 0 has 4096 entries, {FULL}",
+     "0 read :", "entries full"),
+    ("entries and a receipt", ["read 0"] * 4095 + ["read 1"], "received 0 1 1 -> ok", "received 0 1 1",
+     f"replica 0 has 4096 entries, {FULL}", "0 recv 1 1", "entries full"),
+    ("inserts", [f"insert 0 {name} 0" for name in ELEMENTS[:255]], "insert 0 z 0 -> ok 256", "insert 0 y 0",
+     f"replica 0 has 256 inserts, {FULL}", "0 ins y 0 :", "inserts full"),
+    ("names of a response", ["read 0"], f"read 0 {' '.join(ELEMENTS[:4096])} -> ok 2", f"read 0 {' '.join(ELEMENTS)}",
+     f"a response of 4097 names, {FULL} is 4096", f"0 read : {' '.join(ELEMENTS)}", "long response"),
+    ("names of all responses", [f"read 0 {' '.join(ELEMENTS[:4096])}"] * 63, f"read 0 {' '.join(ELEMENTS[:4096])} -> ok 64",
+     "read 0 a", f"262145 names over the responses of replica 0, {FULL} is 262144", "0 read : a", "places full"),
+]
+
+
+def prepared(folder: Path) -> dict:
+    """How each language's driver is run; what has to be compiled is, without a warning."""
+    if not shutil.which("emacs"):
+        subprocess.run(["apt-get", "update"], stdout=subprocess.DEVNULL)
+        subprocess.run(["apt-get", "install", "-y", "--no-install-recommends", "emacs-nox"], stdout=subprocess.DEVNULL,
+                       env={**os.environ, "DEBIAN_FRONTEND": "noninteractive"})
+    for needed in ["node", "rustc", "gcc", "emacs"]:
+        if not shutil.which(needed):
+            sys.exit(f"recorders.py: there is no {needed}")
+    subprocess.run(["gcc", "-std=c99", "-Wall", "-Wextra", "-Werror", "-D_POSIX_C_SOURCE=200809L", "-o", folder / "c",
+                    DRIVERS / "driver.c"], check=True)
+    subprocess.run(["rustc", "--edition", "2021", "-D", "warnings", "-o", folder / "rs", DRIVERS / "driver.rs"], check=True)
+    return {"py": [sys.executable, DRIVERS / "driver.py"], "mjs": ["node", DRIVERS / "driver.mjs"], "rs": [folder / "rs"],
+            "c": [folder / "c"], "el": ["emacs", "-Q", "--batch", "-l", DRIVERS / "driver.el"]}
+
+
+def fields(call: str) -> str:
+    """A call of the table as a line for the drivers."""
+    return "\t".join("" if word == "(empty)" else unquote(word) for word in call.split(" "))
+
+
+class Recorder:
+    """One language's recorder, behind its driver."""
+
+    def __init__(self, language: str, words: list, program: str):
+        self.language = language
+        self.words = words
+        self.surroundings = {**os.environ, "LC_ALL": "C.UTF-8", "DOMEPEELER": program}
+
+    def answers(self, calls: list, **surroundings: str) -> list:
+        """What the recorder answers to each call, lines of texts among them."""
+        done = subprocess.run(self.words, input="".join(call + "\n" for call in calls).encode(), capture_output=True,
+                              timeout=60, env={**self.surroundings, **surroundings})
+        answers = done.stdout.decode().split("\n")[:-1]
+        return answers if done.returncode == 0 else [*answers, f"ended with {done.returncode}: {done.stderr.decode()}"]
+
+
+def check_table(tally: Tally, recorder: Recorder) -> None:
+    """Each call of the tables, and then the whole text."""
+    cases = [(name, script, lines) for name, script, lines in SAID]
+    cases += [(name, script, None) for name, script in REFUSED]
+    if recorder.language not in TYPED:
+        cases += [(name, script, None) for name, script in REFUSED_UNTYPED]
+    calls, wanted = [], {}
+    for name, script, lines in cases:
+        pairs = [line.split(" -> ") for line in script.split("\n")[:-1]]
+        if lines is None:
+            lines = [said for call, reply in pairs for said in line_of(call, reply)]
+        replicas = script.split("\n")[0].split(" ")[1]
+        calls += [fields(call) for call, _ in pairs] + ["text"]
+        wanted[name] = [reply for _, reply in pairs]
+        wanted[name] += ["| trace 1", f"| replicas {replicas}", *[f"| {line}" for line in lines], "ok"]
+    got = recorder.answers(calls)
+    tally.check(f"{recorder.language}: lines", len(got) == sum(map(len, wanted.values())), len(got))
+    for name, lines in wanted.items():
+        shown, got = got[:len(lines)], got[len(lines):]
+        tally.check(f"{recorder.language}: {name}", shown == lines, f"got {shown}, wanted {lines}")
+
+
+def line_of(call: str, reply: str) -> list:
+    """The line of a call before a refused one: in those tables these are empty reads and receipts."""
+    words = call.split(" ")
+    if words[0] == "new" or not reply.startswith("ok"):
+        return []
+    return [f"{words[1]} read :" if words[0] == "read" else f"{words[1]} recv {words[2]} {words[3]}"]
+
+
+def check_other_types(tally: Tally, recorder: Recorder) -> None:
+    """Calls that can't be written in a typed language."""
+    got = recorder.answers([f"untyped\t{number}" for number in range(len(OTHER_TYPES))])
+    tally.check(f"{recorder.language}: calls with other types", len(got) == len(OTHER_TYPES), got)
+    for answer, begin in zip(got, OTHER_TYPES):
+        tally.check(f"{recorder.language}: {begin}", answer.startswith(f"refused {begin}"), answer)
+
+
+def check_counts(tally: Tally, recorder: Recorder) -> None:
+    """Recordings that can't begin. In C they are NULL, without words."""
+    for words, why in WRONG_COUNTS:
+        wanted = "refused" if recorder.language == "c" else f"refused {why}"
+        tally.check(f"{recorder.language}: new {words}", recorder.answers([f"new\t{words}"]) == [wanted], wanted)
+
+
+def check_limits(tally: Tally, recorder: Recorder) -> dict:
+    """The last call that is said at each limit, and the first that is not. Answers the texts."""
+    texts = {}
+    for name, filling, last, refused, why, _, _ in LIMITS:
+        call, reply = last.split(" -> ")
+        calls = ["new\t2", *map(fields, filling), fields(call), fields(refused), "text"]
+        got = recorder.answers(calls)
+        ends = len(filling) + 1
+        tally.check(f"{recorder.language}: {name}, the last", got[ends:ends + 1] == [reply], got[ends:ends + 1])
+        tally.check(f"{recorder.language}: {name}, one too many", got[ends + 1:ends + 2] == [f"full {why}"],
+                    got[ends + 1:ends + 2])
+        texts[name] = "".join(line[2:] + "\n" for line in got[ends + 2:-1])
+        tally.check(f"{recorder.language}: {name}, lines", len(got) == 2 * ends + 5, len(got))
+    return texts
+
+
+def check_limits_are_the_programs(tally: Tally, program: str, texts: dict) -> None:
+    """The program reads each text at a limit, and refuses the line that the recorder refused."""
+    for name, _, _, _, _, line, why in LIMITS:
+        text = texts[name].encode()
+        tally.check(f"the program reads {name}", run(program, ["verdict", "-"], text).status in (0, 1))
+        ended = run(program, ["verdict", "-"], text + line.encode() + b"\n")
+        number = text.count(b"\n") + 1
+        tally.check(f"the program refuses {name}", ended.err == f"finder: line {number}: {why}\n".encode(), ended.err)
+
+
+def check_judge(tally: Tally, recorder: Recorder, folder: Path) -> None:
+    """The report of the cycle, and what is said where there is no report."""
+    calls = [fields(line.split(" -> ")[0]) for line in CYCLE.split("\n")[:-1]]
+    got = recorder.answers([*calls, "judge"])[-1]
+    report = json.loads(got[len("report "):]) if got.startswith("report {") else got
+    tally.check(f"{recorder.language}: judge", report == CYCLE_REPORT, got)
+    got = recorder.answers(["new\t1", "judge"])[-1]
+    wanted = {"inserts": 0, "operations": 0, "order": [], "replicas": 1, "strong": True, "verdict": "accepted", "weak": True}
+    tally.check(f"{recorder.language}: judge of nothing", got[:8] == "report {" and json.loads(got[7:]) == wanted, got)
+    got = recorder.answers(["new\t3\t1", "judge"])[-1]
+    tally.check(f"{recorder.language}: judge of one log", got.split(" ", 1)[1:] == [ONE_LOG], got)
+    faulty = folder / "faulty"
+    faulty.write_text("#!/bin/sh\ncat > /dev/null\necho 'finder: line 3: shape' >&2\nexit 2\n")
+    faulty.chmod(0o755)
+    got = recorder.answers(["new\t1", "judge"], DOMEPEELER=str(faulty))
+    wanted = f"failed {faulty} ended with status 2: finder: line 3: shape"
+    tally.check(f"{recorder.language}: judge by a program that fails", got == ["ok", wanted], got)
+    for absent, why in [(str(folder / "nowhere"), "cannot be run"), ("/bin/false", "ended with status 1: ")]:
+        got = recorder.answers(["new\t1", "judge"], DOMEPEELER=absent)
+        tally.check(f"{recorder.language}: judge by {absent}", got[1:] and got[1].startswith(f"failed {absent} {why}"), got)
+
+
+ONE_LOG = "one replica's log is no recording: merge the logs first"
+LOGS = ["0 ins x 0 : x|0 del x :|0 recv 1 1|0 recv 2 1|0 read : b a", "1 recv 0 1|1 ins a 0 : a x",
+        "2 recv 0 1|2 ins b 1 : x b"]
+MERGED = "0 ins x 0 : x|0 del x :|1 recv 0 1|1 ins a 0 : a x|2 recv 0 1|2 ins b 1 : x b|0 recv 1 1|0 recv 2 1|0 read : b a"
+
+# Logs that don't merge, and how the reason begins.
+UNMERGED = [
+    ([], "the logs begin"),
+    (["0 read :", "0 read :"], "two logs are of replica 0"),
+    (["0 recv 1 1", "2 read :"], "these receipts name operations that no log has before them: 0 recv 1 1"),
+    (["0 recv 1 1|0 read :", "1 recv 0 1|1 read :"], "these receipts name operations that no log has before them: "
+     "0 recv 1 1, 1 recv 0 1"),
+    (["0 read :|0 recv 1 2|0 read :", "1 recv 0 1|1 read :|1 recv 0 2|1 read :"],
+     "these receipts name operations that no log has before them: 0 recv 1 2, 1 recv 0 2"),
+]
+
+
+# Texts that are no logs, each beside a log that is one.
+UNREADABLE = [
+    ("trace 1\nreplicas 3\n0 read :", "log 2 is no text of a recorder, or was cut off"),
+    ("trace 1\nreplicas 3", "log 2 is no text of a recorder, or was cut off"),
+    ("trace 2\nreplicas 3\n", "the logs begin"),
+    ("", "the logs begin"),
+    ("trace 1\nreplicas 3\n0 read :\n1 read :\n", "line 4 of log 2 is of another replica than line 3"),
+    ("trace 1\nreplicas 3\n0 recv 1\n", "line 3 of log 2 is no entry: 0 recv 1"),
+    ("trace 1\nreplicas 3\n\n", "line 3 of log 2 is no entry: "),
+]
+
+
+def log_text(lines: str) -> str:
+    return "trace 1\nreplicas 3\n" + lines.replace("|", "\n") + "\n"
+
+
+def check_merge(tally: Tally, program: str, folder: Path) -> None:
+    """Logs of one machine each make one trace, with the same report in whatever order they come."""
+    from merge import Unmerged, merge
+    logs = [log_text(log) for log in LOGS]
+    tally.check("merge", merge(logs) == log_text(MERGED), merge(logs))
+    tally.check("merge with an empty log", merge([*logs, "trace 1\nreplicas 3\n"]) == log_text(MERGED))
+    cycle = run(program, ["verdict", "--json", str(EXAMPLES / "libinfinity_three_way_cycle.trace")])
+    for order in ([0, 1, 2], [2, 1, 0], [1, 2, 0]):
+        merged = merge([logs[number] for number in order]).encode()
+        tally.same(f"report of the merge {order}", run(program, ["verdict", "--json", "-"], merged), cycle)
+    refused = [([log_text(log) for log in lines], why) for lines, why in UNMERGED]
+    refused += [([log_text("2 read :"), text], why) for text, why in UNREADABLE]
+    for texts, why in refused:
+        try:
+            tally.check(f"merge of {texts}", False, merge(texts))
+        except Unmerged as said:
+            tally.check(f"merge of {texts}", str(said).startswith(why), said)
+    files = []
+    for number, log in enumerate(logs):
+        files.append(folder / f"{number}.log")
+        files[-1].write_text(log)
+    tool = [sys.executable, ROOT / "recorders" / "merge.py"]
+    done = subprocess.run([*tool, *files], capture_output=True)
+    tally.check("merge.py", (done.returncode, done.stdout.decode(), done.stderr) == (0, log_text(MERGED), b""), done)
+    done = subprocess.run([*tool, files[0]], capture_output=True)
+    tally.check("merge.py of one log of three", (done.returncode, done.stdout) == (1, b"") and
+                done.stderr.startswith(b"merge.py: these receipts name"), done)
+
+
+def blocks(page: Path) -> list:
+    """The indented blocks of a page, each as one text."""
+    found, lines = [], []
+    for line in [*page.read_text().split("\n"), "end"]:
+        if line.startswith("    ") or (not line and lines):
+            lines.append(line[4:])
+        elif lines:
+            found.append("\n".join(lines).rstrip("\n") + "\n")
+            lines = []
+    return found
+
+
+def check_guide(tally: Tally, program: str) -> None:
+    """The guide's editor prints what the guide says, and its traces have the reports beside them."""
+    shown = blocks(ROOT / "docs" / "recording.md")
+    code = [block for block in shown if block.startswith("from ")]
+    surroundings = {**os.environ, "DOMEPEELER": program, "PYTHONDONTWRITEBYTECODE": "1",
+                    "PYTHONPATH": f"{ROOT / 'recorders'}:{ROOT / 'recorders' / 'engines'}"}
+    done = subprocess.run([sys.executable, "-c", "\n".join(code)], capture_output=True, env=surroundings)
+    printed = [block for block in shown if block.startswith("trace 1") and block.endswith("\naccepted\n")]
+    tally.check("guide: the editor", len(code) == 2 and [done.stdout.decode()] == printed, done)
+    judged = [block.split("\n\n") for block in shown if block.startswith("trace 1") and block not in printed]
+    tally.check("guide: has traces with reports", len(judged) == 3, judged)
+    for trace, wanted in judged:
+        ended = run(program, ["verdict", "-"], trace.encode() + b"\n")
+        tally.check(f"guide: {trace}", ended.out == wanted.encode(), ended)
+
+
+def main() -> None:
+    program = program_of(sys.argv)
+    tally = Tally()
+    with tempfile.TemporaryDirectory() as name:
+        folder = Path(name)
+        drivers = prepared(folder)
+        texts = {}
+        for language in LANGUAGES:
+            recorder = Recorder(language, drivers[language], program)
+            check_table(tally, recorder)
+            check_counts(tally, recorder)
+            if language not in TYPED:
+                check_other_types(tally, recorder)
+            texts[language] = check_limits(tally, recorder)
+            tally.check(f"{language}: texts at the limits", texts[language] == texts["py"])
+            check_judge(tally, recorder, folder)
+        check_limits_are_the_programs(tally, program, texts["py"])
+        check_merge(tally, program, folder)
+        check_guide(tally, program)
+    tally.close()
+
+
+if __name__ == "__main__":
+    main()
