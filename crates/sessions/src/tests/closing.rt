@@ -14,10 +14,15 @@ fn refused(alloc: Global, session: Session, pass: Pass) -> Option<(Session, Pass
     let Missing { session, passes } = session.close(passes).err()?;
     let mut passes = passes;
     let pass = passes.pop()?;
-    if passes.is_empty() { Some((session, pass)) } else { None }
+    if passes.is_empty() {
+        Some((session, pass))
+    } else {
+        None
+    }
 }
 
-/// Whether the second pass alone closes nothing, and both, the second first or last, close an empty recording.
+/// Whether the second pass alone closes nothing, and both, the second first or last, close an empty
+/// recording.
 fn closes_by_both(alloc: Global, second_is_first: bool) -> Option<bool> {
     let (session, first, second) = pair(alloc)?;
     let (session, second) = refused(alloc, session, second)?;

@@ -131,17 +131,29 @@ fn session_of_two(rt: HostRuntime) {
     assert!(rt; closes_without(alloc, session, first, second, one, other));
 }
 
-/// Numbers of turns and of workers that are none.
-static NO_WORKERS: [(u32, u32); 4] = [(0, 0), (1, 0), (0, 65), (1, 4294967295)];
+/// Whether so many workers are refused for so many turns.
+fn refuses<H: Threads + Wait + Sync>(
+    rt: &H,
+    alloc: Global,
+    session: &Session,
+    observer: &mut Observer,
+    turns: u32,
+    workers: u32,
+) -> bool
+    requires { observer.old.session ≡ session.now }
+    ensures { observer.new.session ≡ session.now }
+{
+    judged(rt, alloc, session, observer, turns, workers).err() == Some(SearchFault::Workers)
+}
 
 #[test]
 fn workers_are_tested_first(rt: HostRuntime) {
-    let (session, mut first, _) = pair(rt.alloc()).expect(&rt, "a session");
+    let alloc = rt.alloc();
+    let (session, mut first, _) = pair(alloc).expect(&rt, "a session");
     let mut observer = session.observer(&mut first);
-    for (turns, workers) in NO_WORKERS.iter().copied() {
-        let answer = judged(&rt, rt.alloc(), &session, &mut observer, turns, workers);
-        assert!(rt; answer.err() == Some(SearchFault::Workers));
-    }
+    assert!(rt; refuses(&rt, alloc, &session, &mut observer, 0, 0));
+    assert!(rt; refuses(&rt, alloc, &session, &mut observer, 1, 65));
+    assert!(rt; refuses(&rt, alloc, &session, &mut observer, 0, 4294967295));
 }
 
 #[test]
@@ -164,7 +176,10 @@ fn a_session_waits_for_its_observers(rt: HostRuntime) {
     let (session, mut first, second) = pair(alloc).expect(&rt, "a session");
     let _observer = session.observer(&mut first);
     let passes = both(alloc, &session, first, second).expect(&rt, "both passes");
-    let missing = session.close(passes).err().expect(&rt, "an observer is out");
+    let missing = session
+        .close(passes)
+        .err()
+        .expect(&rt, "an observer is out");
     let Missing { session, passes } = missing;
     assert!(rt; passes.len() == 2 && session.close(passes).is_err());
 }

@@ -1,9 +1,7 @@
 //! Passes record, and see what others recorded.
 ghost use Rattle.std.specs.Prelude.{◌≡◌};
 
-use super::{
-    comes_too_early, inserts_a, is_insert_of_a, opened, pair, receives, snapped,
-};
+use super::{comes_too_early, inserts_a, is_insert_of_a, opened, pair, receives, snapped};
 use crate::{Pass, Session};
 use events::NewFault;
 use std::alloc::Global;
@@ -26,13 +24,7 @@ fn sessions_have_1_to_16_replicas(rt: HostRuntime) {
 }
 
 /// Whether a snapshot of the pass has the insert of a as the last entry of replica 0, and so many entries.
-fn shows_a<R: Wait>(
-    rt: &R,
-    alloc: Global,
-    session: &Session,
-    pass: &mut Pass,
-    entries: u32,
-) -> bool
+fn shows_a<R: Wait>(rt: &R, alloc: Global, session: &Session, pass: &mut Pass, entries: u32) -> bool
     requires { pass.old.session ≡ session.now }
     ensures { pass.new.session ≡ session.now }
 {

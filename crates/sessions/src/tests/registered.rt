@@ -14,10 +14,12 @@ fn numbered(number: u32) -> Option<Name> {
 /// What the registry says of a session; where it finds no memory, the session is handed back and tried again.
 fn added(registry: &mut Registry, name: Name, session: Session) -> Result<(), RefusedSession> {
     match registry.add(name, session) {
-        Err(RefusedSession {
-            why: RegistryRefusal::Memory,
-            session,
-        }) => registry.add(name, session),
+        Err(
+            RefusedSession {
+                why: RegistryRefusal::Memory,
+                session,
+            },
+        ) => registry.add(name, session),
         answer => answer,
     }
 }
@@ -41,17 +43,17 @@ fn named(registry: &Registry, alloc: Global) -> Option<Names> {
     }
 }
 
-/// Whether the names are those of so many numbers from this one on.
-fn has_names(registry: &Registry, alloc: Global, from: u32, count: u32) -> bool {
+/// Whether the names are those of the numbers from this one up to 64.
+fn has_names_from(registry: &Registry, alloc: Global, from: u32) -> bool {
     let Some(names) = named(registry, alloc) else {
         return false;
     };
-    for i in 0..count {
-        if names.get(i as usize).copied() != numbered(from + i) {
+    for number in from..64 {
+        if names.get((number - from) as usize).copied() != numbered(number) {
             return false;
         }
     }
-    names.len() == count as usize && registry.len() == count as usize
+    names.len() == registry.len()
 }
 
 /// Whether the session of this number is found; it is of one replica.
@@ -79,7 +81,9 @@ fn registry_of_64(rt: HostRuntime) {
         assert!(rt; answer(&mut registry, alloc, 0) == Some(Err(RegistryRefusal::Taken)));
     }
     assert!(rt; answer(&mut registry, alloc, 64) == Some(Err(RegistryRefusal::Full)));
-    assert!(rt; has_names(&registry, alloc, 0, 64) && has(&registry, 63) && !has(&registry, 64));
+    assert!(rt; has_names_from(&registry, alloc, 0) && registry.len() == 64);
+    assert!(rt; has(&registry, 63) && !has(&registry, 64));
     assert!(rt; removes(&mut registry, 0) && !removes(&mut registry, 0));
-    assert!(rt; has_names(&registry, alloc, 1, 63) && has(&registry, 1) && !has(&registry, 0));
+    assert!(rt; has_names_from(&registry, alloc, 1) && registry.len() == 63);
+    assert!(rt; has(&registry, 1) && !has(&registry, 0));
 }

@@ -83,10 +83,12 @@ fn replayed<R: Wait>(
     ensures { pass.new.session ≡ session.now }
 {
     match session.replay(rt, alloc, pass, recording, tries) {
-        Err(ReplayFault::Refused {
-            at,
-            why: Refusal::Memory,
-        }) => resumed(rt, alloc, session, pass, recording, at),
+        Err(
+            ReplayFault::Refused {
+                at,
+                why: Refusal::Memory,
+            },
+        ) => resumed(rt, alloc, session, pass, recording, at),
         answer => answer,
     }
 }

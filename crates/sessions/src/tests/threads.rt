@@ -11,7 +11,8 @@ use std::sync::Wait;
 use std::sync::atomic::{AtomicU64, Ordering};
 use std::thread::{self, Threads};
 
-/// Whether a read is answered as the replica's next entry, and every hundredth time a snapshot has so many of them.
+/// Whether a read is answered as the replica's next entry, and every hundredth time a snapshot has so
+/// many of them.
 fn records_next<R: Wait>(
     rt: &R,
     alloc: Global,
@@ -48,7 +49,8 @@ fn records<R: Wait>(rt: &R, alloc: Global, session: &Session, pass: &mut Pass, t
     true
 }
 
-/// Each pass records so many reads, in a thread of its own; it counts the passes that were answered otherwise.
+/// Each pass records so many reads, in a thread of its own; it counts the passes that were answered
+/// otherwise.
 fn all_record<H: Threads + Wait + Sync>(
     rt: &H,
     alloc: Global,
@@ -77,7 +79,8 @@ fn all_record<H: Threads + Wait + Sync>(
     passes
 }
 
-/// Whether a snapshot has as many entries as the observer counts after it, or fewer, and no fewer than it counted before.
+/// Whether a snapshot has as many entries as the observer counts after it, or fewer, and no fewer than it
+/// counted before.
 fn sees_more<R: Wait>(
     rt: &R,
     alloc: Global,
@@ -97,7 +100,8 @@ fn sees_more<R: Wait>(
     }
 }
 
-/// An observer looks on until all entries are there, at most so many times; it counts what was answered otherwise.
+/// An observer looks on until all entries are there, at most so many times; it counts what was answered
+/// otherwise.
 fn looks_on<R: Wait>(
     rt: &R,
     alloc: Global,
@@ -152,18 +156,18 @@ fn record_and_look_on<H: Threads + Wait + Sync>(
     )
 }
 
-/// How many of the replicas don't have so many entries.
-fn others(recording: &Recording, replicas: u32, times: u32) -> u32 {
-    let mut others = 0;
-    for replica in 0..replicas {
+/// Whether each replica has so many entries.
+fn have_each(recording: &Recording, times: u32) -> bool {
+    for replica in 0..recording.replicas() {
         if recording.stream_len(replica) != times {
-            others += 1;
+            return false;
         }
     }
-    others
+    true
 }
 
-/// The recording of a session in which each pass has recorded so many reads, and whether all answers were right.
+/// The recording of a session in which each pass has recorded so many reads, and whether all answers were
+/// right.
 fn recorded_by_all<H: Threads + Wait + Sync>(
     rt: &H,
     alloc: Global,
@@ -176,8 +180,9 @@ fn recorded_by_all<H: Threads + Wait + Sync>(
     let first = passes.get_mut(0)?;
     let observer = session.observer(first);
     let wrong = AtomicU64::new(0);
-    let (passes, observer) =
-        record_and_look_on(rt, alloc, &session, passes, observer, times, entries, &wrong);
+    let (passes, observer) = record_and_look_on(
+        rt, alloc, &session, passes, observer, times, entries, &wrong,
+    );
     let mut passes = passes;
     session.end(observer, passes.get_mut(0)?);
     let recording = session.close(passes).ok()?;
@@ -193,6 +198,6 @@ fn many_recorders(rt: HostRuntime) {
         let answer = recorded_by_all(&rt, rt.alloc(), replicas, times, entries);
         let (recording, right) = answer.expect(&rt, "a recording");
         assert!(rt; right && recording.len() == entries);
-        assert!(rt; others(&recording, replicas, times) == 0);
+        assert!(rt; have_each(&recording, times));
     }
 }

@@ -24,10 +24,11 @@ fn hands_in<R: Wait>(
     let Some(body) = copied(alloc, &entry.body) else {
         return false;
     };
-    match passes.get_mut(entry.replica as usize) {
-        Some(pass) => recorded(rt, session, pass, body).is_ok(),
-        None => false,
+    let replica = entry.replica as usize;
+    if replica >= passes.len() {
+        return false;
     }
+    recorded(rt, session, &mut passes[replica], body).is_ok()
 }
 
 /// Whether the entries from one place to another are recorded in their order, each by its replica's pass.
@@ -115,8 +116,28 @@ fn watched_three_way_cycle(rt: HostRuntime) {
     let mut passes = passes;
     let first = passes.get_mut(0).expect(&rt, "a pass");
     let mut observer = session.observer(first);
-    assert!(rt; hand_in(&rt, alloc, &session, passes.as_mut_slice(), &recording, 0, 8));
+    assert!(rt;
+        hand_in(
+            &rt,
+            alloc,
+            &session,
+            passes.as_mut_slice(),
+            &recording,
+            0,
+            8
+        )
+    );
     assert!(rt; is_accepted(&rt, alloc, &session, &mut observer));
-    assert!(rt; hand_in(&rt, alloc, &session, passes.as_mut_slice(), &recording, 8, 9));
+    assert!(rt;
+        hand_in(
+            &rt,
+            alloc,
+            &session,
+            passes.as_mut_slice(),
+            &recording,
+            8,
+            9
+        )
+    );
     assert!(rt; is_refused(&rt, alloc, &session, &mut observer));
 }
