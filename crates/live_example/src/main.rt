@@ -1,6 +1,7 @@
 //! Two editors type into one session, each in a thread of its own, and a third thread looks on. Then the
 //! session is closed, and the report of its recording is printed.
 #![tactic(auto)]
+
 ghost use Rattle.std.specs.Prelude.{◌≡◌};
 ghost use Rattle.std.specs.Thread.{IsSync};
 
@@ -35,13 +36,10 @@ fn edit<R: Wait>(rt: &R, alloc: Global, session: &Session, pass: Pass, text: &st
     let Ok(name) = Name::new(text.as_bytes()) else {
         return pass;
     };
-    let mut next = typed(alloc, name).ok();
-    // What is refused comes back, and can be handed in again: here once.
-    for _ in 0..2 {
-        let Some(body) = next else { break };
-        match session.record(rt, &mut pass, body) {
-            Ok(_) => break,
-            Err(refused) => next = Some(refused.body),
+    if let Ok(body) = typed(alloc, name) {
+        // What is refused comes back with the reason, and can be handed in again.
+        if let Err(refused) = session.record(rt, &mut pass, body) {
+            let _ = session.record(rt, &mut pass, refused.body);
         }
     }
     pass
@@ -83,6 +81,35 @@ fn look_on<H: Threads + Wait + Sync>(
     (observer, verdicts)
 }
 
+/// The threads of the editors, beside the third one.
+fn edit_and_look_on<H: Threads + Wait + Sync>(
+    rt: &H,
+    alloc: Global,
+    session: &Session,
+    first: Pass,
+    second: Pass,
+    observer: Observer,
+) -> ((Pass, Pass), (Observer, usize))
+    requires passes { (first.session ≡ session.now) × (second.session ≡ session.now) }
+    requires observer { observer.session ≡ session.now }
+    ensures first { result.0.0.session ≡ session.now }
+    ensures second { result.0.1.session ≡ session.now }
+    ensures observer { result.1.0.session ≡ session.now }
+{
+    join(
+        rt,
+        || -> (Pass, Pass)
+            requires { IsSync H.row × (first.session ≡ session.now) × (second.session ≡ session.now) }
+            ensures first { result.0.session ≡ session.entry.now }
+            ensures second { result.1.session ≡ session.entry.now }
+        { edit_both(rt, alloc, session, first, second) },
+        || -> (Observer, usize)
+            requires { IsSync H.row × (observer.session ≡ session.now) }
+            ensures { result.0.session ≡ session.entry.now }
+        { look_on(rt, alloc, session, observer) },
+    )
+}
+
 fn main(rt: HostRuntime) -> Result<()> {
     let alloc = rt.alloc();
     let (session, mut passes) = Session::open(alloc, 2)?;
@@ -93,19 +120,14 @@ fn main(rt: HostRuntime) -> Result<()> {
         return Err(anyhow!("no pass"));
     };
     let observer = session.observer(&mut first);
-    let ((mut first, second), (observer, verdicts)) = join(
-        &rt,
-        || -> (Pass, Pass)
-            requires { (first.session ≡ session.now) × (second.session ≡ session.now) }
-            ensures { (result.0.session ≡ session.entry.now) × (result.1.session ≡ session.entry.now) }
-        { edit_both(&rt, alloc, &session, first, second) },
-        || -> (Observer, usize)
-            requires { observer.session ≡ session.now }
-            ensures { result.0.session ≡ session.entry.now }
-        { look_on(&rt, alloc, &session, observer) },
+    let ((mut first, second), (observer, verdicts)) = edit_and_look_on(
+        &rt, alloc, &session, first, second, observer,
     );
     session.end(observer, &mut first);
-    println!(rt; "{verdicts} verdicts, {} entries", session.count(&mut first))?;
+    println!(rt;
+        "{verdicts} verdicts, {} entries",
+        session.count(&mut first)
+    )?;
     let Ok(recording) = session.close(vec![in alloc; first, second]?) else {
         return Err(anyhow!("a pass is missing"));
     };

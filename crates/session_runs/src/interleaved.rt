@@ -29,10 +29,12 @@ fn record_next<R: Wait>(
     let body = body.copy(alloc)?;
     match session.record(rt, pass, body) {
         Ok(count) => Ok(count),
-        Err(RefusedBody {
-            why: Refusal::NotYet { .. },
-            body: _,
-        }) => Ok(place),
+        Err(
+            RefusedBody {
+                why: Refusal::NotYet { .. },
+                body: _,
+            },
+        ) => Ok(place),
         Err(refused) => Err(anyhow!("{}", refused.why)),
     }
 }

@@ -22,6 +22,7 @@ use threads::replayed_by_threads;
 
 /// How many interleavings are tried, and how many runs of threads.
 const INTERLEAVINGS: u64 = 100;
+
 const RUNS: u32 = 10;
 
 /// How many of the orders in which entries were recorded are different, where each recording has the same
@@ -52,7 +53,9 @@ fn order_of(recording: &Recording) -> u64 {
     let mut order = 0u64;
     for i in 0..recording.len() {
         if let Some(entry) = recording.entry(i) {
-            order = order.wrapping_mul(1_099_511_628_211).wrapping_add(u64::from(entry.replica) + 1);
+            order = order
+                .wrapping_mul(1_099_511_628_211)
+                .wrapping_add(u64::from(entry.replica) + 1);
         }
     }
     order

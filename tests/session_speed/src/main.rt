@@ -84,7 +84,7 @@ fn filled<H: Threads + Wait + Sync + Clock>(
 
 fn main(rt: HostRuntime) -> Result<()> {
     let alloc = rt.alloc();
-    let words = env::args(&rt)?.collect(alloc)?;
+    let words: Vec<String> = env::args(&rt)?.collect(alloc)?;
     let (threads, names) = (number(&words, 1), number(&words, 2));
     let shown = response(alloc, names)?;
     for _ in 0..number(&words, 3) {
