@@ -207,6 +207,20 @@ def gallery(tally: Tally, program: str) -> None:
     tally.check("gallery: has each example", len(examples) >= 10 and judged == examples, examples ^ judged)
 
 
+def embedding(tally: Tally) -> None:
+    """The page on embedding shows lines of the program that the gate runs, and what it prints."""
+    page = (ROOT / "docs" / "embedding.md").read_text()
+    crate = ROOT / "crates" / "live_example"
+    source = (crate / "src" / "main.rt").read_text()
+    shown = [part.split("```")[0] for part in page.split("```rust\n")[1:]]
+    tally.check("embedding: shows the program", len(shown) >= 3 and "fn main(" in shown[0])
+    for lines in shown:
+        wanted = [line.strip() for line in source.splitlines()]
+        tally.check(f"embedding: {lines[:30]!r}", all(line.strip() in wanted for line in lines.splitlines()))
+    printed = "".join(f"    {line}\n" for line in (crate / "stdout").read_text().splitlines())
+    tally.check("embedding: shows what it prints", printed in page)
+
+
 def command_line(tally: Tally, program: str) -> None:
     for words in USAGE:
         tally.same(f"usage {words}", run(program, words, DELETED), fault("usage"))
@@ -309,6 +323,7 @@ def main() -> None:
     vectors(tally, program)
     workers(tally, program)
     gallery(tally, program)
+    embedding(tally)
     command_line(tally, program)
     with tempfile.TemporaryDirectory() as folder:
         files(tally, program, folder)

@@ -12,6 +12,7 @@ pub use certificate_text::{Certificate, Layer, Layers, Row};
 pub use certifying::certify;
 pub use judging::judge;
 pub use level_search::{Gate, NoGate, SearchFault};
+pub use specification::{conflict_numbers_fall, verdicts_follow};
 pub use verdict::Verdict;
 pub use witnesses::{Order, Step, Steps};
 

@@ -11,8 +11,7 @@ use Rattle.sessions.specs.Rule.{total}
 use Rattle.sessions.proofs.Lists.{has_one, has_none}
 use Rattle.events.specs.History.{SameStreams, IsLegal, stream_of}
 use Rattle.specification.proofs.OperationNames.{stream_of-none}
-use Rattle.sessions.specs.Beginnings.{StartsWith}
-use Rattle.sessions.specs.Shown.{PassShown, Which, new_pass, hands, mine, AreAll, AllHas}
+use Rattle.sessions.specs.Shown.{PassShown, Which, new_pass, hands, mine, AreAll, HasStreams}
 use Rattle.rehearsal.specs.declared.recorder.Told.{Told}
 use Rattle.rehearsal.specs.Replays.{IsReplayed, HasReplayed, AreReplayed}
 use Rattle.rehearsal.specs.Opened.{AreOpened}
@@ -162,17 +161,17 @@ ended_of s h before (p ∷ ps) old q seen opened replayed first is recorded =
     }
 
 -- what such a session closes with has the recording's streams
-pub closes_with : (s : Which) (h closed : History) (ps : List PassShown) → AreEnded s h ps → s.replicas ≡ h.replicas → closed.replicas ≡ s.replicas → AllHas closed.entries ps → IsLegal h → IsLegal closed → SameStreams h closed
+pub closes_with : (s : Which) (h closed : History) (ps : List PassShown) → AreEnded s h ps → s.replicas ≡ h.replicas → closed.replicas ≡ s.replicas → HasStreams closed.entries ps → IsLegal h → IsLegal closed → SameStreams h closed
 closes_with s h closed ps ended same as_many has legal closed_legal = record { replicas = sym same ∙ sym as_many; streams = λ r. at r (cases_lt r h.replicas) }
   where
     B : PassShown → Type 0
-    B p = (StartsWith closed.entries p.seen × (stream_of p.replica closed.entries ≡ mine p)) × (mine p ≡ stream h p.replica)
-    both : (ps : List PassShown) → AllHas closed.entries ps → All (λ (p : PassShown). mine p ≡ stream h p.replica) ps → All B ps
+    B p = (stream_of p.replica closed.entries ≡ mine p) × (mine p ≡ stream h p.replica)
+    both : (ps : List PassShown) → HasStreams closed.entries ps → All (λ (p : PassShown). mine p ≡ stream h p.replica) ps → All B ps
     both ps a b = λ k d less. (a k d less, b k d less)
     at : (r : ℕ) → (r < h.replicas) ⊎ (h.replicas ≤ r) → stream h r ≡ stream closed r
     at r (inl less) =
         let one = one_of B r ps (ended.all.each r (subst (λ n. r < n) (sym same) less)) (both ps has ended.streams) in
-        let here : stream_of one.0.replica closed.entries ≡ stream h one.0.replica = one.2.0.1 ∙ one.2.1 in
+        let here : stream_of one.0.replica closed.entries ≡ stream h one.0.replica = one.2.0 ∙ one.2.1 in
         sym (subst (λ q. stream_of q closed.entries ≡ stream h q) one.1 here)
     at r (inr past) =
         stream_of-none h.replicas r h.entries legal.replica_known past

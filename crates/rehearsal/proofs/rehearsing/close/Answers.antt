@@ -20,4 +20,4 @@ pub returns : goal.returns
 returns c =
     let r = c.requires.replayed in
     let done = ended_of c.args.session c.args.recording.now r.0 c.args.passes.items c.index_mut.result.now c.end.new.pass c.end.new.pass.seen r.1 r.2 c.index_mut.ensures.value c.end.ensures.same c.end.ensures.mine in
-    closes_with c.args.session c.args.recording.now c.in-Ok.closed _ done c.requires.replicas c.in-Ok.ensures.closed.0 c.in-Ok.ensures.closed.1 c.requires.legal c.replicas.ensures.legal
+    closes_with c.args.session c.args.recording.now c.in-Ok.closed _ done c.requires.replicas c.in-Ok.ensures.replicas c.in-Ok.ensures.streams c.requires.legal c.replicas.ensures.legal

@@ -1,0 +1,131 @@
+//! Passes replay a recording, and stop where an entry is refused.
+ghost use Rattle.std.specs.Prelude.{◌≡◌, ◌<◌, IfSome};
+
+use super::{copied, opened, recorded, three_way};
+use crate::{Pass, ReplayFault, Session};
+use events::{Recording, Refusal};
+use std::alloc::Global;
+use std::sync::Wait;
+
+/// A session of three replicas and its passes.
+fn team(alloc: Global) -> Option<(Session, Pass, Pass, Pass)>
+    ensures first { IfSome result (λ s. s.1.session ≡ s.0) }
+    ensures others { IfSome result (λ s. (s.2.session ≡ s.0) × (s.3.session ≡ s.0)) }
+{
+    let (session, mut passes) = opened(alloc, 3).ok()?;
+    let third = passes.pop()?;
+    let second = passes.pop()?;
+    let first = passes.pop()?;
+    Some((session, first, second, third))
+}
+
+/// The fault of a refusal.
+fn fault(at: u32, why: Refusal) -> ReplayFault {
+    match why {
+        Refusal::NotYet { .. } => ReplayFault::Stalled { at },
+        why => ReplayFault::Refused { at, why },
+    }
+}
+
+/// Records the entry at this place of the replica's stream, and answers how many entries the replica has.
+fn record_at<R: Wait>(
+    rt: &R,
+    alloc: Global,
+    session: &Session,
+    pass: &mut Pass,
+    recording: &Recording,
+    at: u32,
+) -> Result<u32, Refusal>
+    requires { pass.old.session ≡ session.now }
+    ensures { pass.new.session ≡ session.now }
+{
+    let Some(body) = recording.stream(session.replica(pass), at) else {
+        return Ok(0);
+    };
+    let Some(body) = copied(alloc, body) else {
+        return Err(Refusal::Memory);
+    };
+    recorded(rt, session, pass, body).map_err(|refused| refused.why)
+}
+
+/// Records the rest of the replica's stream, from a place on, and answers how long the stream is.
+fn resumed<R: Wait>(
+    rt: &R,
+    alloc: Global,
+    session: &Session,
+    pass: &mut Pass,
+    recording: &Recording,
+    from: u32,
+) -> Result<u32, ReplayFault>
+    requires { pass.old.session ≡ session.now }
+    ensures { pass.new.session ≡ session.now }
+{
+    let mut count = 0;
+    for at in from..recording.stream_len(session.replica(pass)) {
+        match record_at(rt, alloc, session, pass, recording, at) {
+            Ok(now) => count = now,
+            Err(why) => return Err(fault(at, why)),
+        }
+    }
+    Ok(count)
+}
+
+/// What a replay answers; where it finds no memory for an entry, it goes on from there.
+fn replayed<R: Wait>(
+    rt: &R,
+    alloc: Global,
+    session: &Session,
+    pass: &mut Pass,
+    recording: &Recording,
+    tries: u32,
+) -> Result<u32, ReplayFault>
+    requires { pass.old.session ≡ session.now }
+    ensures { pass.new.session ≡ session.now }
+{
+    match session.replay(rt, alloc, pass, recording, tries) {
+        Err(
+            ReplayFault::Refused {
+                at,
+                why: Refusal::Memory,
+            },
+        ) => resumed(rt, alloc, session, pass, recording, at),
+        answer => answer,
+    }
+}
+
+#[test]
+fn stalled_replay(rt: HostRuntime) {
+    let alloc = rt.alloc();
+    let recording = three_way(alloc).expect(&rt, "a recording");
+    let (session, mut first, mut second, _) = team(alloc).expect(&rt, "a session");
+    let stalled = replayed(&rt, alloc, &session, &mut second, &recording, 10);
+    assert!(rt; stalled == Err(ReplayFault::Stalled { at: 0 }));
+    assert!(rt; record_at(&rt, alloc, &session, &mut first, &recording, 0) == Ok(1));
+    assert!(rt; replayed(&rt, alloc, &session, &mut second, &recording, 10) == Ok(2));
+}
+
+#[test]
+fn stalled_and_resumed(rt: HostRuntime) {
+    let alloc = rt.alloc();
+    let recording = three_way(alloc).expect(&rt, "a recording");
+    let (session, mut first, mut second, mut third) = team(alloc).expect(&rt, "a session");
+    let stalled = replayed(&rt, alloc, &session, &mut first, &recording, 3);
+    assert!(rt; stalled == Err(ReplayFault::Stalled { at: 2 }) && session.count(&mut first) == 2);
+    assert!(rt; replayed(&rt, alloc, &session, &mut second, &recording, 3) == Ok(2));
+    assert!(rt; replayed(&rt, alloc, &session, &mut third, &recording, 0) == Ok(2));
+    assert!(rt; record_at(&rt, alloc, &session, &mut first, &recording, 2) == Ok(3));
+    assert!(rt; resumed(&rt, alloc, &session, &mut first, &recording, 3) == Ok(5));
+    assert!(rt; session.count(&mut second) == 9);
+}
+
+#[test]
+fn receipt_out_of_range(rt: HostRuntime) {
+    let alloc = rt.alloc();
+    let recording = three_way(alloc).expect(&rt, "a recording");
+    let (session, mut passes) = opened(alloc, 1).expect(&rt, "a session");
+    let mut pass = passes.pop().expect(&rt, "the pass");
+    let why = Refusal::NoReplica;
+    let refused = replayed(&rt, alloc, &session, &mut pass, &recording, 1);
+    assert!(rt; refused == Err(ReplayFault::Refused { at: 2, why }));
+    assert!(rt; session.count(&mut pass) == 2);
+}
