@@ -1,11 +1,18 @@
--- Where no order follows every response there is a conflict number, and it is the length of a shortest cycle.
+-- Where no order follows every response there is a conflict number, and it is the length of a shortest cycle. A refusal
+-- of responses that cover those of a recording is its verdict.
 use Rattle.std.proofs.Common.{ℕ, inl, inr}
-use Rattle.specification.specs.Responses.{Responses, AreProper}
+use Rattle.events.specs.History.{History}
+use Rattle.specification.specs.Responses.{Responses, responses_of, AreProper}
+use Rattle.specification.specs.Faults.{IsSound}
+use Rattle.specification.specs.Verdict.{Verdict, faulty, accepted, refused, IsVerdict}
 use Rattle.specification.specs.Orders.{HasNoOrder}
 use Rattle.specification.specs.Conflict.{HasConflictNumber, HasNoConflict}
 use Rattle.specification.specs.Search.{IsShortestLength}
 use Rattle.specification.proofs.ConflictNumber.{conflict_number_is_shortest_cycle}
 use Rattle.specification.proofs.LeastOrder.{least_order_or_cycle}
+use Rattle.order_graph.specs.Covers.{IsCoveredBy}
+use Rattle.order_graph.proofs.Covers.{covered-least_steps, covered-number}
+use Rattle.certificate.specs.VerdictOf.{IsRefusalOf}
 
 pub shortest-of_number : (v : Responses) (k : ℕ) → AreProper v → HasConflictNumber v k → IsShortestLength v k
 shortest-of_number v k proper number = ((conflict_number_is_shortest_cycle v proper).0 k).0 number
@@ -16,3 +23,14 @@ some_conflict v proper none peace =
       | inl p ↦ none p.0 p.1.follows
       | inr q ↦ let cycle = q.2.0 in (conflict_number_is_shortest_cycle v proper).1.0 peace cycle.0 cycle.1
     ]
+
+pub refusal-covers : (h : History) (w : Responses) → IsSound h → AreProper (responses_of h) → AreProper w → IsCoveredBy (responses_of h) w
+    → (verdict : Verdict) → IsRefusalOf w verdict → IsVerdict h verdict
+refusal-covers h w sound whole part cover (faulty fault) is = absurd is
+refusal-covers h w sound whole part cover (accepted order) is = absurd is
+refusal-covers h w sound whole part cover (refused k steps) is = (
+  sound,
+  covered-number (responses_of h) w cover whole part k is.0,
+  covered-least_steps (responses_of h) w cover steps is.1,
+  is.2,
+)

@@ -61,7 +61,10 @@ fn judge_sound<H: Threads + Sync, G: Gate>(
     ensures verdict { IfOk result (λ v. IsVerdict recording.now (verdict_of v)) }
     ensures workers { ¬ IsErrOf result SearchFault.Workers }
 {
-    let graph = OrderGraph::of(alloc, recording)?;
+    // For their clauses: the recording is legal, and the graph's responses are proper.
+    let _ = recording.replicas();
+    let graph = OrderGraph::covering(alloc, recording)?;
+    let _ = graph.elements();
     if let Some(order) = order(alloc, &graph)? {
         return Ok(Verdict::Accepted(order));
     }

@@ -1,4 +1,4 @@
--- Lemmas: on rows cut from a list, on names read back from their numbers, on spots, on the limits.
+-- Lemmas: on rows cut from a list, on names read back from their numbers, on spots, on the limits, on responses that cover others.
 pub mod Cuts
 pub mod ReadBack
 pub mod AllSpots
@@ -6,4 +6,7 @@ pub mod Adding
 pub mod InOrder
 pub mod Shown
 pub mod Totals
+pub mod Parts
+pub mod CoverSteps
 pub mod Made
+pub mod Covers

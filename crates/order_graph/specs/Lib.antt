@@ -1,5 +1,7 @@
--- What contracts of this crate see: responses as lists of numbers, the spots of an element, and rows cut from one list.
+-- What contracts of this crate see: responses as lists of numbers, the spots of an element, rows cut from one list, and
+-- responses that cover others.
 pub mod Lists
 pub mod Spots
 pub mod Cuts
 pub mod Kept
+pub mod Covers

@@ -4,6 +4,7 @@
 //! their names, and for each element the places where it stands. All of it is linear in the places.
 #![tactic(auto)]
 
+mod covering;
 mod looked;
 mod order_graph;
 mod pairs;

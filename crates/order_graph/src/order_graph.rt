@@ -1,8 +1,10 @@
 ghost use Rattle.std.specs.Prelude.{◌≡◌, ℕ, ◌<◌, ◌≤◌, ◌^◌, IfOk, IfSome, length, slice_get, is_some, option_map, if◌then◌else◌};
+ghost use Rattle.events.specs.Operations.{operation_names};
 ghost use Rattle.specification.specs.Faults.{IsSound};
-ghost use Rattle.specification.specs.Elements.{number_in};
+ghost use Rattle.specification.specs.Elements.{elements, number_in};
 ghost use Rattle.specification.specs.Responses.{responses_of, AreProper, IsLeastShowing};
 
+use super::covering::covering_operations;
 use super::looked::Looked;
 use super::pairs::first_list;
 use super::places::places_of;
@@ -47,6 +49,7 @@ impl Model for OrderGraph {
 }
 
 impl OrderGraph {
+    ghost use Rattle.order_graph.specs.Covers.{IsCoveredBy, IsPart, responses_on};
     ghost use Rattle.order_graph.specs.Lists.{lists_of, row, ticked, AreFew};
     ghost use Rattle.order_graph.specs.Spots.{spots_of};
 
@@ -59,6 +62,40 @@ impl OrderGraph {
     {
         let shown = recording.operations(alloc)?;
         let names = inserted_names(alloc, recording, &shown)?;
+        OrderGraph::on(alloc, recording, names, shown)
+    }
+
+    /// The graph of some responses that cover all: a response is left out where it is a subsequence of the
+    /// last one kept, which has then all that it shows, and a lesser operation.
+    ///
+    /// So it has the same orders and cycles as the graph of all responses, and the same least operations that
+    /// show one element before another; it has fewer lists and places. It takes time linear in the places of
+    /// all responses, of which it compares the names with one another, and looks up only those of the kept
+    /// ones; memory is linear in the operations, the elements and the places of the kept responses.
+    pub fn covering(alloc: Global, recording: &Recording) -> Result<OrderGraph, Memory>
+        requires { IsSound recording.now }
+        ensures { IfOk result (λ g. IsCoveredBy (responses_of recording.now) g) }
+    {
+        let operations = recording.operations(alloc)?;
+        let names = inserted_names(alloc, recording, &operations)?;
+        let shown = covering_operations(alloc, recording, &operations)?;
+        OrderGraph::on(alloc, recording, names, shown)
+    }
+
+    /// The graph of the responses of these operations, over the elements of the recording.
+    fn on(
+        alloc: Global,
+        recording: &Recording,
+        names: Vec<Name>,
+        shown: Vec<OpName>,
+    ) -> Result<OrderGraph, Memory>
+        requires sound { IsSound recording.now }
+        requires names { names.items ≡ elements recording.now }
+        requires part { IsPart shown.items (operation_names recording.now) }
+        ensures { IfOk result (λ g. g ≡ responses_on recording.now shown.items) }
+    {
+        // Its contract has that the recording is legal.
+        let _ = recording.replicas();
         let numbers = numbers_of(alloc, &names)?;
         let places = places_of(alloc, recording, &shown, &names, &numbers)?;
         let spots = spots_in_lists(alloc, names.len(), &places)?;

@@ -1,0 +1,100 @@
+-- One operation more, kept or covered by one that is kept; and one place more of a response that is looked for in another.
+use Rattle.std.proofs.Common.{◌≡◌, ℕ, zero, suc, ◌+◌, ◌<◌, ◌≤◌, ◌⊎◌, inl, inr, Some, List, [], ◌∷◌, ◌++◌, length, drop, refl, sym, ap, ◌∙◌, subst, arith}
+use Rattle.std.specs.Prelude.{slice_get, AllPairs, Contains}
+use Rattle.std.proofs.lemmas.List.{drop_all}
+use Rattle.std.proofs.lemmas.Option.{same_Some, none-some}
+use Rattle.events.specs.Names.{NameBytes}
+use Rattle.events.specs.Operation.{Operation, ComesBefore}
+use Rattle.events.specs.History.{History}
+use Rattle.events.specs.Operations.{response}
+use Rattle.specification.specs.Orders.{IsSubsequence}
+use Rattle.specification.proofs.Members.{In, Before, In-append_left, In-append_right, In-append_cases, In-from_Contains, Contains-from_In, AllPairs-Before}
+use Rattle.order_graph.specs.Covers.{IsPart, AreCovering}
+use Rattle.order_graph.proofs.Parts.{In-part, part-skip, part-keep}
+
+-- the same names in the same order
+pub subsequence-refl : (w : List NameBytes) → IsSubsequence w w
+subsequence-refl [] = tt
+subsequence-refl (a ∷ w) = inl (refl, subsequence-refl w)
+
+subsequence-later : (b : NameBytes) (w order : List NameBytes) → IsSubsequence w order → IsSubsequence w (b ∷ order)
+subsequence-later b [] order s = tt
+subsequence-later b (a ∷ w) order s = inr s
+
+pub drop-place : (w : List NameBytes) (i : ℕ) (a : NameBytes) → slice_get w i ≡ Some a → drop i w ≡ a ∷ drop (suc i) w
+drop-place [] i a e = absurd (none-some a e)
+drop-place (b ∷ w) zero a e = ap (λ z. z ∷ w) (same_Some b a e)
+drop-place (b ∷ w) (suc i) a e = drop-place w i a e
+
+drop-later : (w : List NameBytes) (i : ℕ) (s : List NameBytes) → i < length w → IsSubsequence s (drop (suc i) w) → IsSubsequence s (drop i w)
+drop-later [] i s lt h = absurd (omega arith)
+drop-later (b ∷ w) zero s lt h = subsequence-later b s w h
+drop-later (b ∷ w) (suc i) s lt h = drop-later w i s (omega arith) h
+
+-- what is left of one response is in what is left of the other: one place on, or at the same name
+pub passes : (w order : List NameBytes) (i j : ℕ) → j < length order → IsSubsequence (drop i w) (drop (j + 1) order) → IsSubsequence (drop i w) (drop j order)
+passes w order i j lt h = drop-later order j (drop i w) lt (subst (λ n. IsSubsequence (drop i w) (drop n order)) (let e : j + 1 ≡ suc j = omega arith in e) h)
+
+pub meets : (w order : List NameBytes) (i j : ℕ) (a : NameBytes) → slice_get w i ≡ Some a → slice_get order j ≡ Some a
+    → IsSubsequence (drop (i + 1) w) (drop (j + 1) order) → IsSubsequence (drop i w) (drop j order)
+meets w order i j a e f h =
+    let one : i + 1 ≡ suc i = omega arith in
+    let two : j + 1 ≡ suc j = omega arith in
+    let rest : IsSubsequence (drop (suc i) w) (drop (suc j) order) =
+    subst (λ n. IsSubsequence (drop n w) (drop (suc j) order)) one (subst (λ n. IsSubsequence (drop (i + 1) w) (drop n order)) two h) in
+    subst (λ l. IsSubsequence l (drop j order)) (sym (drop-place w i a e))
+    (subst (λ l. IsSubsequence (a ∷ drop (suc i) w) l) (sym (drop-place order j a f)) (inl (refl, rest)))
+
+pub all_found : (w order : List NameBytes) (i : ℕ) → length w ≤ i → IsSubsequence (drop i w) order
+all_found w order i le = subst (λ l. IsSubsequence l order) (sym (drop_all i w le)) tt
+
+module _ {X : Type 0} where
+  Before-more : (a b : X) (xs ys : List X) → Before a b xs → Before a b (xs ++ ys)
+  Before-more a b [] ys h = absurd h
+  Before-more a b (x ∷ xs) ys (inl p) = inl (p.0, In-append_left b xs ys p.1)
+  Before-more a b (x ∷ xs) ys (inr h) = inr (Before-more a b xs ys h)
+
+  Before-last : (a z : X) (xs : List X) → In a xs → Before a z (xs ++ z ∷ [])
+  Before-last a z [] i = absurd i
+  Before-last a z (x ∷ xs) (inl e) = inl (e, In-append_right z xs (z ∷ []) (inl refl))
+  Before-last a z (x ∷ xs) (inr i) = inr (Before-last a z xs i)
+
+-- an operation of these that covers this one: itself, or one that stands before it
+abbrev pub IsFoundIn : History → List Operation → List Operation → Operation → Type 0
+IsFoundIn h all some o = (p : Operation) × In p some × ((p ≡ o) ⊎ Before p o all) × IsSubsequence (response h o) (response h p)
+
+-- some of the operations, each with all that they cover
+pub record AreKeptOf (h : History) (all some : List Operation) : Type 0 where
+  pub part : IsPart some all
+  pub covered : (o : Operation) → In o all → IsFoundIn h all some o
+
+module _ (h : History) where
+  pub none_kept : AreKeptOf h [] []
+  none_kept = record { part = tt; covered = λ o i. absurd i }
+
+  pub one_left_out : (all some : List Operation) (o p : Operation) → AreKeptOf h all some → In p some → IsSubsequence (response h o) (response h p) → AreKeptOf h (all ++ o ∷ []) some
+  one_left_out all some o p k i s = record { part = part-skip o some all k.part; covered = λ q j. go q (In-append_cases q all (o ∷ []) j) }
+    where
+      go : (q : Operation) → In q all ⊎ In q (o ∷ []) → IsFoundIn h (all ++ o ∷ []) some q
+      go q (inl j) = let c : IsFoundIn h all some q = k.covered q j in
+          (c.0, c.1, elim c.2 [ inl e ↦ inl e | inr b ↦ inr (Before-more c.0 q all (o ∷ []) b) ], c.3)
+      go q (inr (inl e)) =
+          (p, i, inr (subst (λ z. Before p z (all ++ o ∷ [])) (sym e) (Before-last p o all (In-part p some all k.part i))), subst (λ z. IsSubsequence (response h z) (response h p)) (sym e) s)
+      go q (inr (inr j)) = absurd j
+
+  pub one_kept : (all some : List Operation) (o : Operation) → AreKeptOf h all some → AreKeptOf h (all ++ o ∷ []) (some ++ o ∷ [])
+  one_kept all some o k = record { part = part-keep o some all k.part; covered = λ q j. go q (In-append_cases q all (o ∷ []) j) }
+    where
+      go : (q : Operation) → In q all ⊎ In q (o ∷ []) → IsFoundIn h (all ++ o ∷ []) (some ++ o ∷ []) q
+      go q (inl j) = let c : IsFoundIn h all some q = k.covered q j in
+          (c.0, In-append_left c.0 some (o ∷ []) c.1, elim c.2 [ inl e ↦ inl e | inr b ↦ inr (Before-more c.0 q all (o ∷ []) b) ], c.3)
+      go q (inr (inl e)) =
+          (o, In-append_right o some (o ∷ []) (inl refl), inl (sym e), subst (λ z. IsSubsequence (response h z) (response h o)) (sym e) (subsequence-refl (response h o)))
+      go q (inr (inr j)) = absurd j
+
+  pub kept_cover : (all some : List Operation) → AllPairs (λ f e. ComesBefore f e) all → AreKeptOf h all some → AreCovering h all some
+  kept_cover all some order k = record {
+    part = k.part;
+    covered = λ o i. let c : IsFoundIn h all some o = k.covered o (In-from_Contains all o i) in
+        (c.0, Contains-from_In some c.0 c.1, elim c.2 [ inl e ↦ inl e | inr b ↦ inr (AllPairs-Before (λ f e. ComesBefore f e) all c.0 o order b) ], c.3);
+  }

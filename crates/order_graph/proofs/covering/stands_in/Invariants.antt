@@ -1,0 +1,10 @@
+use Rattle.std.proofs.Common.{◌≤◌, drop, length}
+use Rattle.specification.specs.Orders.{IsSubsequence}
+use Rattle.order_graph.proofs.covering.stands_in.Given as goal
+
+-- what is left of the response is in what is left of the other only where the whole is in the whole
+abbrev pub invariant-loop-j : goal.invariant-loop-j
+invariant-loop-j l = record {
+  within : l.found ≤ length l.response;
+  rest : IsSubsequence (drop l.found l.response) (drop l.j l.other) → IsSubsequence l.response l.other;
+}

@@ -1,0 +1,92 @@
+-- What is kept of these operations reads as their responses.
+use Rattle.std.proofs.Common.{◌≡◌, ℕ, ◌<◌, List, length, ◌∙◌, ap, subst, arith}
+use Rattle.std.specs.Prelude.{All}
+use Rattle.events.specs.Names.{NameBytes}
+use Rattle.events.specs.Operation.{Operation}
+use Rattle.events.specs.History.{History}
+use Rattle.specification.specs.Elements.{number_in}
+use Rattle.element_numbers.proofs.Elements.{distinct-names, few-names}
+use Rattle.order_graph.specs.Cuts.{rows_of}
+use Rattle.order_graph.specs.Lists.{row}
+use Rattle.order_graph.proofs.Made.{answers, kept-is, kept-lists, kept-proper, kept-few, kept-count, kept-known, kept-short, few-rows}
+use Rattle.order_graph.proofs.order_graph.OrderGraph.on.Goals as goal
+
+rows-are : (h : History) (names lent : List NameBytes) (shown all : List Operation) (rows : List (List ℕ)) → lent ≡ names → all ≡ shown
+    → rows ≡ answers h lent all → rows ≡ answers h names shown
+rows-are h names lent shown all rows e f is = is ∙ ap (λ n. answers h n all) e ∙ ap (answers h names) f
+
+pub numbers_of-requires-clause-distinct : goal.numbers_of-requires-clause-distinct
+numbers_of-requires-clause-distinct c =
+    distinct-names c.args.recording.now c.replicas.ensures.legal c.requires.sound c.deref.result.now (c.deref.ensures.value ∙ c.requires.names)
+
+pub numbers_of-requires-clause-few : goal.numbers_of-requires-clause-few
+numbers_of-requires-clause-few c =
+    few-names c.args.recording.now c.replicas.ensures.legal c.requires.sound c.deref.result.now (c.deref.ensures.value ∙ c.requires.names)
+
+pub places_of-requires-clause-distinct : goal.places_of-requires-clause-distinct
+places_of-requires-clause-distinct c =
+    distinct-names c.args.recording.now c.replicas.ensures.legal c.requires.sound c.deref-3.result.now (c.deref-3.ensures.value ∙ c.requires.names)
+
+pub places_of-requires-clause-few : goal.places_of-requires-clause-few
+places_of-requires-clause-few c =
+    few-names c.args.recording.now c.replicas.ensures.legal c.requires.sound c.deref-3.result.now (c.deref-3.ensures.value ∙ c.requires.names)
+
+pub spots_in_lists-requires-clause-few : goal.spots_in_lists-requires-clause-few
+spots_in_lists-requires-clause-few c =
+    let h = c.args.recording.now in
+    let names : List NameBytes = c.args.names.items in
+    let shown : List Operation = c.args.shown.items in
+    let rows : List (List ℕ) = rows_of c.in_ok-places.places in
+    few-rows h c.replicas.ensures.legal c.requires.sound names shown rows c.requires.names c.requires.part
+    (rows-are h names c.deref-3.result.now shown c.deref-2.result.now rows c.deref-3.ensures.value c.deref-2.ensures.value c.in_ok-places.ensures.rows)
+
+pub spots_in_lists-requires-clause-known : goal.spots_in_lists-requires-clause-known
+spots_in_lists-requires-clause-known c =
+    let h = c.args.recording.now in
+    let names : List NameBytes = c.args.names.items in
+    let shown : List Operation = c.args.shown.items in
+    let rows : List (List ℕ) = rows_of c.in_ok-places.places in
+    let count : length names ≡ c.len.result = omega (arith, c.len.ensures, c.args.names.ok) in
+    subst (λ n. (l : ℕ) → All (λ x. x < n) (row rows l)) count
+    (kept-known h c.replicas.ensures.legal c.requires.sound names shown rows c.requires.names c.requires.part
+    (rows-are h names c.deref-3.result.now shown c.deref-2.result.now rows c.deref-3.ensures.value c.deref-2.ensures.value c.in_ok-places.ensures.rows))
+
+pub spots_in_lists-requires-clause-short : goal.spots_in_lists-requires-clause-short
+spots_in_lists-requires-clause-short c =
+    let h = c.args.recording.now in
+    let names : List NameBytes = c.args.names.items in
+    let shown : List Operation = c.args.shown.items in
+    let rows : List (List ℕ) = rows_of c.in_ok-places.places in
+    kept-short h c.replicas.ensures.legal c.requires.sound names shown rows c.requires.names c.requires.part
+    (rows-are h names c.deref-3.result.now shown c.deref-2.result.now rows c.deref-3.ensures.value c.deref-2.ensures.value c.in_ok-places.ensures.rows)
+
+pub invariant_of-result : goal.invariant_of-result
+invariant_of-result c =
+    let h = c.args.recording.now in
+    let legal = c.replicas.ensures.legal in
+    let sound = c.requires.sound in
+    let part = c.requires.part in
+    let names : List NameBytes = c.args.names.items in
+    let shown : List Operation = c.args.shown.items in
+    let rows : List (List ℕ) = rows_of c.in_ok-places.places in
+    let is = c.requires.names in
+    let rows_is = rows-are h names c.deref-3.result.now shown c.deref-2.result.now rows c.deref-3.ensures.value c.deref-2.ensures.value c.in_ok-places.ensures.rows in
+    record {
+      proper = kept-proper h legal sound names shown rows is part rows_is;
+      few = kept-few h legal sound names shown rows is part rows_is;
+      numbered = λ a. c.in_ok-numbers.ensures a ∙ ap (λ (l : List NameBytes). number_in l a) c.deref.ensures.value;
+      places_cut = c.in_ok-places.ensures.cut;
+      spots_cut = c.in_ok-spots.ensures.cut;
+      lists_are = kept-lists h legal sound names shown rows is part rows_is;
+      count = kept-count h legal sound names shown rows is part rows_is;
+      spots_are = c.in_ok-spots.ensures.spots;
+    }
+
+pub returns : goal.returns
+returns c =
+    let h = c.args.recording.now in
+    let names : List NameBytes = c.args.names.items in
+    let shown : List Operation = c.args.shown.items in
+    let rows : List (List ℕ) = rows_of c.in_ok-places.places in
+    kept-is h c.replicas.ensures.legal c.requires.sound names shown rows c.requires.names c.requires.part
+    (rows-are h names c.deref-3.result.now shown c.deref-2.result.now rows c.deref-3.ensures.value c.deref-2.ensures.value c.in_ok-places.ensures.rows)
