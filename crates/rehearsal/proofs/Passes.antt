@@ -81,12 +81,12 @@ hands_of s (p ∷ ps) a r from less each =
     let here : p.replica ≡ a = ap (λ (q : PassShown). q.replica) (each 0 p (omega arith)) ∙ omega arith in
     let next : (k : ℕ) (d : PassShown) → k < length ps → get_or ps k d ≡ new_pass s (a + 1 + k) = λ k d less. each (suc k) d (omega arith) ∙ ap (new_pass s) (omega arith) in
     dite (ℕ_discrete p.replica r) (λ same.
-        let one = has_one r p.replica same in
-        let none = hands_before s ps (a + 1) r (omega arith) next in
-        omega arith) (λ other.
-        let none = has_none r p.replica other in
-        let one = hands_of s ps (a + 1) r (omega arith) (omega arith) next in
-        omega arith)
+    let one = has_one r p.replica same in
+    let none = hands_before s ps (a + 1) r (omega arith) next in
+    omega arith) (λ other.
+    let none = has_none r p.replica other in
+    let one = hands_of s ps (a + 1) r (omega arith) (omega arith) next in
+    omega arith)
 
 -- a total that is nothing for a new pass
 pub new_total : (f : PassShown → ℕ) (s : Which) → ((r : ℕ) → f (new_pass s r) ≡ 0) → (ps : List PassShown) (a : ℕ) → ((k : ℕ) (d : PassShown) → k < length ps → get_or ps k d ≡ new_pass s (a + k)) → total f ps ≡ 0
@@ -153,8 +153,8 @@ ended_of s h before (p ∷ ps) old q seen opened replayed first is recorded =
       all = record {
         count = count ∙ opened.count;
         each = λ r less.
-          ap (λ (n : ℕ). cond (nat_eq n r) 1 0 + hands r ps) replica
-          ∙ (replayed_total (λ p. cond (nat_eq p.replica r) 1 0) (λ p seen. refl) h before (p ∷ ps) replayed ∙ opened.each r less);
+            ap (λ (n : ℕ). cond (nat_eq n r) 1 0 + hands r ps) replica
+            ∙ (replayed_total (λ p. cond (nat_eq p.replica r) 1 0) (λ p seen. refl) h before (p ∷ ps) replayed ∙ opened.each r less);
         none_out = omega arith;
       };
       streams = All-cons Q q ps (recorded ∙ ap mine first ∙ (All-head Q p ps streams ∙ ap (stream h) (sym replica))) (All-tail Q p ps streams);
@@ -166,8 +166,10 @@ closes_with s h closed ps ended same as_many has legal closed_legal = record { r
   where
     B : PassShown → Type 0
     B p = (stream_of p.replica closed.entries ≡ mine p) × (mine p ≡ stream h p.replica)
+
     both : (ps : List PassShown) → HasStreams closed.entries ps → All (λ (p : PassShown). mine p ≡ stream h p.replica) ps → All B ps
     both ps a b = λ k d less. (a k d less, b k d less)
+
     at : (r : ℕ) → (r < h.replicas) ⊎ (h.replicas ≤ r) → stream h r ≡ stream closed r
     at r (inl less) =
         let one = one_of B r ps (ended.all.each r (subst (λ n. r < n) (sym same) less)) (both ps has ended.streams) in

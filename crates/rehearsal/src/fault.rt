@@ -42,10 +42,12 @@ pub fn of_replay(answer: &Result<u32, ReplayFault>) -> Option<RehearsalFault>
 {
     match answer {
         Ok(_) => None,
-        Err(ReplayFault::Refused {
-            at: _,
-            why: Refusal::Memory,
-        }) => Some(RehearsalFault::Memory),
+        Err(
+            ReplayFault::Refused {
+                at: _,
+                why: Refusal::Memory,
+            },
+        ) => Some(RehearsalFault::Memory),
         // A legal recording's entries meet no other refusal than that an operation has not come yet.
         Err(_) => Some(RehearsalFault::Stalled),
     }
@@ -63,7 +65,10 @@ pub fn of_watch(answer: &Result<(), SearchFault>) -> Option<RehearsalFault>
 }
 
 /// The one of two faults that is answered: `Memory` before `Thread`, and `Thread` before `Stalled`.
-pub fn foremost(one: Option<RehearsalFault>, other: Option<RehearsalFault>) -> Option<RehearsalFault>
+pub fn foremost(
+    one: Option<RehearsalFault>,
+    other: Option<RehearsalFault>,
+) -> Option<RehearsalFault>
     ensures none { result ≡ None → (one ≡ None) × (other ≡ None) }
     ensures either { (result ≡ one) ⊎ (result ≡ other) }
     ensures memory { (one ≡ Some fault.Memory) ⊎ (other ≡ Some fault.Memory) → result ≡ Some fault.Memory }

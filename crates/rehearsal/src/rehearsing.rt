@@ -56,8 +56,9 @@ pub fn rehearse<H: Threads + Wait + Sync, G: Gate>(
         passes,
         observer,
     } = open(alloc, recording.replicas())?;
-    let Returns { passes, observer } =
-        act(rt, alloc, &session, recording, passes, observer, workers, gate)?;
+    let Returns { passes, observer } = act(
+        rt, alloc, &session, recording, passes, observer, workers, gate,
+    )?;
     Ok(close(session, recording, passes, observer))
 }
 
@@ -105,7 +106,11 @@ fn act<H: Threads + Wait + Sync, G: Gate>(
             ensures replayed { IfOk result (λ r. AreReplayed recording.entry.now passes.items r.passes.items) }
             ensures observer { IfOk result (λ r. r.observer.session ≡ session.entry.now) }
             ensures workers { ¬ IsErrOf result RehearsalFault.Workers }
-        { act_in(rt, alloc, scope, session, recording, passes, observer, workers, gate) },
+        {
+            act_in(
+                rt, alloc, scope, session, recording, passes, observer, workers, gate,
+            )
+        },
     )
 }
 

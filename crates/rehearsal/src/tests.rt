@@ -134,7 +134,8 @@ fn workers_are_1_to_64(rt: HostRuntime) {
         .expect(&rt, "a recording");
     for workers in [0, 65, u32::MAX] {
         assert!(rt;
-            rehearse(&rt, alloc, &recording, workers, &NoGate).err() == Some(RehearsalFault::Workers)
+            rehearse(&rt, alloc, &recording, workers, &NoGate).err()
+                == Some(RehearsalFault::Workers)
         );
     }
     assert!(rt; rehearsed(&rt, alloc, &recording, 64, &NoGate).is_ok());

@@ -26,10 +26,10 @@ loop-handles-preserved g c =
       inv.0 ++ handle ∷ [],
       inv.1 ∙ (ap (λ l. inv.0 ++ l) left ∙ sym (append_assoc inv.0 (handle ∷ []) rest)),
       λ none.
-      let noted = c.take_back.ensures.none none in
-      let one = replayed_whole h (pass handle) c.join-told.result (subst (λ (k : History). Rattle.rehearsal.specs.Replays.HasReplayed k (pass handle) c.join-told.result) (All-head R handle rest all) c.join-told.ensures) noted.1 in
-      let more = replayed_more h (map pass inv.0) c.loop-handles.back.passes.items (pass handle) c.join-told.result.pass (inv.2 noted.0) one in
-      subst (λ (l : List PassShown). AreReplayed h (map pass (inv.0 ++ handle ∷ [])) l) (sym noted.2) (subst (λ (l : List PassShown). AreReplayed h l (c.loop-handles.back.passes.items ++ c.join-told.result.pass ∷ [])) (sym (map-append pass inv.0 (handle ∷ []))) more),
+          let noted = c.take_back.ensures.none none in
+          let one = replayed_whole h (pass handle) c.join-told.result (subst (λ (k : History). Rattle.rehearsal.specs.Replays.HasReplayed k (pass handle) c.join-told.result) (All-head R handle rest all) c.join-told.ensures) noted.1 in
+          let more = replayed_more h (map pass inv.0) c.loop-handles.back.passes.items (pass handle) c.join-told.result.pass (inv.2 noted.0) one in
+          subst (λ (l : List PassShown). AreReplayed h (map pass (inv.0 ++ handle ∷ [])) l) (sym noted.2) (subst (λ (l : List PassShown). AreReplayed h l (c.loop-handles.back.passes.items ++ c.join-told.result.pass ∷ [])) (sym (map-append pass inv.0 (handle ∷ []))) more),
       c.take_back.ensures.workers inv.3,
       All-tail R handle rest all,
     )
