@@ -28,7 +28,11 @@ def built(folder: Path) -> Path:
     crates = (ROOT / "crates.txt").read_text(encoding="utf-8")
     (folder / "crates.txt").write_text(crates + f"{NAME}: anyhow events sessions\n", encoding="utf-8")
     crate = folder / "crates" / NAME
-    shutil.copytree(ROOT / "tests" / NAME, crate)
+    # The files end in .txt, since the toolchain wants each source in a crate that crates.txt names.
+    for source in (ROOT / "tests" / NAME).rglob("*.txt"):
+        target = crate / source.relative_to(ROOT / "tests" / NAME).with_suffix("")
+        target.parent.mkdir(parents=True, exist_ok=True)
+        shutil.copy(source, target)
     subprocess.run(["rt", "run", "--", "1", "0", "0"], cwd=crate, check=True)
     return crate / "out" / NAME
 
