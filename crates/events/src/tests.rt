@@ -258,14 +258,28 @@ fn responses_are_copied(rt: HostRuntime) {
     assert!(rt; has_at(&again, 1, "a") && has_at(&again, 2, "b"));
 }
 
+/// Whether these two names stand in it, and no other.
+fn has_left_and_right(made: &Response) -> bool {
+    made.len() == 2 && made.bytes_at(0) == Some(b"left".as_slice()) && has_at(made, 1, "right")
+}
+
 #[test]
 fn responses_are_put_together_from_bytes(rt: HostRuntime) {
+    let made = put_together(rt.alloc()).expect(&rt, "a response");
+    assert!(rt; has_left_and_right(&made));
+}
+
+/// Whether bytes that are no name are refused for what is wrong with them.
+fn refuses_no_names(made: &mut Response) -> bool {
+    made.push_bytes(b"") == Err(PushFault::Name(NameFault::Empty))
+        && made.push_bytes(b"a b") == Err(PushFault::Name(NameFault::BadByte { at: 1 }))
+}
+
+#[test]
+fn bytes_that_are_no_name_are_refused(rt: HostRuntime) {
     let mut made = put_together(rt.alloc()).expect(&rt, "a response");
-    assert!(rt; made.push_bytes(b"") == Err(PushFault::Name(NameFault::Empty)));
-    assert!(rt; made.push_bytes(b"a b") == Err(PushFault::Name(NameFault::BadByte { at: 1 })));
-    assert!(rt; made.len() == 2 && made.bytes_at(2).is_none());
-    assert!(rt; made.bytes_at(0) == Some(b"left".as_slice()));
-    assert!(rt; has_at(&made, 1, "right"));
+    assert!(rt; refuses_no_names(&mut made));
+    assert!(rt; has_left_and_right(&made));
 }
 
 /// Whether a recording is opened with so many replicas and no entry.
@@ -476,26 +490,71 @@ fn copied(alloc: Global, recording: &Recording) -> Option<Recording> {
     }
 }
 
+/// Whether it has the two entries.
+fn has_two(recording: &Recording) -> bool {
+    recording.len() == 2 && recording.replicas() == 2 && recording.count(0) == 1
+}
+
+/// Whether one receipt more is recorded.
+fn takes_a_receipt(recording: &mut Recording) -> bool {
+    receive(recording, 1, 0, 1).is_some() && recording.stream_len(1) == 2
+}
+
+#[test]
+fn copies_are_equal(rt: HostRuntime) {
+    let recording = two_entries(rt.alloc()).expect(&rt, "a recording");
+    let copy = copied(rt.alloc(), &recording).expect(&rt, "a copy");
+    assert!(rt; has_two(&copy));
+}
+
+/// Whether a copy takes one receipt more.
+fn copy_goes_on(alloc: Global, recording: &Recording) -> Option<bool> {
+    let mut copy = copied(alloc, recording)?;
+    Some(takes_a_receipt(&mut copy))
+}
+
 #[test]
 fn copies_go_on_alone(rt: HostRuntime) {
     let recording = two_entries(rt.alloc()).expect(&rt, "a recording");
-    let mut copy = copied(rt.alloc(), &recording).expect(&rt, "a copy");
-    assert!(rt; copy.len() == 2 && copy.replicas() == 2 && copy.count(0) == 1);
-    assert!(rt; receive(&mut copy, 1, 0, 1).is_some());
-    assert!(rt; copy.stream_len(1) == 2 && recording.stream_len(1) == 1);
+    assert!(rt; copy_goes_on(rt.alloc(), &recording) == Some(true));
+    assert!(rt; has_two(&recording));
+}
+
+/// What is answered to a receipt by this replica of the second operation of replica 0.
+fn room_for(recording: &Recording, replica: u32) -> Option<Result<(), Refusal>> {
+    let seen = OpName::new(0, 2)?;
+    let body = Body::Recv { seen };
+    let entry = Entry { replica, body };
+    Some(recording.room(&entry))
 }
 
 #[test]
 fn room_changes_nothing(rt: HostRuntime) {
     let recording = two_entries(rt.alloc()).expect(&rt, "a recording");
-    let seen = OpName::new(0, 2).expect(&rt, "an operation");
-    let body = Body::Recv { seen };
-    let early = Entry { replica: 1, body };
-    assert!(rt; recording.room(&early) == Err(Refusal::NotYet { have: 1 }));
-    let own = Entry {
-        replica: 0,
-        body: Body::Recv { seen },
-    };
-    assert!(rt; recording.room(&own) == Err(Refusal::OwnReceipt));
-    assert!(rt; recording.len() == 2);
+    assert!(rt; room_for(&recording, 1) == Some(Err(Refusal::NotYet { have: 1 })));
+    assert!(rt; room_for(&recording, 0) == Some(Err(Refusal::OwnReceipt)));
+    assert!(rt; has_two(&recording));
+}
+
+/// A recording with as many names as one replica's responses may have.
+fn full(alloc: Global, a: Name) -> Option<Recording> {
+    let mut recording = opened(alloc, 1).ok()?;
+    for _ in 0..64 {
+        read(&mut recording, alloc, 0, a, 4096).ok()?;
+    }
+    Some(recording)
+}
+
+/// What is answered to a read of so many names that comes to a copy.
+fn read_by_copy(alloc: Global, recording: &Recording, a: Name, names: u32) -> Option<Result<u32, Refusal>> {
+    let mut copy = copied(alloc, recording)?;
+    Some(read(&mut copy, alloc, 0, a, names))
+}
+
+#[test]
+fn a_full_recording_is_copied(rt: HostRuntime) {
+    let a = name("a").expect(&rt, "a name");
+    let recording = full(rt.alloc(), a).expect(&rt, "a recording");
+    assert!(rt; read_by_copy(rt.alloc(), &recording, a, 1) == Some(Err(Refusal::PlacesFull)));
+    assert!(rt; read_by_copy(rt.alloc(), &recording, a, 0) == Some(Ok(65)));
 }
