@@ -60,7 +60,7 @@ static inline unsigned domepeeler_refuse(struct domepeeler *d, int full, const c
     return 0;
 }
 
-/* Room for so many more bytes and the zero behind them. */
+/* Room for so many more bytes and the zero after them. */
 static inline int domepeeler_grow(struct domepeeler *d, size_t more) {
     size_t room = d->room ? d->room : 256;
     while (room - d->length <= more) room *= 2;
