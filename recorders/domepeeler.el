@@ -11,7 +11,8 @@
 ;;     (domepeeler-received recording 1 0 n)                  ; that operation was applied at replica 1
 ;;     (domepeeler-delete recording 1 "a" nil)                ; replica 1 deleted a; its list is now empty
 ;;     (domepeeler-read recording 0 '("a"))                   ; replica 0 read its list
-;;     (princ (domepeeler-text recording)))
+;;     (princ (domepeeler-text recording))                    ; the trace; tools/explain says what is wrong with it
+;;     (alist-get 'verdict (domepeeler-judge recording)))     ; asks the program
 ;;
 ;; Each call that a trace can't say signals `domepeeler-refused', or `domepeeler-full' at a limit, and leaves the
 ;; recording as it was.
@@ -20,6 +21,7 @@
 
 (require 'cl-lib)
 (require 'json)
+(require 'seq)
 (require 'subr-x)
 
 (defconst domepeeler--replicas 16)
@@ -109,7 +111,8 @@ With it came all that AUTHOR had seen by then."
 PROGRAM is by default that of the environment's DOMEPEELER, or \"domepeeler\"."
   (when (domepeeler-recording-only recording)
     (domepeeler--refuse "one replica's log is no recording: merge the logs first"))
-  (let ((program (or program (getenv "DOMEPEELER") "domepeeler"))
+  (let ((program (seq-find (lambda (named) (and named (not (string-empty-p named))))
+                           (list program (getenv "DOMEPEELER") "domepeeler")))
         (errors (make-temp-file "domepeeler")))
     (unwind-protect
         (with-temp-buffer

@@ -8,7 +8,9 @@
  *     domepeeler_received(recording, 1, 0, n);                       // that operation was applied at replica 1
  *     domepeeler_delete(recording, 1, "a", NULL, 0);                 // replica 1 deleted a; its list is now empty
  *     domepeeler_read(recording, 0, list, 1);                        // replica 0 read its list
- *     fputs(domepeeler_text(recording), stdout);
+ *     fputs(domepeeler_text(recording), stdout);                     // the trace; tools/explain says what is wrong with it
+ *     char *report = domepeeler_judge(recording, NULL);              // asks the program: its report as JSON, or NULL
+ *     free(report);
  *     domepeeler_free(recording);
  *
  * Each call that a trace can't say answers 0 and leaves the recording as it was; domepeeler_why() then says why, and
@@ -58,7 +60,7 @@ static inline unsigned domepeeler_refuse(struct domepeeler *d, int full, const c
     return 0;
 }
 
-/* Room for so many more bytes and the zero behind them. */
+/* Room for so many more bytes and the zero after them. */
 static inline int domepeeler_grow(struct domepeeler *d, size_t more) {
     size_t room = d->room ? d->room : 256;
     while (room - d->length <= more) room *= 2;

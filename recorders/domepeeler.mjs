@@ -7,7 +7,8 @@
 //     recording.received(1, 0, n)                  // that operation was applied at replica 1
 //     recording.delete(1, "a", [])                 // replica 1 deleted a, and its list is now empty
 //     recording.read(0, ["a"])                     // replica 0 read its list
-//     console.log(recording.text())
+//     console.log(recording.text())                // the trace; tools/explain says what is wrong with it
+//     console.log((await recording.judge()).verdict) // asks the program
 //
 // Each call that a trace can't say throws Refused, or Full at a limit, and leaves the recording as it was.
 

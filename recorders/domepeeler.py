@@ -7,7 +7,8 @@ Copy this file into your project; it needs Python 3 and nothing else. docs/recor
     recording.received(1, 0, n)              # that operation was applied at replica 1
     recording.delete(1, "a", [])             # replica 1 deleted a, and its list is now empty
     recording.read(0, ["a"])                 # replica 0 read its list
-    print(recording.text())
+    print(recording.text())                  # the trace; tools/explain says what is wrong with it
+    print(recording.judge()["verdict"])      # asks the program
 
 Each call that a trace can't say raises `Refused`, or `Full` at a limit, and leaves the recording as it was."""
 import json
@@ -91,7 +92,7 @@ class Recording:
         """The program's report on this recording. The program is that of $DOMEPEELER, or `domepeeler`."""
         if self._only is not None:
             raise Refused("one replica's log is no recording: merge the logs first")
-        program = program or os.environ.get("DOMEPEELER", "domepeeler")
+        program = program or os.environ.get("DOMEPEELER") or "domepeeler"
         try:
             done = subprocess.run([program, "verdict", "--json", "-"], input=self.text().encode(), capture_output=True)
         except OSError as why:

@@ -9,7 +9,8 @@
 //! recording.received(1, 0, n)?;                 // that operation was applied at replica 1
 //! recording.delete(1, "a", &[] as &[&str])?;    // replica 1 deleted a, and its list is now empty
 //! recording.read(0, &["a"])?;                   // replica 0 read its list
-//! print!("{}", recording.text());
+//! print!("{}", recording.text());               // the trace; tools/explain says what is wrong with it
+//! println!("{}", recording.judge().unwrap());   // asks the program: its report as JSON
 //! ```
 //!
 //! Each call that a trace can't say is `Refused`, and leaves the recording as it was.
@@ -168,8 +169,8 @@ impl Recording {
 
     /// The program's report on this recording, as JSON. The program is that of $DOMEPEELER, or `domepeeler`.
     pub fn judge(&self) -> Result<String, String> {
-        let program = std::env::var("DOMEPEELER").unwrap_or_else(|_| "domepeeler".to_string());
-        self.judge_by(&program)
+        let named = std::env::var("DOMEPEELER").unwrap_or_default();
+        self.judge_by(if named.is_empty() { "domepeeler" } else { &named })
     }
 
     /// The report of the program at this path.

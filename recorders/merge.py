@@ -32,7 +32,7 @@ def merge(texts: list) -> str:
 
 
 def entries(number: int, text: str) -> list:
-    """The lines of a log behind the first two; it is the log of one replica."""
+    """The lines of a log after the first two; it is the log of one replica."""
     *lines, rest = text.split("\n")
     if rest or lines[:1] != ["trace 1"] or not lines[1:2]:
         raise Unmerged(f"log {number} is no text of a recorder, or was cut off")

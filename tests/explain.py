@@ -32,7 +32,7 @@ MOST_TRIES = 20_000
 
 THREE_WAY = "0 ins x 0 : x|1 recv 0 1|2 recv 0 1|1 ins a 0 : a x|2 ins b 1 : x b|0 del x :|0 recv 1 1|0 recv 2 1|0 read : b a"
 
-# By name: how many replicas, the entries, and lines that stand in the explanation one behind the other, the first in front.
+# By name: how many replicas, the entries, and lines that stand in the explanation one after the other, from the first.
 WORDS = [
     ("accepted", 2, "0 ins a 0 : a|1 recv 0 1|1 ins b 1 : a b",
      "accepted: well done, all 2 responses fit one order of the elements. Strong and weak list specification hold.|a b"),
@@ -74,9 +74,9 @@ WORDS = [
      "[a] inserted by 0.1 (line 3), arrived at replica 1 in line 4 (1 recv 0 1), and from there arrived at replica 2 in line 6 "
      "(2 recv 1 1)|[a] no receipt at replica 2 names it by then: it counts as arrived since 1.1 (line 5) had seen it. Where each "
      "operation travels by itself, it was missing, and the exchange is not causal|[a] nothing deletes it"),
-    ("an element lost that arrived behind what had seen it", 3,
+    ("an element lost that arrived after what had seen it", 3,
      "0 ins a 0 : a|1 recv 0 1|1 ins b 1 : a b|2 recv 1 1|2 recv 0 1|2 read : b",
-     "line 8, 2.1: replica 2 read the list|[a] line 7 (2 recv 0 1) names it, behind line 6 (2 recv 1 1) which brings it: an operation "
+     "line 8, 2.1: replica 2 read the list|[a] line 7 (2 recv 0 1) names it, after line 6 (2 recv 1 1) which brings it: an operation "
      "arrived before what its author had seen, and the exchange is not causal|[a] nothing deletes it"),
     ("an element lost that arrived by itself before", 3,
      "0 ins a 0 : a|2 recv 0 1|1 recv 0 1|1 ins b 1 : a b|2 recv 1 1|2 read : b",
@@ -86,7 +86,7 @@ WORDS = [
      "answered: (nothing)|expected, in whatever order: [a]|"
      "before it: 0.1 (line 3) is still right; since then replica 0 received nothing|"
      "[a] inserted by 0.1 (line 3), an earlier operation of replica 0|"
-     "[a] deleted by 1.1 (line 5), not visible to 0.2: the first receipt that brings it is line 7 (0 recv 1 1), behind this response"),
+     "[a] deleted by 1.1 (line 5), not visible to 0.2: the first receipt that brings it is line 7 (0 recv 1 1), after this response"),
     ("a deleted element shown", 2, "0 ins a 0 : a|0 del a :|1 recv 0 2|1 read : a",
      "answered: [a]|expected, in whatever order: (nothing)|Too many|"
      "[a] inserted by 0.1 (line 3), arrived at replica 1 in line 5 (1 recv 0 2)|"
@@ -129,15 +129,15 @@ FAULTS = [
     (b"trace 1\nreplicas 1\n01 read :\n", "line 3: shape",
      "`01`, the first word, is not a number (digits without leading zeros, at most 4294967295)"),
     (b"trace 1\nreplicas 1\n0 ins a,1 0 : a,1\n", "line 3: shape",
-     "`a,1`, behind `ins`, is not a name (1 to 32 letters, digits, `_`, `-` or `.`)"),
+     "`a,1`, after `ins`, is not a name (1 to 32 letters, digits, `_`, `-` or `.`)"),
     (b"trace 1\nreplicas 1\n0 ins a first : a\n", "line 3: shape",
-     "`first`, behind the element, is not a number (digits without leading zeros, at most 4294967295)"),
+     "`first`, after the element, is not a number (digits without leading zeros, at most 4294967295)"),
     (b"trace 1\nreplicas 1\n0 read : a@1\n", "line 3: shape",
      "`a@1`, in the response, is not a name (1 to 32 letters, digits, `_`, `-` or `.`)"),
     (b"trace 1\nreplicas 1\n0 read : \xc3\xa4\n", "line 3: shape",
      "byte 10 of the line is 195, which no word may have: words are of ASCII"),
     (b"trace 1\nreplicas 2\n0 ins a 0 : a\n1 recv 0 0\n", "line 4: shape",
-     "behind `recv` stand a replica's number and that of its operation, from 1, and nothing else"),
+     "after `recv` stand a replica's number and that of its operation, from 1, and nothing else"),
     (b"trace 1\nreplicas 1\n1 read :\n", "line 3: no such replica",
      "line 2 says 1 replicas, and they count from 0: their numbers are below 1"),
     (b"trace 1\nreplicas 2\n0 ins a 0 : a\n1 recv 0 2\n", "line 4: not yet, have 1",
@@ -160,7 +160,7 @@ def explain(program: str, words: list, trace: bytes = b"") -> Ended:
 
 
 def stand_in_order(lines: list, wanted: list) -> str | None:
-    """The first of the wanted lines that does not stand behind those before it."""
+    """The first of the wanted lines that does not stand after those before it."""
     left = iter(line.strip() for line in lines)
     return next((line for line in wanted if line not in left), None)
 

@@ -1,7 +1,7 @@
 #!/usr/bin/env python3
 """readme_commands.py PROGRAM: the commands that the pages show are run as written, and must print what the pages show.
 
-A command stands behind `    $ `, its further lines behind `    > `, and below it what it prints; where nothing is shown,
+A command stands after `    $ `, its further lines after `    > `, and below it what it prints; where nothing is shown,
 only the status is looked at. PROGRAM must be the repository's own, since the pages name it. `tests/black_box.py` does this for
 the gallery."""
 import os
@@ -18,7 +18,7 @@ ROOT = Path(__file__).resolve().parent.parent
 BUILT = ROOT / "crates" / "finder_cli" / "out" / "finder_cli"
 
 # The pages, and how many commands each must show at least.
-PAGES = {"README.md": 12, "docs/many.md": 4}
+PAGES = {"README.md": 12, "docs/many.md": 4, "docs/recording.md": 2}
 
 # Indented lines of the pages that are commands and are not run here, each with the reason.
 NOT_RUN = {

@@ -250,6 +250,8 @@ def check_judge(tally: Tally, recorder: Recorder, folder: Path) -> None:
     for absent, why in [(str(folder / "nowhere"), "cannot be run"), ("/bin/false", "ended with status 1: ")]:
         got = recorder.answers(["new\t1", "judge"], DOMEPEELER=absent)
         tally.check(f"{recorder.language}: judge by {absent}", got[1:] and got[1].startswith(f"failed {absent} {why}"), got)
+    got = recorder.answers(["new\t1", "judge"], DOMEPEELER="", PATH=f"{folder / 'path'}:{os.environ['PATH']}")
+    tally.check(f"{recorder.language}: judge by domepeeler on the PATH", got[1:] and got[1].startswith("report {"), got)
 
 
 ONE_LOG = "one replica's log is no recording: merge the logs first"
@@ -348,6 +350,8 @@ def main() -> None:
     with tempfile.TemporaryDirectory() as name:
         folder = Path(name)
         drivers = prepared(folder)
+        (folder / "path").mkdir()
+        (folder / "path" / "domepeeler").symlink_to(Path(program).resolve())
         texts = {}
         for language in LANGUAGES:
             recorder = Recorder(language, drivers[language], program)

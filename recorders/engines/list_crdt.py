@@ -8,8 +8,8 @@ from domepeeler import Recording
 
 
 class ListCrdt:
-    """One replica of a replicated list. An element is inserted behind another one and stays for ever; a deleted one is
-    hidden. Of elements behind the same one, that with the greater id comes first."""
+    """One replica of a replicated list. An element is inserted after another one and stays for ever; a deleted one is
+    hidden. Of elements after the same one, that with the greater id comes first."""
 
     def __init__(self, replica: int):
         self.replica, self.clock = replica, 0
@@ -21,8 +21,8 @@ class ListCrdt:
     def insert(self, name: str, position: int) -> tuple:
         """Answers the message that the other replicas have to apply."""
         shown = [identity for identity, _, shown in self.items if shown]
-        behind = shown[position - 1] if position else None
-        message = ("insert", (self.clock + 1, self.replica), name, behind)
+        after = shown[position - 1] if position else None
+        message = ("insert", (self.clock + 1, self.replica), name, after)
         self.apply(message)
         return message
 
@@ -36,8 +36,8 @@ class ListCrdt:
         if kind == "delete":
             self.items[self.place(identity)][2] = False
             return
-        name, behind = rest
-        place = self.place(behind) + 1 if behind else 0
+        name, after = rest
+        place = self.place(after) + 1 if after else 0
         while place < len(self.items) and self.items[place][0] > identity:
             place += 1
         self.items.insert(place, [identity, name, True])

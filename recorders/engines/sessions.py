@@ -9,7 +9,7 @@ What an engine is asked is a text, which lists every operation and every exchang
     0 ins e0 at 0            replica 0 inserts e0 at position 0
     1 take 0 : 0.1           replica 1 takes in what replica 0 has and it has not, here the operation 0.1;
                              where the plan is `uncausal`, only what replica 0 itself inserted and deleted
-    1 ins e1 after e0        replica 1 inserts e1 where its list has e0, behind it (or `before`)
+    1 ins e1 after e0        replica 1 inserts e1 where its list has e0, after it (or `before`)
     1 del e0
     0 read
     end"""

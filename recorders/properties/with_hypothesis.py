@@ -19,14 +19,14 @@ REPLICAS = 3
 
 
 class Unsorted(ListCrdt):
-    """The same list CRDT with a fault: of elements behind the same one, that which arrives last comes first."""
+    """The same list CRDT with a fault: of elements after the same one, that which arrives last comes first."""
 
     def apply(self, message: tuple) -> None:
         if message[0] == "delete":
             super().apply(message)
             return
-        _, identity, name, behind = message
-        self.items.insert(self.place(behind) + 1 if behind else 0, [identity, name, True])
+        _, identity, name, after = message
+        self.items.insert(self.place(after) + 1 if after else 0, [identity, name, True])
         self.clock = max(self.clock, identity[0])
 
 

@@ -113,6 +113,6 @@ class Evidence:
 
 
 def follows(names: list, order: list) -> bool:
-    """Whether the names stand in the order one behind the other, with others perhaps between."""
+    """Whether the names stand in the order one after the other, with others perhaps between."""
     places = iter(order)
     return all(name in places for name in names)

@@ -48,7 +48,7 @@ def right(cause: str, have: str | None, line: bytes, lines: list) -> list:
     if cause == "replicas":
         return ["the second line is `replicas R`, with R from 1 to 16", *ending(line)]
     if cause == "cut":
-        return ["the last line has no line feed at its end: write one behind each line, and see that the file is whole"]
+        return ["the last line has no line feed at its end: write one after each line, and see that the file is whole"]
     if cause == "no such replica":
         count = lines[1].decode().split()[1]
         return [f"line 2 says {count} replicas, and they count from 0: their numbers are below {count}"]
@@ -56,7 +56,7 @@ def right(cause: str, have: str | None, line: bytes, lines: list) -> list:
         return ["a replica receives what others did: its own operations are visible to it without a receipt"]
     if cause == "not yet":
         return [f"replica {words[2]} has {have} operations in the lines before, and operation {words[3]} is not among them",
-                "a receipt stands behind the operation that it names, also where logs of several machines are merged;",
+                "a receipt stands after the operation that it names, also where logs of several machines are merged;",
                 "operations count from 1, and receipts are not counted"]
     return [*what_is_wrong(line), *ENTRIES]
 
@@ -88,14 +88,14 @@ def wrong_word(words: list) -> str | None:
     kind = words[1] if len(words) > 1 else ""
     if kind == "recv":
         is_right = len(words) == 4 and is_number(words[2]) and is_number(words[3]) and words[3] != "0"
-        return None if is_right else "behind `recv` stand a replica's number and that of its operation, from 1, and nothing else"
+        return None if is_right else "after `recv` stand a replica's number and that of its operation, from 1, and nothing else"
     if kind not in KINDS:
         return f"`{kind}`, the second word, is not `ins`, `del`, `read` or `recv`"
     colon = KINDS[kind]
     if kind != "read" and not (len(words) > 2 and is_name(words[2])):
-        return f"`{words[2] if len(words) > 2 else ''}`, behind `{kind}`, is not {NAME}"
+        return f"`{words[2] if len(words) > 2 else ''}`, after `{kind}`, is not {NAME}"
     if kind == "ins" and not (len(words) > 3 and is_number(words[3])):
-        return f"`{words[3] if len(words) > 3 else ''}`, behind the element, is not {NUMBER}"
+        return f"`{words[3] if len(words) > 3 else ''}`, after the element, is not {NUMBER}"
     if len(words) <= colon or words[colon] != ":":
         return "the colon between the operation and its response is missing, or not a word by itself"
     bad = next((word for word in words[colon + 1:] if not is_name(word)), None)

@@ -185,7 +185,7 @@ def by_others(recording: Recording, seen: Operation, operation: Operation) -> li
         return [f"no receipt at replica {operation.replica} names it by then: it counts as arrived since {at(brought.seen)} had seen "
                 "it. Where each operation travels by itself, it was missing, and the exchange is not causal"]
     if named.line > brought.line:
-        return [f"line {named.line} ({named.text}) names it, behind line {brought.line} ({brought.text}) which brings it: an operation "
+        return [f"line {named.line} ({named.text}) names it, after line {brought.line} ({brought.text}) which brings it: an operation "
                 "arrived before what its author had seen, and the exchange is not causal"]
     return []
 
@@ -196,7 +196,7 @@ def not_arrived(recording: Recording, seen: Operation, operation: Operation) -> 
     late = recording.arrival(seen, operation.replica)
     if late is None:
         return f"no receipt in replica {operation.replica}'s log brings it"
-    return f"the first receipt that brings it is line {late.line} ({late.text}), behind this response"
+    return f"the first receipt that brings it is line {late.line} ({late.text}), after this response"
 
 
 def position(evidence: Evidence) -> Explanation:
