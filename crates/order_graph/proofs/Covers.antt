@@ -81,6 +81,12 @@ module _ (v w : Responses) (c : IsCoveredBy v w) where
         ),
       )
 
+  pub stands-more : (a b : NameBytes) → StandsBefore w a b → StandsBefore v a b
+  stands-more a b s = (s.0, shows-more s.0 a b s.1)
+
+  pub stands-fewer : (a b : NameBytes) → StandsBefore v a b → StandsBefore w a b
+  stands-fewer a b s = let k : (p : Operation) × ((p ≡ s.0) ⊎ ComesBefore p s.0) × Shows w p a b = shows-first s.0 a b s.1 in (k.0, k.2)
+
   least-more : (o : Operation) (a b : NameBytes) → IsLeast (λ p. Shows w p a b) o → IsLeast (λ p. Shows v p a b) o
   least-more o a b is = record {
     holds = shows-more o a b is.holds;
@@ -119,14 +125,14 @@ module _ (v w : Responses) (c : IsCoveredBy v w) where
   cycle-more cycle is = record {
     some = is.some;
     shown = All-weaker (λ (p : NameBytes × NameBytes). StandsBefore w p.0 p.1) (λ (p : NameBytes × NameBytes). StandsBefore v p.0 p.1)
-        (λ p s. (s.0, shows-more s.0 p.0 p.1 s.1)) (ring cycle) is.shown;
+        (λ p. stands-more p.0 p.1) (ring cycle) is.shown;
   }
 
   cycle-fewer : (cycle : List NameBytes) → IsCycle v cycle → IsCycle w cycle
   cycle-fewer cycle is = record {
     some = is.some;
     shown = All-weaker (λ (p : NameBytes × NameBytes). StandsBefore v p.0 p.1) (λ (p : NameBytes × NameBytes). StandsBefore w p.0 p.1)
-        (λ p s. let k : (o : Operation) × ((o ≡ s.0) ⊎ ComesBefore o s.0) × Shows w o p.0 p.1 = shows-first s.0 p.0 p.1 s.1 in (k.0, k.2)) (ring cycle) is.shown;
+        (λ p. stands-fewer p.0 p.1) (ring cycle) is.shown;
   }
 
   shortest-more : (k : ℕ) → IsShortestLength w k → IsShortestLength v k

@@ -20,10 +20,11 @@ use std::marker::Model;
 /// The elements of a recording and its responses, as lists of the elements' numbers.
 ///
 /// Elements are numbered from 0 in the order of their inserts' operations. There is one list for each
-/// operation, in the order of their names, also where the response is empty; lists and their places are
-/// numbered from 0. A spot of an element is a place where it stands.
+/// operation whose response is kept, in the order of their names: `of` keeps all, also where the response is
+/// empty, and `covering` some that cover them. Lists and their places are numbered from 0. A spot of an
+/// element is a place where it stands.
 ///
-/// Its memory is linear in the places of all responses. Only `of` takes memory.
+/// Its memory is linear in the places of the responses that are kept. Only `of` and `covering` take memory.
 #[derive(Drop)]
 pub struct OrderGraph {
     names: Vec<Name>,
@@ -130,7 +131,7 @@ impl OrderGraph {
         self.names.get(x as usize).copied()
     }
 
-    /// How many lists there are: one for each operation, at most 65,536.
+    /// How many lists there are: one for each operation whose response is kept, at most 65,536.
     pub fn lists(&self) -> u32
         ensures value { result ≡ length self.now.returned }
         ensures few { AreFew self.now }

@@ -1,7 +1,7 @@
 ghost use Rattle.std.specs.Prelude.{◌<◌};
 
-use super::plain::agrees;
-use super::recordings::{Act, add, body, empty, graph, operation, push};
+use super::plain::{agrees, tells_the_same};
+use super::recordings::{Act, add, body, covering, empty, graph, operation, push};
 use events::{Name, OpName, Recording, Response};
 use std::alloc::Global;
 use std::test::Fail;
@@ -192,6 +192,18 @@ fn generated_recordings_agree_with_the_plain_programs(rt: HostRuntime) -> Result
         let recording = generated(alloc, &mut random)?;
         let graph = graph(&rt, alloc, &recording)?;
         assert!(rt; agrees(&recording, &graph));
+    }
+    Ok(())
+}
+
+#[test]
+fn covering_responses_of_generated_recordings_tell_the_same(rt: HostRuntime) -> Result<(), Fail> {
+    let alloc = rt.alloc();
+    let mut random = Random(1936);
+    for _ in 0..300 {
+        let recording = generated(alloc, &mut random)?;
+        let graph = covering(&rt, alloc, &recording)?;
+        assert!(rt; tells_the_same(&recording, &graph));
     }
     Ok(())
 }

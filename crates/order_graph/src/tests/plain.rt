@@ -208,3 +208,14 @@ pub fn agrees(recording: &Recording, graph: &OrderGraph) -> bool {
         && has_same_lists(recording, graph)
         && has_same_orders(recording, graph)
 }
+
+/// Whether a graph has the elements that the plain programs find, and shows them in the same orders by the same
+/// least operations.
+pub fn tells_the_same(recording: &Recording, graph: &OrderGraph) -> bool {
+    for x in 0..graph.elements() {
+        if !is_element(recording, graph, x) {
+            return false;
+        }
+    }
+    element(recording, graph.elements()).is_none() && has_same_orders(recording, graph)
+}

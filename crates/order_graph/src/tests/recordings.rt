@@ -119,3 +119,18 @@ pub fn graph(
         },
     }
 }
+
+/// The graph of responses that cover those of a recording, which must be sound.
+pub fn covering(
+    rt: &(impl Threads + Sync),
+    alloc: Global,
+    recording: &Recording,
+) -> Result<OrderGraph, Fail> {
+    match fault(rt, alloc, recording)? {
+        Some(_) => Err("the recording has a fault")?,
+        None => match OrderGraph::covering(alloc, recording) {
+            Ok(graph) => Ok(graph),
+            Err(Memory) => Ok(OrderGraph::covering(alloc, recording)?),
+        },
+    }
+}

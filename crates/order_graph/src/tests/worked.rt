@@ -1,5 +1,5 @@
-use super::plain::agrees;
-use super::recordings::{graph, recording};
+use super::plain::{agrees, tells_the_same};
+use super::recordings::{covering, graph, recording};
 use crate::{Looked, OrderGraph, Spot};
 use events::{Name, OpName};
 use std::alloc::Global;
@@ -172,5 +172,25 @@ fn an_element_that_no_response_shows(rt: HostRuntime) -> Result<(), Fail> {
     assert!(rt; shown.lists() == 3 && shown.length(1) == 0);
     assert_shown(&rt, &shown, &[Shown(0, 0, None)]);
     assert!(rt; agrees(&deleted, &shown));
+    Ok(())
+}
+
+/// Whether six responses of the ring are kept: not that of c alone behind that of b and c, and not that of
+/// d alone behind that of c and d.
+fn has_six_lists(ring: &OrderGraph) -> bool {
+    ring.lists() == 6
+        && is_operation(ring.shown_by(3), 3, 1)
+        && is_operation(ring.shown_by(4), 4, 2)
+        && is_operation(ring.shown_by(5), 5, 2)
+}
+
+#[test]
+fn covering_responses_of_the_ring_of_four(rt: HostRuntime) -> Result<(), Fail> {
+    let alloc = rt.alloc();
+    let recording = recording(alloc, RING_OF_FOUR)?;
+    let ring = covering(&rt, alloc, &recording)?;
+    assert!(rt; has_six_lists(&ring));
+    assert_shown(&rt, &ring, &[Shown(3, 0, Some((5, 2))), Shown(0, 3, None)]);
+    assert!(rt; tells_the_same(&recording, &ring));
     Ok(())
 }
