@@ -546,7 +546,12 @@ fn full(alloc: Global, a: Name) -> Option<Recording> {
 }
 
 /// What is answered to a read of so many names that comes to a copy.
-fn read_by_copy(alloc: Global, recording: &Recording, a: Name, names: u32) -> Option<Result<u32, Refusal>> {
+fn read_by_copy(
+    alloc: Global,
+    recording: &Recording,
+    a: Name,
+    names: u32,
+) -> Option<Result<u32, Refusal>> {
     let mut copy = copied(alloc, recording)?;
     Some(read(&mut copy, alloc, 0, a, names))
 }
