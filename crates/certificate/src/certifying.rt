@@ -112,7 +112,7 @@ fn refusal(
             layers: Layers::from_rows(Vec::new(alloc)),
         });
     }
-    let graph = OrderGraph::of(alloc, recording)?;
+    let graph = OrderGraph::covering(alloc, recording)?;
     let rows = rows_of_layers(alloc, &graph, k)?;
     let layers = Layers::from_rows(rows);
     Ok(Certificate::Refused { k, steps, layers })

@@ -6,6 +6,7 @@ use Rattle.specification.specs.LayerRule.{Row}
 use Rattle.specification.specs.Responses.{responses_of}
 use Rattle.specification.specs.Verdict.{refused}
 use Rattle.specification.proofs.VerdictsDecide.{verdicts_decide}
+use Rattle.certificate.proofs.CoveredRows.{covered-rows}
 use Rattle.certificate.proofs.DistanceRows.{certificate_of_two, certificate_of_more}
 use Rattle.certificate.proofs.certifying.refusal.Goals as goal
 
@@ -28,7 +29,7 @@ returns c =
     let rows : List Row = c.from_rows-layers.result in
     let three : 3 ≤ k = c.if-k-lt3.false in
     let made : AreExactRows (responses_of h) k ((responses_of h).elements) c.in_ok-rows.rows.items =
-    subst (λ v. AreExactRows v k v.elements c.in_ok-rows.rows.items) c.in_ok-graph.ensures c.in_ok-rows.ensures in
+    covered-rows (responses_of h) c.in_ok-graph.graph c.in_ok-graph.ensures k c.in_ok-rows.rows.items c.in_ok-rows.ensures in
     let are : AreExactRows (responses_of h) k ((responses_of h).elements) rows =
     subst (λ r. AreExactRows (responses_of h) k ((responses_of h).elements) r) (sym c.from_rows-layers.ensures) made in
     subst (λ s. IsCertificateOf h (refused k steps) (gives_cycle k s rows)) (sym c.in_ok-steps.ensures) (certificate_of_more h k steps rows three are)
