@@ -157,7 +157,7 @@ def threads(tally: Tally, program: str, folder: str) -> None:
     contents before it has a thread for each processor, and begins twice."""
     path = os.path.join(folder, "ring")
     with open(path, "wb") as out:
-        subprocess.run([sys.executable, str(ROOT / "tests" / "traces.py"), "long_ring", "L"], stdout=out, check=True)
+        subprocess.run([sys.executable, str(ROOT / "tests" / "traces.py"), "wide_ring", "L"], stdout=out, check=True)
     processors = os.cpu_count() or 1
     many = min(64, 2 * processors + 8)
     seen = most_threads(program, ["verdict", "--workers", "1", path])
