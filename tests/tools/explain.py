@@ -13,11 +13,12 @@ from collections import Counter
 from concurrent.futures import ThreadPoolExecutor
 from pathlib import Path
 
-from generated import session, with_fault
-from program import Ended, Tally, program_of, run
-from traces import trace as long_trace
+ROOT = Path(__file__).resolve().parents[2]
+sys.path.insert(0, str(ROOT / "tests"))
+from shared.program import Ended, Tally, program_of, run  # noqa: E402
+from shared.sessions import session, with_fault  # noqa: E402
+from shared.traces import trace as long_trace  # noqa: E402
 
-ROOT = Path(__file__).resolve().parent.parent
 sys.path.insert(0, str(ROOT / "tools"))
 from explaining.evidence import Evidence
 from explaining.recordings import Recording

@@ -3,7 +3,7 @@ import re
 from itertools import combinations
 from typing import NamedTuple
 
-from reference import Fault, Recording, Responses, dotted, first_fault, is_subsequence, recording_of, responses_of
+from reference.verdicts import Fault, Recording, Responses, dotted, first_fault, is_subsequence, recording_of, responses_of
 
 NAME = r"[A-Za-z0-9_.-]{1,32}"
 NUMBER = r"(?:0|[1-9][0-9]*)"

@@ -1,6 +1,6 @@
 // Makes the calls that stand on standard input, in fields between tabs, of the JavaScript recorder: see tests/recorders.py.
 import { readFileSync } from "node:fs"
-import { Full, Recording, Refused } from "../../recorders/domepeeler.mjs"
+import { Full, Recording, Refused } from "../../../recorders/domepeeler.mjs"
 
 // Calls that only a language without types can make, and that a trace can't say.
 const UNTYPED = [

@@ -29,8 +29,8 @@ def built(folder: Path) -> Path:
     (folder / "crates.txt").write_text(crates + f"{NAME}: anyhow events sessions\n", encoding="utf-8")
     crate = folder / "crates" / NAME
     # The files end in .txt, since the toolchain wants each source in a crate that crates.txt names.
-    for source in (ROOT / "tests" / NAME).rglob("*.txt"):
-        target = crate / source.relative_to(ROOT / "tests" / NAME).with_suffix("")
+    for source in (ROOT / "bench" / NAME).rglob("*.txt"):
+        target = crate / source.relative_to(ROOT / "bench" / NAME).with_suffix("")
         target.parent.mkdir(parents=True, exist_ok=True)
         shutil.copy(source, target)
     subprocess.run(["rt", "run", "--", "1", "0", "0"], cwd=crate, check=True)

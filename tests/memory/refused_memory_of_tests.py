@@ -12,10 +12,12 @@ import sys
 import tempfile
 from pathlib import Path
 
-from program import Tally
-from refused_memory import shim
+ROOT = Path(__file__).resolve().parents[2]
+sys.path.insert(0, str(ROOT / "tests"))
+from memory.refused_memory import shim  # noqa: E402
+from shared.program import Tally  # noqa: E402
 
-CRATES = Path(__file__).resolve().parent.parent / "crates"
+CRATES = ROOT / "crates"
 MOST = 300
 SECONDS = 120
 # Tests that see two searches at once: one request less may be refused.

@@ -10,7 +10,9 @@ import sys
 import tempfile
 from pathlib import Path
 
-from program import Ended, Tally, program_of, run
+ROOT = Path(__file__).resolve().parents[2]
+sys.path.insert(0, str(ROOT / "tests"))
+from shared.program import Ended, Tally, program_of, run  # noqa: E402
 
 # When so many requests in a row change nothing, the program makes no more. (How many it makes depends on its threads.)
 UNTOLD = 40

@@ -1,13 +1,13 @@
 #!/usr/bin/env python3
 """Does the prover refuse the further wrong bodies too?
 
-`rt ci` tries the wrong bodies in crates/CRATE/must-fail, one at least for each public function that is no law. Those in tests/wrong_bodies/CRATE are
-further ones of the same form, which would make the gate longer by minutes and show the same contracts to be strong. This
+`rt ci` tries the wrong bodies in crates/CRATE/must-fail. Those in tests/proofs/wrong_bodies/CRATE are further ones of the same
+form, which would make the gate longer by minutes; with both there is one at least for each public function that is no law. This
 script copies the crates to a temporary folder, puts these wrong bodies in the place of the others there, and has
 `rt must-fail` try them. It is no part of the gate: crates that were not checked before are proved first.
 
-    python3 tests/wrong_bodies.py                 all crates that have further wrong bodies
-    python3 tests/wrong_bodies.py CRATE..         these crates
+    tests/proofs/wrong_bodies.py                 all crates that have further wrong bodies
+    tests/proofs/wrong_bodies.py CRATE..         these crates
 """
 
 import shutil
@@ -16,8 +16,8 @@ import sys
 import tempfile
 from pathlib import Path
 
-ROOT = Path(__file__).resolve().parent.parent
-BODIES = ROOT / "tests/wrong_bodies"
+ROOT = Path(__file__).resolve().parents[2]
+BODIES = ROOT / "tests/proofs/wrong_bodies"
 
 
 def names_of(crate: str) -> list[str]:

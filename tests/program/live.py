@@ -6,9 +6,10 @@ error must be those of `verdict`. It takes about half a minute."""
 import sys
 from pathlib import Path
 
-from program import Tally, program_of, run
+ROOT = Path(__file__).resolve().parents[2]
+sys.path.insert(0, str(ROOT / "tests"))
+from shared.program import Tally, program_of, run  # noqa: E402
 
-ROOT = Path(__file__).parent.parent
 CYCLE = ROOT / "examples" / "libinfinity_three_way_cycle.trace"
 
 

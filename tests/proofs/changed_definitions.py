@@ -8,8 +8,8 @@ carries the law is not proved, because of an error in the proof named here and n
 may be refused there already, by a body that was proved against the definition.) It is no part of the gate: it takes some
 minutes.
 
-    python3 tests/changed_definitions.py          all changes
-    python3 tests/changed_definitions.py WORD     those whose law or change has this word
+    tests/proofs/changed_definitions.py          all changes
+    tests/proofs/changed_definitions.py WORD     those whose law or change has this word
 """
 
 import re
@@ -21,7 +21,7 @@ import time
 from dataclasses import dataclass
 from pathlib import Path
 
-ROOT = Path(__file__).resolve().parent.parent
+ROOT = Path(__file__).resolve().parents[2]
 CRATES = ("events", "specification")
 SPECS = "crates/specification/specs"
 EVENTS = "crates/events/specs"

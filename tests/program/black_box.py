@@ -7,9 +7,10 @@ import sys
 import tempfile
 from pathlib import Path
 
-from program import Ended, Tally, fault, program_of, report, run
+ROOT = Path(__file__).resolve().parents[2]
+sys.path.insert(0, str(ROOT / "tests"))
+from shared.program import Ended, Tally, fault, program_of, report, run  # noqa: E402
 
-ROOT = Path(__file__).parent.parent
 VECTORS = ROOT / "tests" / "vectors"
 
 DELETED = b"trace 1\nreplicas 1\n0 ins a 0 : a\n0 del a :\n0 read :\n"
@@ -157,7 +158,7 @@ def threads(tally: Tally, program: str, folder: str) -> None:
     contents before it has a thread for each processor, and begins twice."""
     path = os.path.join(folder, "ring")
     with open(path, "wb") as out:
-        subprocess.run([sys.executable, str(ROOT / "tests" / "traces.py"), "wide_ring", "L"], stdout=out, check=True)
+        subprocess.run([sys.executable, str(ROOT / "tests" / "shared" / "traces.py"), "wide_ring", "L"], stdout=out, check=True)
     processors = os.cpu_count() or 1
     many = min(64, 2 * processors + 8)
     seen = most_threads(program, ["verdict", "--workers", "1", path])

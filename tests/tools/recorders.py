@@ -12,10 +12,11 @@ import tempfile
 from pathlib import Path
 from urllib.parse import unquote
 
-from program import Tally, program_of, run
+ROOT = Path(__file__).resolve().parents[2]
+sys.path.insert(0, str(ROOT / "tests"))
+from shared.program import Tally, program_of, run  # noqa: E402
 
-ROOT = Path(__file__).parent.parent
-DRIVERS = ROOT / "tests" / "recorder_drivers"
+DRIVERS = ROOT / "tests" / "tools" / "recorder_drivers"
 EXAMPLES = ROOT / "examples"
 LANGUAGES = ["py", "mjs", "rs", "c", "el"]
 TYPED = ["rs", "c"]  # languages in which some wrong calls can't be written

@@ -3,7 +3,7 @@ import json
 import sys
 from pathlib import Path
 
-sys.path.insert(0, str(Path(__file__).parent.parent.parent / "recorders"))
+sys.path.insert(0, str(Path(__file__).parents[3] / "recorders"))
 from domepeeler import Full, Recording, Refused
 
 # Calls that only a language without types can make, and that a trace can't say.

@@ -2,7 +2,7 @@
 """readme_commands.py PROGRAM: the commands that the pages show are run as written, and must print what the pages show.
 
 A command stands after `    $ `, its further lines after `    > `, and below it what it prints; where nothing is shown,
-only the status is looked at. PROGRAM must be the repository's own, since the pages name it. `tests/black_box.py` does this for
+only the status is looked at. PROGRAM must be the repository's own, since the pages name it. `tests/program/black_box.py` does this for
 the gallery."""
 import os
 import re
@@ -12,9 +12,10 @@ import tempfile
 from pathlib import Path
 from typing import NamedTuple
 
-from program import Tally, need, program_of
+ROOT = Path(__file__).resolve().parents[2]
+sys.path.insert(0, str(ROOT / "tests"))
+from shared.program import Tally, need, program_of  # noqa: E402
 
-ROOT = Path(__file__).resolve().parent.parent
 BUILT = ROOT / "crates" / "finder_cli" / "out" / "finder_cli"
 
 # The pages, and how many commands each must show at least.

@@ -10,11 +10,13 @@ import resource
 import sys
 from pathlib import Path
 
-from program import Ended, Tally, program_of, run
+ROOT = Path(__file__).resolve().parents[2]
+sys.path.insert(0, str(ROOT / "tests"))
+from shared.program import Ended, Tally, program_of, run  # noqa: E402
 
 CASES = 1000
 SEED = 20161016
-VECTORS = Path(__file__).parent / "vectors"
+VECTORS = ROOT / "tests" / "vectors"
 
 REPORT = re.compile(rb"replicas \d+ operations \d+ inserts \d+\n(?:doubled OP OP\n|(?:contents|position) OP\nstrong no\nweak no\n"
                     rb"|(accepted)\nstrong yes\nweak yes\norder :NAMES\n"

@@ -15,10 +15,12 @@ import time
 from pathlib import Path
 from typing import NamedTuple
 
-from program import Tally, program_of
-from traces import FAMILIES, SIZES
+ROOT = Path(__file__).resolve().parent.parent
+sys.path.insert(0, str(ROOT / "tests"))
+from shared.program import Tally, program_of  # noqa: E402
+from shared.traces import FAMILIES, SIZES  # noqa: E402
 
-TRACES = Path(__file__).parent / "traces.py"
+TRACES = ROOT / "tests" / "shared" / "traces.py"
 
 # Near the limits: at most so many seconds, and so many MB of memory.
 REQUIRED = {"accepted": (3, 400), "ring": (20, 400)}

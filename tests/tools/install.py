@@ -7,9 +7,10 @@ import sys
 import tempfile
 from pathlib import Path
 
-from program import Ended, Tally, need, program_of, run
+ROOT = Path(__file__).resolve().parents[2]
+sys.path.insert(0, str(ROOT / "tests"))
+from shared.program import Ended, Tally, need, program_of, run  # noqa: E402
 
-ROOT = Path(__file__).resolve().parent.parent
 INSTALL = str(ROOT / "tools" / "install")
 EXAMPLE = str(ROOT / "examples" / "lost_element.trace")
 REPORT = b"replicas 3 operations 3 inserts 2\ncontents 2.1\nstrong no\nweak no\n"

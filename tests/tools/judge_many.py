@@ -8,9 +8,10 @@ import sys
 import tempfile
 from pathlib import Path
 
-from program import Ended, Tally, need, program_of, run
+ROOT = Path(__file__).resolve().parents[2]
+sys.path.insert(0, str(ROOT / "tests"))
+from shared.program import Ended, Tally, need, program_of, run  # noqa: E402
 
-ROOT = Path(__file__).resolve().parent.parent
 TOOL = str(ROOT / "tools" / "judge_many")
 
 # Traces by file, and for each the verdict, k and the lines.

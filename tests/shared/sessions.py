@@ -1,24 +1,5 @@
-#!/usr/bin/env python3
-"""generated.py PROGRAM: small recordings, the same in each run, judged by the program and by a slow reference.
-
-The program's report, as text and as JSON, must be the reference's byte for byte, and so must the certificate of some of them
-and the checker's answers to it and to forged ones. Each kind of verdict must be there often
-enough, or the script fails."""
-import json
+"""Random small sessions as traces, which other scripts judge: by any order, by a plan that leads to rings, and with a fault."""
 import random
-import sys
-from collections import Counter
-
-from certificates import from_generated
-from program import Ended, Tally, program_of, run
-from reference import Report, recording_of, report_of, responses_of
-
-SEED = 20161016
-
-# How many recordings of each kind are judged.
-WANTED = {"accepted": 200, "accepted in another order": 100, "refused 2": 200, "refused 3": 200, "refused 4": 150, "refused 5": 50, "contents": 150,
-          "position": 150, "doubled": 150}
-MOST_TRIES = 100_000
 
 # Names whose order by bytes says nothing of the order of inserts.
 NAMES = ["a", "b", "c", "Z", "_", "-", ".", "0", "10", "9.1", "ins", "del", "read", "recv", "e-1", "E_1", "x" * 32]
@@ -182,51 +163,3 @@ def with_fault(rnd: random.Random, text: str) -> str:
         front, response = [*words[:2], lines[other].split()[2], words[3]], words[5:]
     lines[at] = " ".join([*front, ":", *response])
     return "".join(line + "\n" for line in lines)
-
-
-def kind_of(text: str, report: Report) -> str:
-    """The verdict, and of an order whether the elements don't stand in it by their numbers."""
-    if report.kind != "accepted" or json.loads(report.json)["order"] == responses_of(recording_of(text)).names:
-        return report.kind
-    return "accepted in another order"
-
-
-def recordings() -> list:
-    """Recordings with their reports and kinds, as many of each kind as are wanted, if there are."""
-    rnd = random.Random(SEED)
-    left, made = Counter(WANTED), {}
-    for _ in range(MOST_TRIES):
-        text = session(rnd)
-        for _ in range(rnd.choice([0, 0, 0, 1, 2])):
-            text = with_fault(rnd, text)
-        if text in made:
-            continue
-        report = report_of(text)
-        kind = kind_of(text, report)
-        if left[kind] > 0:
-            left[kind] -= 1
-            made[text] = report, kind
-        if not +left:
-            break
-    return [(text, report, kind) for text, (report, kind) in made.items()]
-
-
-def main() -> None:
-    program = program_of(sys.argv)
-    tally = Tally()
-    cases = recordings()
-    kinds = Counter(kind for _, _, kind in cases)
-    print(", ".join(f"{kinds[kind]} {kind}" for kind in WANTED))
-    tally.check("recordings of all kinds", kinds == WANTED, kinds)
-    tally.check("a thousand recordings", len(cases) >= 1000, len(cases))
-    for text, report, _ in cases:
-        status = 0 if report.kind == "accepted" else 1
-        for form, wanted in (["verdict", "-"], report.text), (["verdict", "--json", "-"], report.json):
-            got = run(program, form, text.encode())
-            tally.same(f"{form} of\n{text}", got, Ended(status, wanted.encode(), b""))
-    from_generated(tally, program, cases)
-    tally.close()
-
-
-if __name__ == "__main__":
-    main()
