@@ -209,7 +209,7 @@ module _ (v : Responses) (proper : AreProper v) where
   no_cycle_through s none cycle is = none (length cycle) (walk_of_names s cycle is)
 
   -- a cycle goes through its first element
-  first-walk : (cycle : List NameBytes) → IsCycle v cycle → (s : ℕ) × (s < length v.elements) × HasCycle (lists_of v) s (length cycle)
+  pub first-walk : (cycle : List NameBytes) → IsCycle v cycle → (s : ℕ) × (s < length v.elements) × HasCycle (lists_of v) s (length cycle)
   first-walk [] is = let n : 1 ≤ 0 = is.some in absurd (omega arith)
   first-walk (a ∷ rest) is =
       let s : ℕ = number v.elements a in

@@ -2,7 +2,7 @@
 -- cycle: the last least number is at most every bound that was seen, and a shortest cycle repeats no element, so it is
 -- shorter than the number before any offer.
 use Rattle.std.proofs.Common.{◌≡◌, ℕ, ◌<◌, ◌≤◌, ◌⊎◌, inl, inr, List, [], ◌∷◌, map, length, refl, arith}
-use Rattle.std.specs.Prelude.{min, slice_get, Some}
+use Rattle.std.specs.Prelude.{min, slice_index}
 use Rattle.std.proofs.lemmas.Bool.{cases_lt}
 use Rattle.events.specs.Names.{NameBytes}
 use Rattle.specification.specs.Responses.{Responses, AreProper}
@@ -12,8 +12,7 @@ use Rattle.shared_bound.specs.Bound.{BoundState, BoundCall, claim, look, offer, 
 use Rattle.shared_bound.specs.declared.TheConstants.{NO_OFFER}
 use Rattle.level_search.proofs.ShortestFew.{shortest-few}
 use Rattle.level_search.specs.BoundLaw.{WasBound, CoversAllSources, LeastOfferIsShortest}
-use Rattle.specification.proofs.Members.{In, In-from_Contains, Contains-from_In, All-member, place_of_In}
-use Rattle.specification.proofs.Cycles.{cycle-elements}
+use Rattle.specification.proofs.Members.{In, In-from_Contains, All-member}
 use Rattle.specification.proofs.ConflictNumber.{conflict_number_is_shortest_cycle}
 
 -- the least number falls
@@ -49,29 +48,28 @@ came_from n s (offer x ∷ calls) = go (came_from n (bound_after n s (offer x)) 
     go (inl e) (inr le) = inr (inl (omega arith))
     go (inr i) c = inr (inr i)
 
-module _ (v : Responses) (calls : List BoundCall) (proper : AreProper v) (covers : CoversAllSources v calls) where
+module _ (v : Responses) (sources : List ℕ) (calls : List BoundCall) (proper : AreProper v) (covers : CoversAllSources v sources calls) where
   abbrev last : ℕ
-  last = (bound_after_all (length v.elements) fresh calls).least
+  last = (bound_after_all (length sources) fresh calls).least
 
-  last-le : (b : ℕ) → WasBound (length v.elements) calls b → last ≤ b
-  last-le b (inl c) = below_states (length v.elements) fresh calls b (In-from_Contains (map (λ (s : BoundState). s.least) (bound_states (length v.elements) fresh calls)) b c)
-  last-le b (inr (inl c)) = below_offers (length v.elements) fresh calls b (In-from_Contains (offers calls) b c)
+  last-le : (b : ℕ) → WasBound (length sources) calls b → last ≤ b
+  last-le b (inl c) = below_states (length sources) fresh calls b (In-from_Contains (map (λ (s : BoundState). s.least) (bound_states (length sources) fresh calls)) b c)
+  last-le b (inr (inl c)) = below_offers (length sources) fresh calls b (In-from_Contains (offers calls) b c)
   last-le b (inr (inr le)) = le
 
   none_shorter : (c : List NameBytes) → IsCycle v c → last ≤ length c
-  none_shorter [] is = let n : 1 ≤ 0 = is.some in absurd (omega arith)
-  none_shorter (a ∷ c) is =
-      let p : (i : ℕ) × (i < length v.elements) × (slice_get v.elements i ≡ Some a) = place_of_In v.elements a (cycle-elements v proper (a ∷ c) is a (inl refl)) in
-      let s : (b : ℕ) × WasBound (length v.elements) calls b × NoneShorterThrough v p.0 b = covers.searched p.0 p.1 in
-      let le : s.0 ≤ length (a ∷ c) = s.2 (a ∷ c) (record { is_cycle = is; name = a; number = p.2; through = Contains-from_In (a ∷ c) a (inl refl) }) in
+  none_shorter c is =
+      let met = covers.met c is in
+      let s : (b : ℕ) × WasBound (length sources) calls b × NoneShorterThrough v (slice_index sources met.0) b = covers.searched met.0 met.1 in
+      let le : s.0 ≤ length met.2.other = s.2 met.2.other met.2.through in
       let low : last ≤ s.0 = last-le s.0 s.1 in
-      omega arith
+      omega (arith, met.2.long)
 
   offered : In last (offers calls) → IsCycleLength v last
   offered i = All-member (IsCycleLength v) (offers calls) last covers.offered i
 
   least_offer : IsShortestLength v last ⊎ ((last ≡ NO_OFFER) × HasNoCycle v)
-  least_offer = go (came_from (length v.elements) fresh calls) ((conflict_number_is_shortest_cycle v proper).2)
+  least_offer = go (came_from (length sources) fresh calls) ((conflict_number_is_shortest_cycle v proper).2)
     where
       go : (last ≡ NO_OFFER) ⊎ In last (offers calls) → HasNoCycle v ⊎ ((k : ℕ) × IsShortestLength v k) → IsShortestLength v last ⊎ ((last ≡ NO_OFFER) × HasNoCycle v)
       go (inr i) c = inl (offered i, none_shorter)
@@ -82,4 +80,4 @@ module _ (v : Responses) (calls : List BoundCall) (proper : AreProper v) (covers
           absurd (omega (arith, few, low, e, s.1.0.2, proper.few))
 
 pub least_offer_is_shortest : LeastOfferIsShortest
-least_offer_is_shortest v calls proper covers = least_offer v calls proper covers
+least_offer_is_shortest v sources calls proper covers = least_offer v sources calls proper covers

@@ -2,22 +2,24 @@
 use Rattle.std.proofs.Common.{◌≡◌, ◌≢◌, ℕ, zero, suc, ◌+◌, ◌-◌, ◌<◌, ◌≤◌, max, List, [], ◌∷◌, ◌++◌, length, get_or, sym, refl, ap, arith, All, subst, le_trans, ◌∙◌, ◌⊎◌, inl, inr, Some, None, min, take, drop, true, false, length-append, IsPermutation}
 use Rattle.std.proofs.lemmas.List.{append-nil}
 use Rattle.std.specs.List.{range_with_len}
-use mathlib.Core.Logic.{dite}
-use native.Mathlib.Decide.{dec_le}
-use Rattle.std.proofs.lemmas.List.Sorted.{All-permutation, IsPermutation-sym}
+use Rattle.std.proofs.lemmas.List.Sorted.{All-permutation, IsPermutation-sym, length_permutation}
 use Rattle.std.proofs.lemmas.List.FromFn.{get_or-range_with_len, length-range_with_len}
 use Rattle.std.proofs.lemmas.List.Elements.{All-nil, All-cons, All-head, All-tail, All-push, All-append}
 use Rattle.std.proofs.lemmas.Bool.{cases_lt}
 use Rattle.std.proofs.lemmas.Grind.{get_or_default_zero}
 use Rattle.std.specs.Prelude.{Contains, slice_index}
-use Rattle.shared_bound.specs.Seats.{SeatView, BoundView, least_offer}
+use Rattle.shared_bound.specs.Seats.{SeatView, BoundView}
+use Rattle.shared_bound.specs.Bound.{BoundState, BoundCall, IsRun, offers}
+use Rattle.specification.specs.Search.{IsCycleLength}
 use Rattle.specification.specs.Responses.{Responses, AreProper}
 use Rattle.order_graph.specs.Lists.{lists_of}
-use Rattle.level_search.specs.Walks.{HasCycle, IsSearchAnswer}
+use Rattle.level_search.specs.Walks.{IsSearchAnswer, NoneShorter}
+use Rattle.level_search.specs.BoundLaw.{CoversAllSources, IsAsLongThrough, MeetEachCycle}
+use Rattle.level_search.proofs.LeastOffer.{least_offer_is_shortest}
 use Rattle.level_search.specs.Sources.{MeetsCycles}
-use Rattle.level_search.specs.Team.{IsSearched, IsSearchedAt, IsLength, Honest, IsReady, SameSeat, HasWorked, HaveWorked, ceiling, AtPlace, IsTeam, IsLeastLength}
+use Rattle.level_search.specs.Team.{AreNumbered, IsSearchedAt, IsLength, Honest, IsReady, SameSeat, HasWorked, HaveWorked, ceiling, AtPlace, IsTeam, IsLeastLength}
 use Rattle.level_search.specs.declared.worker.Worker.{Worker}
-use Rattle.level_search.proofs.Joining.{IsShortestOfAll, cycle-known}
+use Rattle.level_search.proofs.Joining.{cycle-known, first-walk, names_of_walk, walk_of_names}
 
 ceiling-append : (xs : List ℕ) (y : ℕ) → ceiling (xs ++ y ∷ []) ≡ max (y + 1) (ceiling xs)
 ceiling-append [] y = omega arith
@@ -31,30 +33,12 @@ ceiling_le n (x ∷ xs) h = let a = All-head (λ y. y < n) x xs h in let b = cei
 pub fewer : (n place : ℕ) (claimed : List ℕ) → place < n → All (λ x. x < place) claimed → n - ceiling (claimed ++ place ∷ []) < n - ceiling claimed
 fewer n place claimed less above = let a = ceiling-append claimed place in let b = ceiling_le place claimed above in omega arith
 
--- what was searched stays so under a lesser bound
-pub searched_below : (rows : List (List ℕ)) (low low' source : ℕ) → low' ≤ low → IsSearched rows low source → IsSearched rows low' source
-searched_below rows low low' source less is = record {
-  shorter = λ n cycle. le_trans less (is.shorter n cycle);
-  none = λ above. is.none (le_trans above less);
-}
-
 all_below : (rows : List (List ℕ)) (sources : List ℕ) (low low' : ℕ) (xs : List ℕ) → low' ≤ low → All (IsSearchedAt rows sources low) xs → All (IsSearchedAt rows sources low') xs
-all_below rows sources low low' xs less all = λ k d within. searched_below rows low low' (slice_index sources (get_or xs k d)) less (all k d within)
+all_below rows sources low low' xs less all = λ k d within n cycle. le_trans less (all k d within n cycle)
 
--- a search that finds a length, which is offered
-pub searched_some : (rows : List (List ℕ)) (s m bound low : ℕ) → IsSearchAnswer rows s bound (Some m) → bound ≤ 4294967295 → low ≤ m → IsSearched rows low s
-searched_some rows s m bound low answer known less = record {
-  shorter = λ n cycle. le_trans less (answer.0.shortest n cycle);
-  none = λ above. let under = answer.1 in absurd (omega arith);
-}
-
--- a search that finds none
-pub searched_none : (rows : List (List ℕ)) (s elements low : ℕ) → IsSearchAnswer rows s low None → elements < 4294967295
-    → (elements < low → (n : ℕ) → ¬ HasCycle rows s n) → IsSearched rows low s
-searched_none rows s elements low answer few none = record {
-  shorter = answer;
-  none = λ above. none (omega arith);
-}
+-- a search that finds a length, which is offered, or finds none
+pub searched_some : (rows : List (List ℕ)) (s m bound low : ℕ) → IsSearchAnswer rows s bound (Some m) → low ≤ m → NoneShorter rows s low
+searched_some rows s m bound low answer less = λ n cycle. le_trans less (answer.0.shortest n cycle)
 
 -- a claim, and a search from what was claimed
 pub claimed_one : (rows : List (List ℕ)) (sources : List ℕ) (s t : SeatView) (place : ℕ) → Honest rows sources s → t.claimed ≡ s.claimed ++ place ∷ [] → All (IsLength rows) t.offered → t.low ≤ s.low
@@ -109,39 +93,47 @@ all_claimed P n claimed same h k less =
     let back = All-permutation P claimed (range_with_len 0 n) (IsPermutation-sym (range_with_len 0 n) claimed same) h in
     subst P (get_or-range_with_len 0 n k 0 less ∙ omega arith) (back k 0 (subst (λ (m : ℕ). k < m) (sym (length-range_with_len 0 n)) less))
 
-least_among : (P : ℕ → Type 0) (xs : List ℕ) → All P xs → (least_offer xs ≡ 4294967295) ⊎ P (least_offer xs)
-least_among P [] h = inl refl
-least_among P (x ∷ xs) h =
-    dite (dec_le x (least_offer xs))
-    (λ le. let e : x ≡ min x (least_offer xs) = omega arith in inr (subst P e (All-head P x xs h)))
-    (λ not_le. let e : least_offer xs ≡ min x (least_offer xs) = omega arith in subst (λ (m : ℕ). (m ≡ 4294967295) ⊎ P m) e (least_among P xs (All-tail P x xs h)))
-
 -- the place of a number in a list
 place_of : (xs : List ℕ) (x : ℕ) → Contains xs x → (i : ℕ) × (i < length xs) × (get_or xs i 0 ≡ x)
 place_of xs x inside = (inside.0, inside.1, sym (get_or_default_zero xs inside.0 x inside.1) ∙ inside.2)
 
--- what all workers together found: each cycle leads through a source, from which was searched
-pub settled : (v : Responses) (sources : List ℕ) (n m : ℕ) (s : SeatView) → n ≡ length sources → MeetsCycles (lists_of v) (length v.elements) sources → m ≡ least_offer s.offered → m ≤ s.low → Honest (lists_of v) sources s → IsPermutation (range_with_len 0 n) s.claimed
-    → IsLeastLength v m
-settled v sources n m s count meets least low h same = record {
-  least = λ source k within cycle. let t = meets source k within cycle in le_trans low ((searched t.0 t.1).shorter k t.2);
-  found = subst (λ (z : ℕ). (z ≡ 4294967295) ⊎ IsLength (lists_of v) z) (sym least) (least_among (IsLength (lists_of v)) s.offered h.offers);
-  none = λ e source k within cycle. let t = meets source k within cycle in (searched t.0 t.1).none (omega arith) k t.2;
+-- the cycles through sources are as long as any, told by names
+pub met : (v : Responses) (proper : AreProper v) (sources : List ℕ) → MeetsCycles (lists_of v) (length v.elements) sources → MeetEachCycle v sources
+met v proper sources meets cycle is =
+    let walk = first-walk v proper cycle is in
+    let t = meets walk.0 (length cycle) walk.1 walk.2 in
+    let at = place_of sources t.0 t.1 in
+    let named = names_of_walk v proper t.0 (length cycle) (cycle-known v proper t.0 (length cycle) t.2) t.2 in
+    (at.0, at.1, subst (IsAsLongThrough v cycle) (sym at.2) (record { other = named.0; through = named.1; long = named.2 }))
+
+-- a length told by numbers is one told by names
+length-named : (v : Responses) → AreProper v → (m : ℕ) → IsLength (lists_of v) m → IsCycleLength v m
+length-named v proper m found =
+    let named = names_of_walk v proper found.0 m (cycle-known v proper found.0 m found.1) found.1 in
+    (named.0, named.1.is_cycle, named.2)
+
+-- what all workers together found: each cycle leads through a source, and each source was searched from
+pub covered : (v : Responses) → AreProper v → (sources : List ℕ) (n m : ℕ) (s : SeatView) (calls : List BoundCall) → n ≡ length sources → MeetsCycles (lists_of v) (length v.elements) sources → m ≤ s.low
+    → Honest (lists_of v) sources s → IsPermutation (range_with_len 0 n) s.claimed → IsRun (length sources) s.claimed s.offered m calls → CoversAllSources v sources calls
+covered v proper sources n m s calls count meets low h same run = record {
+  met = met v proper sources meets;
+  offered = λ k d within. length-named v proper (get_or (offers calls) k d) (told k d within);
+  given = ap (λ (b : BoundState). b.given) run.leads ∙ (length_permutation (range_with_len 0 n) s.claimed same ∙ (length-range_with_len 0 n ∙ count));
+  searched = λ place within. (
+      s.low,
+      inr (inr (subst (λ (b : BoundState). b.least ≤ s.low) (sym run.leads) low)),
+      λ cycle through. all_claimed (IsSearchedAt (lists_of v) sources s.low) n s.claimed same h.claims place (omega arith) (length cycle) (walk_of_names v proper (slice_index sources place) cycle through)
+      );
 }
   where
-    searched : (source : ℕ) → Contains sources source → IsSearched (lists_of v) s.low source
-    searched source inside =
-        let at = place_of sources source inside in
-        let within = at.1 in
-        subst (IsSearched (lists_of v) s.low) at.2 (all_claimed (IsSearchedAt (lists_of v) sources s.low) n s.claimed same h.claims at.0 (omega arith))
+    told : All (IsLength (lists_of v)) (offers calls)
+    told = All-permutation (IsLength (lists_of v)) s.offered (offers calls) (IsPermutation-sym (offers calls) s.offered run.told) h.offers
 
--- a least length that is none but `NO_OFFER` is that of a shortest cycle
-pub shortest_found : (v : Responses) → AreProper v → (m : ℕ) → IsLeastLength v m → m ≢ 4294967295 → IsShortestOfAll v m
-shortest_found v proper m is some = go is.found
-  where
-    go : (m ≡ 4294967295) ⊎ IsLength (lists_of v) m → IsShortestOfAll v m
-    go (inl none) = absurd (some none)
-    go (inr found) = record { source = found.0; known = cycle-known v proper found.0 m found.1; cycle = found.1; shortest = is.least }
+-- so the answer at the end is the length of a shortest cycle, or there is none
+pub settled : (v : Responses) → AreProper v → (sources : List ℕ) (n m : ℕ) (s : SeatView) (calls : List BoundCall) → n ≡ length sources → MeetsCycles (lists_of v) (length v.elements) sources → m ≤ s.low
+    → Honest (lists_of v) sources s → IsPermutation (range_with_len 0 n) s.claimed → IsRun (length sources) s.claimed s.offered m calls → IsLeastLength v m
+settled v proper sources n m s calls count meets low h same run =
+    subst (IsLeastLength v) (ap (λ (b : BoundState). b.least) run.leads) (least_offer_is_shortest v sources calls proper (covered v proper sources n m s calls count meets low h same run))
 
 drop_whole : {X : Type 0} (n : ℕ) (xs : List X) → length xs ≤ n → drop n xs ≡ []
 drop_whole zero [] h = refl
@@ -165,8 +157,8 @@ at_place : (b : BoundView) (v : Responses) (sources : List ℕ) (m k : ℕ) (old
 at_place b v sources m k old new at worked = record {
   bound = worked.same.0 ∙ at.bound;
   ready = worked.ready;
-  other = λ less. worked.same.1 ∙ at.other less;
-  first = λ e. (worked.same.1 ∙ (at.first e).0, worked.same.2 ∙ (at.first e).1);
+  other = λ less. (worked.same.1 ∙ (at.other less).0, worked.number ∙ (at.other less).1);
+  first = λ e. (worked.same.1 ∙ (at.first e).0, worked.same.2 ∙ (at.first e).1, worked.number ∙ (at.first e).2);
 }
 
 last_at : {X : Type 0} (xs : List X) (x d : X) → get_or (xs ++ x ∷ []) (length xs) d ≡ x
@@ -201,14 +193,25 @@ last_of_team b v sources m old front first t worked =
       λ k d less. (
           let did : HasWorked v sources (get_or old k d) (get_or front k d) = subst (λ (w : Worker). HasWorked v sources (get_or old k d) w) (front_at front first k d less) (worked.1 k d (omega arith)) in
           let p : AtPlace b v sources m k (get_or front k d) = at_place b v sources m k (get_or old k d) (get_or front k d) (t.1 k d (omega arith)) did in
-          (p.bound, p.other (omega arith), p.ready.honest)
+          (p.bound, (p.other (omega arith)).0, p.ready.honest)
           ),
     )
 
+-- one more worker with the next number
+pub numbered-push : (front : List Worker) (w : Worker) → AreNumbered front → w.number ≡ length front + 1 → AreNumbered (front ++ w ∷ [])
+numbered-push front w numbered next k d within = go (cases_lt k (length front))
+  where
+    go : (k < length front) ⊎ (length front ≤ k) → (get_or (front ++ w ∷ []) k d).number ≡ k + 1
+    go (inl less) = ap (λ (o : Worker). o.number) (front_at front w k d less) ∙ numbered k d less
+    go (inr above) =
+        let long : length (front ++ w ∷ []) ≡ length front + 1 = length-append front (w ∷ []) in
+        let last : length front ≡ k = omega (arith, long) in
+        subst (λ (n : ℕ). (get_or (front ++ w ∷ []) n d).number ≡ n + 1) last (ap (λ (o : Worker). o.number) (last_at front w d) ∙ next)
+
 -- a worker with the first seat completes a team
-pub team_grown : (b : BoundView) (v : Responses) (sources : List ℕ) (m : ℕ) (front : List Worker) (w : Worker) → All (λ o. (o.seat.bound ≡ b) × (o.seat.is_first ≡ false) × IsReady v sources o) front → length front ≡ m
-    → w.seat.bound ≡ b → w.seat.is_first ≡ true → w.seat.out ≡ m → IsReady v sources w → IsTeam b v sources m (front ++ w ∷ [])
-team_grown b v sources m front w others size bound first out ready = (omega (arith, long), at)
+pub team_grown : (b : BoundView) (v : Responses) (sources : List ℕ) (m : ℕ) (front : List Worker) (w : Worker) → All (λ o. (o.seat.bound ≡ b) × (o.seat.is_first ≡ false) × IsReady v sources o) front → AreNumbered front → length front ≡ m
+    → w.seat.bound ≡ b → w.seat.is_first ≡ true → w.seat.out ≡ m → IsReady v sources w → w.number ≡ 0 → IsTeam b v sources m (front ++ w ∷ [])
+team_grown b v sources m front w others numbered size bound first out ready number = (omega (arith, long), at)
   where
     long : length (front ++ w ∷ []) ≡ length front + 1
     long = length-append front (w ∷ [])
@@ -219,8 +222,8 @@ team_grown b v sources m front w others size bound first out ready = (omega (ari
         go : (k < length front) ⊎ (length front ≤ k) → AtPlace b v sources m k (get_or (front ++ w ∷ []) k d)
         go (inl less) =
             let o = others k d less in
-            subst (AtPlace b v sources m k) (sym (front_at front w k d less)) (record { bound = o.0; ready = o.2; other = λ _. o.1; first = λ e. absurd (omega arith) })
+            subst (AtPlace b v sources m k) (sym (front_at front w k d less)) (record { bound = o.0; ready = o.2; other = λ _. (o.1, numbered k d less); first = λ e. absurd (omega arith) })
         go (inr above) =
             let last : length front ≡ k = omega (arith, long) in
             let here : get_or (front ++ w ∷ []) k d ≡ w = subst (λ (n : ℕ). get_or (front ++ w ∷ []) n d ≡ w) last (last_at front w d) in
-            subst (AtPlace b v sources m k) (sym here) (record { bound = bound; ready = ready; other = λ less. absurd (omega arith); first = λ _. (first, out) })
+            subst (AtPlace b v sources m k) (sym here) (record { bound = bound; ready = ready; other = λ less. absurd (omega arith); first = λ _. (first, out, number) })

@@ -3,23 +3,19 @@ use Rattle.std.specs.Prelude.{◌≡◌, ℕ, ◌+◌, ◌<◌, ◌≤◌, ◌�
 use Rattle.shared_bound.specs.Seats.{BoundView, SeatView}
 use Rattle.shared_bound.specs.declared.TheConstants.{NO_OFFER}
 use Rattle.specification.specs.Responses.{Responses}
+use Rattle.specification.specs.Search.{IsShortestLength, HasNoCycle}
 use Rattle.order_graph.specs.Lists.{lists_of}
 use Rattle.level_search.specs.ScratchView.{Fits}
 use Rattle.level_search.specs.Walks.{HasCycle, NoneShorter}
 use Rattle.level_search.specs.declared.worker.Worker.{Worker}
 
--- no cycle through the source is shorter than `low`, and there is none at all where nothing was offered
-pub record IsSearched (rows : List (List ℕ)) (low source : ℕ) : Type 0 where
-  pub shorter : NoneShorter rows source low
-  pub none : NO_OFFER ≤ low → (n : ℕ) → ¬ HasCycle rows source n
-
 -- some cycle has this length
 abbrev pub IsLength : List (List ℕ) → ℕ → Type 0
 IsLength rows m = (source : ℕ) × HasCycle rows source m
 
--- the element at this place of the sources was searched from
+-- no cycle through the element at this place of the sources is shorter than `low`
 abbrev pub IsSearchedAt : List (List ℕ) → List ℕ → ℕ → ℕ → Type 0
-IsSearchedAt rows sources low place = IsSearched rows low (slice_index sources place)
+IsSearchedAt rows sources low place = NoneShorter rows (slice_index sources place) low
 
 -- each offer is the length of a cycle, and the source at each claimed place was searched from
 pub record Honest (rows : List (List ℕ)) (sources : List ℕ) (s : SeatView) : Type 0 where
@@ -42,6 +38,7 @@ pub record CanWork (v : Responses) (sources : List ℕ) (w : Worker) : Type 0 wh
   pub ready : IsReady v sources w
 
 pub record HasWorked (v : Responses) (sources : List ℕ) (old new : Worker) : Type 0 where
+  pub number : new.number ≡ old.number
   pub ready : IsReady v sources new
   pub done : new.seat.done ≡ true
   pub same : SameSeat old.seat new.seat
@@ -55,12 +52,16 @@ abbrev pub ceiling : List ℕ → ℕ
 ceiling [] = 0
 ceiling (x ∷ xs) = max (x + 1) (ceiling xs)
 
--- the k-th of a team of m + 1 workers over a bound, of which the last has the first seat
+-- they are the workers 1, 2, and so on
+abbrev pub AreNumbered : List Worker → Type 0
+AreNumbered team = (k : ℕ) (d : Worker) → k < length team → (slice_index_or team k d).number ≡ k + 1
+
+-- the k-th of a team of m + 1 workers over a bound: worker k + 1, but the last, which has the first seat, is worker 0
 pub record AtPlace (b : BoundView) (v : Responses) (sources : List ℕ) (m k : ℕ) (w : Worker) : Type 0 where
   pub bound : w.seat.bound ≡ b
   pub ready : IsReady v sources w
-  pub other : k < m → w.seat.is_first ≡ false
-  pub first : k ≡ m → (w.seat.is_first ≡ true) × (w.seat.out ≡ m)
+  pub other : k < m → (w.seat.is_first ≡ false) × (w.number ≡ k + 1)
+  pub first : k ≡ m → (w.seat.is_first ≡ true) × (w.seat.out ≡ m) × (w.number ≡ 0)
 
 -- a team of m + 1 workers
 abbrev pub IsTeam : BoundView → Responses → List ℕ → ℕ → List Worker → Type 0
@@ -71,7 +72,5 @@ abbrev pub IsDoneTeam : BoundView → Responses → List ℕ → ℕ → List Wo
 IsDoneTeam b v sources m team = IsTeam b v sources m team × All (λ w. w.seat.done ≡ true) team
 
 -- m is the length of a shortest cycle, or `NO_OFFER` where there is none
-pub record IsLeastLength (v : Responses) (m : ℕ) : Type 0 where
-  pub least : (s n : ℕ) → s < length v.elements → HasCycle (lists_of v) s n → m ≤ n
-  pub found : (m ≡ NO_OFFER) ⊎ IsLength (lists_of v) m
-  pub none : m ≡ NO_OFFER → (s n : ℕ) → s < length v.elements → ¬ HasCycle (lists_of v) s n
+abbrev pub IsLeastLength : Responses → ℕ → Type 0
+IsLeastLength v m = IsShortestLength v m ⊎ ((m ≡ NO_OFFER) × HasNoCycle v)

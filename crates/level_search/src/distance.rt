@@ -40,6 +40,7 @@ pub fn distances_in(
     ensures distances { AreDistances (lists_of graph.now) s limit depths.new }
     ensures fits { FitsState (graph_of graph.now) st.new }
     ensures looked { LooksWithin graph.now looked.new None }
+    ensures expanded { 1 < limit → 0 < looked.new }
 {
     *looked = Looked::new();
     start(graph, s, st);

@@ -27,6 +27,7 @@ pub fn search_in<B: BoundSource>(
     ensures reads { B.reads source.old source.new }
     ensures none { IfNone result (length graph.now.elements < B.last source.new → (n : ℕ) → ¬ HasCycle (lists_of graph.now) s n) }
     ensures looked { LooksWithin graph.now looked.new result }
+    ensures expanded { IfNone result (1 < B.last source.new → 0 < looked.new) }
 {
     *looked = Looked::new();
     start(graph, s, st);

@@ -94,6 +94,7 @@ pub fn search_by_number<B: BoundSource>(
     ensures none { IfNone result (length graph.now.elements < B.last source.new → (n : ℕ) → ¬ by_number.HasCycle (lists_of graph.now) s n) }
     ensures fits { Fits scratch.new graph.now }
     ensures looked { LooksWithin graph.now scratch.new.looked result }
+    ensures expanded { IfNone result (1 < B.last source.new → 0 < scratch.new.looked) }
 {
     search_in(graph, s, &mut scratch.state, &mut scratch.looked, source)
 }
@@ -105,7 +106,7 @@ pub fn search_by_number<B: BoundSource>(
 /// than that bound, and where it is above the number of elements, that there is none at all.
 ///
 /// It takes no memory. It sets back a mark for each list and element, and then looks at no more places and
-/// elements, together, than there are.
+/// elements, together, than there are; at one at least, where the bound last read was above 1.
 pub fn search<B: BoundSource>(
     graph: &OrderGraph,
     s: u32,
@@ -120,6 +121,7 @@ pub fn search<B: BoundSource>(
     ensures none { IfNone result (length graph.now.elements < B.last source.new → (cycle : List NameBytes) → ¬ IsCycleThrough graph.now s cycle) }
     ensures fits { Fits scratch.new graph.now }
     ensures looked { LooksWithin graph.now scratch.new.looked result }
+    ensures expanded { IfNone result (1 < B.last source.new → 0 < scratch.new.looked) }
 {
     let elements = graph.elements();
     prove!(s < elements);
@@ -138,6 +140,7 @@ pub fn distances(graph: &OrderGraph, s: u32, limit: u32, scratch: &mut Scratch, 
     ensures distances { AreDistances (lists_of graph.now) s limit depths.new }
     ensures fits { Fits scratch.new graph.now }
     ensures looked { LooksWithin graph.now scratch.new.looked None }
+    ensures expanded { 1 < limit → 0 < scratch.new.looked }
 {
     distances_in(
         graph,

@@ -1,5 +1,6 @@
 ghost use Rattle.std.specs.Prelude.{◌≡◌, ℕ, ◌+◌, ◌-◌, ◌<◌, ◌≤◌, true, false, length, IfOk, All, vec_len};
 ghost use Rattle.order_graph.specs.Lists.{lists_of};
+ghost use Rattle.specification.specs.Responses.{AreProper};
 ghost use Rattle.shared_bound.specs.Seats.{fresh_seat};
 ghost use Rattle.level_search.specs.Sources.{MeetsCycles};
 ghost use Rattle.level_search.specs.Team.{CanWork, HasWorked, HaveWorked, Honest, IsLeastLength, IsTeam};
@@ -44,7 +45,6 @@ fn work_all<H: Threads + Sync, G: Gate>(
     gate: &G,
     team: &mut [Worker],
 )
-    requires few { length graph.now.elements < NO_OFFER }
     requires known { All (λ s. s < length graph.now.elements) sources.now }
     requires team { All (CanWork graph.now sources.now) team.old }
     ensures { HaveWorked graph.now sources.now team.old team.new }
@@ -55,7 +55,6 @@ fn work_all<H: Threads + Sync, G: Gate>(
         team,
         threads,
         &|_: usize, worker: &mut Worker|
-            requires few { length graph.now.elements < NO_OFFER }
             requires known { All (λ s. s < length graph.now.elements) sources.now }
             requires ready { CanWork graph.now sources.now worker.old }
             ensures { HasWorked graph.entry.now sources.entry.now worker.old worker.new }
@@ -85,6 +84,7 @@ fn gathered(
 
 /// What the bound has at the end, once each source was searched from and all seats are taken in.
 fn closed(bound: Bound, graph: &OrderGraph, sources: &[u32], first: Seat) -> u32
+    requires proper { AreProper graph.now }
     requires count { bound.sources ≡ length sources.now }
     requires met { MeetsCycles (lists_of graph.now) (length graph.now.elements) sources.now }
     requires first { (first.bound ≡ bound) × (first.is_first ≡ true) × (first.out ≡ 0) × (first.done ≡ true) }
@@ -105,7 +105,7 @@ fn least_from<H: Threads + Sync, G: Gate>(
     gate: &G,
 ) -> Result<u32, Memory>
     requires workers { (1 ≤ workers) × (workers ≤ 64) }
-    requires few { length graph.now.elements < NO_OFFER }
+    requires proper { AreProper graph.now }
     requires known { All (λ s. s < length graph.now.elements) sources.now }
     requires count { length sources.now ≤ length graph.now.elements }
     requires met { MeetsCycles (lists_of graph.now) (length graph.now.elements) sources.now }
@@ -131,7 +131,7 @@ pub fn least_length<H: Threads + Sync, G: Gate>(
     gate: &G,
 ) -> Result<u32, Memory>
     requires workers { (1 ≤ workers) × (workers ≤ 64) }
-    requires few { length graph.now.elements < NO_OFFER }
+    requires proper { AreProper graph.now }
     ensures { IfOk result (IsLeastLength graph.now) }
 {
     let sources = sources_of(alloc, graph)?;

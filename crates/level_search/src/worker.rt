@@ -1,7 +1,8 @@
 ghost use Rattle.std.specs.Prelude.{◌≡◌, ℕ, List, ◌<◌, ◌≤◌, true, [], length, IfOk, All};
 ghost use Rattle.order_graph.specs.Lists.{lists_of};
 ghost use Rattle.level_search.specs.ScratchView.{Fits};
-ghost use Rattle.level_search.specs.Team.{IsLength, IsReady, IsSearched, SameSeat};
+ghost use Rattle.level_search.specs.Team.{IsLength, IsReady, SameSeat};
+ghost use Rattle.level_search.specs.Walks.{NoneShorter};
 
 use super::bound_seat::BoundSeat;
 use super::gate::Gate;
@@ -59,11 +60,11 @@ impl<'a> Worker<'a> {
 /// Searches from one element, between the gate's calls, and offers the length that it finds.
 fn search_from<G: Gate>(graph: &OrderGraph, source: u32, gate: &G, worker: &mut Worker)
     requires element { source < length graph.now.elements }
-    requires few { length graph.now.elements < NO_OFFER }
     requires fits { Fits worker.old.scratch graph.now }
     requires known { worker.old.seat.low ≤ NO_OFFER }
+    ensures number { worker.new.number ≡ worker.old.number }
     ensures fits { Fits worker.new.scratch graph.now }
-    ensures searched { IsSearched (lists_of graph.now) worker.new.seat.low source }
+    ensures searched { NoneShorter (lists_of graph.now) source worker.new.seat.low }
     ensures falls { worker.new.seat.low ≤ worker.old.seat.low }
     ensures seat { worker.new.seat ≡ record worker.old.seat { offered = worker.new.seat.offered; low = worker.new.seat.low } }
     ensures offers { All (IsLength (lists_of graph.now)) worker.old.seat.offered → All (IsLength (lists_of graph.now)) worker.new.seat.offered }
@@ -79,8 +80,8 @@ fn search_from<G: Gate>(graph: &OrderGraph, source: u32, gate: &G, worker: &mut 
 pub fn work<G: Gate>(graph: &OrderGraph, sources: &[u32], gate: &G, worker: &mut Worker)
     requires known { All (λ s. s < length graph.now.elements) sources.now }
     requires count { worker.old.seat.bound.sources ≡ length sources.now }
-    requires few { length graph.now.elements < NO_OFFER }
     requires ready { IsReady graph.now sources.now worker.old }
+    ensures number { worker.new.number ≡ worker.old.number }
     ensures ready { IsReady graph.now sources.now worker.new }
     ensures done { worker.new.seat.done ≡ true }
     ensures same { SameSeat worker.old.seat worker.new.seat }

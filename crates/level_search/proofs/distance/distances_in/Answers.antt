@@ -23,6 +23,8 @@ levels-preserved c =
           c.as_slice-in-levels.ensures.value c.note_level-in-levels.ensures.others);
       fits = omega arith;
       cost = let h = after.cost in let k = before.cost in omega arith;
+      begun = λ none. absurd (omega arith);
+      expanded = λ _. let one = after.works.forward in omega arith;
     }
 
 pub returns-then-limit-level-clause-distances : goal.returns-then-limit-level-clause-distances

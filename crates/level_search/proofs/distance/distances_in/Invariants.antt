@@ -1,4 +1,4 @@
-use Rattle.std.proofs.Common.{◌+◌, ◌-◌, ◌<◌, ◌≤◌, ◌^◌, length, sum}
+use Rattle.std.proofs.Common.{◌≡◌, ◌+◌, ◌-◌, ◌<◌, ◌≤◌, ◌^◌, length, sum}
 use Rattle.specification.specs.Responses.{place_count}
 use Rattle.level_search.specs.Graph.{graph_of}
 use Rattle.level_search.proofs.Levelled.{IsLevelled}
@@ -11,6 +11,8 @@ invariant-levels l = record {
   noted : IsNoted (graph_of l.graph) l.s l.limit l.level l.st l.depths;
   fits : l.level + 1 < 2 ^ 32;
   cost : l.looked + sum l.st.marks.items ≤ place_count l.graph + l.head;
+  begun : l.level ≡ 0 → l.head < l.st.tail;
+  expanded : 0 < l.level → 0 < l.looked;
 }
 
 abbrev pub decreases-levels : goal.decreases-levels

@@ -35,6 +35,8 @@ levels-preserved g c =
       reads = g.met.B.BoundSource.reads_more _ _ _ before.reads c.best-bound.ensures.reads;
       cost = let h = after.cost in let k = before.cost in omega arith;
       work = λ more. let one = after.works.reach more in let low = before.work c.levels-test.true in omega arith;
+      begun = λ none. absurd (omega arith);
+      expanded = λ _. let one = after.works.forward in omega arith;
     }
 
 pub returns-clause-answer : goal.returns-clause-answer

@@ -1,4 +1,4 @@
-use Rattle.std.proofs.Common.{◌+◌, ◌-◌, ◌*◌, ◌<◌, ◌≤◌, ◌^◌, length, sum}
+use Rattle.std.proofs.Common.{◌≡◌, ◌+◌, ◌-◌, ◌*◌, ◌<◌, ◌≤◌, ◌^◌, length, sum}
 use Rattle.specification.specs.Responses.{place_count}
 use Rattle.level_search.specs.Graph.{graph_of}
 use Rattle.level_search.proofs.Layers.{IsLayered}
@@ -12,6 +12,8 @@ invariant-levels g l = record {
   reads : g.B.BoundSource.reads l.fn.source l.source;
   cost : l.looked + sum l.st.marks.items ≤ place_count l.graph + l.head;
   work : l.head < l.st.tail → 2 * l.level ≤ l.looked;
+  begun : l.level ≡ 0 → l.head < l.st.tail;
+  expanded : 0 < l.level → 0 < l.looked;
 }
 
 abbrev pub decreases-levels : goal.decreases-levels

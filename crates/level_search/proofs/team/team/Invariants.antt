@@ -1,5 +1,5 @@
 use Rattle.std.proofs.Common.{◌≡◌, ◌+◌, true, false, [], All, vec_len}
-use Rattle.level_search.specs.Team.{IsReady}
+use Rattle.level_search.specs.Team.{AreNumbered, IsReady}
 use Rattle.shared_bound.specs.declared.TheConstants.{NO_OFFER}
 use Rattle.level_search.proofs.team.team.Given as goal
 
@@ -9,3 +9,4 @@ invariant-loop-number l =
     × (l.first.shares_left + l.number ≡ l.workers)
     × (vec_len l.team + 1 ≡ l.number)
     × All (λ w. (w.seat.bound ≡ l.bound) × (w.seat.is_first ≡ false) × IsReady l.graph l.sources w) l.team.items
+    × AreNumbered l.team.items

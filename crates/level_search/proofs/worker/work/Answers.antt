@@ -24,6 +24,7 @@ loop-place-preserved g c =
         fits = found.fits;
       },
       (then.3.0 ∙ inv.1.0, then.3.1 ∙ inv.1.1, then.3.2 ∙ inv.1.2),
+      found.number ∙ inv.2,
     )
 
 pub returns-clause-ready : goal.returns-clause-ready
