@@ -5,7 +5,7 @@ use Rattle.level_search.specs.Distances.{IsDistanceBelow, IsAmong}
 use Rattle.level_search.specs.Graph.{Graph}
 use Rattle.level_search.specs.Progress.{IsReached}
 use Rattle.level_search.specs.Walks.{Walk}
-use Rattle.level_search.specs.declared.state.State.{State}
+use Rattle.level_search.specs.declared.searching.state.State.{State}
 use Rattle.level_search.proofs.Levelled.{IsLevelled, walk_reached, every_walk_reached}
 
 pub record IsNoted (g : Graph) (s limit level : ℕ) (st : State) (depths : List ℕ) : Type 0 where

@@ -3,7 +3,7 @@ use Rattle.std.proofs.Common.{◌≡◌, ℕ, ◌≤◌, false, List, sym, ◌�
 use Rattle.std.proofs.lemmas.Bool.{cases_lt, cases_Bool}
 use Rattle.order_graph.specs.Lists.{ticked}
 use Rattle.level_search.specs.Progress.{Grows, IsReached, IsExpanded, Works}
-use Rattle.level_search.specs.declared.state.State.{State}
+use Rattle.level_search.specs.declared.searching.state.State.{State}
 
 pub grows_weaker : (P Q : ℕ → Type 0) (s : ℕ) (a b : State) → ((x : ℕ) → P x → Q x) → Grows P s a b → Grows Q s a b
 grows_weaker P Q s a b to grows = record {

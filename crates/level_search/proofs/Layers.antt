@@ -4,7 +4,7 @@ use Rattle.std.proofs.lemmas.Bool.{cases_lt}
 use Rattle.level_search.specs.Graph.{Graph, Before}
 use Rattle.level_search.specs.Progress.{FollowsLayer, Grows, IsExpanded, IsGood}
 use Rattle.level_search.specs.Walks.{HasCycle}
-use Rattle.level_search.specs.declared.state.State.{State}
+use Rattle.level_search.specs.declared.searching.state.State.{State}
 use Rattle.level_search.proofs.Levelled.{IsLevelled, walk_expanded, walk_follows, levelled_next}
 
 -- the search is at this level, and s was not reached again

@@ -4,7 +4,7 @@ use Rattle.std.proofs.lemmas.Bool.{cases_lt}
 use Rattle.level_search.specs.Graph.{Graph, Before}
 use Rattle.level_search.specs.Progress.{FollowsLayer, Grows, IsExpanded, IsGood, IsReached}
 use Rattle.level_search.specs.Walks.{Walk}
-use Rattle.level_search.specs.declared.state.State.{State}
+use Rattle.level_search.specs.declared.searching.state.State.{State}
 use Rattle.level_search.proofs.Growth.{still_expanded}
 
 -- the queue before `head` is expanded, and the rest of it is the layer of this level

@@ -8,7 +8,7 @@ use Rattle.std.specs.Vec.{with_item}
 use Rattle.order_graph.specs.Lists.{row, Stands}
 use Rattle.level_search.specs.Graph.{Graph}
 use Rattle.level_search.specs.Progress.{IsGood, IsReached}
-use Rattle.level_search.specs.declared.state.State.{State}
+use Rattle.level_search.specs.declared.searching.state.State.{State}
 
 -- only a list that is there has places
 pub row_within : (rows : List (List ℕ)) (l p : ℕ) → p < length (row rows l) → l < length rows

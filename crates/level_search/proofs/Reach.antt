@@ -6,7 +6,7 @@ use Rattle.std.specs.Vec.{with_item}
 use Rattle.order_graph.specs.Lists.{row}
 use Rattle.level_search.specs.Graph.{Graph}
 use Rattle.level_search.specs.Progress.{Grows, IsGood, IsQueued, IsReached}
-use Rattle.level_search.specs.declared.state.State.{State}
+use Rattle.level_search.specs.declared.searching.state.State.{State}
 use Rattle.level_search.proofs.Growth.{still_reached, still_unfound}
 
 abbrev pub more : State → ℕ → State

@@ -18,7 +18,7 @@ use Rattle.level_search.specs.BoundLaw.{CoversAllSources, IsAsLongThrough, MeetE
 use Rattle.level_search.proofs.LeastOffer.{least_offer_is_shortest}
 use Rattle.level_search.specs.Sources.{MeetsCycles}
 use Rattle.level_search.specs.Team.{AreNumbered, IsSearchedAt, IsLength, Honest, IsReady, SameSeat, HasWorked, HaveWorked, ceiling, AtPlace, IsTeam, IsLeastLength}
-use Rattle.level_search.specs.declared.worker.Worker.{Worker}
+use Rattle.level_search.specs.declared.workers.worker.Worker.{Worker}
 use Rattle.level_search.proofs.Joining.{cycle-known, first-walk, names_of_walk, walk_of_names}
 
 ceiling-append : (xs : List ℕ) (y : ℕ) → ceiling (xs ++ y ∷ []) ≡ max (y + 1) (ceiling xs)
@@ -120,10 +120,10 @@ covered v proper sources n m s calls count meets low h same run = record {
   offered = λ k d within. length-named v proper (get_or (offers calls) k d) (told k d within);
   given = ap (λ (b : BoundState). b.given) run.leads ∙ (length_permutation (range_with_len 0 n) s.claimed same ∙ (length-range_with_len 0 n ∙ count));
   searched = λ place within. (
-      s.low,
-      inr (inr (subst (λ (b : BoundState). b.least ≤ s.low) (sym run.leads) low)),
-      λ cycle through. all_claimed (IsSearchedAt (lists_of v) sources s.low) n s.claimed same h.claims place (omega arith) (length cycle) (walk_of_names v proper (slice_index sources place) cycle through)
-      );
+    s.low,
+    inr (inr (subst (λ (b : BoundState). b.least ≤ s.low) (sym run.leads) low)),
+    λ cycle through. all_claimed (IsSearchedAt (lists_of v) sources s.low) n s.claimed same h.claims place (omega arith) (length cycle) (walk_of_names v proper (slice_index sources place) cycle through),
+  );
 }
   where
     told : All (IsLength (lists_of v)) (offers calls)

@@ -2,7 +2,7 @@
 use Rattle.std.specs.Prelude.{◌≡◌, ℕ, ◌+◌, ◌<◌, ◌≤◌, ◌⊎◌, true, false, not, List, length, slice_index, slice_index_or, count_by, vec_len}
 use Rattle.order_graph.specs.Lists.{row, Stands, ticked}
 use Rattle.level_search.specs.Graph.{Graph, Before}
-use Rattle.level_search.specs.declared.state.State.{State}
+use Rattle.level_search.specs.declared.searching.state.State.{State}
 
 -- x is among the first `tail` of the queue
 pub record IsReached (queue : List ℕ) (tail x : ℕ) : Type 0 where

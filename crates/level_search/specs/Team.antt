@@ -7,7 +7,7 @@ use Rattle.specification.specs.Search.{IsShortestLength, HasNoCycle}
 use Rattle.order_graph.specs.Lists.{lists_of}
 use Rattle.level_search.specs.ScratchView.{Fits}
 use Rattle.level_search.specs.Walks.{HasCycle, NoneShorter}
-use Rattle.level_search.specs.declared.worker.Worker.{Worker}
+use Rattle.level_search.specs.declared.workers.worker.Worker.{Worker}
 
 -- some cycle has this length
 abbrev pub IsLength : List (List ℕ) → ℕ → Type 0

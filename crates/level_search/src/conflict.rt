@@ -3,7 +3,7 @@ ghost use Rattle.specification.specs.Conflict.{IsConflictNumber};
 
 use super::gate::Gate;
 use super::search_fault::SearchFault;
-use super::team::least_length;
+use super::workers::least_length;
 use order_graph::OrderGraph;
 use shared_bound::NO_OFFER;
 use std::alloc::Global;

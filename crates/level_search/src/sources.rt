@@ -4,19 +4,22 @@ ghost use Rattle.std.specs.Prelude.{◌≡◌, ◌<◌, ◌≤◌, ℕ, All, Con
 ghost use Rattle.order_graph.specs.Lists.{lists_of};
 ghost use Rattle.level_search.specs.Sources.{MeetsCycles, Rises};
 
-use super::fronts::{UNRANKED, ranks_of};
+mod peeling;
+
 use events::Memory;
 use order_graph::{Looked, OrderGraph};
+use peeling::{UNRANKED, ranks_of};
 use std::alloc::Global;
 
 /// Where there are no more elements than this, each is searched from.
 const FEW: u32 = 64;
 
-/// Elements through one of which each cycle leads.
+/// Elements through one of which each cycle leads: a feedback vertex set of the graph whose edges lead from
+/// each element to those that some list shows after it.
 ///
 /// Where the elements are many, those are taken that had to be left out of an order which all lists
 /// follow. The order is a guess, and tested here: where it fails the test, each element is taken.
-pub fn sources_of(alloc: Global, graph: &OrderGraph) -> Result<Vec<u32>, Memory>
+pub fn feedback_vertex_set(alloc: Global, graph: &OrderGraph) -> Result<Vec<u32>, Memory>
     ensures known { IfOk result (λ v. All (λ s. s < length graph.now.elements) v.items) }
     ensures count { IfOk result (λ v. length v.items ≤ length graph.now.elements) }
     ensures met { IfOk result (λ v. MeetsCycles (lists_of graph.now) (length graph.now.elements) v.items) }

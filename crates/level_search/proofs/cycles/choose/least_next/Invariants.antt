@@ -1,0 +1,14 @@
+use Rattle.std.proofs.Common.{◌≡◌, ◌⊎◌, ℕ, ◌<◌, ◌≤◌, Some, true, false, length, slice_get, slice_index_or}
+use Rattle.level_search.specs.Graph.{Before}
+use Rattle.order_graph.specs.Lists.{lists_of}
+use Rattle.level_search.specs.Progress.{IsAfter}
+use Rattle.order_graph.specs.Spots.{spots_of}
+use Rattle.order_graph.specs.declared.spot.Spot.{Spot}
+use Rattle.level_search.proofs.cycles.choose.least_next.Given as goal
+
+abbrev pub invariant-loop-i : goal.invariant-loop-i
+invariant-loop-i l = record {
+  least : (k : ℕ) (q : Spot) (y : ℕ) → k < l.i → slice_get (spots_of (lists_of l.graph) l.a) k ≡ Some q → IsAfter (lists_of l.graph) q.list q.place y
+      → slice_index_or l.marked y false ≡ true → l.least ≤ y;
+  here : (l.least ≡ (length l.graph.elements)) ⊎ (Before (lists_of l.graph) l.a l.least × (slice_index_or l.marked l.least false ≡ true));
+}

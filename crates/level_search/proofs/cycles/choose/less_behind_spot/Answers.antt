@@ -1,0 +1,23 @@
+use Rattle.std.proofs.Common.{sym, inl, inr}
+use Rattle.order_graph.specs.Lists.{lists_of, Stands}
+use Rattle.level_search.specs.Progress.{IsAfter}
+use Rattle.order_graph.proofs.AllSpots.{spots_sound}
+use Rattle.level_search.proofs.cycles.choose.less_behind_spot.Goals as goal
+
+pub less_behind-requires-clause-inside : goal.less_behind-requires-clause-inside
+less_behind-requires-clause-inside c =
+    let here : Stands (lists_of c.args.graph.now) c.in-Some.spot.list c.in-Some.spot.place c.args.a =
+    spots_sound (lists_of c.args.graph.now) c.args.a c.args.i c.in-Some.spot (sym c.in-Some.ensures) in
+    here.within
+
+pub returns-in-Some-clause-here : goal.returns-in-Some-clause-here
+returns-in-Some-clause-here c =
+    let spot = c.in-Some.spot in
+    let here : Stands (lists_of c.args.graph.now) spot.list spot.place c.args.a =
+    spots_sound (lists_of c.args.graph.now) c.args.a c.args.i spot (sym c.in-Some.ensures) in
+    elim c.less_behind.ensures.here [
+      | inl same ↦ inl same
+      | inr less ↦
+          let after : IsAfter (lists_of c.args.graph.now) spot.list spot.place c.less_behind.result = less.0 in
+          inr (record { list = spot.list; place = spot.place; later = after.later; in_order = after.in_order; first = here; second = after.stands }, less.1)
+    ]

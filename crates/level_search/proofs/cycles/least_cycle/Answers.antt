@@ -1,0 +1,18 @@
+use Rattle.std.proofs.Common.{◌≡◌, ◌∙◌, ℕ, List, length, subst, sym, ap}
+use Rattle.specification.specs.Conflict.{AreLeastSteps, Step}
+use Rattle.level_search.specs.Steps.{AreStepsOf}
+use Rattle.level_search.proofs.StepsRound.{least_steps_of_ring}
+use Rattle.level_search.proofs.cycles.least_cycle.Goals as goal
+
+pub returns : goal.returns
+returns c =
+    let v = c.args.graph.now in
+    let numbers : List ℕ = c.in_ok-ring.ring.items in
+    let steps : List Step = c.in_ok-steps.steps.items in
+    let same : c.deref.result.now ≡ numbers = c.deref.ensures.value in
+    let made = c.in_ok-steps.ensures in
+    let first = c.in_ok-ring.ensures.first in
+    let count : length steps ≡ length numbers = made.count ∙ ap length same in
+    let each : AreStepsOf v numbers steps = subst (λ (l : List ℕ). AreStepsOf v l steps) same made.steps in
+    let least : AreLeastSteps v steps = least_steps_of_ring v c.in_ok-ring.ensures.proper c.args.k numbers steps c.requires first count each in
+    subst (λ (l : List Step). AreLeastSteps v l × (length l ≡ c.args.k)) (sym c.from_steps.ensures) (least, count ∙ first.count)

@@ -1,0 +1,11 @@
+use Rattle.std.proofs.Common.{ℕ, ◌<◌}
+use Rattle.order_graph.specs.Lists.{lists_of}
+use Rattle.level_search.specs.ScratchView.{Fits}
+use Rattle.level_search.specs.Walks.{HasCycle}
+use Rattle.level_search.proofs.cycles.ring.first_source.Given as goal
+
+abbrev pub invariant-loop-s : goal.invariant-loop-s
+invariant-loop-s l = record {
+  fits : Fits l.scratch l.graph;
+  none : (t : ℕ) → t < l.s → ¬ HasCycle (lists_of l.graph) t l.k;
+}

@@ -1,0 +1,54 @@
+use Rattle.std.proofs.Common.{◌≡◌, ℕ, ◌+◌, ◌-◌, ◌++◌, [], ◌∷◌, Bool, List, length, get_or, map, subst, sym, ap, ◌∙◌, arith, inl, inr}
+use Rattle.std.proofs.lemmas.Bool.{cases_eq}
+use Rattle.std.proofs.lemmas.Grind.{common_steps}
+use Rattle.order_graph.specs.Lists.{lists_of}
+use Rattle.level_search.specs.Graph.{graph_of}
+use Rattle.level_search.specs.Rings.{IsTable, IsTableOf}
+use Rattle.level_search.proofs.TableRows.{bits_of, push_before, push_last, table_at}
+use Rattle.level_search.proofs.cycles.tables.tables.Goals as goal
+
+pub next_table-requires-clause-table : goal.next_table-requires-clause-table
+next_table-requires-clause-table c =
+    let n : ℕ = c.loop-n.n - 1 in
+    let count = c.loop-n.invariant.count in
+    let low = c.loop-n.auto.n in
+    let is : get_or (map bits_of c.loop-n.all.items) n [] ≡ c.as_slice.result.now =
+    table_at c.loop-n.all.items n c.index.result.now (omega arith) c.index.ensures ∙ sym c.as_slice.ensures.value in
+    let kept : IsTableOf (graph_of c.args.graph.now) c.args.z n c.as_slice.result.now =
+    subst (λ (t : List Bool). IsTableOf (graph_of c.args.graph.now) c.args.z n t) is (c.loop-n.invariant.tables n (omega arith)) in
+    kept.table_is
+
+pub next_table-requires-clause-count : goal.next_table-requires-clause-count
+next_table-requires-clause-count c =
+    let n : ℕ = c.loop-n.n - 1 in
+    let count = c.loop-n.invariant.count in
+    let low = c.loop-n.auto.n in
+    let is : get_or (map bits_of c.loop-n.all.items) n [] ≡ c.as_slice.result.now =
+    table_at c.loop-n.all.items n c.index.result.now (omega arith) c.index.ensures ∙ sym c.as_slice.ensures.value in
+    let kept : IsTableOf (graph_of c.args.graph.now) c.args.z n c.as_slice.result.now =
+    subst (λ (t : List Bool). IsTableOf (graph_of c.args.graph.now) c.args.z n t) is (c.loop-n.invariant.tables n (omega arith)) in
+    kept.count
+
+pub loop-n-preserved : goal.loop-n-preserved
+loop-n-preserved c =
+    let n : ℕ = c.loop-n.n in
+    let count = c.loop-n.invariant.count in
+    let low = c.loop-n.auto.n in
+    let all = c.loop-n.all.items in
+    let next = c.in_ok-next.next in
+    let pushed : c.push-in-loop-n.new.self.items ≡ all ++ next ∷ [] = grind (arith, common_steps, c.in_ok-push-2.ensures.items) in
+    let table : IsTable (lists_of c.args.graph.now) c.args.z n next.items =
+    subst (λ m. IsTable (lists_of c.args.graph.now) c.args.z m next.items) (let e : n - 1 + 1 ≡ n = omega arith in e) c.in_ok-next.ensures.table in
+    let last : IsTableOf (graph_of c.args.graph.now) c.args.z n next.items =
+    record { count = let h = c.in_ok-next.ensures.count in omega arith; table_is = table } in
+    let at : (i : ℕ) → get_or (map bits_of c.push-in-loop-n.new.self.items) i [] ≡ get_or (map bits_of (all ++ next ∷ [])) i [] =
+    λ i. ap (λ l. get_or (map bits_of l) i []) pushed in
+    record {
+      count = let h = ap length pushed in grind (arith, common_steps, c.in_ok-push-2.ensures.len);
+      tables = λ i h. elim (cases_eq i n) [
+        | inl same ↦ subst (λ (t : List Bool). IsTableOf (graph_of c.args.graph.now) c.args.z i t) (sym (at i ∙ push_last all next i (omega arith)))
+            (subst (λ m. IsTableOf (graph_of c.args.graph.now) c.args.z m next.items) (sym same) last)
+        | inr other ↦ subst (λ (t : List Bool). IsTableOf (graph_of c.args.graph.now) c.args.z i t) (sym (at i ∙ push_before all next i (omega arith)))
+            (c.loop-n.invariant.tables i (omega arith))
+      ];
+    }

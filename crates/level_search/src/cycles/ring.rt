@@ -1,0 +1,93 @@
+ghost use Rattle.std.specs.Prelude.{◌≡◌, ℕ, ◌+◌, ◌-◌, ◌<◌, ◌≤◌, IfOk, length, slice_index};
+ghost use Rattle.specification.specs.Responses.{AreProper};
+ghost use Rattle.specification.specs.Search.{IsShortestLength};
+ghost use Rattle.order_graph.specs.Lists.{lists_of};
+ghost use Rattle.level_search.specs.Graph.{graph_of};
+ghost use Rattle.level_search.specs.Rings.{IsFirstRing, IsLeastNext, IsTableOf, Reaches};
+ghost use Rattle.level_search.specs.ScratchView.{Fits};
+ghost use Rattle.level_search.specs.Walks.{HasCycle};
+
+use super::choose::least_next;
+use super::tables::tables;
+use crate::searching::{PlainBound, Scratch, search_by_number};
+use events::Memory;
+use order_graph::{Looked, OrderGraph};
+use std::alloc::Global;
+
+/// The next element of the least ring: n steps lead on from it.
+fn next_of_ring(
+    graph: &OrderGraph,
+    z: u32,
+    n: u32,
+    a: u32,
+    table: &[bool],
+    looked: &mut Looked,
+) -> u32
+    requires table { IsTableOf (graph_of graph.now) z n table.now }
+    requires on { Reaches (lists_of graph.now) z (n + 1) a }
+    ensures { IsLeastNext (lists_of graph.now) z n a result }
+{
+    least_next(graph, a, table, looked)
+}
+
+/// The least element through which a shortest cycle leads.
+fn first_source(graph: &OrderGraph, k: u32, scratch: &mut Scratch) -> u32
+    requires fits { Fits scratch.old graph.now }
+    requires least { IsShortestLength graph.now k }
+    ensures known { result < length graph.now.elements }
+    ensures cycle { HasCycle (lists_of graph.now) result k }
+    ensures proper { AreProper graph.now }
+    ensures lowest { (t : ℕ) → t < length graph.now.elements → HasCycle (lists_of graph.now) t k → result ≤ t }
+{
+    for s in 0..graph.elements() {
+        let mut source = PlainBound { least: k + 1 };
+        if search_by_number(graph, s, scratch, &mut source).is_some() {
+            return s;
+        }
+    }
+    unreachable!()
+}
+
+/// The least ring from an element on.
+fn ring_from(alloc: Global, graph: &OrderGraph, s: u32, k: u32) -> Result<Vec<u32>, Memory>
+    requires known { s < length graph.now.elements }
+    requires cycle { HasCycle (lists_of graph.now) s k }
+    ensures count { IfOk result (λ v. length v.items ≡ k) }
+    ensures first { IfOk result (λ v. slice_index v.items 0 ≡ s) }
+    ensures chosen { IfOk result (λ v. (j : ℕ) → 0 < j → j < k → IsLeastNext (lists_of graph.now) s (k - j) (slice_index v.items (j - 1)) (slice_index v.items j)) }
+{
+    let mut looked = Looked::new();
+    let all = tables(alloc, graph, s, k, &mut looked)?;
+    let mut ring = Vec::new(alloc);
+    ring.push(s)?;
+    let mut a = s;
+    for i in 1..k {
+        a = next_of_ring(
+            graph,
+            s,
+            k - i,
+            a,
+            all[(k - i) as usize].as_slice(),
+            &mut looked,
+        );
+        ring.push(a)?;
+    }
+    Ok(ring)
+}
+
+/// The first in dictionary order of the cycles of the shortest length, k.
+pub fn least_ring(
+    alloc: Global,
+    graph: &OrderGraph,
+    k: u32,
+    scratch: &mut Scratch,
+) -> Result<Vec<u32>, Memory>
+    requires fits { Fits scratch.old graph.now }
+    requires least { IsShortestLength graph.now k }
+    ensures proper { AreProper graph.now }
+    ensures first { IfOk result (λ v. IsFirstRing (lists_of graph.now) k v.items) }
+{
+    let s = first_source(graph, k, scratch);
+    let ring = ring_from(alloc, graph, s, k)?;
+    Ok(ring)
+}

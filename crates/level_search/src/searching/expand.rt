@@ -1,0 +1,47 @@
+ghost use Rattle.std.specs.Prelude.{◌≡◌, ℕ, ◌+◌, ◌<◌, ◌≤◌, Some, slice_index, slice_get, sum};
+ghost use Rattle.order_graph.specs.Lists.{lists_of, ticked};
+ghost use Rattle.level_search.specs.Graph.{Before, graph_of};
+ghost use Rattle.level_search.specs.Progress.{IsGood, Grows, IsExpanded, Works};
+ghost use Rattle.order_graph.specs.Spots.{spots_of};
+ghost use Rattle.order_graph.specs.declared.spot.Spot.{Spot};
+
+use super::state::State;
+use super::sweep::sweep;
+use order_graph::{Looked, OrderGraph};
+
+/// Expands one element at one of its spots.
+pub fn expand_spot(
+    graph: &OrderGraph,
+    s: u32,
+    x: u32,
+    i: u32,
+    state: &mut State,
+    looked: &mut Looked,
+)
+    requires { IsGood (graph_of graph.now) s state.old }
+    ensures good { IsGood (graph_of graph.now) s state.new }
+    ensures grows { Grows (Before (lists_of graph.now) x) s state.old state.new }
+    ensures mark { (q : Spot) → slice_get (spots_of (lists_of graph.now) x) i ≡ Some q → slice_index state.new.marks.items q.list ≤ q.place + 1 }
+    ensures works { Works state.old state.new looked.old looked.new }
+    ensures cost { looked.new + sum state.new.marks.items ≤ looked.old + sum state.old.marks.items }
+{
+    if let Some(spot) = graph.spot(x, i) {
+        sweep(graph, s, spot, state, looked);
+    }
+}
+
+/// Expands one element: at each of its spots, reads on to the list's mark.
+pub fn expand(graph: &OrderGraph, s: u32, x: u32, state: &mut State, looked: &mut Looked)
+    requires { IsGood (graph_of graph.now) s state.old }
+    ensures good { IsGood (graph_of graph.now) s state.new }
+    ensures grows { Grows (Before (lists_of graph.now) x) s state.old state.new }
+    ensures expanded { IsExpanded (lists_of graph.now) state.new.marks.items x }
+    ensures forward { looked.old ≤ looked.new }
+    ensures works { Works state.old state.new (ticked looked.old) looked.new }
+    ensures cost { looked.new + sum state.new.marks.items ≤ looked.old + 1 + sum state.old.marks.items }
+{
+    looked.expand();
+    for i in 0..graph.spots(x) {
+        expand_spot(graph, s, x, i, state, looked);
+    }
+}

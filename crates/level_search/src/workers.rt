@@ -1,0 +1,142 @@
+ghost use Rattle.std.specs.Prelude.{◌≡◌, ℕ, ◌+◌, ◌-◌, ◌<◌, ◌≤◌, true, false, length, IfOk, All, vec_len};
+ghost use Rattle.order_graph.specs.Lists.{lists_of};
+ghost use Rattle.specification.specs.Responses.{AreProper};
+ghost use Rattle.shared_bound.specs.Seats.{fresh_seat};
+ghost use Rattle.level_search.specs.Sources.{MeetsCycles};
+ghost use Rattle.level_search.specs.Team.{CanWork, HasWorked, HaveWorked, Honest, IsLeastLength, IsTeam};
+
+mod bound_seat;
+mod worker;
+
+use super::gate::Gate;
+use super::sources::feedback_vertex_set;
+use events::Memory;
+use order_graph::OrderGraph;
+use shared_bound::{Bound, NO_OFFER, Seat};
+use std::alloc::Global;
+use std::thread;
+use std::thread::Threads;
+use worker::{Worker, work};
+
+/// So many workers, each with a seat at the bound. Worker 0, with the first seat, comes last.
+fn team<'a>(
+    alloc: Global,
+    graph: &OrderGraph,
+    sources: &[u32],
+    bound: &'a Bound,
+    mut first: Seat,
+    workers: u32,
+) -> Result<Vec<Worker<'a>>, Memory>
+    requires workers { (1 ≤ workers) × (workers ≤ 64) }
+    requires first { first ≡ fresh_seat bound.now true NO_OFFER (workers - 1) }
+    ensures { IfOk result (λ team. IsTeam bound.now graph.now sources.now (workers - 1) team.items) }
+{
+    let mut team = Vec::new(alloc);
+    for number in 1..workers {
+        let seat = bound.share(&mut first);
+        team.push(Worker::new(alloc, graph, number, bound, seat)?)?;
+    }
+    team.push(Worker::new(alloc, graph, 0, bound, first)?)?;
+    Ok(team)
+}
+
+/// All workers work, each in a thread where one can be started; else another thread does its work too.
+fn work_all<H: Threads + Sync, G: Gate>(
+    rt: &H,
+    graph: &OrderGraph,
+    sources: &[u32],
+    gate: &G,
+    team: &mut [Worker],
+)
+    requires known { All (λ s. s < length graph.now.elements) sources.now }
+    requires team { All (CanWork graph.now sources.now) team.old }
+    ensures { HaveWorked graph.now sources.now team.old team.new }
+{
+    let threads = team.len().max(1);
+    thread::for_each_mut(
+        rt,
+        team,
+        threads,
+        &|_: usize, worker: &mut Worker|
+            requires known { All (λ s. s < length graph.now.elements) sources.now }
+            requires ready { CanWork graph.now sources.now worker.old }
+            ensures { HasWorked graph.entry.now sources.entry.now worker.old worker.new }
+        { work(graph, sources, gate, worker) },
+    );
+}
+
+/// The first seat, with all that the others claimed and offered.
+fn gathered(
+    bound: &Bound,
+    graph: &OrderGraph,
+    sources: &[u32],
+    mut first: Seat,
+    mut others: Vec<Worker>,
+) -> Seat
+    requires first { (first.bound ≡ bound.now) × (first.is_first ≡ true) × (first.out ≡ vec_len others) × (first.done ≡ true) }
+    requires honest { Honest (lists_of graph.now) sources.now first }
+    requires others { All (λ w. (w.seat.bound ≡ bound.now) × (w.seat.is_first ≡ false) × Honest (lists_of graph.now) sources.now w.seat) others.items }
+    ensures first { (result.bound ≡ bound.now) × (result.is_first ≡ true) × (result.out ≡ 0) × (result.done ≡ true) }
+    ensures honest { Honest (lists_of graph.now) sources.now result }
+{
+    while let Some(other) = others.pop() {
+        bound.take_in(&mut first, other.into_seat());
+    }
+    first
+}
+
+/// What the bound has at the end, once each source was searched from and all seats are taken in.
+fn closed(bound: Bound, graph: &OrderGraph, sources: &[u32], first: Seat) -> u32
+    requires proper { AreProper graph.now }
+    requires count { bound.sources ≡ length sources.now }
+    requires met { MeetsCycles (lists_of graph.now) (length graph.now.elements) sources.now }
+    requires first { (first.bound ≡ bound) × (first.is_first ≡ true) × (first.out ≡ 0) × (first.done ≡ true) }
+    requires honest { Honest (lists_of graph.now) sources.now first }
+    ensures { IsLeastLength graph.now result }
+{
+    bound.close(first)
+}
+
+/// The length of a shortest cycle, or `NO_OFFER` where there is none, by a search from each of the sources,
+/// through one of which each cycle leads.
+fn least_from<H: Threads + Sync, G: Gate>(
+    rt: &H,
+    alloc: Global,
+    graph: &OrderGraph,
+    sources: &[u32],
+    workers: u32,
+    gate: &G,
+) -> Result<u32, Memory>
+    requires workers { (1 ≤ workers) × (workers ≤ 64) }
+    requires proper { AreProper graph.now }
+    requires known { All (λ s. s < length graph.now.elements) sources.now }
+    requires count { length sources.now ≤ length graph.now.elements }
+    requires met { MeetsCycles (lists_of graph.now) (length graph.now.elements) sources.now }
+    ensures { IfOk result (IsLeastLength graph.now) }
+{
+    let (bound, first) = Bound::new(alloc, sources.len() as u32, workers)?;
+    let mut team = team(alloc, graph, sources, &bound, first, workers)?;
+    work_all(rt, graph, sources, gate, team.as_mut_slice());
+    let Some(last) = team.pop() else {
+        unreachable!()
+    };
+    let first = gathered(&bound, graph, sources, last.into_seat(), team);
+    Ok(closed(bound, graph, sources, first))
+}
+
+/// The length of a shortest cycle, or `NO_OFFER` where there is none, by a search from each of few elements.
+/// All memory is taken before a worker starts.
+pub fn least_length<H: Threads + Sync, G: Gate>(
+    rt: &H,
+    alloc: Global,
+    graph: &OrderGraph,
+    workers: u32,
+    gate: &G,
+) -> Result<u32, Memory>
+    requires workers { (1 ≤ workers) × (workers ≤ 64) }
+    requires proper { AreProper graph.now }
+    ensures { IfOk result (IsLeastLength graph.now) }
+{
+    let sources = feedback_vertex_set(alloc, graph)?;
+    least_from(rt, alloc, graph, &sources, workers, gate)
+}

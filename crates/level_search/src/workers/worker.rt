@@ -1,0 +1,92 @@
+ghost use Rattle.std.specs.Prelude.{◌≡◌, ℕ, List, ◌<◌, ◌≤◌, true, [], length, IfOk, All};
+ghost use Rattle.order_graph.specs.Lists.{lists_of};
+ghost use Rattle.level_search.specs.ScratchView.{Fits};
+ghost use Rattle.level_search.specs.Team.{IsLength, IsReady, SameSeat};
+ghost use Rattle.level_search.specs.Walks.{NoneShorter};
+
+use super::bound_seat::BoundSeat;
+use crate::gate::Gate;
+use crate::searching::{Scratch, search_by_number};
+use events::Memory;
+use order_graph::OrderGraph;
+use shared_bound::{Bound, NO_OFFER, Seat};
+use std::alloc::Global;
+
+/// One of those who search for the conflict number: its number, its seat at the shared bound, and what its
+/// searches write on.
+#[derive(Drop)]
+pub struct Worker<'a> {
+    pub number: u32,
+    pub seat: BoundSeat<'a>,
+    pub scratch: Scratch,
+}
+
+impl<'a> Worker<'a> {
+    /// A worker that has claimed nothing yet.
+    pub fn new(
+        alloc: Global,
+        graph: &OrderGraph,
+        number: u32,
+        bound: &'a Bound,
+        seat: Seat,
+    ) -> Result<Worker<'a>, Memory>
+        requires bound { seat.bound ≡ bound.now }
+        requires fresh { (seat.claimed ≡ []) × (seat.offered ≡ []) × (seat.low ≤ NO_OFFER) }
+        ensures number { IfOk result (λ w. w.number ≡ number) }
+        ensures seat { IfOk result (λ w. w.seat ≡ seat) }
+        ensures ready { IfOk result (λ w. (sources : List ℕ) → IsReady graph.now sources w) }
+    {
+        let scratch = Scratch::new(alloc, graph)?;
+        Ok(Worker {
+            number,
+            seat: BoundSeat::new(bound, seat),
+            scratch,
+        })
+    }
+
+    /// Its seat alone.
+    pub fn into_seat(self) -> Seat
+        ensures { result ≡ self.entry.seat }
+    {
+        let Worker {
+            number: _,
+            seat,
+            scratch: _,
+        } = self;
+        seat.into_seat()
+    }
+}
+
+/// Searches from one element, between the gate's calls, and offers the length that it finds.
+fn search_from<G: Gate>(graph: &OrderGraph, source: u32, gate: &G, worker: &mut Worker)
+    requires element { source < length graph.now.elements }
+    requires fits { Fits worker.old.scratch graph.now }
+    requires known { worker.old.seat.low ≤ NO_OFFER }
+    ensures number { worker.new.number ≡ worker.old.number }
+    ensures fits { Fits worker.new.scratch graph.now }
+    ensures searched { NoneShorter (lists_of graph.now) source worker.new.seat.low }
+    ensures falls { worker.new.seat.low ≤ worker.old.seat.low }
+    ensures seat { worker.new.seat ≡ record worker.old.seat { offered = worker.new.seat.offered; low = worker.new.seat.low } }
+    ensures offers { All (IsLength (lists_of graph.now)) worker.old.seat.offered → All (IsLength (lists_of graph.now)) worker.new.seat.offered }
+{
+    gate.before(worker.number, source);
+    if let Some(length) = search_by_number(graph, source, &mut worker.scratch, &mut worker.seat) {
+        worker.seat.offer(length);
+    }
+    gate.after(worker.number, source);
+}
+
+/// Claims places of the sources until none is left, and searches from the element at each.
+pub fn work<G: Gate>(graph: &OrderGraph, sources: &[u32], gate: &G, worker: &mut Worker)
+    requires known { All (λ s. s < length graph.now.elements) sources.now }
+    requires count { worker.old.seat.bound.sources ≡ length sources.now }
+    requires ready { IsReady graph.now sources.now worker.old }
+    ensures number { worker.new.number ≡ worker.old.number }
+    ensures ready { IsReady graph.now sources.now worker.new }
+    ensures done { worker.new.seat.done ≡ true }
+    ensures same { SameSeat worker.old.seat worker.new.seat }
+{
+    while let Some(place) = worker.seat.claim() {
+        search_from(graph, sources[place as usize], gate, worker);
+    }
+}
