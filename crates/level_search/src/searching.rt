@@ -93,21 +93,27 @@ ghost use Rattle.level_search.specs.ScratchView.{Fits, LooksWithin};
 /// As `search`, with cycles told by the elements' numbers.
 pub fn search_by_number<B: BoundSource>(
     graph: &OrderGraph,
-    s: u32,
+    element: u32,
     scratch: &mut Scratch,
     source: &mut B,
 ) -> Option<u32>
-    requires element { s < length graph.now.elements }
+    requires element { element < length graph.now.elements }
     requires fits { Fits scratch.old graph.now }
-    ensures answer { by_number.IsSearchAnswer (lists_of graph.now) s (B.last source.new) result }
+    ensures answer { by_number.IsSearchAnswer (lists_of graph.now) element (B.last source.new) result }
     ensures bound { B.last source.new ≤ B.last source.old }
     ensures reads { B.reads source.old source.new }
-    ensures none { IfNone result (length graph.now.elements < B.last source.new → (n : ℕ) → ¬ by_number.HasCycle (lists_of graph.now) s n) }
+    ensures none { IfNone result (length graph.now.elements < B.last source.new → (n : ℕ) → ¬ by_number.HasCycle (lists_of graph.now) element n) }
     ensures fits { Fits scratch.new graph.now }
     ensures looked { LooksWithin graph.now scratch.new.looked result }
     ensures expanded { IfNone result (1 < B.last source.new → 0 < scratch.new.looked) }
 {
-    search_in(graph, s, &mut scratch.state, &mut scratch.looked, source)
+    search_in(
+        graph,
+        element,
+        &mut scratch.state,
+        &mut scratch.looked,
+        source,
+    )
 }
 
 /// Searches by levels for the shortest cycle through the element with this number.
@@ -120,42 +126,48 @@ pub fn search_by_number<B: BoundSource>(
 /// elements, together, than there are; at one at least, where the bound last read was above 1.
 pub fn search<B: BoundSource>(
     graph: &OrderGraph,
-    s: u32,
+    element: u32,
     scratch: &mut Scratch,
     source: &mut B,
 ) -> Option<u32>
-    requires element { s < length graph.now.elements }
+    requires element { element < length graph.now.elements }
     requires fits { Fits scratch.old graph.now }
-    ensures answer { IsSearchAnswer graph.now s (B.last source.new) result }
+    ensures answer { IsSearchAnswer graph.now element (B.last source.new) result }
     ensures bound { B.last source.new ≤ B.last source.old }
     ensures reads { B.reads source.old source.new }
-    ensures none { IfNone result (length graph.now.elements < B.last source.new → (cycle : List NameBytes) → ¬ IsCycleThrough graph.now s cycle) }
+    ensures none { IfNone result (length graph.now.elements < B.last source.new → (cycle : List NameBytes) → ¬ IsCycleThrough graph.now element cycle) }
     ensures fits { Fits scratch.new graph.now }
     ensures looked { LooksWithin graph.now scratch.new.looked result }
     ensures expanded { IfNone result (1 < B.last source.new → 0 < scratch.new.looked) }
 {
     let elements = graph.elements();
-    prove!(s < elements);
-    search_by_number(graph, s, scratch, source)
+    prove!(element < elements);
+    search_by_number(graph, element, scratch, source)
 }
 
-/// Writes at each element's number how many steps lead to it from the element s, at the least, each step from an
-/// element to one that some response shows behind it; the limit, where so few steps don't lead to it.
+/// Writes at each element's number how many steps lead to it from the element, at the least, each step from an
+/// element to one that some response shows after it; the limit, where so few steps don't lead to it.
 ///
 /// It takes no memory. It sets back a mark for each list and element, and then looks at no more places and
 /// elements, together, than there are.
-pub fn distances(graph: &OrderGraph, s: u32, limit: u32, scratch: &mut Scratch, depths: &mut [u32])
-    requires element { s < length graph.now.elements }
+pub fn distances(
+    graph: &OrderGraph,
+    element: u32,
+    limit: u32,
+    scratch: &mut Scratch,
+    depths: &mut [u32],
+)
+    requires element { element < length graph.now.elements }
     requires fits { Fits scratch.old graph.now }
     requires places { length depths.old ≡ length graph.now.elements }
-    ensures distances { AreDistances (lists_of graph.now) s limit depths.new }
+    ensures distances { AreDistances (lists_of graph.now) element limit depths.new }
     ensures fits { Fits scratch.new graph.now }
     ensures looked { LooksWithin graph.now scratch.new.looked None }
     ensures expanded { 1 < limit → 0 < scratch.new.looked }
 {
     distances_in(
         graph,
-        s,
+        element,
         limit,
         &mut scratch.state,
         &mut scratch.looked,

@@ -19,7 +19,7 @@ fn less_at(
     requires { length marked.now ≡ length graph.now.elements }
     ensures least { (y : ℕ) → Stands (lists_of graph.now) list j y → slice_index_or marked.now y false ≡ true → result ≤ y }
     ensures falls { result ≤ best }
-    ensures here { (result ≡ best) ⊎ (Stands (lists_of graph.now) list j result × (slice_index_or marked.now result false ≡ true)) }
+    ensures first { (result ≡ best) ⊎ (Stands (lists_of graph.now) list j result × (slice_index_or marked.now result false ≡ true)) }
 {
     match graph.place(list, j, looked) {
         Some(y) if marked[y as usize] && y < best => y,
@@ -39,7 +39,7 @@ fn less_behind(
     requires inside { spot.place < length (row (lists_of graph.now) spot.list) }
     ensures least { (y : ℕ) → IsAfter (lists_of graph.now) spot.list spot.place y → slice_index_or marked.now y false ≡ true → result ≤ y }
     ensures falls { result ≤ best }
-    ensures here { (result ≡ best) ⊎ (IsAfter (lists_of graph.now) spot.list spot.place result × (slice_index_or marked.now result false ≡ true)) }
+    ensures first { (result ≡ best) ⊎ (IsAfter (lists_of graph.now) spot.list spot.place result × (slice_index_or marked.now result false ≡ true)) }
 {
     let end = graph.length(spot.list);
     let mut least = best;
@@ -62,7 +62,7 @@ fn less_behind_spot(
     ensures least { (q : Spot) (y : ℕ) → slice_get (spots_of (lists_of graph.now) a) i ≡ Some q → IsAfter (lists_of graph.now) q.list q.place y
         → slice_index_or marked.now y false ≡ true → result ≤ y }
     ensures falls { result ≤ best }
-    ensures here { (result ≡ best) ⊎ (Before (lists_of graph.now) a result × (slice_index_or marked.now result false ≡ true)) }
+    ensures first { (result ≡ best) ⊎ (Before (lists_of graph.now) a result × (slice_index_or marked.now result false ≡ true)) }
 {
     match graph.spot(a, i) {
         Some(spot) => less_behind(graph, spot, marked, best, looked),
@@ -74,7 +74,7 @@ fn less_behind_spot(
 pub fn least_next(graph: &OrderGraph, a: u32, marked: &[bool], looked: &mut Looked) -> u32
     requires { length marked.now ≡ length graph.now.elements }
     ensures least { (y : ℕ) → Before (lists_of graph.now) a y → slice_index_or marked.now y false ≡ true → result ≤ y }
-    ensures here { (result ≡ length graph.now.elements) ⊎ (Before (lists_of graph.now) a result × (slice_index_or marked.now result false ≡ true)) }
+    ensures first { (result ≡ length graph.now.elements) ⊎ (Before (lists_of graph.now) a result × (slice_index_or marked.now result false ≡ true)) }
 {
     let mut least = graph.elements();
     for i in 0..graph.spots(a) {

@@ -39,32 +39,32 @@ fn first_source(graph: &OrderGraph, k: u32, scratch: &mut Scratch) -> u32
     ensures proper { AreProper graph.now }
     ensures lowest { (t : ℕ) → t < length graph.now.elements → HasCycle (lists_of graph.now) t k → result ≤ t }
 {
-    for s in 0..graph.elements() {
+    for element in 0..graph.elements() {
         let mut source = PlainBound { least: k + 1 };
-        if search_by_number(graph, s, scratch, &mut source).is_some() {
-            return s;
+        if search_by_number(graph, element, scratch, &mut source).is_some() {
+            return element;
         }
     }
     unreachable!()
 }
 
 /// The least ring from an element on.
-fn ring_from(alloc: Global, graph: &OrderGraph, s: u32, k: u32) -> Result<Vec<u32>, Memory>
-    requires known { s < length graph.now.elements }
-    requires cycle { HasCycle (lists_of graph.now) s k }
+fn ring_from(alloc: Global, graph: &OrderGraph, element: u32, k: u32) -> Result<Vec<u32>, Memory>
+    requires known { element < length graph.now.elements }
+    requires cycle { HasCycle (lists_of graph.now) element k }
     ensures count { IfOk result (λ v. length v.items ≡ k) }
-    ensures first { IfOk result (λ v. slice_index v.items 0 ≡ s) }
-    ensures chosen { IfOk result (λ v. (j : ℕ) → 0 < j → j < k → IsLeastNext (lists_of graph.now) s (k - j) (slice_index v.items (j - 1)) (slice_index v.items j)) }
+    ensures first { IfOk result (λ v. slice_index v.items 0 ≡ element) }
+    ensures chosen { IfOk result (λ v. (j : ℕ) → 0 < j → j < k → IsLeastNext (lists_of graph.now) element (k - j) (slice_index v.items (j - 1)) (slice_index v.items j)) }
 {
     let mut looked = Looked::new();
-    let all = tables(alloc, graph, s, k, &mut looked)?;
+    let all = tables(alloc, graph, element, k, &mut looked)?;
     let mut ring = Vec::new(alloc);
-    ring.push(s)?;
-    let mut a = s;
+    ring.push(element)?;
+    let mut a = element;
     for i in 1..k {
         a = next_of_ring(
             graph,
-            s,
+            element,
             k - i,
             a,
             all[(k - i) as usize].as_slice(),
@@ -87,7 +87,7 @@ pub fn least_ring(
     ensures proper { AreProper graph.now }
     ensures first { IfOk result (λ v. IsFirstRing (lists_of graph.now) k v.items) }
 {
-    let s = first_source(graph, k, scratch);
-    let ring = ring_from(alloc, graph, s, k)?;
+    let element = first_source(graph, k, scratch);
+    let ring = ring_from(alloc, graph, element, k)?;
     Ok(ring)
 }

@@ -28,22 +28,22 @@ fn note_level(queue: &[u32], head: usize, tail: usize, level: u32, depths: &mut 
 /// Searches by levels for the distance of each element, below a limit.
 pub fn distances_in(
     graph: &OrderGraph,
-    s: u32,
+    element: u32,
     limit: u32,
     state: &mut State,
     looked: &mut Looked,
     depths: &mut [u32],
 )
-    requires element { s < length graph.now.elements }
+    requires element { element < length graph.now.elements }
     requires fits { FitsState (graph_of graph.now) state.old }
     requires places { length depths.old ≡ length graph.now.elements }
-    ensures distances { AreDistances (lists_of graph.now) s limit depths.new }
+    ensures distances { AreDistances (lists_of graph.now) element limit depths.new }
     ensures fits { FitsState (graph_of graph.now) state.new }
     ensures looked { LooksWithin graph.now looked.new None }
     ensures expanded { 1 < limit → 0 < looked.new }
 {
     *looked = Looked::new();
-    start(graph, s, state);
+    start(graph, element, state);
     depths.fill(limit);
     note_level(state.queue.as_slice(), 0, state.tail, 0, depths);
     let mut head = 0;
@@ -53,7 +53,7 @@ pub fn distances_in(
             return;
         }
         let end = state.tail;
-        layer(graph, s, head, end, state, looked);
+        layer(graph, element, head, end, state, looked);
         head = end;
         level += 1;
         note_level(state.queue.as_slice(), head, state.tail, level, depths);

@@ -12,29 +12,29 @@ use order_graph::{Looked, OrderGraph};
 /// Expands one element at one of its spots.
 pub fn expand_spot(
     graph: &OrderGraph,
-    s: u32,
+    element: u32,
     x: u32,
     i: u32,
     state: &mut State,
     looked: &mut Looked,
 )
-    requires { IsGood (graph_of graph.now) s state.old }
-    ensures good { IsGood (graph_of graph.now) s state.new }
-    ensures grows { Grows (Before (lists_of graph.now) x) s state.old state.new }
+    requires { IsGood (graph_of graph.now) element state.old }
+    ensures good { IsGood (graph_of graph.now) element state.new }
+    ensures grows { Grows (Before (lists_of graph.now) x) element state.old state.new }
     ensures mark { (q : Spot) → slice_get (spots_of (lists_of graph.now) x) i ≡ Some q → slice_index state.new.marks.items q.list ≤ q.place + 1 }
     ensures works { Works state.old state.new looked.old looked.new }
     ensures cost { looked.new + sum state.new.marks.items ≤ looked.old + sum state.old.marks.items }
 {
     if let Some(spot) = graph.spot(x, i) {
-        sweep(graph, s, spot, state, looked);
+        sweep(graph, element, spot, state, looked);
     }
 }
 
 /// Expands one element: at each of its spots, reads on to the list's mark.
-pub fn expand(graph: &OrderGraph, s: u32, x: u32, state: &mut State, looked: &mut Looked)
-    requires { IsGood (graph_of graph.now) s state.old }
-    ensures good { IsGood (graph_of graph.now) s state.new }
-    ensures grows { Grows (Before (lists_of graph.now) x) s state.old state.new }
+pub fn expand(graph: &OrderGraph, element: u32, x: u32, state: &mut State, looked: &mut Looked)
+    requires { IsGood (graph_of graph.now) element state.old }
+    ensures good { IsGood (graph_of graph.now) element state.new }
+    ensures grows { Grows (Before (lists_of graph.now) x) element state.old state.new }
     ensures expanded { IsExpanded (lists_of graph.now) state.new.marks.items x }
     ensures forward { looked.old ≤ looked.new }
     ensures works { Works state.old state.new (ticked looked.old) looked.new }
@@ -42,6 +42,6 @@ pub fn expand(graph: &OrderGraph, s: u32, x: u32, state: &mut State, looked: &mu
 {
     looked.expand();
     for i in 0..graph.spots(x) {
-        expand_spot(graph, s, x, i, state, looked);
+        expand_spot(graph, element, x, i, state, looked);
     }
 }

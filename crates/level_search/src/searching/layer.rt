@@ -10,17 +10,17 @@ use order_graph::{Looked, OrderGraph};
 /// Expands a layer: the elements of the queue from `head` to `end`.
 pub fn layer(
     graph: &OrderGraph,
-    s: u32,
+    element: u32,
     head: usize,
     end: usize,
     state: &mut State,
     looked: &mut Looked,
 )
-    requires good { IsGood (graph_of graph.now) s state.old }
+    requires good { IsGood (graph_of graph.now) element state.old }
     requires some { head < end }
     requires within { end ≤ state.old.tail }
-    ensures good { IsGood (graph_of graph.now) s state.new }
-    ensures grows { Grows (FollowsLayer (lists_of graph.now) state.old.queue.items head end) s state.old state.new }
+    ensures good { IsGood (graph_of graph.now) element state.new }
+    ensures grows { Grows (FollowsLayer (lists_of graph.now) state.old.queue.items head end) element state.old state.new }
     ensures expanded { (k : ℕ) → head ≤ k → k < end → IsExpanded (lists_of graph.now) state.new.marks.items (slice_index state.new.queue.items k) }
     ensures forward { looked.old ≤ looked.new }
     ensures works { Works state.old state.new (ticked looked.old) looked.new }
@@ -28,6 +28,6 @@ pub fn layer(
 {
     for k in head..end {
         let x = state.queue[k];
-        expand(graph, s, x, state, looked);
+        expand(graph, element, x, state, looked);
     }
 }

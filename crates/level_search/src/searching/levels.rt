@@ -14,23 +14,23 @@ use order_graph::{Looked, OrderGraph};
 /// Searches by levels for the shortest cycle through an element, below the bound last read.
 pub fn search_in<B: BoundSource>(
     graph: &OrderGraph,
-    s: u32,
+    element: u32,
     state: &mut State,
     looked: &mut Looked,
     source: &mut B,
 ) -> Option<u32>
-    requires element { s < length graph.now.elements }
+    requires element { element < length graph.now.elements }
     requires fits { FitsState (graph_of graph.now) state.old }
-    ensures answer { IsSearchAnswer (lists_of graph.now) s (B.last source.new) result }
+    ensures answer { IsSearchAnswer (lists_of graph.now) element (B.last source.new) result }
     ensures bound { B.last source.new ≤ B.last source.old }
     ensures fits { FitsState (graph_of graph.now) state.new }
     ensures reads { B.reads source.old source.new }
-    ensures none { IfNone result (length graph.now.elements < B.last source.new → (n : ℕ) → ¬ HasCycle (lists_of graph.now) s n) }
+    ensures none { IfNone result (length graph.now.elements < B.last source.new → (n : ℕ) → ¬ HasCycle (lists_of graph.now) element n) }
     ensures looked { LooksWithin graph.now looked.new result }
     ensures expanded { IfNone result (1 < B.last source.new → 0 < looked.new) }
 {
     *looked = Looked::new();
-    start(graph, s, state);
+    start(graph, element, state);
     let mut head = 0;
     let mut level: u32 = 0;
     'levels: while head < state.tail {
@@ -39,7 +39,7 @@ pub fn search_in<B: BoundSource>(
             return None;
         }
         let end = state.tail;
-        layer(graph, s, head, end, state, looked);
+        layer(graph, element, head, end, state, looked);
         if state.found {
             return Some(level + 1);
         }

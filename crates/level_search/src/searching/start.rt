@@ -33,15 +33,15 @@ pub fn clear(graph: &OrderGraph, state: &mut State)
 }
 
 /// The state in which only the source is reached.
-pub fn start(graph: &OrderGraph, s: u32, state: &mut State)
+pub fn start(graph: &OrderGraph, element: u32, state: &mut State)
     requires fits { FitsState (graph_of graph.now) state.old }
-    requires known { s < length graph.now.elements }
-    ensures good { IsGood (graph_of graph.now) s state.new }
+    requires known { element < length graph.now.elements }
+    ensures good { IsGood (graph_of graph.now) element state.new }
     ensures found { state.new.found ≡ false }
-    ensures first { slice_index state.new.queue.items 0 ≡ s }
+    ensures first { slice_index state.new.queue.items 0 ≡ element }
     ensures tail { state.new.tail ≡ 1 }
     ensures marks { sum state.new.marks.items ≡ place_count graph.now }
 {
     clear(graph, state);
-    state.reach(s);
+    state.reach(element);
 }

@@ -37,18 +37,18 @@ impl State {
     }
 
     /// Takes note of an element that was read in a search from s.
-    pub fn visit(&mut self, s: u32, y: u32)
+    pub fn visit(&mut self, element: u32, y: u32)
         requires known { y < vec_len self.old.seen }
         requires queued { IsQueued self.old }
         ensures queued { IsQueued self.new }
         ensures places { vec_len self.new.seen ≡ vec_len self.old.seen }
-        ensures grows { Grows (λ z. z ≡ y) s self.old self.new }
+        ensures grows { Grows (λ z. z ≡ y) element self.old self.new }
         ensures reached { IsReached self.new.queue.items self.new.tail y }
-        ensures found { y ≡ s → self.new.found ≡ true }
+        ensures found { y ≡ element → self.new.found ≡ true }
         ensures marks { self.new.marks ≡ self.old.marks }
     {
         self.reach(y);
-        if y == s {
+        if y == element {
             self.found = true;
         }
     }

@@ -19,8 +19,8 @@ loop-i-preserved c =
         | inl same ↦ after.least q y (subst (λ n. slice_get (spots_of rows c.args.a) n ≡ Some q) same get) follows marked
         | inr other ↦ let old = before.least k q y (omega arith) get follows marked in omega arith
       ];
-      here = elim after.here [
-        | inl same ↦ subst (λ n. (n ≡ (length c.args.graph.now.elements)) ⊎ (Before rows c.args.a n × (get_or c.args.marked.now n false ≡ true))) (sym same) before.here
+      first = elim after.first [
+        | inl same ↦ subst (λ n. (n ≡ (length c.args.graph.now.elements)) ⊎ (Before rows c.args.a n × (get_or c.args.marked.now n false ≡ true))) (sym same) before.first
         | inr new ↦ inr new
       ];
     }

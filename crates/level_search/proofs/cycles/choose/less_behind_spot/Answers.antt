@@ -10,12 +10,12 @@ less_behind-requires-clause-inside c =
     spots_sound (lists_of c.args.graph.now) c.args.a c.args.i c.in-Some.spot (sym c.in-Some.ensures) in
     here.within
 
-pub returns-in-Some-clause-here : goal.returns-in-Some-clause-here
-returns-in-Some-clause-here c =
+pub returns-in-Some-clause-first : goal.returns-in-Some-clause-first
+returns-in-Some-clause-first c =
     let spot = c.in-Some.spot in
     let here : Stands (lists_of c.args.graph.now) spot.list spot.place c.args.a =
     spots_sound (lists_of c.args.graph.now) c.args.a c.args.i spot (sym c.in-Some.ensures) in
-    elim c.less_behind.ensures.here [
+    elim c.less_behind.ensures.first [
       | inl same ↦ inl same
       | inr less ↦
           let after : IsAfter (lists_of c.args.graph.now) spot.list spot.place c.less_behind.result = less.0 in

@@ -12,7 +12,7 @@ use Rattle.level_search.proofs.cycles.ring.ring_from.Goals as goal
 pub loop-i-init : goal.loop-i-init
 loop-i-init c =
     let k : ℕ = c.args.k in
-    let s : ℕ = c.args.s in
+    let s : ℕ = c.args.element in
     let rows = (lists_of c.args.graph.now) in
     let pushed : c.push.new.self.items ≡ s ∷ [] = grind (arith, common_steps, c.in_ok-push.ensures.items, c.new-ring.ensures.items) in
     let some : 1 ≤ k = c.requires.cycle.0 in
@@ -33,14 +33,14 @@ next_of_ring-a-requires-clause-table c =
     let count = c.in_ok-all.ensures.count in
     let is : get_or (map bits_of c.in_ok-all.all.items) n [] ≡ c.as_slice.result.now =
     table_at c.in_ok-all.all.items n c.index.result.now (omega arith) c.index.ensures ∙ sym c.as_slice.ensures.value in
-    subst (λ (t : List Bool). IsTableOf (graph_of c.args.graph.now) c.args.s n t) is (c.in_ok-all.ensures.tables n below)
+    subst (λ (t : List Bool). IsTableOf (graph_of c.args.graph.now) c.args.element n t) is (c.in_ok-all.ensures.tables n below)
 
 pub loop-i-preserved : goal.loop-i-preserved
 loop-i-preserved c =
     let before = c.loop-i.invariant in
     let rows = (lists_of c.args.graph.now) in
     let k : ℕ = c.args.k in
-    let s : ℕ = c.args.s in
+    let s : ℕ = c.args.element in
     let i : ℕ = c.loop-i.i in
     let a : ℕ = c.loop-i.a in
     let b : ℕ = c.next_of_ring-a.result in

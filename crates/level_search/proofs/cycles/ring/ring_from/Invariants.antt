@@ -6,8 +6,8 @@ use Rattle.level_search.proofs.cycles.ring.ring_from.Given as goal
 abbrev pub invariant-loop-i : goal.invariant-loop-i
 invariant-loop-i l = record {
   count : length l.ring.items ≡ l.i;
-  first : slice_index l.ring.items 0 ≡ l.s;
+  first : slice_index l.ring.items 0 ≡ l.element;
   last : slice_index l.ring.items (l.i - 1) ≡ l.a;
-  on : Reaches (lists_of l.graph) l.s (l.k - l.i + 1) l.a;
-  chosen : (j : ℕ) → 0 < j → j < l.i → IsLeastNext (lists_of l.graph) l.s (l.k - j) (slice_index l.ring.items (j - 1)) (slice_index l.ring.items j);
+  on : Reaches (lists_of l.graph) l.element (l.k - l.i + 1) l.a;
+  chosen : (j : ℕ) → 0 < j → j < l.i → IsLeastNext (lists_of l.graph) l.element (l.k - j) (slice_index l.ring.items (j - 1)) (slice_index l.ring.items j);
 }

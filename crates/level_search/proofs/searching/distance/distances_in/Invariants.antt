@@ -7,8 +7,8 @@ use Rattle.level_search.proofs.searching.distance.distances_in.Given as goal
 
 abbrev pub invariant-levels : goal.invariant-levels
 invariant-levels l = record {
-  levelled : IsLevelled (graph_of l.graph) l.s l.state l.head l.level;
-  noted : IsNoted (graph_of l.graph) l.s l.limit l.level l.state l.depths;
+  levelled : IsLevelled (graph_of l.graph) l.element l.state l.head l.level;
+  noted : IsNoted (graph_of l.graph) l.element l.limit l.level l.state l.depths;
   fits : l.level + 1 < 2 ^ 32;
   cost : l.looked + sum l.state.marks.items ≤ place_count l.graph + l.head;
   begun : l.level ≡ 0 → l.head < l.state.tail;

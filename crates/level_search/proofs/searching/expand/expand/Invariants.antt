@@ -8,8 +8,8 @@ use Rattle.level_search.proofs.searching.expand.expand.Given as goal
 
 abbrev pub invariant-loop-i : goal.invariant-loop-i
 invariant-loop-i l = record {
-  good : IsGood (graph_of l.graph) l.s l.state;
-  grows : Grows (Before (lists_of l.graph) l.x) l.s l.fn.state l.state;
+  good : IsGood (graph_of l.graph) l.element l.state;
+  grows : Grows (Before (lists_of l.graph) l.x) l.element l.fn.state l.state;
   mark : (k : ℕ) (q : Spot) → k < l.i → slice_get (spots_of (lists_of l.graph) l.x) k ≡ Some q → slice_index l.state.marks.items q.list ≤ q.place + 1;
   forward : l.fn.looked ≤ l.looked;
   works : Works l.fn.state l.state (ticked l.fn.looked) l.looked;

@@ -17,6 +17,6 @@ returns-in-Some-clause-grows c =
     let rows = (lists_of c.args.graph.now) in
     let spot = c.in-Some.spot in
     let here : Stands rows spot.list spot.place c.args.x = spots_sound rows c.args.x c.args.i spot (sym c.in-Some.ensures) in
-    grows_weaker (IsAfter rows spot.list spot.place) (Before rows c.args.x) c.args.s c.args.state.now c.sweep.new.state
+    grows_weaker (IsAfter rows spot.list spot.place) (Before rows c.args.x) c.args.element c.args.state.now c.sweep.new.state
     (λ z after. record { list = spot.list; place = spot.place; later = after.later; in_order = after.in_order; first = here; second = after.stands })
     c.sweep.ensures.grows

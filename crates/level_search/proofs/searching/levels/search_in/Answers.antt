@@ -6,7 +6,7 @@ use Rattle.level_search.proofs.searching.levels.search_in.Goals as goal
 -- the bound is not above the least length that is left
 pub returns-then-bound-level-clause-answer : goal.returns-then-bound-level-clause-answer
 returns-then-bound-level-clause-answer g c = λ n cycle.
-    let long = cycle_long (graph_of c.args.graph.now) c.args.s c.levels.head c.levels.level c.levels.state c.levels.invariant.layered n cycle in
+    let long = cycle_long (graph_of c.args.graph.now) c.args.element c.levels.head c.levels.level c.levels.state c.levels.invariant.layered n cycle in
     let last = c.best-bound.ensures.answer in
     omega (arith, last)
 
@@ -15,8 +15,8 @@ returns-then-state-clause-answer g c =
     let layered = c.levels.invariant.layered in
     let last = c.best-bound.ensures.answer in (
       record {
-        cycle = cycle_found (graph_of c.args.graph.now) c.args.s c.levels.head c.levels.level c.levels.state c.layer.new.state layered c.layer.ensures.grows c.if-state.true;
-        shortest = λ n cycle. cycle_long (graph_of c.args.graph.now) c.args.s c.levels.head c.levels.level c.levels.state layered n cycle;
+        cycle = cycle_found (graph_of c.args.graph.now) c.args.element c.levels.head c.levels.level c.levels.state c.layer.new.state layered c.layer.ensures.grows c.if-state.true;
+        shortest = λ n cycle. cycle_long (graph_of c.args.graph.now) c.args.element c.levels.head c.levels.level c.levels.state layered n cycle;
       },
       omega (arith, last),
     )
@@ -28,7 +28,7 @@ levels-preserved g c =
     let last = c.best-bound.ensures.answer in
     let falls = c.best-bound.ensures.falls in
     record {
-      layered = layered_next (graph_of c.args.graph.now) c.args.s c.levels.head c.levels.level c.levels.state c.layer.new.state before.layered c.levels-test.true
+      layered = layered_next (graph_of c.args.graph.now) c.args.element c.levels.head c.levels.level c.levels.state c.layer.new.state before.layered c.levels-test.true
           after.good after.grows after.expanded c.if-state.false;
       fits = omega (arith, last);
       bound = omega (arith, last, falls, before.bound);
@@ -41,8 +41,8 @@ levels-preserved g c =
 
 pub returns-clause-answer : goal.returns-clause-answer
 returns-clause-answer g c = λ n cycle.
-    absurd (no_cycle (graph_of c.args.graph.now) c.args.s c.levels.head c.levels.level c.levels.state c.levels.invariant.layered c.levels-test.false n cycle)
+    absurd (no_cycle (graph_of c.args.graph.now) c.args.element c.levels.head c.levels.level c.levels.state c.levels.invariant.layered c.levels-test.false n cycle)
 
 pub returns-clause-none : goal.returns-clause-none
 returns-clause-none g c = λ few n cycle.
-    no_cycle (graph_of c.args.graph.now) c.args.s c.levels.head c.levels.level c.levels.state c.levels.invariant.layered c.levels-test.false n cycle
+    no_cycle (graph_of c.args.graph.now) c.args.element c.levels.head c.levels.level c.levels.state c.levels.invariant.layered c.levels-test.false n cycle

@@ -6,7 +6,7 @@ use Rattle.level_search.proofs.searching.levels.search_in.Given as goal
 
 abbrev pub invariant-levels : goal.invariant-levels
 invariant-levels g l = record {
-  layered : IsLayered (graph_of l.graph) l.s l.state l.head l.level;
+  layered : IsLayered (graph_of l.graph) l.element l.state l.head l.level;
   fits : l.level + 1 < 2 ^ 32;
   bound : g.B.BoundSource.last l.source ≤ g.B.BoundSource.last l.fn.source;
   reads : g.B.BoundSource.reads l.fn.source l.source;

@@ -17,19 +17,19 @@ loop-j-preserved c =
     let b = c.loop-j.state in
     let d = c.read_one.new.state in
     let behind : place < j = omega arith in
-    let step : Grows (IsAfter rows list place) c.args.s b d =
-    grows_weaker (Stands rows list j) (IsAfter rows list place) c.args.s b d
+    let step : Grows (IsAfter rows list place) c.args.element b d =
+    grows_weaker (Stands rows list j) (IsAfter rows list place) c.args.element b d
     (λ x stands. record { later = j; in_order = behind; stands = stands }) after.grows in
     record {
       good = after.good;
-      grows = grows_both (IsAfter rows list place) c.args.s a b d before.grows step;
+      grows = grows_both (IsAfter rows list place) c.args.element a b d before.grows step;
       reached = λ k x low high stands. elim (cases_eq k j) [
         | inl same ↦ after.reached x (subst (λ i. Stands rows list i x) same stands)
-        | inr other ↦ still_reached (IsAfter rows list place) c.args.s x b d step (before.reached k x low (omega arith) stands)
+        | inr other ↦ still_reached (IsAfter rows list place) c.args.element x b d step (before.reached k x low (omega arith) stands)
       ];
       missed = λ e k low high stands. elim (cases_eq k j) [
-        | inl same ↦ after.missed e (subst (λ i. Stands rows list i c.args.s) same stands)
-        | inr other ↦ before.missed (still_unfound (IsAfter rows list place) c.args.s b d step e) k low (omega arith) stands
+        | inl same ↦ after.missed e (subst (λ i. Stands rows list i c.args.element) same stands)
+        | inr other ↦ before.missed (still_unfound (IsAfter rows list place) c.args.element b d step e) k low (omega arith) stands
       ];
       marks = after.marks ∙ before.marks;
       works = works_both a b d c.args.looked.now c.loop-j.looked c.read_one.new.looked before.works after.works;
