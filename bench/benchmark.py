@@ -1,11 +1,16 @@
 #!/usr/bin/env python3
 """benchmark.py PROGRAM [RUNS [SIZE..]]: seconds, MB/s and peak memory of the whole program, and how its time grows.
+benchmark.py PROGRAM --beside OTHER [RUNS] TRACE..: the verdict's processor time and peak memory beside another program's.
 
 The traces are those of traces.py: XL is near the limits. Sizes are M, L and XL, and runs ten, unless told otherwise. Of
 refused recordings the certificate is made and checked too, once; at XL, where that takes minutes, only where XL alone is
 asked for. The wide ring, where the search takes the most of the time, is judged with 1, 2 and 4 workers. It is no timed
 test: what counts as passed is that each trace has the verdict that it is made for, and that the checker says yes. What is
-required of time and memory stands beside the measures at XL, for a quiet machine with four processors."""
+required of time and memory stands beside the measures at XL, for a quiet machine with four processors.
+
+Beside another program, an older one say, both judge the same traces in turn, five times each unless told otherwise, with one
+worker and with four: user and system seconds, the least of all runs, and as a share of the other's. The reports must be the
+same."""
 import math
 import os
 import subprocess
@@ -106,6 +111,55 @@ def growth(grown: list) -> str:
     return "time grows with the text to the power " + ", then ".join(f"{power:.2f}" for power in powers)
 
 
+class Used(NamedTuple):
+    """What a run took, or of some runs the least time and the largest peak."""
+
+    processor: float  # user and system seconds
+    seconds: float
+    peak: int
+
+
+def used_once(program: str, path: str, workers: int) -> tuple:
+    """One verdict: what it took, and the report."""
+    with tempfile.TemporaryFile() as out:
+        start = time.monotonic()
+        child = subprocess.Popen([program, "verdict", "--workers", str(workers), path], stdout=out)
+        _, child.returncode, used = os.wait4(child.pid, 0)
+        seconds = time.monotonic() - start
+        out.seek(0)
+        return Used(used.ru_utime + used.ru_stime, seconds, used.ru_maxrss * 1024), out.read()
+
+
+def least(runs: list) -> Used:
+    return Used(min(run.processor for run in runs), min(run.seconds for run in runs), max(run.peak for run in runs))
+
+
+def beside(tally: Tally, program: str, other: str, times: int, paths: list) -> None:
+    """Two programs on the same traces, in turn."""
+    print(f"{'trace':20} {'workers':>7} {'other s':>8} {'s':>8} {'share':>6} {'other wall':>10} {'wall':>8} {'other MB':>8} {'MB':>8}")
+    for path in paths:
+        for workers in 1, 4:
+            runs, reports = {other: [], program: []}, set()
+            for _ in range(times):
+                for each, of_these in runs.items():
+                    used, report = used_once(each, path, workers)
+                    of_these.append(used)
+                    reports.add(report)
+            old, new = least(runs[other]), least(runs[program])
+            print(f"{Path(path).stem:20} {workers:7} {old.processor:8.3f} {new.processor:8.3f} {new.processor / old.processor:6.2f} {old.seconds:10.3f}"
+                  f" {new.seconds:8.3f} {old.peak / 1e6:8.1f} {new.peak / 1e6:8.1f}", flush=True)
+            tally.check(f"{path}, {workers} workers: the same report", len(reports) == 1)
+
+
+def words_beside() -> tuple:
+    """The other program, how many runs, and the traces."""
+    words = sys.argv[3:]
+    times = int(words.pop(1)) if len(words) > 1 and words[1].isdigit() else 5
+    if len(words) < 2 or times == 0:
+        sys.exit("usage: benchmark.py PROGRAM --beside OTHER [RUNS] TRACE..")
+    return program_of(["benchmark.py", words[0]]), times, words[1:]
+
+
 def words_of() -> tuple:
     """The script's words behind the program: how many runs, and the sizes."""
     words = sys.argv[2:]
@@ -117,8 +171,11 @@ def words_of() -> tuple:
 
 def main() -> None:
     program = program_of(sys.argv[:2])
-    times, sizes = words_of()
     tally = Tally()
+    if sys.argv[2:3] == ["--beside"]:
+        beside(tally, program, *words_beside())
+        tally.close()
+    times, sizes = words_of()
     print(f"{'trace':16} {'verdict':>11} {'bytes':>10} {'seconds':>8} {'MB/s':>7} {'peak MB':>8} {'peak/text':>9}")
     with tempfile.TemporaryDirectory() as folder:
         path = os.path.join(folder, "trace")

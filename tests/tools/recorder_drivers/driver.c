@@ -1,5 +1,5 @@
-/* Makes the calls that stand on standard input, in fields between tabs, of the C recorder: see tests/recorders.py. */
-#include "../../recorders/domepeeler.h"
+/* Makes the calls that stand on standard input, in fields between tabs, of the C recorder: see tests/tools/recorders.py. */
+#include "../../../recorders/domepeeler.h"
 
 enum { MOST_WORDS = 5000 };
 

@@ -1,6 +1,6 @@
-;;; Makes the calls that stand on standard input, in fields between tabs: see tests/recorders.py.  -*- lexical-binding: t -*-
+;;; Makes the calls that stand on standard input, in fields between tabs: see tests/tools/recorders.py.  -*- lexical-binding: t -*-
 
-(load (expand-file-name "../../recorders/domepeeler.el" (file-name-directory load-file-name)) nil t)
+(load (expand-file-name "../../../recorders/domepeeler.el" (file-name-directory load-file-name)) nil t)
 
 (defvar driver-untyped
   (list

@@ -1,4 +1,4 @@
-// Makes the calls that stand on standard input, in fields between tabs, of the JavaScript recorder: see tests/recorders.py.
+// Makes the calls that stand on standard input, in fields between tabs, of the JavaScript recorder: see tests/tools/recorders.py.
 import { readFileSync } from "node:fs"
 import { Full, Recording, Refused } from "../../../recorders/domepeeler.mjs"
 

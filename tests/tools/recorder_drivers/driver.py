@@ -1,4 +1,4 @@
-"""Makes the calls that stand on standard input, in fields between tabs, of the Python recorder: see tests/recorders.py."""
+"""Makes the calls that stand on standard input, in fields between tabs, of the Python recorder: see tests/tools/recorders.py."""
 import json
 import sys
 from pathlib import Path

@@ -1,5 +1,5 @@
-//! Makes the calls that stand on standard input, in fields between tabs, of the Rust recorder: see tests/recorders.py.
-#[path = "../../recorders/domepeeler.rs"]
+//! Makes the calls that stand on standard input, in fields between tabs, of the Rust recorder: see tests/tools/recorders.py.
+#[path = "../../../recorders/domepeeler.rs"]
 mod domepeeler;
 
 use domepeeler::{Recording, Refused};
