@@ -25,6 +25,7 @@ ROOT = Path(__file__).resolve().parents[2]
 CRATES = ("events", "specification")
 SPECS = "crates/specification/specs"
 EVENTS = "crates/events/specs"
+LIMITS = "crates/events/src/lib.rt"
 
 
 @dataclass(frozen=True)
@@ -52,6 +53,22 @@ def change(function: str, name: str, file: str, old: str, new: str, *proofs: str
 
 
 CHANGES = (
+    change(
+        "laws::limits_are_the_numbers",
+        "a replica fewer",
+        LIMITS,
+        "pub const MOST_REPLICAS: u32 = 16;",
+        "pub const MOST_REPLICAS: u32 = 15;",
+        "laws/limits_are_the_numbers/Answers",
+    ),
+    change(
+        "laws::limits_are_the_numbers",
+        "an entry fewer",
+        LIMITS,
+        "pub const MOST_ENTRIES: u32 = 4096;",
+        "pub const MOST_ENTRIES: u32 = 4095;",
+        "laws/limits_are_the_numbers/Answers",
+    ),
     change(
         "laws::sound_responses_are_proper",
         "the elements of all replicas together are as few as those of one",

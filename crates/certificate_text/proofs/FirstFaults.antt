@@ -4,13 +4,14 @@ use Rattle.std.proofs.lemmas.List.{append_assoc, append-nil}
 use Rattle.specification.specs.Lines.{Line, text_of, IsOneLine}
 use Rattle.specification.specs.CertificateText as format
 use Rattle.specification.specs.CertificateText.{BeginsCertificate, HasWrongLine, LacksCertificateLine, IsCertificateCut, IsFirstCertFault, cause_behind}
-use Rattle.format_words.specs.Reading.{Fails}
+use Rattle.format_words.specs.Reading.{Fails, GivesOne}
 use Rattle.format_words.specs.declared.stop.Stop.{Stop}
 use Rattle.format_words.specs.declared.stop.Stop.TheVariants as stop
 use Rattle.certificate_text.specs.declared.fault.CertCause.{CertCause}
+use Rattle.certificate_text.specs.declared.fault.CertCause.TheVariants as cause
 use Rattle.certificate_text.specs.CertificateOf.{cause_of, cause_of_stop}
 use Rattle.certificate_text.specs.Progress.{IsWrongBehind, LacksMore}
-use Rattle.certificate_text.specs.Place.{HasEndedLine, IsBehindRightLines}
+use Rattle.certificate_text.specs.Place.{IsBehindRightLines, TakesMemory, TakesMemoryAt}
 
 never-cut : (lines : List Line) → format.cut ≡ cause_behind lines → ⊥
 never-cut [] e = cc
@@ -65,8 +66,8 @@ pub behind-right : (text : List ℕ) (number : ℕ) (lines : List Line) (rest : 
 behind-right text number lines rest whole is begins = record { good = lines; begins = begins; rest = rest; text_is = whole; number = is }
 
 pub ended-line : (text : List ℕ) (number : ℕ) (lines : List Line) (line rest behind : List ℕ) →
-    text ≡ text_of lines ++ rest → rest ≡ line ++ 10 ∷ behind → IsOneLine line → number ≡ length lines + 1 → BeginsCertificate lines → HasEndedLine text number
-ended-line text number lines line rest behind whole cut one is begins = record {
+    text ≡ text_of lines ++ rest → rest ≡ line ++ 10 ∷ behind → IsOneLine line → number ≡ length lines + 1 → BeginsCertificate lines → TakesMemory lines line → TakesMemoryAt text number
+ended-line text number lines line rest behind whole cut one is begins takes = record {
   good = lines;
   begins = begins;
   next = line;
@@ -74,9 +75,15 @@ ended-line text number lines line rest behind whole cut one is begins = record {
   more = behind;
   text_is = whole ∙ ap (λ l. text_of lines ++ l) cut ∙ sym (append_assoc (text_of lines) line (10 ∷ behind));
   number = is;
+  takes = takes;
 }
 
 -- a line whose reading stopped has the cause of one that says no such thing, or there was no memory
-pub stop-fault : {Y : Type 0} (unsaid : CertCause) (s : Stop) (read : Option Y) (P : format.CertCause → Type 0) → Fails s read → (read ≡ None → IfSome (cause_of unsaid) P) → IfSome (cause_of (cause_of_stop unsaid s)) P
-stop-fault unsaid stop.Shape read P none wrong = wrong none
-stop-fault unsaid stop.Memory read P none wrong = tt
+pub stop-fault : {Y : Type 0} (takes : Y → Type 0) (unsaid : CertCause) (s : Stop) (read : Option Y) (P : format.CertCause → Type 0) → Fails takes s read → (read ≡ None → IfSome (cause_of unsaid) P) → IfSome (cause_of (cause_of_stop unsaid s)) P
+stop-fault takes unsaid stop.Shape read P none wrong = wrong none
+stop-fault takes unsaid stop.Memory read P none wrong = tt
+
+-- where a line's reading stopped out of memory, there was something that takes memory
+pub stop-takes : {Y : Type 0} (takes : Y → Type 0) (unsaid : CertCause) (s : Stop) (read : Option Y) → (unsaid ≡ cause.Memory → ⊥) → Fails takes s read → cause_of_stop unsaid s ≡ cause.Memory → GivesOne takes read
+stop-takes takes unsaid stop.Shape read other none is = absurd (other is)
+stop-takes takes unsaid stop.Memory read other some is = some

@@ -13,3 +13,5 @@ pub mod Rising
 pub mod ExactLayers
 pub mod Nameable
 pub mod VerdictCertificates
+pub mod TakingLines
+pub mod RowForms

@@ -1,5 +1,5 @@
--- Where a fault stands, whatever its cause.
-use Rattle.std.specs.Prelude.{◌≡◌, ℕ, ◌+◌, List, ◌∷◌, ◌++◌, length}
+-- Where a fault stands, whatever its cause, and which lines take memory.
+use Rattle.std.specs.Prelude.{◌≡◌, ◌≢◌, ℕ, ◌+◌, ◌≤◌, codes, List, [], ◌∷◌, ◌++◌, length}
 use Rattle.specification.specs.Lines.{Line, text_of, IsOneLine}
 use Rattle.specification.specs.CertificateText.{BeginsCertificate}
 
@@ -11,8 +11,13 @@ pub record IsBehindRightLines (text : List ℕ) (line : ℕ) : Type 0 where
   pub text_is : text ≡ text_of good ++ rest
   pub number : line ≡ length good + 1
 
--- behind such lines, the line of this number is there, with its LF
-pub record HasEndedLine (text : List ℕ) (line : ℕ) : Type 0 where
+-- behind these right lines, reading this line takes memory: it is the third or a later one, some certificate's spelling
+-- goes on with it, and it is not that of an order without names
+abbrev pub TakesMemory : List Line → Line → Type 0
+TakesMemory lines line = (2 ≤ length lines) × BeginsCertificate (lines ++ line ∷ []) × (line ≢ codes "order :")
+
+-- the line of this number is there, with its LF, behind right lines, and reading it takes memory
+pub record TakesMemoryAt (text : List ℕ) (line : ℕ) : Type 0 where
   pub good : List Line
   pub begins : BeginsCertificate good
   pub next : Line
@@ -20,3 +25,4 @@ pub record HasEndedLine (text : List ℕ) (line : ℕ) : Type 0 where
   pub more : List ℕ
   pub text_is : text ≡ text_of good ++ next ++ 10 ∷ more
   pub number : line ≡ length good + 1
+  pub takes : TakesMemory good next

@@ -1,5 +1,5 @@
 -- What the words of a certificate's lines say. Nothing, where they say nothing of the kind.
-use Rattle.std.specs.Prelude.{ℕ, ◌+◌, nat_le, Bool, slice_index_or, if◌then◌else◌, Option, Some, None, option_map, List, [], ◌∷◌, ◌++◌, ◌==◌, ◌&&◌, length, codes, bytes_eq}
+use Rattle.std.specs.Prelude.{◌≡◌, ℕ, ◌+◌, nat_le, Bool, slice_index_or, if◌then◌else◌, Option, Some, None, option_map, List, [], ◌∷◌, ◌++◌, ◌==◌, ◌&&◌, length, codes, bytes_eq}
 use Rattle.events.specs.Names.{NameBytes}
 use Rattle.specification.specs.Conflict.{Step}
 use Rattle.specification.specs.LayerRule.{Row}
@@ -87,6 +87,24 @@ onto_layers done more = option_map (λ (layers : Row). done ++ layers) more
 -- k - 1 layers, the first with one name
 abbrev pub has_form : ℕ → Row → Bool
 has_form k row = (length (slice_index_or row 0 []) == 1) && (length row + 1 == k)
+
+-- how many names the first layer has, and how many layers there are
+abbrev pub form_of : Row → ℕ × ℕ
+form_of row = (length (slice_index_or row 0 []), length row)
+
+-- that of k - 1 layers, the first with one name
+abbrev pub is_form : ℕ → ℕ × ℕ → Bool
+is_form k form = (form.0 == 1) && (form.1 + 1 == k)
+
+-- the form of layers that are read, and of one of which more may come, which isn't counted yet
+abbrev pub HasForm : Row → List NameBytes → ℕ × ℕ → Type 0
+HasForm row layer form = (length (slice_index_or (row ++ layer ∷ []) 0 []) ≡ form.0) × (length row ≡ form.1)
+
+-- this word leads to layers of this form
+abbrev pub GoesOn : Row → List NameBytes → Word → ℕ × ℕ → Type 0
+GoesOn row layer w form =
+    (next : Row) × (begun : List NameBytes) × HasForm next begun form
+    × ((ws : List Word) → onto_layers row (layers_at layer (w ∷ ws)) ≡ onto_layers next (layers_at begun ws))
 
 -- `layers` and k - 1 layers
 unfoldable pub row_at : ℕ → List Word → Option Row

@@ -3,6 +3,7 @@
 ghost use Rattle.std.specs.Prelude.{◌≡◌, ◌≢◌, ◌∷◌, [], ◌++◌, ◌<◌, ◌≤◌, ◌^◌, length, IfOk, IfErr, IfSome};
 ghost use Rattle.specification.specs.CertificateText.{IsSpellable, certificate_lines};
 ghost use Rattle.certificate_text.specs.CertificateOf.{certificate_of, cause_of};
+ghost use Rattle.certificate_text.specs.Place.{TakesMemory};
 ghost use Rattle.certificate_text.specs.Progress.{IsRightCycle, IsWrongBehind, LacksMore, cycle_lines};
 
 use super::certificate::Certificate;
@@ -36,6 +37,7 @@ impl Cycle {
         requires { IsRightCycle self }
         ensures ok { IfOk result (λ c. IsRightCycle c × (cycle_lines c ≡ cycle_lines self ++ line.now ∷ [])) }
         ensures fault { IfErr result (λ cause. IfSome (cause_of cause) (IsWrongBehind (cycle_lines self) line.now)) }
+        ensures memory { IfErr result (λ cause. cause ≡ CertCause.Memory → TakesMemory (cycle_lines self) line.now) }
     {
         if self.steps.len() < self.k as usize {
             self.with_step(line)
@@ -52,13 +54,14 @@ impl Cycle {
         requires more { length self.steps.items < self.k }
         ensures ok { IfOk result (λ c. IsRightCycle c × (cycle_lines c ≡ cycle_lines self ++ line.now ∷ [])) }
         ensures fault { IfErr result (λ cause. IfSome (cause_of cause) (IsWrongBehind (cycle_lines self) line.now)) }
+        ensures memory { IfErr result (λ cause. cause ≡ CertCause.Memory → TakesMemory (cycle_lines self) line.now) }
     {
         match step_of(line) {
             Ok(step) => match self.steps.push(step) {
                 Ok(()) => Ok(self),
                 Err(_) => Err(CertCause::Memory),
             },
-            Err(stop) => Err(cause_of_stop(CertCause::Shape, stop)),
+            Err(_) => Err(CertCause::Shape),
         }
     }
 
@@ -69,6 +72,7 @@ impl Cycle {
         requires long { 3 ≤ self.k }
         ensures ok { IfOk result (λ c. IsRightCycle c × (cycle_lines c ≡ cycle_lines self ++ line.now ∷ [])) }
         ensures fault { IfErr result (λ cause. IfSome (cause_of cause) (IsWrongBehind (cycle_lines self) line.now)) }
+        ensures memory { IfErr result (λ cause. cause ≡ CertCause.Memory → TakesMemory (cycle_lines self) line.now) }
     {
         match row_of(alloc, self.k, line) {
             Ok(row) => match self.rows.push(row) {

@@ -1,19 +1,22 @@
 //! The lines behind the second: an order, steps and rows.
 
-ghost use Rattle.std.specs.Prelude.{◌≡◌, ◌∷◌, [], List, None, IfOk, IfErr};
+ghost use Rattle.std.specs.Prelude.{◌≡◌, ◌+◌, ◌<◌, ◌≤◌, ◌^◌, ◌∷◌, [], List, Some, None, IfOk, IfErr};
+ghost use Rattle.events.specs.Names.{NameBytes};
 ghost use Rattle.format_words.specs.Words.{Word, words_of, words_behind};
-ghost use Rattle.format_words.specs.Reading.{Gives};
-ghost use Rattle.certificate_text.specs.Reading.{order_at, step_at, layers_at, onto_layers, has_form, row_at};
+ghost use Rattle.format_words.specs.Reading.{Fails, Gives, Grows, HasSome, Says};
+ghost use Rattle.certificate_text.specs.Reading.{order_at, step_at, layers_at, onto_layers, has_form, row_at, form_of, is_form, HasForm, GoesOn};
 
 use events::Name;
-use format_words::{Stop, end, first_word, name_of, names, next_word, operation_of, skip_word};
+use format_words::{
+    Shape, Stop, end, first_word, name_of, names, next_word, operation_of, skip_word,
+};
 use std::alloc::Global;
 use witnesses::{Layer, Order, Row, Step};
 
 /// `order :` and names.
 #[tactic(auto, unfolding(crate::specs::Reading::order_at, format_words::specs::Reading::after_word))]
 pub fn order_of(alloc: Global, line: &[u8]) -> Result<Order, Stop>
-    ensures { Gives (λ order. order) result (order_at (words_of line.now)) }
+    ensures { Gives HasSome (λ order. order) result (order_at (words_of line.now)) }
 {
     let (word, rest) = first_word(line);
     if word != b"order".as_slice() {
@@ -26,12 +29,12 @@ pub fn order_of(alloc: Global, line: &[u8]) -> Result<Order, Stop>
 
 /// `step`, two names and an operation.
 #[tactic(auto, unfolding(crate::specs::Reading::step_at, format_words::specs::Reading::after_word, format_words::specs::Reading::name_at, format_words::specs::Reading::operation_at))]
-pub fn step_of(line: &[u8]) -> Result<Step, Stop>
-    ensures { Gives (λ step. step) result (step_at (words_of line.now)) }
+pub fn step_of(line: &[u8]) -> Result<Step, Shape>
+    ensures { Says (λ step. step) result (step_at (words_of line.now)) }
 {
     let (word, rest) = first_word(line);
     if word != b"step".as_slice() {
-        return Err(Stop::Shape);
+        return Err(Shape);
     }
     let (word, rest) = next_word(rest)?;
     let from = name_of(word)?;
@@ -65,7 +68,7 @@ fn with_word(
 
 /// The layers that a row's words say, with `/` between two of them.
 fn layers(alloc: Global, rest: &[u8]) -> Result<Vec<Layer>, Stop>
-    ensures { Gives (λ row. row.items) result (layers_at [] (words_behind rest.now)) }
+    ensures { Grows (λ row. row.items) result (layers_at [] (words_behind rest.now)) }
 {
     let mut row = Vec::new(alloc);
     let mut layer = Vec::new(alloc);
@@ -89,10 +92,83 @@ fn has_form(k: u32, layers: &[Layer]) -> bool
     }
 }
 
+/// Counts one word: `/` ends a layer, and a name is one of the first layer where none has ended yet.
+fn count_word(form: (usize, usize), word: &[u8]) -> Result<(usize, usize), Shape>
+    requires { form.0 + form.1 + 1 < 2 ^ 64 }
+    ensures more { IfOk result (λ next. next.0 + next.1 ≤ form.0 + form.1 + 1) }
+    ensures ok { IfOk result (λ next. (row : List (List NameBytes)) (layer : List NameBytes) → HasForm row layer form → GoesOn row layer word.now next) }
+    ensures shape { IfErr result (λ _. (layer : List NameBytes) (ws : List Word) → layers_at layer (word.now ∷ ws) ≡ None) }
+{
+    if word == b"/".as_slice() {
+        return Ok((form.0, form.1 + 1));
+    }
+    name_of(word)?;
+    if form.1 == 0 {
+        Ok((form.0 + 1, 0))
+    } else {
+        Ok(form)
+    }
+}
+
+/// How many names the first layer has that a row's words say, and how many layers there are. It takes no memory.
+fn form_of(rest: &[u8]) -> Result<(usize, usize), Shape>
+    ensures ok { IfOk result (λ form. (row : List (List NameBytes)) × (layers_at [] (words_behind rest.now) ≡ Some row) × (form_of row ≡ form)) }
+    ensures small { IfOk result (λ form. form.1 + 1 < 2 ^ 64) }
+    ensures shape { IfErr result (λ _. layers_at [] (words_behind rest.now) ≡ None) }
+{
+    let mut form = (0usize, 0usize);
+    let mut rest = rest;
+    while !rest.is_empty() {
+        let (word, behind) = next_word(rest)?;
+        form = count_word(form, word)?;
+        rest = behind;
+    }
+    Ok((form.0, form.1 + 1))
+}
+
+/// Whether this is the form of `k - 1` layers, the first of them with one name.
+fn is_form(k: u32, form: (usize, usize)) -> bool
+    requires { form.1 + 1 < 2 ^ 64 }
+    ensures { result ≡ is_form k form }
+{
+    form.0 == 1 && form.1 as u64 + 1 == u64::from(k)
+}
+
+/// Why a row's reading stopped which found no memory: the line is no row, or memory ran out.
+fn stop_of(k: u32, line: &[u8]) -> Stop
+    ensures { Fails (λ row. Unit {0}) result (row_at k (words_of line.now)) }
+{
+    let (word, rest) = first_word(line);
+    let is_row = word == b"layers".as_slice();
+    if !is_row {
+        return Stop::Shape;
+    }
+    let Ok(form) = form_of(rest) else {
+        return Stop::Shape;
+    };
+    if is_form(k, form) {
+        Stop::Memory
+    } else {
+        Stop::Shape
+    }
+}
+
 /// `layers` and `k - 1` layers, the first of them with one name.
-#[tactic(auto, unfolding(crate::specs::Reading::row_at, format_words::specs::Reading::after_word))]
+///
+/// Out of memory is answered only where the line is such a row.
 pub fn row_of(alloc: Global, k: u32, line: &[u8]) -> Result<Row, Stop>
-    ensures { Gives (λ row. row) result (row_at k (words_of line.now)) }
+    ensures { Gives (λ row. Unit {0}) (λ row. row) result (row_at k (words_of line.now)) }
+{
+    match grown_row(alloc, k, line) {
+        Err(Stop::Memory) => Err(stop_of(k, line)),
+        answer => answer,
+    }
+}
+
+/// The row, or the first stop.
+#[tactic(auto, unfolding(crate::specs::Reading::row_at, format_words::specs::Reading::after_word))]
+fn grown_row(alloc: Global, k: u32, line: &[u8]) -> Result<Row, Stop>
+    ensures { Grows (λ row. row) result (row_at k (words_of line.now)) }
 {
     let (word, rest) = first_word(line);
     if word != b"layers".as_slice() {

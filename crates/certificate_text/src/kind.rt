@@ -1,11 +1,11 @@
 //! The second line of a certificate's text.
 
 ghost use Rattle.format_words.specs.Words.{words_of, words_behind};
-ghost use Rattle.format_words.specs.Reading.{Gives};
+ghost use Rattle.format_words.specs.Reading.{Says};
 ghost use Rattle.certificate_text.specs.Reading.{doubled_at, contents_at, position_at, accepted_at, refused_at, kind_by, kind_at};
 
 use events::OpName;
-use format_words::{Stop, end, first_word, next_number, next_word, operation_of};
+use format_words::{Shape, end, first_word, next_number, next_word, operation_of};
 
 /// What the second line says.
 #[derive(Clone, Copy)]
@@ -24,8 +24,8 @@ pub enum Kind {
 
 /// What follows `doubled`.
 #[tactic(auto, unfolding(crate::specs::Reading::doubled_at, format_words::specs::Reading::operation_at))]
-fn doubled(rest: &[u8]) -> Result<Kind, Stop>
-    ensures { Gives (λ kind. kind) result (doubled_at (words_behind rest.now)) }
+fn doubled(rest: &[u8]) -> Result<Kind, Shape>
+    ensures { Says (λ kind. kind) result (doubled_at (words_behind rest.now)) }
 {
     let (word, rest) = next_word(rest)?;
     let first = operation_of(word)?;
@@ -37,8 +37,8 @@ fn doubled(rest: &[u8]) -> Result<Kind, Stop>
 
 /// What follows `contents`.
 #[tactic(auto, unfolding(crate::specs::Reading::contents_at, format_words::specs::Reading::operation_at))]
-fn contents(rest: &[u8]) -> Result<Kind, Stop>
-    ensures { Gives (λ kind. kind) result (contents_at (words_behind rest.now)) }
+fn contents(rest: &[u8]) -> Result<Kind, Shape>
+    ensures { Says (λ kind. kind) result (contents_at (words_behind rest.now)) }
 {
     let (word, rest) = next_word(rest)?;
     let at = operation_of(word)?;
@@ -48,8 +48,8 @@ fn contents(rest: &[u8]) -> Result<Kind, Stop>
 
 /// What follows `position`.
 #[tactic(auto, unfolding(crate::specs::Reading::position_at, format_words::specs::Reading::operation_at))]
-fn position(rest: &[u8]) -> Result<Kind, Stop>
-    ensures { Gives (λ kind. kind) result (position_at (words_behind rest.now)) }
+fn position(rest: &[u8]) -> Result<Kind, Shape>
+    ensures { Says (λ kind. kind) result (position_at (words_behind rest.now)) }
 {
     let (word, rest) = next_word(rest)?;
     let at = operation_of(word)?;
@@ -59,8 +59,8 @@ fn position(rest: &[u8]) -> Result<Kind, Stop>
 
 /// What follows `accepted`.
 #[tactic(auto, unfolding(crate::specs::Reading::accepted_at))]
-fn accepted(rest: &[u8]) -> Result<Kind, Stop>
-    ensures { Gives (λ kind. kind) result (accepted_at (words_behind rest.now)) }
+fn accepted(rest: &[u8]) -> Result<Kind, Shape>
+    ensures { Says (λ kind. kind) result (accepted_at (words_behind rest.now)) }
 {
     end(rest)?;
     Ok(Kind::Accepted)
@@ -68,22 +68,22 @@ fn accepted(rest: &[u8]) -> Result<Kind, Stop>
 
 /// What follows `refused`.
 #[tactic(auto, unfolding(crate::specs::Reading::refused_at))]
-fn refused(rest: &[u8]) -> Result<Kind, Stop>
-    ensures { Gives (λ kind. kind) result (refused_at (words_behind rest.now)) }
+fn refused(rest: &[u8]) -> Result<Kind, Shape>
+    ensures { Says (λ kind. kind) result (refused_at (words_behind rest.now)) }
 {
     let (k, rest) = next_number(rest)?;
     end(rest)?;
     if k >= 2 {
         Ok(Kind::Refused { k })
     } else {
-        Err(Stop::Shape)
+        Err(Shape)
     }
 }
 
 /// What the second line says.
 #[tactic(auto, unfolding(crate::specs::Reading::kind_at, crate::specs::Reading::kind_by))]
-pub fn kind_of(line: &[u8]) -> Result<Kind, Stop>
-    ensures { Gives (λ kind. kind) result (kind_at (words_of line.now)) }
+pub fn kind_of(line: &[u8]) -> Result<Kind, Shape>
+    ensures { Says (λ kind. kind) result (kind_at (words_of line.now)) }
 {
     let (word, rest) = first_word(line);
     if word == b"doubled".as_slice() {
@@ -101,5 +101,5 @@ pub fn kind_of(line: &[u8]) -> Result<Kind, Stop>
     if word == b"refused".as_slice() {
         return refused(rest);
     }
-    Err(Stop::Shape)
+    Err(Shape)
 }

@@ -3,6 +3,7 @@
 ghost use Rattle.std.specs.Prelude.{◌≡◌, ◌≢◌, ◌∷◌, [], ◌++◌, IfOk, IfErr, IfSome};
 ghost use Rattle.specification.specs.CertificateText.{IsSpellable, certificate_lines};
 ghost use Rattle.certificate_text.specs.CertificateOf.{certificate_of, cause_of};
+ghost use Rattle.certificate_text.specs.Place.{TakesMemory};
 ghost use Rattle.certificate_text.specs.Progress.{IsKind, IsRight, IsWrongBehind, LacksMore, good, kind_line};
 ghost use Rattle.std.specs.Prelude.{codes};
 
@@ -33,10 +34,11 @@ pub enum Progress {
 fn second(line: &[u8]) -> Result<Progress, CertCause>
     ensures ok { IfOk result (λ p. IsRight p × (good p ≡ codes "cert 1" ∷ line.now ∷ [])) }
     ensures fault { IfErr result (λ cause. IfSome (cause_of cause) (IsWrongBehind (codes "cert 1" ∷ []) line.now)) }
+    ensures memory { IfErr result (λ cause. cause ≢ CertCause.Memory) }
 {
     match kind_of(line) {
         Ok(kind) => Ok(Progress::Kind(kind)),
-        Err(stop) => Err(cause_of_stop(CertCause::Kind, stop)),
+        Err(_) => Err(CertCause::Kind),
     }
 }
 
@@ -44,6 +46,7 @@ fn second(line: &[u8]) -> Result<Progress, CertCause>
 fn ordered(alloc: Global, line: &[u8]) -> Result<Progress, CertCause>
     ensures ok { IfOk result (λ p. IsRight p × (good p ≡ codes "cert 1" ∷ codes "accepted" ∷ line.now ∷ [])) }
     ensures fault { IfErr result (λ cause. IfSome (cause_of cause) (IsWrongBehind (codes "cert 1" ∷ codes "accepted" ∷ []) line.now)) }
+    ensures memory { IfErr result (λ cause. cause ≡ CertCause.Memory → TakesMemory (codes "cert 1" ∷ codes "accepted" ∷ []) line.now) }
 {
     match order_of(alloc, line) {
         Ok(order) => Ok(Progress::Ordered(order)),
@@ -56,6 +59,7 @@ fn third(alloc: Global, kind: Kind, line: &[u8]) -> Result<Progress, CertCause>
     requires { IsKind kind }
     ensures ok { IfOk result (λ p. IsRight p × (good p ≡ codes "cert 1" ∷ kind_line kind ∷ line.now ∷ [])) }
     ensures fault { IfErr result (λ cause. IfSome (cause_of cause) (IsWrongBehind (codes "cert 1" ∷ kind_line kind ∷ []) line.now)) }
+    ensures memory { IfErr result (λ cause. cause ≡ CertCause.Memory → TakesMemory (codes "cert 1" ∷ kind_line kind ∷ []) line.now) }
 {
     match kind {
         Kind::Accepted => ordered(alloc, line),
@@ -91,6 +95,7 @@ impl Progress {
         requires { IsRight self }
         ensures ok { IfOk result (λ p. IsRight p × (good p ≡ good self ++ line.now ∷ [])) }
         ensures fault { IfErr result (λ cause. IfSome (cause_of cause) (IsWrongBehind (good self) line.now)) }
+        ensures memory { IfErr result (λ cause. cause ≡ CertCause.Memory → TakesMemory (good self) line.now) }
     {
         match self {
             Progress::Start => {

@@ -1,22 +1,15 @@
 -- Names, one word after another.
-use Rattle.std.proofs.Common.{◌≡◌, ℕ, ◌<◌, List, [], ◌∷◌, ◌++◌, length, refl, sym, ap, ◌∙◌, Option, Some, None, option_map, option_and_then}
+use Rattle.std.proofs.Common.{◌≡◌, ℕ, ◌<◌, ◌≤◌, arith, List, [], ◌∷◌, ◌++◌, length, refl, sym, ap, ◌∙◌, Option, Some, None, option_map, option_and_then}
 use Rattle.std.proofs.lemmas.List.{append-nil, append_assoc}
 use Rattle.std.proofs.lemmas.Option.{some_pair_parts}
 use Rattle.events.specs.Names.{NameBytes}
 use Rattle.format_words.specs.Words.{Word, words_behind}
-use Rattle.format_words.specs.Reading.{Fails, word_at, no_more, name_of, names_at}
-use Rattle.format_words.specs.declared.stop.Stop.{Stop}
-use Rattle.format_words.specs.declared.stop.Stop.TheVariants.{Shape, Memory}
-use Rattle.format_words.proofs.FirstWord.{some-word}
+use Rattle.format_words.specs.Reading.{◌>>=◌, GivesOne, HasSome, word_at, no_more, name_of, names_at}
+use Rattle.format_words.proofs.FirstWord.{some-word, none-behind}
 
 -- the names so far, and those that words say
 abbrev pub onto : List NameBytes → Option (List NameBytes) → Option (List NameBytes)
 onto front names = option_map (λ (more : List NameBytes). front ++ more) names
-
--- where one reading says nothing, another says nothing
-pub fails-by : {Y Z : Type 0} → (e : Stop) (o : Option Y) (p : Option Z) → (o ≡ None → p ≡ None) → Fails e o → Fails e p
-fails-by Shape o p f h = f h
-fails-by Memory o p f h = tt
 
 pub word-at-some : (ws : List Word) (w : Word) (more : List Word) → word_at ws ≡ Some (w, more) → ws ≡ w ∷ more
 word-at-some [] w more e = absurd (cc)
@@ -61,3 +54,22 @@ pub names-stop : (front : List NameBytes) (ws all : List Word) (w : Word) (more 
     names_at all ≡ onto front (names_at ws) → word_at ws ≡ Some (w, more) → name_of w ≡ None → names_at all ≡ None
 names-stop front ws all w more h e n =
     h ∙ ap (λ (l : List Word). onto front (names_at l)) (word-at-some ws w more e) ∙ ap (onto front) (names-cons-none w more n)
+
+-- a rest without a byte has no names
+pub no-names : (rest : List ℕ) (names : List NameBytes) → length rest ≡ 0 → names ≡ [] → names_at (words_behind rest) ≡ Some names
+unfolding names_at
+no-names rest names none is = ap names_at (none-behind rest none) ∙ ap Some (sym is)
+
+cons-some : (o : Option NameBytes) (p : Option (List NameBytes)) → GivesOne (λ names. Unit {0}) (o >>= λ name. p >>= λ names. Some (name ∷ names)) → GivesOne HasSome (o >>= λ name. p >>= λ names. Some (name ∷ names))
+cons-some None p h = h
+cons-some (Some name) None h = h
+cons-some (Some name) (Some names) h = omega arith
+
+words-some : (ws : List Word) → no_more ws ≡ None → GivesOne (λ names. Unit {0}) (names_at ws) → GivesOne HasSome (names_at ws)
+unfolding names_at
+words-some [] e h = absurd (cc)
+words-some (w ∷ ws) e h = cons-some (name_of w) (names_at ws) h
+
+-- another rest that is all names has some
+pub some-names : (rest : List ℕ) → 0 < length rest → GivesOne (λ names. Unit {0}) (names_at (words_behind rest)) → GivesOne HasSome (names_at (words_behind rest))
+some-names rest some h = words-some (words_behind rest) (some-word rest some) h

@@ -1,5 +1,5 @@
 -- What words say: a number, a name, the name of an operation. Nothing, where they say none.
-use Rattle.std.specs.Prelude.{◌≡◌, ℕ, ◌+◌, ◌^◌, ◌==◌, ◌&&◌, nat_lt, nat_le, take, drop, position, if◌then◌else◌, Option, Some, None, option_and_then, Result, Ok, Err, List, [], ◌∷◌, decimal, bytes_eq}
+use Rattle.std.specs.Prelude.{◌≡◌, ℕ, ◌+◌, ◌≤◌, ◌^◌, ◌==◌, ◌&&◌, nat_lt, nat_le, take, drop, position, if◌then◌else◌, Option, Some, None, option_and_then, Result, Ok, Err, List, [], ◌∷◌, length, decimal, bytes_eq}
 use Rattle.std.specs.Str.Parse.{digits_value}
 use Rattle.events.specs.Names.{NameBytes}
 use Rattle.events.specs.Operation.{Operation}
@@ -8,19 +8,40 @@ use Rattle.events.specs.declared.name.NameFault.{NameFault}
 use Rattle.format_words.specs.Words.{Word}
 use Rattle.format_words.specs.declared.stop.Stop.{Stop}
 use Rattle.format_words.specs.declared.stop.Stop.TheVariants.{Shape, Memory}
+use Rattle.format_words.specs.declared.stop.Shape as unsaid
 
 infixl 10 ◌>>=◌
 abbrev pub ◌>>=◌ : {A B : Type 0} → Option A → (A → Option B) → Option B
 o >>= f = option_and_then f o
 
--- a reader gives, seen by view, what reading gives, unless it finds no memory
-abbrev pub Fails : {Y : Type 0} → Stop → Option Y → Type 0
-Fails Shape read = read ≡ None
-Fails Memory read = Unit {0}
+-- a reader that takes no memory gives, seen by view, what reading gives
+abbrev pub Says : {X Y : Type 0} → (X → Y) → Result X unsaid.Shape → Option Y → Type 0
+Says view (Ok x) read = read ≡ Some (view x)
+Says view (Err e) read = read ≡ None
 
-abbrev pub Gives : {X Y : Type 0} → (X → Y) → Result X Stop → Option Y → Type 0
-Gives view (Ok x) read = read ≡ Some (view x)
-Gives view (Err e) read = Fails e read
+-- reading gives something, and this holds of it
+abbrev pub GivesOne : {Y : Type 0} → (Y → Type 0) → Option Y → Type 0
+GivesOne holds None = ⊥
+GivesOne holds (Some y) = holds y
+
+-- it stopped since there is nothing to be read; or out of memory, where there is something that takes memory
+abbrev pub Fails : {Y : Type 0} → (Y → Type 0) → Stop → Option Y → Type 0
+Fails takes Shape read = read ≡ None
+Fails takes Memory read = GivesOne takes read
+
+-- a reader gives, seen by view, what reading gives, unless that takes memory and none is left
+abbrev pub Gives : {X Y : Type 0} → (Y → Type 0) → (X → Y) → Result X Stop → Option Y → Type 0
+Gives takes view (Ok x) read = read ≡ Some (view x)
+Gives takes view (Err e) read = Fails takes e read
+
+-- the same, wherever memory runs out
+abbrev pub Grows : {X Y : Type 0} → (X → Y) → Result X Stop → Option Y → Type 0
+Grows view (Ok x) read = read ≡ Some (view x)
+Grows view (Err e) read = e ≡ Shape → read ≡ None
+
+-- there are some
+abbrev pub HasSome : {Y : Type 0} → List Y → Type 0
+HasSome ys = 1 ≤ length ys
 
 -- the number below 2 ^ 32 whose decimal text the word is
 unfoldable pub number_of : Word → Option ℕ

@@ -2,9 +2,9 @@
 
 ghost use Rattle.std.specs.Prelude.{◌≡◌};
 ghost use Rattle.format_words.specs.Words.{words_behind};
-ghost use Rattle.format_words.specs.Reading.{Gives, number_of, number_at, name_of, operation_of, after_word, no_more};
+ghost use Rattle.format_words.specs.Reading.{Says, number_of, number_at, name_of, operation_of, after_word, no_more};
 
-use crate::stop::Stop;
+use crate::stop::Shape;
 use crate::words::{next_word, place_of};
 use events::{Name, OpName};
 use std::str;
@@ -24,24 +24,24 @@ pub fn number_of(word: &[u8]) -> Option<u32>
 
 /// The next word as a number, and the rest behind it.
 #[tactic(auto, unfolding(crate::specs::Reading::number_at))]
-pub fn next_number(rest: &[u8]) -> Result<(u32, &[u8]), Stop>
-    ensures { Gives (λ x. (x.0, words_behind x.1.now)) result (number_at (words_behind rest.now)) }
+pub fn next_number(rest: &[u8]) -> Result<(u32, &[u8]), Shape>
+    ensures { Says (λ x. (x.0, words_behind x.1.now)) result (number_at (words_behind rest.now)) }
 {
     let (word, rest) = next_word(rest)?;
     match number_of(word) {
         Some(n) => Ok((n, rest)),
-        None => Err(Stop::Shape),
+        None => Err(Shape),
     }
 }
 
 /// The word as a name.
 #[tactic(auto, unfolding(crate::specs::Reading::name_of))]
-pub fn name_of(word: &[u8]) -> Result<Name, Stop>
-    ensures { Gives (λ name. name) result (name_of word.now) }
+pub fn name_of(word: &[u8]) -> Result<Name, Shape>
+    ensures { Says (λ name. name) result (name_of word.now) }
 {
     match Name::new(word) {
         Ok(name) => Ok(name),
-        Err(_) => Err(Stop::Shape),
+        Err(_) => Err(Shape),
     }
 }
 
@@ -57,35 +57,27 @@ fn operation_named(word: &[u8]) -> Option<OpName>
 }
 
 /// The word as the name of an operation: `r.n`, counted from 1.
-pub fn operation_of(word: &[u8]) -> Result<OpName, Stop>
-    ensures { Gives (λ operation. operation) result (operation_of word.now) }
+pub fn operation_of(word: &[u8]) -> Result<OpName, Shape>
+    ensures { Says (λ operation. operation) result (operation_of word.now) }
 {
     match operation_named(word) {
         Some(operation) => Ok(operation),
-        None => Err(Stop::Shape),
+        None => Err(Shape),
     }
 }
 
 /// The rest behind a word that must be there.
 #[tactic(auto, unfolding(crate::specs::Reading::after_word))]
-pub fn skip_word<'a>(rest: &'a [u8], wanted: &[u8]) -> Result<&'a [u8], Stop>
-    ensures { Gives (λ x. words_behind x.now) result (after_word wanted.now (words_behind rest.now)) }
+pub fn skip_word<'a>(rest: &'a [u8], wanted: &[u8]) -> Result<&'a [u8], Shape>
+    ensures { Says (λ x. words_behind x.now) result (after_word wanted.now (words_behind rest.now)) }
 {
     let (word, rest) = next_word(rest)?;
-    if word == wanted {
-        Ok(rest)
-    } else {
-        Err(Stop::Shape)
-    }
+    if word == wanted { Ok(rest) } else { Err(Shape) }
 }
 
 /// Nothing but the end of the line.
-pub fn end(rest: &[u8]) -> Result<(), Stop>
-    ensures { Gives (λ x. tt) result (no_more (words_behind rest.now)) }
+pub fn end(rest: &[u8]) -> Result<(), Shape>
+    ensures { Says (λ x. tt) result (no_more (words_behind rest.now)) }
 {
-    if rest.is_empty() {
-        Ok(())
-    } else {
-        Err(Stop::Shape)
-    }
+    if rest.is_empty() { Ok(()) } else { Err(Shape) }
 }

@@ -1,6 +1,10 @@
 use events::Memory;
 use std::alloc::{AllocError, AllocFailed};
 
+/// The line says no such thing. What takes no memory stops for nothing else.
+#[derive(Clone, Copy, Debug, PartialEq, Eq)]
+pub struct Shape;
+
 /// Why a line's reading stopped.
 #[derive(Clone, Copy, Debug, PartialEq, Eq)]
 pub enum Stop {
@@ -8,6 +12,17 @@ pub enum Stop {
     Shape,
     /// A growth was refused.
     Memory,
+}
+
+impl From<Shape> for Stop {
+    ghost use Rattle.std.specs.Prelude.{◌≡◌};
+    ghost use Rattle.format_words.specs.declared.stop.Stop.{Stop};
+
+    ghost from_gives = { λ _ stop. stop ≡ Stop.Shape };
+
+    fn from(_unsaid: Shape) -> Stop {
+        Stop::Shape
+    }
 }
 
 impl From<AllocError> for Stop {

@@ -2,9 +2,9 @@
 
 ghost use Rattle.std.specs.Prelude.{◌≡◌, ◌∷◌, ◌==◌, ◌<◌, ◌≤◌, length, position, IfOk};
 ghost use Rattle.format_words.specs.Words.{words_of, words_behind};
-ghost use Rattle.format_words.specs.Reading.{Gives, word_at};
+ghost use Rattle.format_words.specs.Reading.{Says, word_at};
 
-use crate::stop::Stop;
+use crate::stop::Shape;
 
 /// Where the byte stands first.
 pub fn place_of(text: &[u8], wanted: u8) -> Option<usize>
@@ -23,12 +23,12 @@ pub fn first_word(text: &[u8]) -> (&[u8], &[u8])
 }
 
 /// The next word of a rest that begins with the space before it, and the rest behind that word.
-pub fn next_word(rest: &[u8]) -> Result<(&[u8], &[u8]), Stop>
-    ensures word { Gives (λ x. (x.0.now, words_behind x.1.now)) result (word_at (words_behind rest.now)) }
+pub fn next_word(rest: &[u8]) -> Result<(&[u8], &[u8]), Shape>
+    ensures word { Says (λ x. (x.0.now, words_behind x.1.now)) result (word_at (words_behind rest.now)) }
     ensures shorter { IfOk result (λ x. length x.1.now < length rest.now) }
 {
     match rest.split_first() {
         Some((_, text)) => Ok(first_word(text)),
-        None => Err(Stop::Shape),
+        None => Err(Shape),
     }
 }

@@ -4,7 +4,7 @@ use Rattle.std.proofs.lemmas.List.{append_assoc}
 use Rattle.specification.specs.Lines.{Line, text_of, IsOneLine}
 use Rattle.specification.specs.TraceText as format
 use Rattle.specification.specs.TraceText.{IsFaultyLine, IsMissingLine, BeginsSpelling, HasWholeFault, IsCutAt, LacksLine, IsFirstLineFault}
-use Rattle.trace_text.specs.Place.{HasEndedLine}
+use Rattle.trace_text.specs.Place.{TakesMemory, TakesMemoryAt}
 
 never-cut : (lines : List Line) (line : Line) → IsFaultyLine lines line format.cut → ⊥
 never-cut [] line h = h
@@ -39,8 +39,8 @@ line-fault text number lines line rest behind None whole cut one_line is begins 
 line-fault text number lines line rest behind (Some cause) whole cut one_line is begins faulty = whole-fault text number lines line rest behind cause whole cut one_line is begins faulty
 
 pub ended-line : (text : List ℕ) (number : ℕ) (lines : List Line) (line rest behind : List ℕ) →
-    text ≡ text_of lines ++ rest → rest ≡ line ++ 10 ∷ behind → IsOneLine line → number ≡ length lines + 1 → BeginsSpelling lines → HasEndedLine text number
-ended-line text number lines line rest behind whole cut one_line is begins = record {
+    text ≡ text_of lines ++ rest → rest ≡ line ++ 10 ∷ behind → IsOneLine line → number ≡ length lines + 1 → BeginsSpelling lines → TakesMemory lines line → TakesMemoryAt text number
+ended-line text number lines line rest behind whole cut one_line is begins takes = record {
   good = lines;
   begins = begins;
   next = line;
@@ -48,4 +48,5 @@ ended-line text number lines line rest behind whole cut one_line is begins = rec
   more = behind;
   text_is = whole ∙ ap (λ l. text_of lines ++ l) cut ∙ sym (append_assoc (text_of lines) line (10 ∷ behind));
   number = is;
+  takes = takes;
 }

@@ -4,7 +4,7 @@ use Rattle.std.proofs.lemmas.List.{append-nil, map_push}
 use Rattle.std.proofs.lemmas.List.Elements.{All-nil}
 use Rattle.events.specs.History.{History, IsLegal, IsWellFormed, with_entry, response_of}
 use Rattle.events.specs.Session.{first_refusal}
-use Rattle.events.specs.declared.TheConstants.{MOST_REPLICAS}
+use Rattle.events.specs.declared.TheConstants.{MOST_REPLICAS, MOST_NAMES}
 use Rattle.events.specs.declared.recording.Entry.{Entry}
 use Rattle.events.specs.declared.recording.Body.{Body}
 use Rattle.events.specs.declared.refusal.Refusal.{Refusal}
@@ -40,7 +40,7 @@ empty-legal n low high = record {
   few_replicas = high;
   replica_known = All-nil (λ (e : Entry). e.replica < n);
   well_formed = All-nil (λ (e : Entry). IsWellFormed e.body);
-  limits = λ r. record { entries = omega arith; inserts = omega arith; names = All-nil (λ (b : Body). length (response_of b) ≤ 4096); places = omega arith };
+  limits = λ r. record { entries = omega arith; inserts = omega arith; names = All-nil (λ (b : Body). length (response_of b) ≤ MOST_NAMES); places = omega arith };
   receipts = λ earlier later e h. absurd (no-split earlier later e h);
 }
 

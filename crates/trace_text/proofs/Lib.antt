@@ -2,6 +2,7 @@ pub mod LineWords
 pub mod Spelled
 pub mod SecondLine
 pub mod FaultyLines
+pub mod TakingLines
 pub mod Faults
 pub mod Written
 pub mod TextLines

@@ -1,14 +1,13 @@
 -- The second line: `replicas` and a number.
-use Rattle.std.proofs.Common.{◌≡◌, ◌≢◌, ℕ, ◌<◌, ◌≤◌, ◌^◌, List, [], ◌∷◌, refl, sym, ap, ◌∙◌, arith, decimal, codes, Some, None, ◌⊎◌, inl, inr}
+use Rattle.std.proofs.Common.{◌≡◌, ◌≢◌, ℕ, zero, suc, ◌<◌, ◌≤◌, ◌^◌, List, [], ◌∷◌, refl, sym, ap, ◌∙◌, arith, decimal, codes, Some, None, ◌⊎◌, inl, inr}
 use Rattle.std.proofs.lemmas.Option.{same_Some, none-some}
+use Rattle.std.proofs.lemmas.Bool.{cases_order}
 use Rattle.std.proofs.lemmas.List.Splits.{join_with_byte-slice_split}
 use Rattle.std.specs.List.{join_with_byte}
 use Rattle.specification.specs.TraceText.{replicas_line}
 use Rattle.format_words.specs.Words.{Word, words_of}
 use Rattle.events.specs.declared.TheConstants.{MOST_REPLICAS}
-use Rattle.format_words.specs.declared.stop.Stop.{Stop}
-use Rattle.format_words.specs.declared.stop.Stop.TheVariants.{Shape, Memory}
-use Rattle.format_words.specs.Reading.{◌>>=◌, Fails, number_at, no_more, after_word}
+use Rattle.format_words.specs.Reading.{◌>>=◌, number_at, no_more, after_word}
 use Rattle.trace_text.specs.Reading.{replicas_at}
 use Rattle.format_words.proofs.LineWords.{number-lacks, last-word}
 use Rattle.format_words.proofs.WordsBack.{bind-some, number-at-is, after-word-is, no-more-is, number-again, word-again}
@@ -45,12 +44,28 @@ replicas-same line m n e small is = same_Some m n (sym e ∙ replicas-line-again
 pub replicas-none : (line : List ℕ) (n : ℕ) → replicas_at (words_of line) ≡ None → n < 2 ^ 32 → line ≢ replicas_line n
 replicas-none line n e small is = absurd (none-some n (sym e ∙ replicas-line-again line n small is))
 
--- a line of which reading stops has no such number
-pub no-second-line : (line : List ℕ) (e : Stop) → Fails e (replicas_at (words_of line)) → e ≡ Shape → (n : ℕ) → 1 ≤ n → n ≤ MOST_REPLICAS → line ≢ replicas_line n
-no-second-line line Shape h is n low high line_is = replicas-none line n h (omega arith) line_is
-no-second-line line Memory h is n low high line_is = absurd (cc)
+-- a line of which none is read has no such number
+pub no-second-line : (line : List ℕ) → replicas_at (words_of line) ≡ None → (n : ℕ) → 1 ≤ n → n ≤ MOST_REPLICAS → line ≢ replicas_line n
+no-second-line line none n low high line_is = replicas-none line n none (omega arith) line_is
 
 -- nor has one whose number is out of range
 pub bad-number : (line : List ℕ) (m : ℕ) → replicas_at (words_of line) ≡ Some m → (m ≡ 0) ⊎ (MOST_REPLICAS < m) → (n : ℕ) → 1 ≤ n → n ≤ MOST_REPLICAS → line ≢ replicas_line n
 bad-number line m e (inl zero_is) n low high line_is = let same : m ≡ n = replicas-same line m n e (omega arith) line_is in absurd (omega arith)
 bad-number line m e (inr above) n low high line_is = let same : m ≡ n = replicas-same line m n e (omega arith) line_is in absurd (omega arith)
+
+-- a number that is not out of range
+some-number : (m : ℕ) → (m ≡ 0 → ⊥) → 1 ≤ m
+some-number zero h = absurd (h refl)
+some-number (suc m) h = omega arith
+
+few-number : (m : ℕ) → (MOST_REPLICAS < m → ⊥) → m ≤ MOST_REPLICAS
+few-number m h = go (cases_order m MOST_REPLICAS)
+  where
+    go : (m ≡ MOST_REPLICAS) ⊎ ((m < MOST_REPLICAS) ⊎ (MOST_REPLICAS < m)) → m ≤ MOST_REPLICAS
+    go (inl e) = omega arith
+    go (inr (inl lt)) = omega arith
+    go (inr (inr gt)) = absurd (h gt)
+
+-- a line of which a number is read that is not out of range begins a recording
+pub good-number : (line : List ℕ) (m : ℕ) → replicas_at (words_of line) ≡ Some m → (m ≡ 0 → ⊥) → (MOST_REPLICAS < m → ⊥) → (n : ℕ) × (1 ≤ n) × (n ≤ MOST_REPLICAS) × (line ≡ replicas_line n)
+good-number line m e some few = (m, some-number m some, few-number m few, replicas-spells line m e)

@@ -1,7 +1,12 @@
--- Where a fault stands, whatever its cause.
-use Rattle.std.specs.Prelude.{◌≡◌, ℕ, ◌+◌, List, ◌∷◌, ◌++◌, length}
+-- Where a fault stands, whatever its cause, and which lines take memory.
+use Rattle.std.specs.Prelude.{◌≡◌, ℕ, ◌+◌, ◌≤◌, ◌⊎◌, None, List, [], ◌∷◌, ◌++◌, length}
+use Rattle.events.specs.History.{History, IsLegal}
+use Rattle.events.specs.Session.{first_refusal}
+use Rattle.events.specs.declared.TheConstants.{MOST_REPLICAS}
+use Rattle.events.specs.declared.recording.Entry.{Entry}
 use Rattle.specification.specs.Lines.{Line, text_of, IsOneLine}
-use Rattle.specification.specs.TraceText.{BeginsSpelling}
+use Rattle.specification.specs.TraceText.{BeginsSpelling, IsEntry, entry_line, replicas_line, trace_lines}
+use Rattle.trace_text.specs.Reading.{HasEntryNames}
 
 -- the lines before the one of this number are the first ones of some recording's spelling
 pub record IsBehindRightLines (text : List ℕ) (line : ℕ) : Type 0 where
@@ -11,8 +16,17 @@ pub record IsBehindRightLines (text : List ℕ) (line : ℕ) : Type 0 where
   pub text_is : text ≡ text_of good ++ rest
   pub number : line ≡ length good + 1
 
--- behind such lines, the line of this number is there, with its LF
-pub record HasEndedLine (text : List ℕ) (line : ℕ) : Type 0 where
+-- behind these right lines, reading this line takes memory: it begins a recording, or it is an entry that has names in
+-- its response, or one that is recorded
+abbrev pub TakesMemory : List Line → Line → Type 0
+TakesMemory [] line = ⊥
+TakesMemory (first ∷ []) line = (n : ℕ) × (1 ≤ n) × (n ≤ MOST_REPLICAS) × (line ≡ replicas_line n)
+TakesMemory (first ∷ second ∷ entries) line =
+    (h : History) × IsLegal h × (trace_lines h ≡ first ∷ second ∷ entries)
+    × (e : Entry) × IsEntry e × (line ≡ entry_line e) × (HasEntryNames e ⊎ (first_refusal h.replicas h.entries e ≡ None))
+
+-- the line of this number is there, with its LF, behind right lines, and reading it takes memory
+pub record TakesMemoryAt (text : List ℕ) (line : ℕ) : Type 0 where
   pub good : List Line
   pub begins : BeginsSpelling good
   pub next : Line
@@ -20,3 +34,4 @@ pub record HasEndedLine (text : List ℕ) (line : ℕ) : Type 0 where
   pub more : List ℕ
   pub text_is : text ≡ text_of good ++ next ++ 10 ∷ more
   pub number : line ≡ length good + 1
+  pub takes : TakesMemory good next

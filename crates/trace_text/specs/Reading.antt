@@ -1,11 +1,19 @@
 -- What words say: a number, a name, a response, an entry. Nothing, where they say none.
 use Rattle.std.specs.Prelude.{ℕ, nat_le, if◌then◌else◌, Option, Some, None, List, [], ◌∷◌, codes, bytes_eq}
 use Rattle.events.specs.Names.{NameBytes}
+use Rattle.events.specs.History.{response_of}
 use Rattle.events.specs.declared.recording.Entry.{Entry}
 use Rattle.events.specs.declared.recording.Body.{Body}
 use Rattle.events.specs.declared.recording.Body.TheVariants.{Ins, Del, Read, Recv}
 use Rattle.format_words.specs.Words.{Word}
-use Rattle.format_words.specs.Reading.{◌>>=◌, number_of, name_of, word_at, number_at, after_word, no_more, names_at}
+use Rattle.format_words.specs.Reading.{◌>>=◌, HasSome, number_of, name_of, word_at, number_at, after_word, no_more, names_at}
+
+-- the response has names, so that it takes memory
+abbrev pub HasNames : Body → Type 0
+HasNames body = HasSome (response_of body)
+
+abbrev pub HasEntryNames : Entry → Type 0
+HasEntryNames e = HasNames e.body
 
 -- `:` and names
 unfoldable pub response_at : List Word → Option (List NameBytes)

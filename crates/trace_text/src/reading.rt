@@ -4,14 +4,15 @@ ghost use Rattle.std.specs.Prelude.{◌≡◌, ◌≢◌, ◌+◌, ◌≤◌, �
 ghost use Rattle.events.specs.History.{IsLegal};
 ghost use Rattle.specification.specs.TraceText.{HEADER, replicas_line, trace_lines, IsFaultyLine, IsMissingLine, BeginsSpelling};
 ghost use Rattle.format_words.specs.Words.{words_of};
-ghost use Rattle.format_words.specs.Reading.{Gives};
+ghost use Rattle.format_words.specs.Reading.{Says};
 ghost use Rattle.trace_text.specs.Reading.{replicas_at};
 ghost use Rattle.trace_text.specs.Causes.{cause_of};
+ghost use Rattle.trace_text.specs.Place.{TakesMemory};
 
 use crate::cause::{Cause, LineFault};
 use crate::entry::entry_of;
 use events::{MOST_REPLICAS, NewFault, Recording, Refusal};
-use format_words::{Stop, end, first_word, next_number};
+use format_words::{Shape, Stop, end, first_word, next_number};
 use std::alloc::Global;
 
 /// What the right lines so far say.
@@ -35,12 +36,12 @@ fn number_behind(recording: &Recording) -> u32
 
 /// The number of `replicas R`.
 #[tactic(auto, unfolding(crate::specs::Reading::replicas_at, format_words::specs::Reading::after_word))]
-fn replicas_of(line: &[u8]) -> Result<u32, Stop>
-    ensures { Gives (λ n. n) result (replicas_at (words_of line.now)) }
+fn replicas_of(line: &[u8]) -> Result<u32, Shape>
+    ensures { Says (λ n. n) result (replicas_at (words_of line.now)) }
 {
     let (word, rest) = first_word(line);
     if word != b"replicas".as_slice() {
-        return Err(Stop::Shape);
+        return Err(Shape);
     }
     let (n, rest) = next_number(rest)?;
     end(rest)?;
@@ -51,6 +52,7 @@ fn replicas_of(line: &[u8]) -> Result<u32, Stop>
 fn recording_of(alloc: Global, line: &[u8]) -> Result<Recording, Stop>
     ensures ok { IfOk result (λ h. (h.entries ≡ []) × (line.now ≡ replicas_line h.replicas)) }
     ensures shape { IfErr result (λ stop. stop ≡ Stop.Shape → (n : ℕ) → 1 ≤ n → n ≤ MOST_REPLICAS → line.now ≢ replicas_line n) }
+    ensures memory { IfErr result (λ stop. stop ≡ Stop.Memory → (n : ℕ) × (1 ≤ n) × (n ≤ MOST_REPLICAS) × (line.now ≡ replicas_line n)) }
 {
     let replicas = replicas_of(line)?;
     match Recording::new(alloc, replicas) {
@@ -66,6 +68,7 @@ fn add_entry(alloc: Global, recording: &mut Recording, line: &[u8]) -> Result<()
     requires { IsLegal recording.old }
     ensures ok { OnOk result (trace_lines recording.new ≡ trace_lines recording.old ++ line.now ∷ []) }
     ensures fault { IfErr result (λ cause. IfSome (cause_of cause) (IsFaultyLine (trace_lines recording.old) line.now)) }
+    ensures memory { IfErr result (λ cause. cause ≡ Cause.Refused Refusal.Memory → TakesMemory (trace_lines recording.old) line.now) }
 {
     let entry = match entry_of(alloc, line) {
         Ok(entry) => entry,
@@ -100,6 +103,7 @@ impl Reading {
         ensures number { IfErr result (λ fault. fault.line ≡ length (good self.old) + 1) }
         ensures begins { BeginsSpelling (good self.old) }
         ensures fault { IfErr result (λ fault. IfSome (cause_of fault.cause) (IsFaultyLine (good self.old) line.now)) }
+        ensures memory { IfErr result (λ fault. fault.cause ≡ Cause.Refused Refusal.Memory → TakesMemory (good self.old) line.now) }
     {
         let number = self.next_line();
         match self.take(alloc, line) {
@@ -116,6 +120,7 @@ impl Reading {
         requires { IsLegalSoFar self.old }
         ensures ok { OnOk result (good self.new ≡ good self.old ++ line.now ∷ []) }
         ensures fault { IfErr result (λ cause. IfSome (cause_of cause) (IsFaultyLine (good self.old) line.now)) }
+        ensures memory { IfErr result (λ cause. cause ≡ Cause.Refused Refusal.Memory → TakesMemory (good self.old) line.now) }
     {
         match self {
             Reading::Start => {

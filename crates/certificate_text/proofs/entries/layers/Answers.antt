@@ -1,20 +1,15 @@
 use Rattle.std.proofs.Common.{◌≡◌, ◌<◌, ◌∷◌, ◌++◌, [], length, Some, ap, ◌∙◌, sym, arith}
 use Rattle.std.proofs.lemmas.Grind.{common_steps}
-use Rattle.std.proofs.lemmas.Result.{err_from_is_err_and}
-use Rattle.format_words.specs.Words.{words_behind}
-use Rattle.format_words.specs.Reading.{word_at}
 use Rattle.format_words.proofs.FirstWord.{none-behind}
-use Rattle.format_words.proofs.NamesRead.{fails-by, some-word-at}
+use Rattle.format_words.proofs.NamesRead.{some-word-at}
 use Rattle.certificate_text.specs.Reading.{layers_at, onto_layers}
 use Rattle.certificate_text.proofs.RowLines.{last-layer}
 use Rattle.certificate_text.proofs.entries.layers.Goals as goal
 
 pub returns-in_err-word : goal.returns-in_err-word
 returns-in_err-word c =
-    let p = err_from_is_err_and c.from_residual.result c.from_residual.ensures.1 in
     let some : 0 < length c.loop-rest.rest.now = grind (arith, common_steps) in
-    rw (p.1, p.2) (fails-by c.in_err-word.field-0.0 (word_at (words_behind c.loop-rest.rest.now)) _
-    (λ e. absurd (some-word-at c.loop-rest.rest.now some e)) c.in_err-word.ensures.word)
+    absurd (some-word-at c.loop-rest.rest.now some c.in_err-word.ensures.word)
 
 pub returns : goal.returns
 returns c =

@@ -45,7 +45,7 @@ pub returns-in-Err-clause-memory : goal.returns-in-Err-clause-memory
 returns-in-Err-clause-memory c =
     let cut = c.in-Some.ensures in
     λ is. ended-line c.args.bytes.now c.loop-rest.line (good c.loop-rest.progress) c.in-Some.next.now c.loop-rest.rest.now c.in-Some.behind.now
-    c.loop-rest.invariant.text cut.1 cut.0 c.loop-rest.invariant.number (right-begins c.loop-rest.progress c.loop-rest.invariant.right)
+    c.loop-rest.invariant.text cut.1 cut.0 c.loop-rest.invariant.number (right-begins c.loop-rest.progress c.loop-rest.invariant.right) (c.in-Err.ensures.memory is)
 
 pub returns-in-Err-end-clause-memory : goal.returns-in-Err-end-clause-memory
 returns-in-Err-end-clause-memory c = λ is. absurd (c.in-Err-end.ensures.memory is)

@@ -18,4 +18,4 @@ returns-in_err-line-clause-memory c =
     let fault = c.in_err-line.field-0.0 in
     let cut = c.in-Some.ensures in
     rw (p.1, p.2) (λ is. ended-line c.args.bytes.now fault.line (good c.loop-rest.reading) c.in-Some.line.now c.loop-rest.rest.now c.in-Some.behind.now
-    c.loop-rest.invariant cut.1 cut.0 c.in_err-line.ensures.number c.in_err-line.ensures.begins)
+    c.loop-rest.invariant cut.1 cut.0 c.in_err-line.ensures.number c.in_err-line.ensures.begins (c.in_err-line.ensures.memory is))

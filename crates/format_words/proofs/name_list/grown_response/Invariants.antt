@@ -2,10 +2,10 @@ use Rattle.std.proofs.Common.{◌≡◌, length}
 use Rattle.format_words.specs.Words.{words_behind}
 use Rattle.format_words.specs.Reading.{names_at}
 use Rattle.format_words.proofs.NamesRead.{onto}
-use Rattle.format_words.proofs.name_list.names.Given as goal
+use Rattle.format_words.proofs.name_list.grown_response.Given as goal
 
 abbrev pub invariant-loop-rest : goal.invariant-loop-rest
-invariant-loop-rest l = names_at (words_behind l.fn.rest) ≡ onto l.names.items (names_at (words_behind l.rest))
+invariant-loop-rest l = names_at (words_behind l.fn.rest) ≡ onto l.names (names_at (words_behind l.rest))
 
 abbrev pub decreases-loop-rest : goal.decreases-loop-rest
 decreases-loop-rest l = length l.rest

@@ -1,0 +1,26 @@
+use Rattle.std.proofs.Common.{◌≡◌, ◌<◌, length, arith}
+use Rattle.std.proofs.lemmas.Grind.{common_steps}
+use Rattle.std.proofs.lemmas.Result.{err_from_is_err_and}
+use Rattle.format_words.specs.Words.{words_behind}
+use Rattle.format_words.proofs.FirstWord.{none-behind}
+use Rattle.format_words.proofs.NamesRead.{some-word-at, names-end, names-more, names-stop}
+use Rattle.format_words.proofs.name_list.grown_response.Goals as goal
+
+pub returns-in_err-word : goal.returns-in_err-word
+returns-in_err-word c =
+    let some : 0 < length c.loop-rest.rest.now = grind (arith, common_steps) in
+    absurd (some-word-at c.loop-rest.rest.now some c.in_err-word.ensures.word)
+
+pub returns-in_err-push_word : goal.returns-in_err-push_word
+returns-in_err-push_word c =
+    let p = err_from_is_err_and c.from_residual-in_err-push_word.result c.from_residual-in_err-push_word.ensures.1 in
+    rw (p.1, p.2) (λ is. names-stop c.loop-rest.names _ _ _ _ c.loop-rest.invariant c.in_ok-word.ensures.word (c.in_err-push_word.ensures is))
+
+pub loop-rest-preserved : goal.loop-rest-preserved
+loop-rest-preserved c =
+    rw c.in_ok-push_word.ensures.0 (names-more c.loop-rest.names _ _ _ _ c.in_ok-word.word.now c.loop-rest.invariant c.in_ok-word.ensures.word c.in_ok-push_word.ensures.1)
+
+pub returns : goal.returns
+returns c =
+    let none : length c.loop-rest.rest.now ≡ 0 = grind (arith, common_steps) in
+    names-end c.loop-rest.names (words_behind c.loop-rest.rest.now) _ c.loop-rest.invariant (none-behind c.loop-rest.rest.now none)
