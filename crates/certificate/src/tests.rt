@@ -2,19 +2,10 @@ mod certificates;
 
 use super::{Gate, NoGate, SearchFault, Verdict, judge};
 use events::Recording;
+use sample_recordings::{EMPTY, OPPOSITE_PAIR, READ_THE_OTHER_WAY, THREE_WAY_CYCLE, recording};
 use std::alloc::Global;
 use std::sync::atomic::{AtomicU64, Ordering};
 use std::thread::Threads;
-use trace_text::{LineFault, read};
-
-const THREE_WAY: &str =
-    "trace 1\nreplicas 3\n0 ins x 0 : x\n1 recv 0 1\n2 recv 0 1\n1 ins a 0 : a x\n2 ins b 1 : x b\n0 del x :\n0 recv 1 1\n0 recv 2 1\n0 read : b a\n";
-
-const OPPOSITE: &str =
-    "trace 1\nreplicas 2\n0 ins a 0 : a\n1 ins b 0 : b\n0 recv 1 1\n1 recv 0 1\n0 read : a b\n1 read : b a\n";
-
-const TWO_ORDERS: &str =
-    "trace 1\nreplicas 2\n0 ins a 0 : a\n1 ins b 0 : b\n0 recv 1 1\n0 read : b a\n";
 
 /// What a test looks at of a verdict.
 #[derive(Clone, Copy, PartialEq, Eq)]
@@ -43,14 +34,6 @@ fn judged<H: Threads + Sync, G: Gate>(
     }
 }
 
-/// The recording that the text spells; where the first call finds no memory, what the second gives.
-fn recording_of(alloc: Global, text: &str) -> Result<Recording, LineFault> {
-    match read(alloc, text.as_bytes()) {
-        Err(_) => read(alloc, text.as_bytes()),
-        recording => recording,
-    }
-}
-
 /// What is said of the recording that the text spells; where memory is wanted, what the second call says.
 fn answered<H: Threads + Sync, G: Gate>(
     rt: &H,
@@ -59,7 +42,7 @@ fn answered<H: Threads + Sync, G: Gate>(
     workers: u32,
     gate: &G,
 ) -> Said {
-    let Ok(recording) = recording_of(alloc, text) else {
+    let Ok(recording) = recording(alloc, text) else {
         return Said::NoText;
     };
     match judged(rt, alloc, &recording, workers, gate) {
@@ -70,10 +53,10 @@ fn answered<H: Threads + Sync, G: Gate>(
 
 /// What is said of texts by four workers.
 static ROWS: [(&str, Said); 5] = [
-    (THREE_WAY, Said::Refused(3, 3)),
-    (OPPOSITE, Said::Refused(2, 2)),
-    (TWO_ORDERS, Said::Accepted(2)),
-    ("trace 1\nreplicas 1\n", Said::Accepted(0)),
+    (THREE_WAY_CYCLE, Said::Refused(3, 3)),
+    (OPPOSITE_PAIR, Said::Refused(2, 2)),
+    (READ_THE_OTHER_WAY, Said::Accepted(2)),
+    (EMPTY, Said::Accepted(0)),
     ("trace 1\nreplicas 1\n0 read : a\n", Said::Faulty),
 ];
 
@@ -88,7 +71,7 @@ fn verdicts_of_worked_recordings(rt: HostRuntime) {
 #[test]
 fn any_number_of_workers(rt: HostRuntime) {
     for workers in [1, 2, 7, 64] {
-        let said = answered(&rt, rt.alloc(), THREE_WAY, workers, &NoGate);
+        let said = answered(&rt, rt.alloc(), THREE_WAY_CYCLE, workers, &NoGate);
         assert!(rt; said == Said::Refused(3, 3), "{workers}");
     }
 }
@@ -96,7 +79,7 @@ fn any_number_of_workers(rt: HostRuntime) {
 #[test]
 fn workers_out_of_range(rt: HostRuntime) {
     for workers in [0, 65, 4294967295] {
-        let said = answered(&rt, rt.alloc(), THREE_WAY, workers, &NoGate);
+        let said = answered(&rt, rt.alloc(), THREE_WAY_CYCLE, workers, &NoGate);
         assert!(rt; said == Said::Workers, "{workers}");
     }
 }
@@ -137,7 +120,7 @@ fn two_searches_at_once(rt: HostRuntime) {
         ended: AtomicU64::new(0),
         seen: AtomicU64::new(0),
     };
-    let answer = answered(&rt, rt.alloc(), THREE_WAY, 2, &hold);
+    let answer = answered(&rt, rt.alloc(), THREE_WAY_CYCLE, 2, &hold);
     assert!(rt; answer == Said::Refused(3, 3));
     assert!(rt; hold.seen.load(Ordering::SeqCst) == 1);
     // Where memory is wanted behind the three searches, they are made again.

@@ -1,9 +1,8 @@
 mod conflicts;
 mod gates;
-mod generated;
+mod graphs;
 mod many;
 mod plain;
-mod recordings;
 mod searches;
 mod sources;
 mod steps;

@@ -1,4 +1,4 @@
 mod generated;
+mod graphs;
 mod plain;
-mod recordings;
 mod worked;

@@ -2,15 +2,12 @@
 use super::{RehearsalFault, rehearse};
 use events::Recording;
 use level_search::{Gate, NoGate};
+use sample_recordings::{EMPTY, THREE_WAY_CYCLE, recording};
 use std::alloc::Global;
 use std::sync::Wait;
 use std::sync::atomic::{AtomicU64, Ordering};
 use std::test::Fail;
 use std::thread::Threads;
-use trace_text::{LineFault, read};
-
-const THREE_WAY_CYCLE: &str =
-    "trace 1\nreplicas 3\n0 ins x 0 : x\n1 recv 0 1\n2 recv 0 1\n1 ins a 0 : a x\n2 ins b 1 : x b\n0 del x :\n0 recv 1 1\n0 recv 2 1\n0 read : b a\n";
 
 /// How many turns a gate waits at most.
 const TURNS: u32 = 50_000_000;
@@ -66,14 +63,6 @@ impl Gate for Hold {
     }
 }
 
-/// The recording of a text; where the first reading finds no memory, by a second.
-fn recording_in(alloc: Global, text: &str) -> Result<Recording, LineFault> {
-    match read(alloc, text.as_bytes()) {
-        Ok(recording) => Ok(recording),
-        Err(_) => read(alloc, text.as_bytes()),
-    }
-}
-
 /// What a rehearsal answers; where the first finds no memory or no thread, what the second does.
 fn rehearsed<H: Threads + Wait + Sync, G: Gate>(
     rt: &H,
@@ -103,7 +92,7 @@ fn have_alike(one: &Recording, other: &Recording) -> bool {
 #[test]
 fn two_recorders_run_at_once(rt: HostRuntime) {
     let alloc = rt.alloc();
-    let recording = recording_in(alloc, THREE_WAY_CYCLE)
+    let recording = recording(alloc, THREE_WAY_CYCLE)
         .ok()
         .expect(&rt, "a recording");
     let hold = Hold::new();
@@ -117,7 +106,7 @@ fn two_recorders_run_at_once(rt: HostRuntime) {
 #[test]
 fn what_is_closed_has_the_streams(rt: HostRuntime) {
     let alloc = rt.alloc();
-    let recording = recording_in(alloc, THREE_WAY_CYCLE)
+    let recording = recording(alloc, THREE_WAY_CYCLE)
         .ok()
         .expect(&rt, "a recording");
     let closed = rehearsed(&rt, alloc, &recording, 1, &NoGate)
@@ -129,9 +118,7 @@ fn what_is_closed_has_the_streams(rt: HostRuntime) {
 #[test]
 fn workers_are_1_to_64(rt: HostRuntime) {
     let alloc = rt.alloc();
-    let recording = recording_in(alloc, "trace 1\nreplicas 1\n")
-        .ok()
-        .expect(&rt, "a recording");
+    let recording = recording(alloc, EMPTY).ok().expect(&rt, "a recording");
     for workers in [0, 65, u32::MAX] {
         assert!(rt;
             rehearse(&rt, alloc, &recording, workers, &NoGate).err()

@@ -1,4 +1,4 @@
 mod generated;
+mod orders;
 mod plain;
-mod recordings;
 mod worked;

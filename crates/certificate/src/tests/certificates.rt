@@ -4,17 +4,14 @@ ghost use Rattle.specification.specs.Verdict.{IsVerdict};
 ghost use Rattle.certificate_text.specs.CertificateOf.{certificate_of};
 ghost use Rattle.certificate.specs.VerdictOf.{verdict_of};
 
-use super::{OPPOSITE, THREE_WAY, TWO_ORDERS, recording_of};
 use crate::{Certificate, NoGate, SearchFault, Verdict, certify, judge};
 use events::{Memory, Recording};
+use sample_recordings::{
+    EMPTY, OPPOSITE_PAIR, PAST_A_NEIGHBOUR, READ_THE_OTHER_WAY, RING_OF_FOUR, THREE_WAY_CYCLE,
+    recording,
+};
 use std::alloc::Global;
 use std::thread::Threads;
-
-const RING_OF_FOUR: &str =
-    "trace 1\nreplicas 6\n0 ins a 0 : a\n1 ins b 0 : b\n2 recv 0 1\n2 recv 1 1\n2 read : a b\n3 recv 1 1\n3 ins c 1 : b c\n4 recv 3 1\n4 del b : c\n4 ins d 1 : c d\n5 recv 4 2\n5 del c : d\n5 recv 0 1\n5 read : d a\n";
-
-const PAST_A_NEIGHBOUR: &str =
-    "trace 1\nreplicas 7\n0 ins a 0 : a\n1 ins b 0 : b\n2 ins c 0 : c\n3 ins d 0 : d\n4 recv 0 1\n4 recv 1 1\n4 recv 2 1\n4 read : a b c\n5 recv 2 1\n5 recv 3 1\n5 read : c d\n6 recv 3 1\n6 recv 0 1\n6 read : d a\n";
 
 /// The verdict; where the first call finds no memory, what the second gives.
 fn verdict_on<H: Threads + Sync>(
@@ -57,7 +54,7 @@ fn written(alloc: Global, certificate: &Certificate) -> Result<Vec<u8>, Memory>
 
 /// The text of the certificate of the recording that a text spells.
 fn certified<H: Threads + Sync>(rt: &H, alloc: Global, text: &str) -> Option<Vec<u8>> {
-    let recording = recording_of(alloc, text).ok()?;
+    let recording = recording(alloc, text).ok()?;
     let verdict = verdict_on(rt, alloc, &recording).ok()?;
     let certificate = certificate_for(alloc, &recording, &verdict).ok()?;
     written(alloc, &certificate).ok()
@@ -74,10 +71,13 @@ fn has_certificate<H: Threads + Sync>(rt: &H, alloc: Global, text: &str, wanted:
 /// Recordings with their certificates.
 static ROWS: [(&str, &str); 9] = [
     (
-        THREE_WAY,
+        THREE_WAY_CYCLE,
         "cert 1\nrefused 3\nstep x b 2.1\nstep b a 0.3\nstep a x 1.1\nlayers x / b\nlayers a / x\nlayers b / a\n",
     ),
-    (OPPOSITE, "cert 1\nrefused 2\nstep a b 0.2\nstep b a 1.2\n"),
+    (
+        OPPOSITE_PAIR,
+        "cert 1\nrefused 2\nstep a b 0.2\nstep b a 1.2\n",
+    ),
     (
         RING_OF_FOUR,
         "cert 1\nrefused 4\nstep a b 2.1\nstep b c 3.1\nstep c d 4.2\nstep d a 5.2\nlayers a / b / c\nlayers b / c / d\nlayers c / d / a\nlayers d / a / b\n",
@@ -86,8 +86,8 @@ static ROWS: [(&str, &str); 9] = [
         PAST_A_NEIGHBOUR,
         "cert 1\nrefused 3\nstep a c 4.1\nstep c d 5.1\nstep d a 6.1\nlayers a / b c\nlayers b / c\nlayers c / d\nlayers d / a\n",
     ),
-    (TWO_ORDERS, "cert 1\naccepted\norder : b a\n"),
-    ("trace 1\nreplicas 1\n", "cert 1\naccepted\norder :\n"),
+    (READ_THE_OTHER_WAY, "cert 1\naccepted\norder : b a\n"),
+    (EMPTY, "cert 1\naccepted\norder :\n"),
     (
         "trace 1\nreplicas 2\n0 ins a 0 : a\n1 ins a 0 : a\n",
         "cert 1\ndoubled 0.1 1.1\n",

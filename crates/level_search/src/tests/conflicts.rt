@@ -2,21 +2,13 @@
 ghost use Rattle.std.specs.Prelude.{IfOk};
 ghost use Rattle.specification.specs.Conflict.{IsConflictNumber};
 
-use super::recordings::ask_on;
+use super::graphs::ask_on;
 use crate::{Gate, NoGate, SearchFault, conflict_number};
 use order_graph::OrderGraph;
+use sample_recordings::{EMPTY, OPPOSITE_PAIR, RING_OF_FOUR, THREE_WAY_CYCLE};
 use std::alloc::Global;
 use std::test::Fail;
 use std::thread::Threads;
-
-pub const RING_OF_FOUR: &str =
-    "trace 1\nreplicas 6\n0 ins a 0 : a\n1 ins b 0 : b\n2 recv 0 1\n2 recv 1 1\n2 read : a b\n3 recv 1 1\n3 ins c 1 : b c\n4 recv 3 1\n4 del b : c\n4 ins d 1 : c d\n5 recv 4 2\n5 del c : d\n5 recv 0 1\n5 read : d a\n";
-
-pub const THREE_WAY_CYCLE: &str =
-    "trace 1\nreplicas 3\n0 ins x 0 : x\n1 recv 0 1\n2 recv 0 1\n1 ins a 0 : a x\n2 ins b 1 : x b\n0 del x :\n0 recv 1 1\n0 recv 2 1\n0 read : b a\n";
-
-pub const OPPOSITE_PAIR: &str =
-    "trace 1\nreplicas 2\n0 ins a 0 : a\n1 ins b 0 : b\n0 recv 1 1\n1 recv 0 1\n0 read : a b\n1 read : b a\n";
 
 /// Only neighbours taken as steps, the shortest cycle would have three elements.
 pub const PAIR_APART: &str =
@@ -25,8 +17,6 @@ pub const PAIR_APART: &str =
 /// The ring of four without the response that closes it.
 const ACCEPTED: &str =
     "trace 1\nreplicas 5\n0 ins a 0 : a\n1 ins b 0 : b\n2 recv 0 1\n2 recv 1 1\n2 read : a b\n3 recv 1 1\n3 ins c 1 : b c\n4 recv 3 1\n4 del b : c\n4 ins d 1 : c d\n";
-
-const EMPTY: &str = "trace 1\nreplicas 1\n";
 
 /// The conflict number of a graph. A call that finds no memory is made again.
 pub fn number_of<H: Threads + Sync, G: Gate>(

@@ -1,6 +1,7 @@
 //! Which calls a gate sees, and searches that it holds up.
-use super::conflicts::{RING_OF_FOUR, THREE_WAY_CYCLE, number_on};
+use super::conflicts::number_on;
 use crate::Gate;
+use sample_recordings::{RING_OF_FOUR, THREE_WAY_CYCLE};
 use std::sync::atomic::{AtomicU64, Ordering};
 use std::test::Fail;
 

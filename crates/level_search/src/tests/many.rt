@@ -1,10 +1,11 @@
 //! Recordings of more elements than are searched from one and all.
 ghost use Rattle.std.specs.Prelude.{◌<◌};
 
-use super::conflicts::{THREE_WAY_CYCLE, number_of};
-use super::recordings::{add, ask_of, push, push_name, recording};
+use super::conflicts::number_of;
+use super::graphs::ask_of;
 use crate::Gate;
 use events::{Body, Name, Recording, Response};
+use sample_recordings::{THREE_WAY_CYCLE, add, push, recording};
 use std::alloc::Global;
 use std::sync::atomic::{AtomicU64, Ordering};
 use std::test::Fail;
@@ -39,10 +40,10 @@ fn shown(alloc: Global, seen: &[&str], n: u8) -> Result<Response, Fail>
 {
     let mut response = Response::new(alloc);
     for text in seen {
-        push(&mut response, text)?;
+        push(&mut response, Name::new(text.as_bytes())?)?;
     }
     for i in 0..n {
-        push_name(&mut response, numbered(i)?)?;
+        push(&mut response, numbered(i)?)?;
     }
     Ok(response)
 }
@@ -53,7 +54,7 @@ fn put_behind(alloc: Global, recording: &mut Recording, seen: &[&str]) -> Result
         let name = numbered(n)?;
         let mut response = shown(alloc, seen, n)?;
         let at = u32::try_from(response.len())?;
-        push_name(&mut response, name)?;
+        push(&mut response, name)?;
         add(recording, 0, Body::Ins { name, at, response })?;
     }
     Ok(())

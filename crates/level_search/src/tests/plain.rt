@@ -1,30 +1,18 @@
 //! A plain, slow search: it looks through every response, and follows all walks step by step.
 ghost use Rattle.std.specs.Prelude.{◌<◌};
 
-use super::generated::{Random, generated};
-use super::recordings::ask_of;
-use events::{Body, Name, Recording, Response};
+use super::graphs::ask_of;
+use events::{Body, Name, Recording};
 use order_graph::OrderGraph;
+use sample_recordings::{MOST_ELEMENTS, Random, generated, place_of};
 use std::alloc::Global;
 use std::test::Fail;
 use std::thread::Threads;
 
-/// As many elements as a generated recording has at most.
-const ELEMENTS: usize = 6;
-
 /// Which element stands before which, by their numbers.
-pub type Table = [[bool; ELEMENTS]; ELEMENTS];
+pub type Table = [[bool; MOST_ELEMENTS]; MOST_ELEMENTS];
 
-/// The first place of a name in a response.
-fn place_of(response: &Response, name: Name) -> Option<usize> {
-    for i in 0..response.len() {
-        if response.get(i) == Some(name) {
-            return Some(i);
-        }
-    }
-    None
-}
-
+/// Whether an operation returned the one name before the other.
 fn has_in_order(body: &Body, a: Name, b: Name) -> bool {
     let response = match body {
         Body::Ins { response, .. } => response,
@@ -59,8 +47,8 @@ fn follows(recording: &Recording, graph: &OrderGraph, a: u32, b: u32) -> bool {
 }
 
 /// Before which elements one stands.
-fn row_of(recording: &Recording, graph: &OrderGraph, a: u32) -> [bool; ELEMENTS] {
-    let mut row = [false; ELEMENTS];
+fn row_of(recording: &Recording, graph: &OrderGraph, a: u32) -> [bool; MOST_ELEMENTS] {
+    let mut row = [false; MOST_ELEMENTS];
     for b in 0..6 {
         row[b as usize] = follows(recording, graph, a, b);
     }
@@ -69,7 +57,7 @@ fn row_of(recording: &Recording, graph: &OrderGraph, a: u32) -> [bool; ELEMENTS]
 
 /// What stands before what in some response of a recording.
 pub fn table_of(recording: &Recording, graph: &OrderGraph) -> Table {
-    let mut table = [[false; ELEMENTS]; ELEMENTS];
+    let mut table = [[false; MOST_ELEMENTS]; MOST_ELEMENTS];
     for a in 0..6 {
         table[a as usize] = row_of(recording, graph, a);
     }
@@ -93,8 +81,8 @@ pub fn ask_next<A, Q: FnOnce(&Table, &OrderGraph) -> Result<A, Fail>>(
 }
 
 /// The elements behind one of these.
-fn behind(table: &Table, ends: &[bool; ELEMENTS]) -> [bool; ELEMENTS] {
-    let mut all = [false; ELEMENTS];
+fn behind(table: &Table, ends: &[bool; MOST_ELEMENTS]) -> [bool; MOST_ELEMENTS] {
+    let mut all = [false; MOST_ELEMENTS];
     for (row, is_end) in table.iter().zip(ends) {
         for (reached, before) in all.iter_mut().zip(row) {
             *reached = *reached || (*is_end && *before);
@@ -107,7 +95,7 @@ fn behind(table: &Table, ends: &[bool; ELEMENTS]) -> [bool; ELEMENTS] {
 pub fn shortest(table: &Table, s: usize) -> Option<u32>
     requires { s < 6 }
 {
-    let mut ends = [false; ELEMENTS];
+    let mut ends = [false; MOST_ELEMENTS];
     ends[s] = true;
     for length in 1..=6 {
         ends = behind(table, &ends);

@@ -1,11 +1,10 @@
-use super::conflicts::{OPPOSITE_PAIR, RING_OF_FOUR};
-use super::generated::Random;
+use super::graphs::ask_on;
 use super::plain::{Table, ask_next, shortest};
-use super::recordings::ask_on;
 use super::sources::FallingBound;
 use crate::{BoundSource, PlainBound, Scratch, distances, search};
 use events::Memory;
 use order_graph::OrderGraph;
+use sample_recordings::{OPPOSITE_PAIR, RING_OF_FOUR, Random};
 use std::alloc::Global;
 use std::test::Fail;
 

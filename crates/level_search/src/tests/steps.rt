@@ -2,11 +2,12 @@
 ghost use Rattle.std.specs.Prelude.{IfOk};
 ghost use Rattle.specification.specs.Search.{IsShortestLength};
 
-use super::conflicts::{OPPOSITE_PAIR, PAIR_APART, RING_OF_FOUR, THREE_WAY_CYCLE, number_of};
-use super::recordings::{ask_on, operation};
+use super::conflicts::{PAIR_APART, number_of};
+use super::graphs::ask_on;
 use crate::{NoGate, SearchFault, Step, Steps, least_cycle};
-use events::{Memory, Name};
+use events::{Memory, Name, OpName};
 use order_graph::OrderGraph;
+use sample_recordings::{OPPOSITE_PAIR, RING_OF_FOUR, THREE_WAY_CYCLE};
 use std::alloc::Global;
 use std::test::Fail;
 use std::thread::Threads;
@@ -45,7 +46,7 @@ impl Shown {
         Ok(Step {
             from: Name::new(self.0.as_bytes())?,
             to: Name::new(self.1.as_bytes())?,
-            shown: operation(self.2, self.3)?,
+            shown: OpName::new(self.2, self.3).ok_or("no operation")?,
         })
     }
 }

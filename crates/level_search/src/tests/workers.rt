@@ -1,9 +1,9 @@
 //! Generated recordings, searched by one worker and by several.
 use super::conflicts::number_of;
-use super::generated::Random;
 use super::plain::{Table, ask_next, shortest};
 use crate::{NoGate, SearchFault};
 use order_graph::OrderGraph;
+use sample_recordings::Random;
 use std::alloc::Global;
 use std::test::Fail;
 use std::thread::Threads;

@@ -1,16 +1,7 @@
 //! Plain, slow programs that look through every response, and the comparison of a graph with them.
 use crate::{Looked, OrderGraph, Spot};
 use events::{Body, Name, OpName, Recording, Response};
-
-/// The response of an operation.
-fn response(recording: &Recording, name: OpName) -> Option<&Response> {
-    match recording.operation(name)? {
-        Body::Ins { response, .. } => Some(response),
-        Body::Del { response, .. } => Some(response),
-        Body::Read { response } => Some(response),
-        Body::Recv { .. } => None,
-    }
-}
+use sample_recordings::place_of;
 
 /// The name of an operation by its place in the order of names.
 fn operation_at(recording: &Recording, place: u32) -> Option<OpName> {
@@ -48,21 +39,11 @@ fn element(recording: &Recording, x: u32) -> Option<Name> {
     None
 }
 
-/// The first place of a name in a response.
-fn place_of(response: &Response, name: Name) -> Option<usize> {
-    for i in 0..response.len() {
-        if response.get(i) == Some(name) {
-            return Some(i);
-        }
-    }
-    None
-}
-
 /// The least operation that shows the one name before the other.
 fn least_showing(recording: &Recording, a: Name, b: Name) -> Option<OpName> {
     for place in 0..operations(recording) {
         let name = operation_at(recording, place)?;
-        let response = response(recording, name)?;
+        let response = recording.response(name)?;
         if let (Some(i), Some(j)) = (place_of(response, a), place_of(response, b)) {
             if i < j {
                 return Some(name);
@@ -122,7 +103,7 @@ fn is_list_of(recording: &Recording, graph: &OrderGraph, list: u32) -> bool {
     let by = operation_at(recording, list);
     let names = match by {
         None => None,
-        Some(by) => response(recording, by),
+        Some(by) => recording.response(by),
     };
     match names {
         None => false,
@@ -132,7 +113,7 @@ fn is_list_of(recording: &Recording, graph: &OrderGraph, list: u32) -> bool {
 
 /// Where a name stands in the response of the operation of a list.
 fn place_in(recording: &Recording, list: u32, name: Name) -> Option<usize> {
-    place_of(response(recording, operation_at(recording, list)?)?, name)
+    place_of(recording.response(operation_at(recording, list)?)?, name)
 }
 
 /// Whether an element's spots are the places of its name, in order of lists.

@@ -1,27 +1,16 @@
+use super::graphs::{ask_covering, ask_graph};
 use super::plain::{agrees, tells_the_same};
-use super::recordings::{covering, graph, recording};
 use crate::{Looked, OrderGraph, Spot};
 use events::{Name, OpName};
+use sample_recordings::{EMPTY, OPPOSITE_PAIR, RING_OF_FOUR, THREE_WAY_CYCLE, recording};
 use std::alloc::Global;
-use std::process::Abort;
 use std::test::Fail;
 use std::thread::Threads;
-
-const RING_OF_FOUR: &str =
-    "trace 1\nreplicas 6\n0 ins a 0 : a\n1 ins b 0 : b\n2 recv 0 1\n2 recv 1 1\n2 read : a b\n3 recv 1 1\n3 ins c 1 : b c\n4 recv 3 1\n4 del b : c\n4 ins d 1 : c d\n5 recv 4 2\n5 del c : d\n5 recv 0 1\n5 read : d a\n";
-
-const THREE_WAY_CYCLE: &str =
-    "trace 1\nreplicas 3\n0 ins x 0 : x\n1 recv 0 1\n2 recv 0 1\n1 ins a 0 : a x\n2 ins b 1 : x b\n0 del x :\n0 recv 1 1\n0 recv 2 1\n0 read : b a\n";
-
-const OPPOSITE_PAIR: &str =
-    "trace 1\nreplicas 2\n0 ins a 0 : a\n1 ins b 0 : b\n0 recv 1 1\n1 recv 0 1\n0 read : a b\n1 read : b a\n";
 
 const LEAST_OF_TWO_READS: &str =
     "trace 1\nreplicas 2\n1 ins b 0 : b\n1 ins c 1 : b c\n0 recv 1 2\n0 read : c b\n0 read : c b\n1 read : b c\n";
 
 const LATER_REPLICA_FIRST: &str = "trace 1\nreplicas 2\n1 ins a 0 : a\n0 ins b 0 : b\n";
-
-const NOTHING: &str = "trace 1\nreplicas 1\n";
 
 /// Deleted where nobody else sees it, before anybody reads.
 const DELETED_UNSEEN: &str = "trace 1\nreplicas 1\n0 ins a 0 : a\n0 del a :\n0 read :\n";
@@ -39,25 +28,26 @@ fn numbers(name: Option<OpName>) -> Option<(u32, u32)> {
     }
 }
 
-/// Asserts which operation is the least that shows two elements in each of these orders.
-fn assert_shown(rt: &impl Abort, graph: &OrderGraph, expected: &[Shown]) {
+/// Whether these are the least operations that show two elements in each of these orders.
+fn has_shown(graph: &OrderGraph, expected: &[Shown]) -> bool {
     for Shown(a, b, by) in expected {
-        assert_eq!(rt; numbers(graph.before(*a, *b)), *by, "{a} before {b}");
+        if numbers(graph.before(*a, *b)) != *by {
+            return false;
+        }
     }
+    true
 }
 
-/// The same of the graph of the recording that a text spells, which agrees with the plain programs.
-fn assert_steps(
-    rt: &(impl Abort + Threads + Sync),
+/// Whether they are so in the graph of the recording that a text spells, which agrees with the plain programs.
+fn shows(
+    rt: &(impl Threads + Sync),
     alloc: Global,
     text: &str,
     expected: &[Shown],
-) -> Result<(), Fail> {
-    let recording = recording(alloc, text)?;
-    let graph = graph(rt, alloc, &recording)?;
-    assert_shown(rt, &graph, expected);
-    assert!(rt; agrees(&recording, &graph));
-    Ok(())
+) -> Result<bool, Fail> {
+    ask_graph(rt, alloc, recording(alloc, text)?, |recording, graph| {
+        Ok(has_shown(graph, expected) && agrees(recording, graph))
+    })
 }
 
 /// Whether there are four elements, and a list for each of the eight operations of the ring.
@@ -92,50 +82,53 @@ fn counts_looks(ring: &OrderGraph) -> bool {
     starts && finds && ends && looked.count() == 2
 }
 
+/// Whether sizes, spots, operations and what was looked at are those of the ring.
+fn has_marks(ring: &OrderGraph) -> bool {
+    has_sizes(ring)
+        && is_spot(ring.spot(0, 2), 7, 1)
+        && is_operation(ring.shown_by(7), 5, 2)
+        && counts_looks(ring)
+}
+
 #[test]
 fn marks_of_the_ring_of_four(rt: HostRuntime) -> Result<(), Fail> {
-    let alloc = rt.alloc();
-    let recording = recording(alloc, RING_OF_FOUR)?;
-    let ring = graph(&rt, alloc, &recording)?;
-    assert!(rt; has_sizes(&ring));
-    assert!(rt; is_spot(ring.spot(0, 2), 7, 1));
-    assert!(rt; is_operation(ring.shown_by(7), 5, 2));
-    assert!(rt; counts_looks(&ring));
+    let ring = recording(rt.alloc(), RING_OF_FOUR)?;
+    assert!(rt; ask_graph(&rt, rt.alloc(), ring, |_, graph| Ok(has_marks(graph)))?);
     Ok(())
 }
 
-#[test]
-fn steps_of_the_ring_of_four(rt: HostRuntime) -> Result<(), Fail> {
-    let expected = [Shown(3, 0, Some((5, 2))), Shown(0, 3, None)];
-    assert_steps(&rt, rt.alloc(), RING_OF_FOUR, &expected)
-}
+/// The ring's step from its last element to its first, and none back.
+static RING_SHOWN: [Shown; 2] = [Shown(3, 0, Some((5, 2))), Shown(0, 3, None)];
+
+/// x, a and b have the numbers 0, 1 and 2.
+static CYCLE_SHOWN: [Shown; 4] = [
+    Shown(0, 2, Some((2, 1))),
+    Shown(2, 1, Some((0, 3))),
+    Shown(1, 0, Some((1, 1))),
+    Shown(0, 1, None),
+];
+
+static PAIR_SHOWN: [Shown; 3] = [
+    Shown(0, 1, Some((0, 2))),
+    Shown(1, 0, Some((1, 2))),
+    Shown(0, 0, None),
+];
+
+/// The least operation is named, and no later one that shows the same.
+static LEAST_SHOWN: [Shown; 2] = [Shown(0, 1, Some((1, 2))), Shown(1, 0, Some((0, 1)))];
 
 #[test]
-fn steps_of_the_three_way_cycle(rt: HostRuntime) -> Result<(), Fail> {
-    // x, a and b have the numbers 0, 1 and 2.
-    let expected = [
-        Shown(0, 2, Some((2, 1))),
-        Shown(2, 1, Some((0, 3))),
-        Shown(1, 0, Some((1, 1))),
-        Shown(0, 1, None),
+fn steps_of_worked_recordings(rt: HostRuntime) -> Result<(), Fail> {
+    let rows = [
+        (RING_OF_FOUR, RING_SHOWN.as_slice()),
+        (THREE_WAY_CYCLE, CYCLE_SHOWN.as_slice()),
+        (OPPOSITE_PAIR, PAIR_SHOWN.as_slice()),
+        (LEAST_OF_TWO_READS, LEAST_SHOWN.as_slice()),
     ];
-    assert_steps(&rt, rt.alloc(), THREE_WAY_CYCLE, &expected)
-}
-
-#[test]
-fn steps_of_the_opposite_pair(rt: HostRuntime) -> Result<(), Fail> {
-    let expected = [
-        Shown(0, 1, Some((0, 2))),
-        Shown(1, 0, Some((1, 2))),
-        Shown(0, 0, None),
-    ];
-    assert_steps(&rt, rt.alloc(), OPPOSITE_PAIR, &expected)
-}
-
-#[test]
-fn the_least_operation_is_shown(rt: HostRuntime) -> Result<(), Fail> {
-    let expected = [Shown(0, 1, Some((1, 2))), Shown(1, 0, Some((0, 1)))];
-    assert_steps(&rt, rt.alloc(), LEAST_OF_TWO_READS, &expected)
+    for (text, expected) in rows {
+        assert!(rt; shows(&rt, rt.alloc(), text, expected)?, "at {text}");
+    }
+    Ok(())
 }
 
 /// Whether the first element is b, the second a, and c is none.
@@ -146,32 +139,36 @@ fn is_b_and_a(graph: &OrderGraph) -> Result<bool, Fail> {
 
 #[test]
 fn elements_are_numbered_by_operations_and_not_by_arrival(rt: HostRuntime) -> Result<(), Fail> {
-    let alloc = rt.alloc();
-    let recording = recording(alloc, LATER_REPLICA_FIRST)?;
-    let graph = graph(&rt, alloc, &recording)?;
-    assert!(rt; is_b_and_a(&graph)?);
-    assert!(rt; agrees(&recording, &graph));
+    let later = recording(rt.alloc(), LATER_REPLICA_FIRST)?;
+    let right = ask_graph(&rt, rt.alloc(), later, |recording, graph| {
+        Ok(is_b_and_a(graph)? && agrees(recording, graph))
+    })?;
+    assert!(rt; right);
     Ok(())
 }
 
 #[test]
 fn a_recording_with_no_element(rt: HostRuntime) -> Result<(), Fail> {
-    let alloc = rt.alloc();
-    let nothing = recording(alloc, NOTHING)?;
-    let none = graph(&rt, alloc, &nothing)?;
-    assert!(rt; none.elements() == 0 && none.lists() == 0);
-    assert!(rt; agrees(&nothing, &none));
+    let nothing = recording(rt.alloc(), EMPTY)?;
+    let right = ask_graph(&rt, rt.alloc(), nothing, |recording, graph| {
+        Ok(graph.elements() == 0 && graph.lists() == 0 && agrees(recording, graph))
+    })?;
+    assert!(rt; right);
     Ok(())
+}
+
+/// Whether there are three lists, the second empty, and the element is shown before none.
+fn is_shown_once(graph: &OrderGraph) -> bool {
+    graph.lists() == 3 && graph.length(1) == 0 && graph.before(0, 0).is_none()
 }
 
 #[test]
 fn an_element_that_no_response_shows(rt: HostRuntime) -> Result<(), Fail> {
-    let alloc = rt.alloc();
-    let deleted = recording(alloc, DELETED_UNSEEN)?;
-    let shown = graph(&rt, alloc, &deleted)?;
-    assert!(rt; shown.lists() == 3 && shown.length(1) == 0);
-    assert_shown(&rt, &shown, &[Shown(0, 0, None)]);
-    assert!(rt; agrees(&deleted, &shown));
+    let deleted = recording(rt.alloc(), DELETED_UNSEEN)?;
+    let right = ask_graph(&rt, rt.alloc(), deleted, |recording, graph| {
+        Ok(is_shown_once(graph) && agrees(recording, graph))
+    })?;
+    assert!(rt; right);
     Ok(())
 }
 
@@ -186,11 +183,14 @@ fn has_six_lists(ring: &OrderGraph) -> bool {
 
 #[test]
 fn covering_responses_of_the_ring_of_four(rt: HostRuntime) -> Result<(), Fail> {
-    let alloc = rt.alloc();
-    let recording = recording(alloc, RING_OF_FOUR)?;
-    let ring = covering(&rt, alloc, &recording)?;
-    assert!(rt; has_six_lists(&ring));
-    assert_shown(&rt, &ring, &[Shown(3, 0, Some((5, 2))), Shown(0, 3, None)]);
-    assert!(rt; tells_the_same(&recording, &ring));
+    let ring = recording(rt.alloc(), RING_OF_FOUR)?;
+    let right = ask_covering(&rt, rt.alloc(), ring, |recording, graph| {
+        Ok(
+            has_six_lists(graph)
+                && has_shown(graph, &RING_SHOWN)
+                && tells_the_same(recording, graph),
+        )
+    })?;
+    assert!(rt; right);
     Ok(())
 }

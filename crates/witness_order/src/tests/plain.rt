@@ -1,21 +1,9 @@
 //! A plain, slow program: it tries the permutations of all elements in dictionary order until one follows every response.
-use super::recordings::push_name;
+use super::orders::push_name;
 use events::{Body, Name, OpName, Recording, Response};
+use sample_recordings::MOST_ELEMENTS;
 use std::alloc::Global;
 use std::test::Fail;
-
-/// How many elements a recording of this program may have.
-const MOST_ELEMENTS: usize = 6;
-
-/// The response of an operation.
-fn response(recording: &Recording, name: OpName) -> Option<&Response> {
-    match recording.operation(name)? {
-        Body::Ins { response, .. } => Some(response),
-        Body::Del { response, .. } => Some(response),
-        Body::Read { response } => Some(response),
-        Body::Recv { .. } => None,
-    }
-}
 
 /// The name that an operation inserts.
 fn inserted(recording: &Recording, replica: u32, n: u32) -> Option<Name> {
@@ -53,7 +41,7 @@ fn follows(order: &[Name], response: &Response) -> bool {
 fn follows_replica(recording: &Recording, replica: u32, order: &[Name]) -> bool {
     for n in 1..=recording.count(replica) {
         if let Some(name) = OpName::new(replica, n) {
-            if let Some(response) = response(recording, name) {
+            if let Some(response) = recording.response(name) {
                 if !follows(order, response) {
                     return false;
                 }

@@ -1,38 +1,40 @@
-//! Generated sound recordings.
+//! Sound recordings of up to 12 operations of 3 replicas, which insert up to six elements.
 ghost use Rattle.std.specs.Prelude.{◌<◌};
 
-use super::recordings::{Act, add, body, empty, operation, push};
+use super::entries::{Act, add, body, empty, operation, place_of, push};
+use super::random::Random;
 use events::{Name, OpName, Recording, Response};
 use std::alloc::Global;
 use std::test::Fail;
 
+/// How many elements a generated recording has at most.
+pub const MOST_ELEMENTS: usize = 6;
+
 const REPLICAS: usize = 3;
 
-const LETTERS: [&str; 6] = ["a", "b", "c", "d", "e", "f"];
+const LETTERS: [&str; MOST_ELEMENTS] = ["a", "b", "c", "d", "e", "f"];
 
 const MOST_OPERATIONS: usize = 12;
 
-/// Numbers that look drawn at random, from a seed.
-#[derive(Drop)]
-pub struct Random(pub u32);
+/// In which orders responses show the letters, by their numbers.
+#[derive(Clone, Copy)]
+enum Orders {
+    Any,
+    Mostly([usize; MOST_ELEMENTS]),
+}
 
-impl Random {
-    /// A number below a bound.
-    fn below(&mut self, bound: usize) -> usize
-        requires { 0 < bound }
-        ensures { result < bound }
-    {
-        self.0 = self.0.wrapping_mul(1664525).wrapping_add(1013904223);
-        (self.0 / 65536) as usize % bound
-    }
-
-    /// The numbers of the letters, in some order.
-    fn order(&mut self) -> [usize; 6] {
-        let mut order = [0, 1, 2, 3, 4, 5];
-        for i in 0..6 {
-            order.swap(i, self.below(i + 1));
+impl Orders {
+    /// The order of one response: the usual one, if there is one, in 15 responses of 16.
+    fn next(&self, random: &mut Random) -> [usize; MOST_ELEMENTS] {
+        match self {
+            Orders::Any => random.order(),
+            Orders::Mostly(usual) => {
+                if random.below(16) == 0 {
+                    return random.order();
+                }
+                *usual
+            }
         }
-        order
     }
 }
 
@@ -43,11 +45,12 @@ struct Seen {
     bits: u32,
 }
 
-/// Who inserted and deleted each letter, as bits.
+/// Who inserted and deleted each letter, as bits, and the orders in which responses show them.
 #[derive(Drop)]
 struct Letters {
-    inserted: [u32; 6],
-    deleted: [u32; 6],
+    inserted: [u32; MOST_ELEMENTS],
+    deleted: [u32; MOST_ELEMENTS],
+    orders: Orders,
 }
 
 impl Letters {
@@ -62,9 +65,9 @@ impl Letters {
     /// A response that shows these letters, in some order.
     fn response(&self, alloc: Global, random: &mut Random, bits: u32) -> Result<Response, Fail> {
         let mut response = Response::new(alloc);
-        for letter in random.order() {
+        for letter in self.orders.next(random) {
             if self.is_shown(letter, bits) {
-                push(&mut response, text(letter))?;
+                push(&mut response, Name::new(text(letter).as_bytes())?)?;
             }
         }
         Ok(response)
@@ -98,15 +101,12 @@ fn text(letter: usize) -> &'static str {
     }
 }
 
-/// Where a name stands in a response; 0 where it does not.
-fn place_of(response: &Response, text: &str) -> Result<u32, Fail> {
-    let name = Name::new(text.as_bytes())?;
-    for i in 0..response.len() {
-        if response.get(i) == Some(name) {
-            return Ok(u32::try_from(i)?);
-        }
+/// Where the name that a text spells stands in a response; 0 where it does not.
+fn place_or_first(response: &Response, text: &str) -> Result<u32, Fail> {
+    match place_of(response, Name::new(text.as_bytes())?) {
+        Some(place) => Ok(u32::try_from(place)?),
+        None => Ok(0),
     }
-    Ok(0)
 }
 
 /// A sound recording on its way. Each replica knows operations, as bits.
@@ -119,12 +119,13 @@ struct Growing {
 }
 
 impl Growing {
-    fn new(alloc: Global) -> Result<Growing, Fail> {
+    fn new(alloc: Global, orders: Orders) -> Result<Growing, Fail> {
         Ok(Growing {
             recording: empty(alloc, 3)?,
             letters: Letters {
-                inserted: [0; 6],
-                deleted: [0; 6],
+                inserted: [0; MOST_ELEMENTS],
+                deleted: [0; MOST_ELEMENTS],
+                orders,
             },
             made: [None; MOST_OPERATIONS],
             known: [0; REPLICAS],
@@ -146,7 +147,7 @@ impl Growing {
         let act = self.letters.act(random, bit, bits);
         let response = self.letters.response(alloc, random, bits)?;
         let placed = match act {
-            Act::Ins(text, _) => Act::Ins(text, place_of(&response, text)?),
+            Act::Ins(text, _) => Act::Ins(text, place_or_first(&response, text)?),
             act => act,
         };
         add(&mut self.recording, replica as u32, body(placed, response)?)?;
@@ -171,9 +172,9 @@ impl Growing {
     }
 }
 
-/// A sound recording of up to 12 operations of 3 replicas.
-pub fn generated(alloc: Global, random: &mut Random) -> Result<Recording, Fail> {
-    let mut growing = Growing::new(alloc)?;
+/// A sound recording whose responses show their elements in these orders.
+fn grown(alloc: Global, random: &mut Random, orders: Orders) -> Result<Recording, Fail> {
+    let mut growing = Growing::new(alloc, orders)?;
     let mut bit = 1;
     for count in 0..MOST_OPERATIONS {
         growing.receive(alloc, random)?;
@@ -182,4 +183,15 @@ pub fn generated(alloc: Global, random: &mut Random) -> Result<Recording, Fail> 
         bit = bit.wrapping_mul(2);
     }
     Ok(growing.recording)
+}
+
+/// A sound recording in which each response shows its elements in an order of its own.
+pub fn generated(alloc: Global, random: &mut Random) -> Result<Recording, Fail> {
+    grown(alloc, random, Orders::Any)
+}
+
+/// A sound recording in which most responses follow one order.
+pub fn mostly_ordered(alloc: Global, random: &mut Random) -> Result<Recording, Fail> {
+    let usual = random.order();
+    grown(alloc, random, Orders::Mostly(usual))
 }

@@ -1,0 +1,20 @@
+//! Sample recordings, for the tests of the crates above: worked ones as texts, and generated ones.
+//!
+//! A call that finds no memory is made once more, so tests with these hold too where one request is refused.
+#![tactic(auto)]
+
+mod entries;
+mod growing;
+mod random;
+mod reading;
+mod soundness;
+mod texts;
+
+pub use entries::{add, place_of, push};
+pub use growing::{MOST_ELEMENTS, generated, mostly_ordered};
+pub use random::Random;
+pub use reading::recording;
+pub use soundness::check_sound;
+pub use texts::{
+    EMPTY, OPPOSITE_PAIR, PAST_A_NEIGHBOUR, READ_THE_OTHER_WAY, RING_OF_FOUR, THREE_WAY_CYCLE,
+};
