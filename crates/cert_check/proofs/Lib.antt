@@ -12,3 +12,4 @@ pub mod RowsJudged
 pub mod Implied
 pub mod ReasonsExclude
 pub mod OneAnswer
+pub mod FinderGetsYes

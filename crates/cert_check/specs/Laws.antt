@@ -2,11 +2,17 @@
 use Rattle.std.specs.Prelude.{◌≡◌, ℕ, List}
 use Rattle.events.specs.History.{History, IsLegal}
 use Rattle.specification.specs.Laws as laws
-use Rattle.specification.specs.CertificateText.{Certificate, IsSpellable}
+use Rattle.specification.specs.Faults as fault
+use Rattle.specification.specs.Verdict.{Verdict, faulty, accepted, refused, IsVerdict}
+use Rattle.specification.specs.TraceText.{trace_text}
+use Rattle.specification.specs.CertificateText.{Certificate, IsSpellable, certificate_text}
+use Rattle.specification.specs.ExactRows.{IsCertificateOf}
 use Rattle.specification.specs.ValidCertificate.{IsValid, IsFirstReason, Reason}
 use Rattle.cert_check.specs.AnswerOf.{Reads, IsAnswer, Implies, kind_of}
 use Rattle.cert_check.specs.declared.answer.Answer.{Answer}
 use Rattle.cert_check.specs.declared.answer.Answer.TheVariants.{Yes}
+use Rattle.cert_check.specs.declared.answer.Kind.{Kind}
+use Rattle.cert_check.specs.declared.answer.Kind.TheVariants as kind
 
 abbrev pub LayersBoundCycles : Type 0
 LayersBoundCycles = laws.LayersBoundCycles
@@ -22,6 +28,21 @@ ValidOrReason = (h : History) (c : Certificate) (why : Reason) → IsLegal h →
 -- a valid certificate gets a yes, of its kind
 abbrev pub ValidCertificatesGetYes : Type 0
 ValidCertificatesGetYes = (trace cert : List ℕ) (h : History) (c : Certificate) → Reads trace cert h c → IsValid h c → (a : Answer) → IsAnswer trace cert a → a ≡ Yes (kind_of c)
+
+-- what a verdict's certificate shows
+abbrev pub kind_of_verdict : Verdict → Kind
+kind_of_verdict (faulty (fault.doubled first again)) = kind.Doubled
+kind_of_verdict (faulty (fault.contents at)) = kind.Contents
+kind_of_verdict (faulty (fault.position at)) = kind.Position
+kind_of_verdict (accepted order) = kind.Accepted
+kind_of_verdict (refused k steps) = kind.Refused
+
+-- the spelling of the certificate of a recording's verdict, checked against the recording's spelling, has the answer yes, of
+-- the verdict's kind, and no other
+abbrev pub VerdictsCertificatesGetYes : Type 0
+VerdictsCertificatesGetYes = (h : History) (v : Verdict) (c : Certificate) → IsLegal h → IsVerdict h v → IsCertificateOf h v c →
+    IsAnswer (trace_text h) (certificate_text c) (Yes (kind_of_verdict v))
+    × ((a : Answer) → IsAnswer (trace_text h) (certificate_text c) a → a ≡ Yes (kind_of_verdict v))
 
 -- two texts have one right answer at most
 abbrev pub AnswersAreUnique : Type 0

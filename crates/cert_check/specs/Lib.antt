@@ -5,4 +5,5 @@ pub mod Numbering
 pub mod Noted
 pub mod Ring
 pub mod Judged
+pub mod OutOfMemory
 pub mod Laws

@@ -1,5 +1,6 @@
-ghost use Rattle.std.specs.Prelude.{◌≡◌, ◌↔◌, IfOk, IsTrue};
+ghost use Rattle.std.specs.Prelude.{◌≡◌, ◌↔◌, IfOk, IfErr, IsTrue};
 ghost use Rattle.cert_check.specs.AnswerOf.{IsAnswer, ImpliesOfTexts};
+ghost use Rattle.cert_check.specs.OutOfMemory.{TakesMemory};
 
 use super::answer::{Answer, Reason};
 use super::judging::judge;
@@ -13,7 +14,7 @@ use trace_text::{Cause, read};
 ///
 /// It searches nothing: beyond reading the texts and looking for a fault, a row of a certificate costs the
 /// places of all responses and the elements, and a step the response of its operation. Its memory is linear in
-/// the texts.
+/// the texts. Out of memory is never answered for a text that is faulty before any line of it takes memory.
 pub fn check<H: Threads + Sync>(
     rt: &H,
     alloc: Global,
@@ -23,6 +24,8 @@ pub fn check<H: Threads + Sync>(
     ensures answer { IfOk result (λ a. IsAnswer trace.now cert.now a) }
     // What a yes says of the recording.
     ensures implies { IfOk result (λ a. ImpliesOfTexts trace.now cert.now a) }
+    // Out of memory, only where a line of the texts takes some, or both spell something.
+    ensures memory { IfErr result (λ _. TakesMemory trace.now cert.now) }
 {
     let recording = match read(alloc, trace) {
         Ok(recording) => recording,

@@ -1,6 +1,6 @@
 //! The laws, each as the contract of a function with an empty body.
 
-ghost use Rattle.cert_check.specs.Laws.{AnswersAreUnique, LayersBoundCycles, ValidCertificatesGetYes, ValidCertificatesImply, ValidOrReason};
+ghost use Rattle.cert_check.specs.Laws.{AnswersAreUnique, LayersBoundCycles, ValidCertificatesGetYes, ValidCertificatesImply, ValidOrReason, VerdictsCertificatesGetYes};
 
 /// For the responses of every sound recording and every k: where each element is the source of a row of layers that
 /// meets the layer rule for k, no cycle has fewer than k elements. So rows are tested, and nothing is searched.
@@ -20,9 +20,15 @@ pub fn valid_certificates_have_no_reason()
 {}
 
 /// Where a trace spells a recording and a text a certificate that is valid for it, the one right answer is yes, with the
-/// certificate's kind. So what the finder gives for its verdict, written, gets yes.
+/// certificate's kind.
 pub fn valid_certificates_get_yes()
     ensures { ValidCertificatesGetYes }
+{}
+
+/// What the finder writes gets yes: for every legal recording, its verdict and the certificate of that verdict, the
+/// texts that spell the recording and the certificate have the answer yes, of the verdict's kind, and no other.
+pub fn verdicts_certificates_get_yes()
+    ensures { VerdictsCertificatesGetYes }
 {}
 
 /// Two texts have one right answer at most: a yes with one kind, or a no with one reason, the first that holds. So two

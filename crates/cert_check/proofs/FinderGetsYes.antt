@@ -1,0 +1,35 @@
+-- What the finder writes gets yes.
+use Rattle.std.proofs.Common.{◌≡◌, ℕ, zero, suc, List, refl, sym, ap, ◌∙◌, subst}
+use Rattle.events.specs.History.{History, IsLegal}
+use Rattle.specification.specs.Faults as fault
+use Rattle.specification.specs.Verdict.{Verdict, faulty, accepted, refused, IsVerdict}
+use Rattle.specification.specs.TraceText.{trace_text}
+use Rattle.specification.specs.CertificateText.{Certificate, certificate_text}
+use Rattle.specification.specs.ExactRows.{IsCertificateOf}
+use Rattle.certificate_text.proofs.VerdictCertificates.{certificates_are_valid}
+use Rattle.certificate_text.proofs.OneCertificate.{one-certificate}
+use Rattle.cert_check.specs.AnswerOf.{Reads, IsAnswer, kind_of}
+use Rattle.cert_check.specs.Laws.{kind_of_verdict, VerdictsCertificatesGetYes}
+use Rattle.cert_check.specs.declared.answer.Answer.{Answer}
+use Rattle.cert_check.specs.declared.answer.Answer.TheVariants.{Yes}
+use Rattle.cert_check.specs.declared.answer.Kind.{Kind}
+use Rattle.cert_check.proofs.ReasonsExclude.{get_yes}
+
+kind-of : (h : History) (v : Verdict) (c : Certificate) → IsCertificateOf h v c → kind_of c ≡ kind_of_verdict v
+kind-of h (faulty (fault.doubled first again)) c is = ap kind_of is
+kind-of h (faulty (fault.contents at)) c is = ap kind_of is
+kind-of h (faulty (fault.position at)) c is = ap kind_of is
+kind-of h (accepted order) c is = ap kind_of is
+kind-of h (refused zero steps) c is = absurd is
+kind-of h (refused (suc zero) steps) c is = absurd is
+kind-of h (refused (suc (suc zero)) steps) c is = ap kind_of is
+kind-of h (refused (suc (suc (suc n))) steps) c is = ap kind_of is.1
+
+pub finder_gets_yes : VerdictsCertificatesGetYes
+finder_gets_yes h v c legal verdict is =
+    let good = certificates_are_valid h v c legal verdict is in
+    let reads : Reads (trace_text h) (certificate_text c) h c = ((legal, refl), (good.1, refl)) in
+    let kind = kind-of h v c is in (
+      (h, c, reads, good.0, kind),
+      (λ a answer. get_yes one-certificate (trace_text h) (certificate_text c) h c reads good.0 a answer ∙ ap Yes kind),
+    )
