@@ -48,7 +48,10 @@ fn recorded(recording: &mut Recording, entry: Entry) -> Result<u32, Refused> {
 
 /// The answer, with the refusal alone where the entry came back.
 fn answer(recording: &mut Recording, replica: u32, body: Body) -> Result<u32, Refusal> {
-    recorded(recording, Entry { replica, body }).map_err(|refused| refused.why)
+    match recorded(recording, Entry { replica, body }) {
+        Ok(count) => Ok(count),
+        Err(refused) => Err(refused.why),
+    }
 }
 
 /// The answer to a read of this name so many times.
@@ -99,56 +102,47 @@ fn is_name(text: &str) -> bool {
     }
 }
 
+static NAMES: [&str; 8] = [
+    "a",
+    "Z",
+    "0",
+    "_",
+    "-",
+    ".",
+    "a-Z_0.9",
+    "nnnnnnnnnnnnnnnnnnnnnnnnnnnnnnnn",
+];
+
 #[test]
 fn names_are_read(rt: HostRuntime) {
-    let good = [
-        "a",
-        "Z",
-        "0",
-        "_",
-        "-",
-        ".",
-        "a-Z_0.9",
-        "nnnnnnnnnnnnnnnnnnnnnnnnnnnnnnnn",
-    ];
-    for text in good {
+    for text in NAMES.iter().copied() {
         assert!(rt; is_name(text), "{text}");
     }
 }
 
-#[test]
-fn faults_of_names_are_told(rt: HostRuntime) {
-    let rows = [
-        ("", NameFault::Empty),
-        ("nnnnnnnnnnnnnnnnnnnnnnnnnnnnnnnnn", NameFault::Long),
-        // Too long comes before a byte that may not stand there.
-        ("                                 ", NameFault::Long),
-    ];
-    for (text, fault) in rows {
-        assert!(rt; name(text).err() == Some(fault), "{text}");
-    }
-}
+/// Texts that are no names, and why.
+static NO_NAMES: [(&str, NameFault); 13] = [
+    ("", NameFault::Empty),
+    ("nnnnnnnnnnnnnnnnnnnnnnnnnnnnnnnnn", NameFault::Long),
+    // Too long comes before a byte that may not stand there.
+    ("                                 ", NameFault::Long),
+    (" ", NameFault::BadByte { at: 0 }),
+    ("a b", NameFault::BadByte { at: 1 }),
+    ("ab/", NameFault::BadByte { at: 2 }),
+    ("a:", NameFault::BadByte { at: 1 }),
+    ("a@", NameFault::BadByte { at: 1 }),
+    ("[", NameFault::BadByte { at: 0 }),
+    ("`", NameFault::BadByte { at: 0 }),
+    ("a{", NameFault::BadByte { at: 1 }),
+    ("\n", NameFault::BadByte { at: 0 }),
+    ("a\u{e9}", NameFault::BadByte { at: 1 }),
+];
 
 #[test]
-fn bad_bytes_of_names_are_told(rt: HostRuntime) {
-    let bad = [
-        (" ", 0),
-        ("a b", 1),
-        ("ab/", 2),
-        ("a:", 1),
-        ("a@", 1),
-        ("[", 0),
-        ("`", 0),
-        ("a{", 1),
-        ("\n", 0),
-    ];
-    for (text, at) in bad {
-        assert!(rt;
-            name(text).err() == Some(NameFault::BadByte { at }),
-            "{text}"
-        );
+fn faults_of_names_are_told(rt: HostRuntime) {
+    for (text, fault) in NO_NAMES.iter().copied() {
+        assert!(rt; name(text).err() == Some(fault), "{text}");
     }
-    assert!(rt; Name::new(b"a\xc3\xa9").err() == Some(NameFault::BadByte { at: 1 }));
 }
 
 /// Whether both texts are names, and the first is less than the other, or the same, as is said.
@@ -159,15 +153,24 @@ fn are_ordered(low: &str, high: &str, less: bool, same: bool) -> bool {
     }
 }
 
+static RISING: [&str; 14] = [
+    "-", ".", "0", "00", "01", "1", "A", "Aa", "Z", "_", "a", "a0", "aa", "b",
+];
+
+/// Whether the name stands to each of the rising ones as its place says.
+fn is_at(place: usize, text: &str) -> bool {
+    for (other, high) in RISING.iter().copied().enumerate() {
+        if !are_ordered(text, high, place < other, place == other) {
+            return false;
+        }
+    }
+    true
+}
+
 #[test]
 fn names_are_ordered_by_their_bytes(rt: HostRuntime) {
-    let rising = [
-        "-", ".", "0", "00", "01", "1", "A", "Aa", "Z", "_", "a", "a0", "aa", "b",
-    ];
-    for (i, low) in rising.iter().enumerate() {
-        for (j, high) in rising.iter().enumerate() {
-            assert!(rt; are_ordered(low, high, i < j, i == j), "{low} {high}");
-        }
+    for (place, text) in RISING.iter().copied().enumerate() {
+        assert!(rt; is_at(place, text), "{text}");
     }
 }
 
@@ -187,11 +190,16 @@ fn is_lower(lower: Option<OpName>, higher: Option<OpName>) -> bool {
     }
 }
 
+/// Whether operations count from 1, and are ordered by their replicas first.
+fn count_from_one() -> bool {
+    OpName::new(3, 0).is_none()
+        && is_operation(OpName::new(3, 1), 3, 1)
+        && is_lower(OpName::new(2, 9), OpName::new(3, 1))
+}
+
 #[test]
 fn operations_count_from_one(rt: HostRuntime) {
-    assert!(rt; OpName::new(3, 0).is_none());
-    assert!(rt; is_operation(OpName::new(3, 1), 3, 1));
-    assert!(rt; is_lower(OpName::new(2, 9), OpName::new(3, 1)));
+    assert!(rt; count_from_one());
 }
 
 /// Whether the response has the name at this place.
@@ -244,29 +252,18 @@ fn put_together(alloc: Global) -> Option<Response> {
     Some(made)
 }
 
-#[test]
-fn responses_are_lists(rt: HostRuntime) {
-    let made = listed(rt.alloc()).expect(&rt, "a response");
-    assert!(rt; made.len() == 3 && made.get(3).is_none());
-    assert!(rt; has_at(&made, 0, "a") && has_at(&made, 2, "b"));
-}
-
-#[test]
-fn responses_are_copied(rt: HostRuntime) {
-    let again = listed_again(rt.alloc()).expect(&rt, "a response");
-    assert!(rt; again.len() == 3);
-    assert!(rt; has_at(&again, 1, "a") && has_at(&again, 2, "b"));
+/// Whether these names stand in it: `a`, `a` and `b`.
+fn has_three(made: &Response) -> bool {
+    made.len() == 3
+        && made.get(3).is_none()
+        && has_at(made, 0, "a")
+        && has_at(made, 1, "a")
+        && has_at(made, 2, "b")
 }
 
 /// Whether these two names stand in it, and no other.
 fn has_left_and_right(made: &Response) -> bool {
     made.len() == 2 && made.bytes_at(0) == Some(b"left".as_slice()) && has_at(made, 1, "right")
-}
-
-#[test]
-fn responses_are_put_together_from_bytes(rt: HostRuntime) {
-    let made = put_together(rt.alloc()).expect(&rt, "a response");
-    assert!(rt; has_left_and_right(&made));
 }
 
 /// Whether bytes that are no name are refused for what is wrong with them.
@@ -276,10 +273,23 @@ fn refuses_no_names(made: &mut Response) -> bool {
 }
 
 #[test]
-fn bytes_that_are_no_name_are_refused(rt: HostRuntime) {
+fn responses_are_lists(rt: HostRuntime) {
+    let made = listed(rt.alloc()).expect(&rt, "a response");
+    assert!(rt; has_three(&made));
+}
+
+#[test]
+fn responses_are_copied(rt: HostRuntime) {
+    let again = listed_again(rt.alloc()).expect(&rt, "a response");
+    assert!(rt; has_three(&again));
+}
+
+#[test]
+fn responses_are_put_together_from_bytes(rt: HostRuntime) {
     let mut made = put_together(rt.alloc()).expect(&rt, "a response");
-    assert!(rt; refuses_no_names(&mut made));
-    assert!(rt; has_left_and_right(&made));
+    assert!(rt;
+        has_left_and_right(&made) && refuses_no_names(&mut made) && has_left_and_right(&made)
+    );
 }
 
 /// Whether a recording is opened with so many replicas and no entry.
@@ -290,54 +300,154 @@ fn is_opened(alloc: Global, replicas: u32) -> bool {
     }
 }
 
+/// Whether recordings are refused where they have no replica or more than sixteen.
+fn refuses_other_counts(alloc: Global) -> bool {
+    opened(alloc, 0).err() == Some(NewFault::NoReplicas)
+        && opened(alloc, 17).err() == Some(NewFault::ManyReplicas)
+        && opened(alloc, 4294967295).err() == Some(NewFault::ManyReplicas)
+}
+
 #[test]
 fn a_recording_has_one_to_sixteen_replicas(rt: HostRuntime) {
-    let alloc = rt.alloc();
-    assert!(rt; opened(alloc, 0).err() == Some(NewFault::NoReplicas));
-    assert!(rt; opened(alloc, 17).err() == Some(NewFault::ManyReplicas));
-    assert!(rt; opened(alloc, 4294967295).err() == Some(NewFault::ManyReplicas));
-    assert!(rt; is_opened(alloc, 16));
+    assert!(rt; refuses_other_counts(rt.alloc()));
+    assert!(rt; is_opened(rt.alloc(), 16));
 }
 
-// Receipts too early, of one's own, and repeated.
-#[test]
-fn receipts_are_refused_in_their_order(rt: HostRuntime) {
-    let a = name("a").expect(&rt, "a name");
-    let mut recording = opened(rt.alloc(), 2).expect(&rt, "a recording");
-    assert!(rt; insert(&mut recording, rt.alloc(), 0, a) == Ok(1));
-    let rows = [
-        (1, 0, 2, Err(Refusal::NotYet { have: 1 })),
-        (0, 0, 1, Err(Refusal::OwnReceipt)),
-        (1, 1, 9, Err(Refusal::OwnReceipt)),
-        (0, 2, 1, Err(Refusal::NoReplica)),
-        (1, 0, 1, Ok(1)),
-        (1, 0, 1, Ok(2)),
-    ];
-    for (replica, of, n, reply) in rows {
-        let said = receive(&mut recording, replica, of, n);
-        assert!(rt; said == Some(reply), "{replica} {of} {n}");
+/// What a replica does.
+#[derive(Clone, Copy)]
+enum Act {
+    Insert,
+    /// The read of a response with so many names.
+    Read(u32),
+    /// The receipt of an operation.
+    Receive(u32, u32),
+}
+
+/// A replica, what it does so many times in turn, and the reply to the first time. Where that is a count, each later
+/// one is one more.
+#[derive(Clone, Copy)]
+struct Step(u32, Act, u32, Result<u32, Refusal>);
+
+/// The answer to what a replica does; none where what is received is no name of an operation.
+fn reply(
+    recording: &mut Recording,
+    alloc: Global,
+    a: Name,
+    replica: u32,
+    act: Act,
+) -> Option<Result<u32, Refusal>> {
+    match act {
+        Act::Insert => Some(insert(recording, alloc, replica, a)),
+        Act::Read(names) => Some(read(recording, alloc, replica, a, names)),
+        Act::Receive(of, n) => receive(recording, replica, of, n),
     }
-    assert!(rt; insert(&mut recording, rt.alloc(), 2, a) == Err(Refusal::NoReplica));
 }
 
-/// An insert, its receipt at the other replica, and a read there.
-fn inserted_and_read(alloc: Global) -> Option<Recording> {
+/// Whether a step has its replies.
+fn has_replies(recording: &mut Recording, alloc: Global, a: Name, step: Step) -> bool {
+    let Step(replica, act, times, first) = step;
+    for i in 0..times {
+        let wanted = match first {
+            Ok(count) => Ok(count.saturating_add(i)),
+            refused => refused,
+        };
+        if reply(recording, alloc, a, replica, act) != Some(wanted) {
+            return false;
+        }
+    }
+    true
+}
+
+/// The recording of this many replicas that one step after the other makes; none where one has other replies.
+fn made(alloc: Global, replicas: u32, steps: &[Step]) -> Option<Recording> {
     let a = name("a").ok()?;
-    let mut recording = opened(alloc, 2).ok()?;
-    insert(&mut recording, alloc, 0, a).ok()?;
-    receive(&mut recording, 1, 0, 1)?.ok()?;
-    read(&mut recording, alloc, 1, a, 1).ok()?;
+    let mut recording = opened(alloc, replicas).ok()?;
+    for step in steps {
+        if !has_replies(&mut recording, alloc, a, *step) {
+            return None;
+        }
+    }
     Some(recording)
 }
 
-#[test]
-fn entries_and_operations_are_counted(rt: HostRuntime) {
-    let recording = inserted_and_read(rt.alloc()).expect(&rt, "a recording");
-    assert!(rt; recording.len() == 3);
-    for (replica, entries, operations) in [(0, 1, 1), (1, 2, 1), (2, 0, 0)] {
-        assert!(rt; recording.stream_len(replica) == entries, "{replica}");
-        assert!(rt; recording.count(replica) == operations, "{replica}");
+/// Whether such steps have their replies, and make this many entries.
+fn are_replies(alloc: Global, replicas: u32, steps: &[Step], entries: u32) -> bool {
+    match made(alloc, replicas, steps) {
+        Some(recording) => recording.len() == entries,
+        None => false,
     }
+}
+
+/// Receipts too early, of one's own, and repeated.
+static RECEIPTS: [Step; 8] = [
+    Step(0, Act::Insert, 1, Ok(1)),
+    Step(1, Act::Receive(0, 2), 1, Err(Refusal::NotYet { have: 1 })),
+    Step(0, Act::Receive(0, 1), 1, Err(Refusal::OwnReceipt)),
+    Step(1, Act::Receive(1, 9), 1, Err(Refusal::OwnReceipt)),
+    Step(0, Act::Receive(2, 1), 1, Err(Refusal::NoReplica)),
+    Step(1, Act::Receive(0, 1), 1, Ok(1)),
+    Step(1, Act::Receive(0, 1), 1, Ok(2)),
+    Step(2, Act::Insert, 1, Err(Refusal::NoReplica)),
+];
+
+/// A replica has at most 256 inserts.
+static INSERTS: [Step; 4] = [
+    Step(0, Act::Insert, 256, Ok(1)),
+    Step(0, Act::Insert, 1, Err(Refusal::InsertsFull)),
+    Step(0, Act::Read(0), 1, Ok(257)),
+    Step(1, Act::Insert, 1, Ok(1)),
+];
+
+/// A replica has at most 4,096 entries. That they are full comes before a response that is too long.
+static ENTRIES: [Step; 4] = [
+    Step(1, Act::Read(0), 4096, Ok(1)),
+    Step(1, Act::Read(0), 1, Err(Refusal::EntriesFull)),
+    Step(1, Act::Read(4097), 1, Err(Refusal::EntriesFull)),
+    Step(0, Act::Read(0), 1, Ok(1)),
+];
+
+/// A response has at most 4,096 names, and those of a replica have at most 262,144 together.
+static PLACES: [Step; 4] = [
+    Step(0, Act::Read(4097), 1, Err(Refusal::LongResponse)),
+    Step(0, Act::Read(4096), 64, Ok(1)),
+    Step(0, Act::Read(1), 1, Err(Refusal::PlacesFull)),
+    Step(0, Act::Read(0), 1, Ok(65)),
+];
+
+#[test]
+fn entries_are_taken_or_refused(rt: HostRuntime) {
+    let rows = [
+        ("receipts", 2, RECEIPTS.as_slice(), 3),
+        ("inserts", 2, INSERTS.as_slice(), 258),
+        ("entries", 2, ENTRIES.as_slice(), 4097),
+        ("places", 1, PLACES.as_slice(), 65),
+    ];
+    for (title, replicas, steps, entries) in rows {
+        assert!(rt;
+            are_replies(rt.alloc(), replicas, steps, entries),
+            "{title}"
+        );
+    }
+}
+
+/// An insert, its receipt at the other replica, and a read there.
+static INSERTED_AND_READ: [Step; 3] = [
+    Step(0, Act::Insert, 1, Ok(1)),
+    Step(1, Act::Receive(0, 1), 1, Ok(1)),
+    Step(1, Act::Read(1), 1, Ok(2)),
+];
+
+/// Whether the replica has so many entries and operations.
+fn has_counts(recording: &Recording, replica: u32, entries: u32, operations: u32) -> bool {
+    recording.stream_len(replica) == entries && recording.count(replica) == operations
+}
+
+/// Whether the entries and operations of both replicas are counted, and none of a third.
+fn counts_all(recording: &Recording) -> bool {
+    recording.len() == 3
+        && has_counts(recording, 0, 1, 1)
+        && has_counts(recording, 1, 2, 1)
+        && has_counts(recording, 2, 0, 0)
 }
 
 /// Whether the entry is a receipt at this replica.
@@ -354,15 +464,27 @@ fn is_read(recording: &Recording, replica: u32, n: u32) -> Option<bool> {
     Some(matches!(body, Body::Read { .. }))
 }
 
+/// Whether the entries of a replica are found, and none past the last.
+fn finds_entries(recording: &Recording) -> bool {
+    is_receipt_at(recording.entry(1), 1)
+        && recording.entry(3).is_none()
+        && matches!(recording.stream(1, 1), Some(Body::Read { .. }))
+        && recording.stream(1, 2).is_none()
+        && recording.stream(2, 0).is_none()
+}
+
+/// Whether the operations of a replica are found, and none past the last.
+fn finds_operations(recording: &Recording) -> bool {
+    is_read(recording, 1, 1) == Some(true)
+        && is_read(recording, 1, 2).is_none()
+        && is_read(recording, 2, 1).is_none()
+}
+
 #[test]
-fn entries_and_operations_are_found(rt: HostRuntime) {
-    let recording = inserted_and_read(rt.alloc()).expect(&rt, "a recording");
-    assert!(rt; is_receipt_at(recording.entry(1), 1));
-    assert!(rt; recording.entry(3).is_none());
-    assert!(rt; matches!(recording.stream(1, 1), Some(Body::Read { .. })));
-    assert!(rt; recording.stream(1, 2).is_none() && recording.stream(2, 0).is_none());
-    assert!(rt; is_read(&recording, 1, 1) == Some(true));
-    assert!(rt; is_read(&recording, 1, 2).is_none() && is_read(&recording, 2, 1).is_none());
+fn entries_and_operations_are_counted_and_found(rt: HostRuntime) {
+    let recording = made(rt.alloc(), 2, INSERTED_AND_READ.as_slice()).expect(&rt, "a recording");
+    assert!(rt; counts_all(&recording));
+    assert!(rt; finds_entries(&recording) && finds_operations(&recording));
 }
 
 /// Whether it is a read of this name three times.
@@ -383,55 +505,17 @@ fn hands_back(recording: &mut Recording, body: Body, name: Name) -> bool {
     }
 }
 
-// A refused entry comes back as it was handed in.
+/// Whether a recording refuses such a read, which comes back as it was handed in, and stays empty.
+fn hands_back_and_stays(alloc: Global) -> Option<bool> {
+    let kept = name("kept").ok()?;
+    let response = response(alloc, kept, 3).ok()?;
+    let mut recording = opened(alloc, 1).ok()?;
+    Some(hands_back(&mut recording, Body::Read { response }, kept) && recording.len() == 0)
+}
+
 #[test]
 fn a_refused_entry_is_handed_back(rt: HostRuntime) {
-    let kept = name("kept").expect(&rt, "a name");
-    let response = response(rt.alloc(), kept, 3).expect(&rt, "a response");
-    let mut recording = opened(rt.alloc(), 1).expect(&rt, "a recording");
-    assert!(rt; hands_back(&mut recording, Body::Read { response }, kept));
-    assert!(rt; recording.len() == 0);
-}
-
-#[test]
-fn a_replica_has_at_most_256_inserts(rt: HostRuntime) {
-    let alloc = rt.alloc();
-    let a = name("a").expect(&rt, "a name");
-    let mut recording = opened(alloc, 2).expect(&rt, "a recording");
-    for n in 1..257 {
-        assert!(rt; insert(&mut recording, alloc, 0, a) == Ok(n), "{n}");
-    }
-    assert!(rt; insert(&mut recording, alloc, 0, a) == Err(Refusal::InsertsFull));
-    assert!(rt; read(&mut recording, alloc, 0, a, 0) == Ok(257));
-    assert!(rt; insert(&mut recording, alloc, 1, a) == Ok(1));
-}
-
-#[test]
-fn a_replica_has_at_most_4096_entries(rt: HostRuntime) {
-    let alloc = rt.alloc();
-    let a = name("a").expect(&rt, "a name");
-    let mut recording = opened(alloc, 2).expect(&rt, "a recording");
-    for n in 1..4097 {
-        assert!(rt; read(&mut recording, alloc, 1, a, 0) == Ok(n), "{n}");
-    }
-    assert!(rt; read(&mut recording, alloc, 1, a, 0) == Err(Refusal::EntriesFull));
-    // The entries come before the inserts and the response.
-    assert!(rt; read(&mut recording, alloc, 1, a, 4097) == Err(Refusal::EntriesFull));
-    assert!(rt; read(&mut recording, alloc, 0, a, 0) == Ok(1));
-    assert!(rt; recording.len() == 4097);
-}
-
-#[test]
-fn a_replica_has_at_most_262144_names_in_responses(rt: HostRuntime) {
-    let alloc = rt.alloc();
-    let a = name("a").expect(&rt, "a name");
-    let mut recording = opened(alloc, 1).expect(&rt, "a recording");
-    assert!(rt; read(&mut recording, alloc, 0, a, 4097) == Err(Refusal::LongResponse));
-    for n in 1..65 {
-        assert!(rt; read(&mut recording, alloc, 0, a, 4096) == Ok(n), "{n}");
-    }
-    assert!(rt; read(&mut recording, alloc, 0, a, 1) == Err(Refusal::PlacesFull));
-    assert!(rt; read(&mut recording, alloc, 0, a, 0) == Ok(65));
+    assert!(rt; hands_back_and_stays(rt.alloc()) == Some(true));
 }
 
 /// Whether these are the words of an error; where the first call finds no memory, of what the second gives.
@@ -446,41 +530,49 @@ fn says<E: Display>(alloc: Global, error: &E, words: &str) -> bool {
     }
 }
 
+static REFUSALS: [(Refusal, &str); 8] = [
+    (Refusal::NoReplica, "no such replica"),
+    (Refusal::OwnReceipt, "own receipt"),
+    (Refusal::NotYet { have: 1 }, "not yet, have 1"),
+    (Refusal::EntriesFull, "entries full"),
+    (Refusal::InsertsFull, "inserts full"),
+    (Refusal::LongResponse, "long response"),
+    (Refusal::PlacesFull, "places full"),
+    (Refusal::Memory, "memory"),
+];
+
 #[test]
 fn refusals_have_their_words(rt: HostRuntime) {
-    let rows = [
-        (Refusal::NoReplica, "no such replica"),
-        (Refusal::OwnReceipt, "own receipt"),
-        (Refusal::NotYet { have: 1 }, "not yet, have 1"),
-        (Refusal::EntriesFull, "entries full"),
-        (Refusal::InsertsFull, "inserts full"),
-        (Refusal::LongResponse, "long response"),
-        (Refusal::PlacesFull, "places full"),
-        (Refusal::Memory, "memory"),
-    ];
-    for (refusal, words) in rows {
+    for (refusal, words) in REFUSALS.iter().copied() {
         assert!(rt; says(rt.alloc(), &refusal, words), "{words}");
     }
 }
 
+/// Whether the faults of names have their words.
+fn name_faults_say(alloc: Global) -> bool {
+    says(alloc, &NameFault::Empty, "empty name")
+        && says(alloc, &NameFault::Long, "long name")
+        && says(alloc, &NameFault::BadByte { at: 31 }, "bad byte at 31")
+}
+
+/// Whether the faults of new recordings have their words.
+fn new_faults_say(alloc: Global) -> bool {
+    says(alloc, &NewFault::NoReplicas, "no replicas")
+        && says(alloc, &NewFault::ManyReplicas, "many replicas")
+        && says(alloc, &NewFault::Memory, "memory")
+}
+
 #[test]
 fn faults_have_their_words(rt: HostRuntime) {
-    let alloc = rt.alloc();
-    assert!(rt; says(alloc, &NameFault::Empty, "empty name"));
-    assert!(rt; says(alloc, &NameFault::Long, "long name"));
-    assert!(rt; says(alloc, &NameFault::BadByte { at: 31 }, "bad byte at 31"));
-    assert!(rt; says(alloc, &NewFault::NoReplicas, "no replicas"));
-    assert!(rt; says(alloc, &NewFault::ManyReplicas, "many replicas"));
-    assert!(rt; says(alloc, &NewFault::Memory, "memory"));
+    assert!(rt; name_faults_say(rt.alloc()));
+    assert!(rt; new_faults_say(rt.alloc()));
 }
 
 /// An insert and a receipt of it, by replicas 0 and 1.
-fn two_entries(alloc: Global) -> Option<Recording> {
-    let mut recording = opened(alloc, 2).ok()?;
-    insert(&mut recording, alloc, 0, name("a").ok()?).ok()?;
-    receive(&mut recording, 1, 0, 1)?.ok()?;
-    Some(recording)
-}
+static TWO_ENTRIES: [Step; 2] = [
+    Step(0, Act::Insert, 1, Ok(1)),
+    Step(1, Act::Receive(0, 1), 1, Ok(1)),
+];
 
 /// A copy; where the first call finds no memory, what the second gives.
 fn copied(alloc: Global, recording: &Recording) -> Option<Recording> {
@@ -500,11 +592,10 @@ fn takes_a_receipt(recording: &mut Recording) -> bool {
     receive(recording, 1, 0, 1).is_some() && recording.stream_len(1) == 2
 }
 
-#[test]
-fn copies_are_equal(rt: HostRuntime) {
-    let recording = two_entries(rt.alloc()).expect(&rt, "a recording");
-    let copy = copied(rt.alloc(), &recording).expect(&rt, "a copy");
-    assert!(rt; has_two(&copy));
+/// Whether a copy has what was copied.
+fn copy_is_equal(alloc: Global, recording: &Recording) -> Option<bool> {
+    let copy = copied(alloc, recording)?;
+    Some(has_two(&copy))
 }
 
 /// Whether a copy takes one receipt more.
@@ -514,10 +605,11 @@ fn copy_goes_on(alloc: Global, recording: &Recording) -> Option<bool> {
 }
 
 #[test]
-fn copies_go_on_alone(rt: HostRuntime) {
-    let recording = two_entries(rt.alloc()).expect(&rt, "a recording");
-    assert!(rt; copy_goes_on(rt.alloc(), &recording) == Some(true));
-    assert!(rt; has_two(&recording));
+fn copies_are_equal_and_go_on_alone(rt: HostRuntime) {
+    let alloc = rt.alloc();
+    let recording = made(alloc, 2, TWO_ENTRIES.as_slice()).expect(&rt, "a recording");
+    assert!(rt; copy_is_equal(alloc, &recording) == Some(true));
+    assert!(rt; copy_goes_on(alloc, &recording) == Some(true) && has_two(&recording));
 }
 
 /// What is answered to a receipt by this replica of the second operation of replica 0.
@@ -528,38 +620,35 @@ fn room_for(recording: &Recording, replica: u32) -> Option<Result<(), Refusal>> 
     Some(recording.room(&entry))
 }
 
+/// Whether receipts find no room for what is wrong with them.
+fn tells_of_room(recording: &Recording) -> bool {
+    room_for(recording, 1) == Some(Err(Refusal::NotYet { have: 1 }))
+        && room_for(recording, 0) == Some(Err(Refusal::OwnReceipt))
+}
+
 #[test]
 fn room_changes_nothing(rt: HostRuntime) {
-    let recording = two_entries(rt.alloc()).expect(&rt, "a recording");
-    assert!(rt; room_for(&recording, 1) == Some(Err(Refusal::NotYet { have: 1 })));
-    assert!(rt; room_for(&recording, 0) == Some(Err(Refusal::OwnReceipt)));
-    assert!(rt; has_two(&recording));
+    let recording = made(rt.alloc(), 2, TWO_ENTRIES.as_slice()).expect(&rt, "a recording");
+    assert!(rt; tells_of_room(&recording) && has_two(&recording));
 }
 
-/// A recording with as many names as one replica's responses may have.
-fn full(alloc: Global, a: Name) -> Option<Recording> {
-    let mut recording = opened(alloc, 1).ok()?;
-    for _ in 0..64 {
-        read(&mut recording, alloc, 0, a, 4096).ok()?;
-    }
-    Some(recording)
-}
+/// As many names as one replica's responses may have.
+static FULL: [Step; 1] = [Step(0, Act::Read(4096), 64, Ok(1))];
 
-/// What is answered to a read of so many names that comes to a copy.
-fn read_by_copy(
-    alloc: Global,
-    recording: &Recording,
-    a: Name,
-    names: u32,
-) -> Option<Result<u32, Refusal>> {
+/// The answer to a read of so many names that comes to a copy.
+fn read_by_copy(alloc: Global, recording: &Recording, names: u32) -> Option<Result<u32, Refusal>> {
     let mut copy = copied(alloc, recording)?;
-    Some(read(&mut copy, alloc, 0, a, names))
+    Some(read(&mut copy, alloc, 0, name("a").ok()?, names))
+}
+
+/// Whether the copy of a full recording is full.
+fn copy_is_full(alloc: Global, recording: &Recording) -> bool {
+    read_by_copy(alloc, recording, 1) == Some(Err(Refusal::PlacesFull))
+        && read_by_copy(alloc, recording, 0) == Some(Ok(65))
 }
 
 #[test]
 fn a_full_recording_is_copied(rt: HostRuntime) {
-    let a = name("a").expect(&rt, "a name");
-    let recording = full(rt.alloc(), a).expect(&rt, "a recording");
-    assert!(rt; read_by_copy(rt.alloc(), &recording, a, 1) == Some(Err(Refusal::PlacesFull)));
-    assert!(rt; read_by_copy(rt.alloc(), &recording, a, 0) == Some(Ok(65)));
+    let recording = made(rt.alloc(), 1, FULL.as_slice()).expect(&rt, "a recording");
+    assert!(rt; copy_is_full(rt.alloc(), &recording));
 }
