@@ -1,2 +1,2 @@
-pub mod Counts
+pub mod Calls
 pub mod Fronts

@@ -1,6 +1,6 @@
-//! Writers that tell contracts how their calls went.
+//! Writers that are never asked after a write that failed or took no byte.
 
-use std::io::Write;
+use super::writer::Writer;
 use std::marker::Model;
 use thiserror::Error;
 
@@ -11,54 +11,57 @@ pub struct WriteFault;
 
 /// A writer that is never asked again after a write that failed or took no byte.
 #[derive(Drop)]
-pub struct Sink<W: Write + Drop> {
+pub struct Sink<W: Writer + Drop> {
     inner: W,
-    writes: u64,
     has_failed: bool,
 }
 
-impl<W: Write + Drop> Model for Sink<W> {
+impl<W: Writer + Drop> Model for Sink<W> {
     ghost use Rattle.byte_streams.specs.Streams.{SinkState};
 
     ghost Value = { SinkState };
 
-    ghost view = { λ s. record { bytes = W.contents s.inner; calls = s.writes; failed = s.has_failed } };
+    ghost view = { λ s. record { bytes = W.bytes_held s.inner; calls = W.writes_made s.inner; failed = s.has_failed } };
 }
 
-impl<W: Write + Drop> Sink<W> {
-    ghost use Rattle.std.specs.Prelude.{◌≡◌, ◌≤◌, ◌<◌, ◌+◌, ◌-◌, ◌^◌, min, true, false, None, IfSome, IsOk, IsErr, OnOk, OnErr, [], length, take};
+impl<W: Writer + Drop> Sink<W> {
+    ghost use Rattle.std.specs.Prelude.{◌≡◌, ◌≤◌, ◌<◌, ◌∷◌, [], true, false, None, Some, IfSome, IsOk, IsErr, OnOk, OnErr, List, MatchResult, Option, length, take, ℕ};
     ghost use Rattle.std.specs.Io.KnownBytes.{Appends, Keeps};
-    ghost use Rattle.byte_streams.specs.Streams.{AppendsFront};
+    ghost use Rattle.byte_streams.specs.Streams.{AppendsFront, Makes, WriteCall, at_least_one};
+    ghost use Rattle.byte_streams.specs.Wholes.{TakenAs, TakenInPart};
 
-    /// The writer, of which no write was made.
+    /// The writer, of which no write was made here.
     pub fn new(inner: W) -> Sink<W>
-        ensures bytes { result.bytes ≡ W.contents inner }
-        ensures unwritten { (result.calls ≡ 0) × (result.failed ≡ false) }
+        ensures bytes { result.bytes ≡ W.bytes_held inner }
+        ensures calls { result.calls ≡ W.writes_made inner }
+        ensures unwritten { result.failed ≡ false }
     {
         Sink {
             inner,
-            writes: 0,
             has_failed: false,
         }
     }
 
     /// Writes once, from the front of the bytes, and answers how many were taken: at least one. Answers
-    /// `None` where the write fails or takes no byte, as it does where there is none. After that it answers
-    /// `None` and asks the writer no more. Writes are counted up to 2^64 - 1.
+    /// `None` where the write fails or takes no byte. After that it answers `None` and asks the writer no more. No byte
+    /// needs no write: then it answers 0.
     pub fn write(&mut self, bytes: &[u8]) -> Option<usize>
-        ensures within { IfSome result (λ n. (0 < n) × (n ≤ length bytes.now)) }
+        ensures within { IfSome result (λ n. (n ≤ length bytes.now) × (0 < length bytes.now → 0 < n)) }
         ensures bytes { IfSome result (λ n. Appends self.old.bytes self.new.bytes (take n bytes.now)) }
-        ensures went { IfSome result (λ n. (self.new.failed ≡ false) × (self.old.failed ≡ false) × (self.new.calls ≡ min (self.old.calls + 1) (2 ^ 64 - 1))) }
+        ensures went { IfSome result (λ n. (self.new.failed ≡ self.old.failed) × (0 < length bytes.now → self.old.failed ≡ false)) }
         ensures failed { result ≡ None → Keeps self.old.bytes self.new.bytes × (self.new.failed ≡ true) }
-        ensures asked { result ≡ None → self.old.failed ≡ false → self.new.calls ≡ min (self.old.calls + 1) (2 ^ 64 - 1) }
-        ensures closed { self.old.failed ≡ true → (result ≡ None) × (self.new ≡ self.old) }
+        ensures asked { self.old.failed ≡ false → 0 < length bytes.now → (taken : Option ℕ) × (result ≡ at_least_one taken) × Makes self.old.calls self.new.calls (record { handed = bytes.now; taken = taken } ∷ []) }
+        ensures closed { self.old.failed ≡ true → 0 < length bytes.now → (result ≡ None) × (self.new ≡ self.old) }
+        ensures nothing { length bytes.now ≡ 0 → (result ≡ Some 0) × (self.new ≡ self.old) }
     {
+        if bytes.is_empty() {
+            return Some(0);
+        }
         if self.has_failed {
             return None;
         }
-        self.writes = self.writes.saturating_add(1);
-        match self.inner.write(bytes) {
-            Ok(n) if n > 0 => Some(n),
+        match self.inner.write_once(bytes) {
+            Some(n) if n > 0 => Some(n),
             _ => {
                 self.has_failed = true;
                 None
@@ -67,11 +70,12 @@ impl<W: Write + Drop> Sink<W> {
     }
 
     /// Writes all of the bytes, in as many writes as the writer needs. Where a write fails or takes no
-    /// byte, a front of them was written, and not all. No byte needs no write.
+    /// byte, the last of those that were made, a front of them was written, and not all. No byte needs no write.
     pub fn write_whole(&mut self, bytes: &[u8]) -> Result<(), WriteFault>
         ensures ok { OnOk result (Appends self.old.bytes self.new.bytes bytes.now × (self.new.failed ≡ self.old.failed)) }
         ensures err { OnErr result (AppendsFront self.old.bytes self.new.bytes bytes.now × (self.new.failed ≡ true)) }
-        ensures asked { self.old.failed ≡ false → 0 < length bytes.now → min (self.old.calls + 1) (2 ^ 64 - 1) ≤ self.new.calls }
+        ensures made { self.old.failed ≡ false → (calls : List WriteCall) × Makes self.old.calls self.new.calls calls
+            × MatchResult result (λ _. TakenAs bytes.now calls) (λ _. TakenInPart bytes.now calls) }
         ensures closed { self.old.failed ≡ true → 0 < length bytes.now → IsErr result × (self.new ≡ self.old) }
         ensures nothing { bytes.now ≡ [] → IsOk result × (self.new ≡ self.old) }
     {

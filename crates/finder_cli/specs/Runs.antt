@@ -84,6 +84,16 @@ IsOfReading run.Write = ⊥
 IsOfReading run.Thread = ⊥
 IsOfReading run.Stalled = ⊥
 
+-- no fault but those of a run without a session
+abbrev pub IsOfRun : RunFault → Type 0
+IsOfRun run.Workers = Unit {0}
+IsOfRun run.Read = Unit {0}
+IsOfRun (run.Trace fault) = Unit {0}
+IsOfRun run.Write = Unit {0}
+IsOfRun run.Memory = Unit {0}
+IsOfRun run.Thread = ⊥
+IsOfRun run.Stalled = ⊥
+
 -- no fault but those of reading and writing, and want of memory
 abbrev pub IsOfVerifying : RunFault → Type 0
 IsOfVerifying run.Read = Unit {0}

@@ -3,31 +3,31 @@
 ghost use Rattle.std.specs.Prelude.{◌≡◌, ◌≢◌, true, false, IfOk, IfErr, IfSome, OnOk, IsErrOf};
 ghost use Rattle.std.specs.Io.KnownBytes.{IsAtEnd};
 ghost use Rattle.byte_streams.specs.Streams.{IsClosed};
-ghost use Rattle.finder_cli.specs.Runs.{NamesFirstFault, IsOfText};
+ghost use Rattle.finder_cli.specs.Runs.{NamesFirstFault, IsOfRun, IsOfText};
 ghost use Rattle.finder_cli.specs.Certified.{IsCertificateOn, Certifies, CertifiesFront};
 
 use super::output::{Output, recording_on, status_of, verdict_on, whole_text, write_output};
 use super::status::{RunFault, Status};
-use byte_streams::{Sink, Source};
+use byte_streams::{Reader, Sink, Source, Writer};
 use certificate::certify;
 use command_line::WORKERS;
 use std::alloc::Global;
-use std::io::{Read, Write};
 use std::thread::Threads;
 
 /// Reads a trace to its end, and writes the certificate of its verdict. Four workers search.
 ///
 /// Nothing is written before the whole text is made. A trace line that is refused for want of memory is
 /// `Memory`.
-pub fn run_cert<H: Threads + Sync, R: Read + Drop, W: Write + Drop>(
+pub fn run_cert<H: Threads + Sync, R: Reader + Drop, W: Writer + Drop>(
     rt: &H,
     alloc: Global,
     source: &mut Source<R>,
     sink: &mut Sink<W>,
 ) -> Result<Status, RunFault>
     ensures certificate { IfOk result (λ status. IfSome source.old.bytes (λ text. Certifies text sink.old.bytes sink.new.bytes status)) }
-    ensures end { OnOk result (IsAtEnd source.new.bytes) }
+    ensures end { OnOk result (IsAtEnd source.new.bytes × (source.new.ended ≡ true)) }
     ensures workers { ¬ IsErrOf result RunFault.Workers }
+    ensures faults { IfErr result IsOfRun }
     ensures read { IfErr result (λ fault. fault ≡ RunFault.Read → IsClosed source.new) }
     ensures memory { IfErr result (λ fault. fault ≡ RunFault.Memory → source.new.failed ≡ false) }
     ensures trace { IfErr result (λ fault. IfSome source.old.bytes (λ text. NamesFirstFault text fault)) }

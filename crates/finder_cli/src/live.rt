@@ -9,7 +9,7 @@ ghost use Rattle.finder_cli.specs.Runs.{IsReportOf, Reports, ReportsFront, Names
 
 use super::output::{Output, recording_on, status_of, verdict_on, whole_text, write_output};
 use super::status::{RunFault, Status};
-use byte_streams::{Sink, Source};
+use byte_streams::{Reader, Sink, Source, Writer};
 use certificate::Gate;
 use command_line::MOST_WORKERS;
 use events::Recording;
@@ -17,7 +17,6 @@ use rehearsal::{RehearsalFault, rehearse};
 use report::reports_are_of_streams;
 use specification::verdicts_are_of_streams;
 use std::alloc::Global;
-use std::io::{Read, Write};
 use std::sync::Wait;
 use std::thread::Threads;
 
@@ -28,7 +27,7 @@ use std::thread::Threads;
 /// replica r the gate's `before(r, 0)` and `after(r, 0)` are called round its replay, and no search calls it. After all
 /// threads are joined, out of memory in any of them is answered before `Thread`, and `Thread` before `Stalled`. Nothing
 /// is written before the whole report is made.
-pub fn live<H: Threads + Wait + Sync, R: Read + Drop, W: Write + Drop, G: Gate>(
+pub fn live<H: Threads + Wait + Sync, R: Reader + Drop, W: Writer + Drop, G: Gate>(
     rt: &H,
     alloc: Global,
     source: &mut Source<R>,
@@ -37,7 +36,7 @@ pub fn live<H: Threads + Wait + Sync, R: Read + Drop, W: Write + Drop, G: Gate>(
     gate: &G,
 ) -> Result<Status, RunFault>
     ensures report { IfOk result (λ status. IfSome source.old.bytes (λ text. Reports text Text sink.old.bytes sink.new.bytes status)) }
-    ensures end { OnOk result (IsAtEnd source.new.bytes) }
+    ensures end { OnOk result (IsAtEnd source.new.bytes × (source.new.ended ≡ true)) }
     ensures workers { IsErrOf result RunFault.Workers ↔ IsNoWorkers workers }
     ensures unread { IsNoWorkers workers → source.new ≡ source.old }
     ensures read { IfErr result (λ fault. fault ≡ RunFault.Read → IsClosed source.new) }

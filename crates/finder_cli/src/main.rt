@@ -2,12 +2,14 @@
 //! certificate; or checks a certificate; or replays a recording by threads in one session.
 //!
 //! `run`, `run_cert`, `run_verify` and `live` are the engines, over any readers and writers; `program` joins them and
-//! the words of the command line to files, standard streams and exit statuses.
+//! the words of the command line in any world that opens streams, and `machine` is the real one.
 #![tactic(auto)]
 
 mod answer_line;
 mod certified;
+mod fault;
 mod live;
+mod machine;
 mod output;
 mod program;
 mod run;
@@ -15,16 +17,19 @@ mod status;
 #[cfg(test)]
 mod tests;
 mod verified;
+mod world;
 
-use program::finder;
+use byte_streams::Sink;
+use machine::Machine;
+use program::{all_words, finder};
+use std::io;
 use std::process::ExitCode;
 
 fn main(rt: HostRuntime) -> ExitCode {
-    match finder(&rt) {
-        Ok(status) => ExitCode::from(status.number()),
-        Err(fault) => {
-            let _ = eprintln!(rt; "finder: {fault}");
-            ExitCode::from(fault.number())
-        }
-    }
+    ExitCode::from(finder(
+        &rt,
+        all_words(&rt),
+        &mut Machine::new(&rt),
+        &mut Sink::new(io::writer(&rt)),
+    ))
 }

@@ -10,11 +10,10 @@ ghost use Rattle.byte_streams.specs.Streams.{AppendsFront, IsClosed};
 ghost use Rattle.finder_cli.specs.Runs.{NamesFirstFault, IsOfText, IsOfReading, status_of};
 
 use super::status::{RunFault, Status};
-use byte_streams::{ReadFault, Sink, Source};
+use byte_streams::{ReadFault, Reader, Sink, Source, Writer};
 use certificate::{NoGate, SearchFault, Verdict, judge};
 use events::{Memory, Recording, Refusal};
 use std::alloc::Global;
-use std::io::{Read, Write};
 use std::thread::Threads;
 use trace_text::{Cause, LineFault};
 
@@ -26,11 +25,11 @@ pub struct Output {
 }
 
 /// The text of a source, to its end.
-pub fn whole_text<R: Read + Drop>(
+pub fn whole_text<R: Reader + Drop>(
     alloc: Global,
     source: &mut Source<R>,
 ) -> Result<Vec<u8>, RunFault>
-    ensures ok { IfOk result (λ text. Consumes source.old.bytes source.new.bytes text.items × IsAtEnd source.new.bytes × (source.new.failed ≡ false)) }
+    ensures ok { IfOk result (λ text. Consumes source.old.bytes source.new.bytes text.items × IsAtEnd source.new.bytes × (source.new.failed ≡ false) × (source.new.ended ≡ true)) }
     ensures read { IfErr result (λ fault. fault ≡ RunFault.Read → IsClosed source.new) }
     ensures memory { IfErr result (λ fault. fault ≡ RunFault.Memory → source.new.failed ≡ false) }
     ensures reading { IfErr result IsOfReading }
@@ -43,7 +42,7 @@ pub fn whole_text<R: Read + Drop>(
 }
 
 /// Writes an output, and answers its status.
-pub fn write_output<W: Write + Drop>(
+pub fn write_output<W: Writer + Drop>(
     sink: &mut Sink<W>,
     output: &Output,
 ) -> Result<Status, RunFault>

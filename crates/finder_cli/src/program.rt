@@ -1,109 +1,127 @@
-//! The program: its words, files and standard streams, and how it ends.
+//! The program: what it does for the words of its command line, in every world.
 
-ghost use Rattle.std.specs.Prelude.{◌≡◌, ◌↔◌, true, IfOk, IfErr, IfSome, IsErrOf, MatchResult};
-ghost use Rattle.std.specs.Io.KnownBytes.{Appends};
+ghost use Rattle.std.specs.Prelude.{◌≡◌, ◌++◌, drop, map, string_bytes, Err, List, MatchResult, Result};
+ghost use Rattle.byte_streams.specs.Streams.{Makes};
+ghost use Rattle.command_line.specs.Asked.{IsAskedBy};
+ghost use Rattle.command_line.specs.declared.task.Task.{Task};
 ghost use Rattle.command_line.specs.declared.task.Form.TheVariants.{Text};
-ghost use Rattle.finder_cli.specs.Runs.{Reports, IsNoWorkers};
-ghost use Rattle.finder_cli.specs.Certified.{Certifies, Verifies};
-ghost use Rattle.finder_cli.specs.Endings.{number_of_fault, IsFaultOfRun, NamesFile, NamesEither, IsOfWords};
+ghost use Rattle.command_line.specs.declared.words.WordsFault.{WordsFault};
+ghost use Rattle.finder_cli.specs.Deeds.{Deed};
+ghost use Rattle.finder_cli.specs.Endings.{fault_of_run};
+ghost use Rattle.finder_cli.specs.Engines.{Judges, JudgesAlone, Shows, Checks};
+ghost use Rattle.finder_cli.specs.Programs.{ChecksOn, Does, DoesTask, Helps, RunsOn, answer_on, complaints, number_of};
+ghost use Rattle.finder_cli.specs.declared.fault.ProgramFault.{ProgramFault};
+ghost use Rattle.finder_cli.specs.declared.status.Status.{Status};
 
 use super::certified::run_cert;
+use super::fault::ProgramFault;
 use super::live::live;
 use super::run::run;
 use super::status::{RunFault, Status};
 use super::verified::run_verify;
-use byte_streams::{Sink, Source};
+use super::world::World;
+use byte_streams::{Reader, Sink, Source, Writer};
 use certificate::NoGate;
 use command_line::{Form, Task, Word, WordsFault, read_words};
 use std::alloc::Global;
+use std::env;
 use std::env::Env;
-use std::io::{ErrorKind, Input, Print, Read, Write};
-use std::rt::Files;
+use std::io::ErrorKind;
 use std::sync::Wait;
 use std::thread::Threads;
-use std::{env, fs, io};
-use thiserror::Error;
-use trace_text::LineFault;
 
-/// Why the program did not do what it was asked for: its text is what stands on standard error.
-#[derive(Debug, Drop, Error)]
-pub enum ProgramFault {
-    /// The words are no command.
-    #[error("usage")]
-    Usage,
-    /// The file can't be opened or read.
-    #[error("cannot read {file}")]
-    Read { file: Word },
-    /// The text spells no recording.
-    #[error("{0}")]
-    Trace(LineFault),
-    /// A thread couldn't be started.
-    #[error("thread")]
-    Thread,
-    /// A recorder gave up on a receipt of an operation that had not come.
-    #[error("stalled")]
-    Stalled,
-    /// Standard output can't be written.
-    #[error("cannot write")]
-    Write,
-    /// A growth was refused.
-    #[error("memory")]
-    Memory,
+/// All words of the command line, the program's name first. One that is not UTF-8 is a usage fault.
+pub fn all_words<H: Env + AllocGlobal>(rt: &H) -> Result<Vec<String>, WordsFault> {
+    match env::args(rt) {
+        Ok(words) => words.collect(rt.alloc()).map_err(|_| WordsFault::Memory),
+        Err(error) if error.kind() == ErrorKind::OutOfMemory => Err(WordsFault::Memory),
+        Err(_) => Err(WordsFault::Usage),
+    }
 }
 
-impl ProgramFault {
-    /// The exit status: 3 for want of memory, 2 for any other fault.
-    pub fn number(&self) -> u8
-        ensures { result ≡ number_of_fault self.now }
-    {
-        match self {
-            ProgramFault::Memory => 3,
-            _ => 2,
+/// Does what the words ask for, the program's name first among them, writes the fault, if there is one, to standard
+/// error, and answers the exit status.
+///
+/// Of the words, those after the first are read. For a task the streams that its words name are opened in their order,
+/// its engine goes on them, and they are closed; what that engine answers is what the program answers. A file that can't
+/// be opened is named, and so is the trace where a read fails.
+pub fn finder<H: AllocGlobal + Threads + Wait + Sync, N: World, W: Writer + Drop>(
+    rt: &H,
+    words: Result<Vec<String>, WordsFault>,
+    world: &mut N,
+    sink: &mut Sink<W>,
+) -> u8
+    ensures { (asked : Result Task WordsFault) × (deeds : List Deed) × (answer : Result Status ProgramFault)
+        × MatchResult words (λ all. IsAskedBy (drop 1 (map string_bytes all.items)) asked) (λ fault. asked ≡ Err fault)
+        × Does (N.text world.old) asked deeds sink.old sink.new answer
+        × Makes (N.deeds world.old) (N.deeds world.new) (deeds ++ complaints answer)
+        × (result ≡ number_of answer) }
+{
+    match answer(rt, words, world, sink) {
+        Ok(status) => status.number(),
+        Err(fault) => {
+            world.complain(&fault);
+            fault.number()
         }
     }
 }
 
-/// Does what the words ask for, with standard input and output.
-pub fn finder<H: Env + Files + Input + Print + AllocGlobal + Threads + Wait + Sync>(
+/// Does what the words ask for.
+fn answer<H: AllocGlobal + Threads + Wait + Sync, N: World, W: Writer + Drop>(
     rt: &H,
-) -> Result<Status, ProgramFault> {
-    let words = words_of(rt)?;
-    match read_words(rt.alloc(), words.as_slice()) {
-        Ok(
-            Task::Verdict {
-                workers,
-                form,
-                file,
-            },
-        ) => judge_file(rt, file, workers, form),
-        Ok(Task::Cert { file }) => certify_file(rt, file),
-        Ok(Task::Verify { file, cert }) => verify_files(rt, file, cert),
-        Ok(Task::Live { workers, file }) => rehearse_file(rt, file, workers),
-        Err(WordsFault::Usage) => Err(ProgramFault::Usage),
-        Err(WordsFault::Memory) => Err(ProgramFault::Memory),
-        Err(WordsFault::Help { text }) => show(&mut Sink::new(io::writer(rt)), text.as_bytes()),
+    words: Result<Vec<String>, WordsFault>,
+    world: &mut N,
+    sink: &mut Sink<W>,
+) -> Result<Status, ProgramFault>
+    ensures { (asked : Result Task WordsFault) × (deeds : List Deed)
+        × MatchResult words (λ all. IsAskedBy (drop 1 (map string_bytes all.items)) asked) (λ fault. asked ≡ Err fault)
+        × Does (N.text world.old) asked deeds sink.old sink.new result
+        × Makes (N.deeds world.old) (N.deeds world.new) deeds }
+{
+    let asked = asked_by(rt.alloc(), words);
+    do_asked(rt, asked, world, sink)
+}
+
+/// What the words after the first ask for.
+fn asked_by(alloc: Global, words: Result<Vec<String>, WordsFault>) -> Result<Task, WordsFault>
+    ensures { MatchResult words (λ all. IsAskedBy (drop 1 (map string_bytes all.items)) result) (λ fault. result ≡ Err fault) }
+{
+    match words {
+        Ok(all) => read_given(alloc, &all),
+        Err(fault) => Err(fault),
     }
 }
 
-/// The words behind the program's name. One that is not UTF-8 is a usage fault.
-fn words_of<H: Env + AllocGlobal>(rt: &H) -> Result<Vec<String>, ProgramFault>
-    ensures { IfErr result IsOfWords }
+/// What the words after the first ask for.
+fn read_given(alloc: Global, all: &[String]) -> Result<Task, WordsFault>
+    ensures { IsAskedBy (drop 1 (map string_bytes all.now)) result }
 {
-    match env::args(rt) {
-        Ok(words) => words
-            .skip(1)
-            .collect(rt.alloc())
-            .map_err(|_| ProgramFault::Memory),
-        Err(error) if error.kind() == ErrorKind::OutOfMemory => Err(ProgramFault::Memory),
-        Err(_) => Err(ProgramFault::Usage),
+    match all {
+        [_, given @ ..] => read_words(alloc, given),
+        [] => read_words(alloc, &[]),
+    }
+}
+
+/// Does what is asked for.
+fn do_asked<H: AllocGlobal + Threads + Wait + Sync, N: World, W: Writer + Drop>(
+    rt: &H,
+    asked: Result<Task, WordsFault>,
+    world: &mut N,
+    sink: &mut Sink<W>,
+) -> Result<Status, ProgramFault>
+    ensures { (deeds : List Deed) × Does (N.text world.old) asked deeds sink.old sink.new result × Makes (N.deeds world.old) (N.deeds world.new) deeds }
+{
+    match asked {
+        Ok(task) => do_task(rt, task, world, sink),
+        Err(WordsFault::Usage) => Err(ProgramFault::Usage),
+        Err(WordsFault::Memory) => Err(ProgramFault::Memory),
+        Err(WordsFault::Help { text }) => help(sink, text.as_bytes()),
     }
 }
 
 /// Writes the text of a help.
-fn show<W: Write + Drop>(sink: &mut Sink<W>, text: &[u8]) -> Result<Status, ProgramFault>
-    ensures { MatchResult result
-        (λ status. (status ≡ Status.Good) × Appends sink.old.bytes sink.new.bytes text.now)
-        (λ fault. (fault ≡ ProgramFault.Write) × (sink.new.failed ≡ true)) }
+fn help<W: Writer + Drop>(sink: &mut Sink<W>, text: &[u8]) -> Result<Status, ProgramFault>
+    ensures { Helps text.now sink.old sink.new result }
 {
     match sink.write_whole(text) {
         Ok(()) => Ok(Status::Good),
@@ -111,178 +129,165 @@ fn show<W: Write + Drop>(sink: &mut Sink<W>, text: &[u8]) -> Result<Status, Prog
     }
 }
 
-/// Writes the report on the recording that the file spells; `-` is standard input.
-fn judge_file<H: Files + Input + Print + AllocGlobal + Threads + Sync>(
+/// Does the task.
+fn do_task<H: AllocGlobal + Threads + Wait + Sync, N: World, W: Writer + Drop>(
     rt: &H,
-    file: Word,
-    workers: u32,
-    form: Form,
+    task: Task,
+    world: &mut N,
+    sink: &mut Sink<W>,
 ) -> Result<Status, ProgramFault>
-    ensures { IfErr result (λ fault. NamesFile file fault) }
+    ensures { (deeds : List Deed) × DoesTask (N.text world.old) task deeds sink.old sink.new result × Makes (N.deeds world.old) (N.deeds world.new) deeds }
 {
-    let mut sink = Sink::new(io::writer(rt));
-    if file.as_str() == "-" {
-        return judge(
-            rt,
-            &mut Source::new(rt.reader()),
-            &mut sink,
-            file,
+    match task {
+        Task::Verdict {
             workers,
             form,
-        );
-    }
-    match fs::open(rt, file.as_str()) {
-        Ok(opened) => judge(rt, &mut Source::new(opened), &mut sink, file, workers, form),
-        Err(_) => Err(ProgramFault::Read { file }),
+            file,
+        } => judge_file(rt, world, sink, file, workers, form),
+        Task::Cert { file } => certify_file(rt, world, sink, file),
+        Task::Verify { file, cert } => check_files(rt, world, sink, file, cert),
+        Task::Live { workers, file } => rehearse_file(rt, world, sink, file, workers),
     }
 }
 
-/// Writes the report on the recording that the source spells, where it is the source of this file.
-fn judge<H: AllocGlobal + Threads + Sync, R: Read + Drop, W: Write + Drop>(
+/// Writes the report on the recording that the file spells.
+fn judge_file<H: AllocGlobal + Threads + Sync, N: World, W: Writer + Drop>(
     rt: &H,
-    source: &mut Source<R>,
+    world: &mut N,
     sink: &mut Sink<W>,
     file: Word,
     workers: u32,
     form: Form,
 ) -> Result<Status, ProgramFault>
-    ensures report { IfOk result (λ status. IfSome source.old.bytes (λ text. Reports text form sink.old.bytes sink.new.bytes status)) }
-    ensures usage { IsErrOf result ProgramFault.Usage ↔ IsNoWorkers workers }
-    ensures file { IfErr result (λ fault. NamesFile file fault) }
+    ensures { (deeds : List Deed) × RunsOn (JudgesAlone workers form) (N.text world.old) file deeds sink.old sink.new result × Makes (N.deeds world.old) (N.deeds world.new) deeds }
 {
-    match run(rt, rt.alloc(), source, sink, workers, form) {
-        Ok(status) => Ok(status),
-        Err(fault) => Err(fault_of_run(fault, file)),
-    }
+    let Some(mut source) = world.open(file.as_str()) else {
+        return Err(ProgramFault::Read { file });
+    };
+    let ran = judge(rt, &mut source, sink, workers, form);
+    world.close(&source);
+    answer_on(file, ran)
 }
 
-/// Writes the report on the recording that the file spells, by way of a session; `-` is standard input.
-fn rehearse_file<H: Files + Input + Print + AllocGlobal + Threads + Wait + Sync>(
-    rt: &H,
-    file: Word,
-    workers: u32,
-) -> Result<Status, ProgramFault>
-    ensures { IfErr result (λ fault. NamesFile file fault) }
-{
-    let mut sink = Sink::new(io::writer(rt));
-    if file.as_str() == "-" {
-        return rehearse(rt, &mut Source::new(rt.reader()), &mut sink, file, workers);
-    }
-    match fs::open(rt, file.as_str()) {
-        Ok(opened) => rehearse(rt, &mut Source::new(opened), &mut sink, file, workers),
-        Err(_) => Err(ProgramFault::Read { file }),
-    }
-}
-
-/// Writes the report on the recording that the source spells, by way of a session, where it is the source of this
-/// file.
-fn rehearse<H: AllocGlobal + Threads + Wait + Sync, R: Read + Drop, W: Write + Drop>(
+/// Writes the report on the recording that the source spells.
+fn judge<H: AllocGlobal + Threads + Sync, R: Reader + Drop, W: Writer + Drop>(
     rt: &H,
     source: &mut Source<R>,
+    sink: &mut Sink<W>,
+    workers: u32,
+    form: Form,
+) -> Result<Status, RunFault>
+    ensures { JudgesAlone workers form source.old source.new sink.old sink.new result }
+{
+    run(rt, rt.alloc(), source, sink, workers, form)
+}
+
+/// Writes the report on the recording that the file spells, by way of a session.
+fn rehearse_file<H: AllocGlobal + Threads + Wait + Sync, N: World, W: Writer + Drop>(
+    rt: &H,
+    world: &mut N,
     sink: &mut Sink<W>,
     file: Word,
     workers: u32,
 ) -> Result<Status, ProgramFault>
-    ensures report { IfOk result (λ status. IfSome source.old.bytes (λ text. Reports text Text sink.old.bytes sink.new.bytes status)) }
-    ensures usage { IsErrOf result ProgramFault.Usage ↔ IsNoWorkers workers }
-    ensures file { IfErr result (λ fault. NamesFile file fault) }
+    ensures { (deeds : List Deed) × RunsOn (Judges workers Text) (N.text world.old) file deeds sink.old sink.new result × Makes (N.deeds world.old) (N.deeds world.new) deeds }
 {
-    match live(rt, rt.alloc(), source, sink, workers, &NoGate) {
-        Ok(status) => Ok(status),
-        Err(fault) => Err(fault_of_run(fault, file)),
-    }
+    let Some(mut source) = world.open(file.as_str()) else {
+        return Err(ProgramFault::Read { file });
+    };
+    let ran = rehearse(rt, &mut source, sink, workers);
+    world.close(&source);
+    answer_on(file, ran)
 }
 
-/// Writes the certificate of the recording that the file spells; `-` is standard input.
-fn certify_file<H: Files + Input + Print + AllocGlobal + Threads + Sync>(
-    rt: &H,
-    file: Word,
-) -> Result<Status, ProgramFault>
-    ensures { IfErr result (λ fault. NamesFile file fault) }
-{
-    let mut sink = Sink::new(io::writer(rt));
-    if file.as_str() == "-" {
-        return certify(rt, &mut Source::new(rt.reader()), &mut sink, file);
-    }
-    match fs::open(rt, file.as_str()) {
-        Ok(opened) => certify(rt, &mut Source::new(opened), &mut sink, file),
-        Err(_) => Err(ProgramFault::Read { file }),
-    }
-}
-
-/// Writes the certificate of the recording that the source spells, where it is the source of this file.
-fn certify<H: AllocGlobal + Threads + Sync, R: Read + Drop, W: Write + Drop>(
+/// Writes the report on the recording that the source spells, by way of a session.
+fn rehearse<H: AllocGlobal + Threads + Wait + Sync, R: Reader + Drop, W: Writer + Drop>(
     rt: &H,
     source: &mut Source<R>,
     sink: &mut Sink<W>,
-    file: Word,
-) -> Result<Status, ProgramFault>
-    ensures certificate { IfOk result (λ status. IfSome source.old.bytes (λ text. Certifies text sink.old.bytes sink.new.bytes status)) }
-    ensures file { IfErr result (λ fault. NamesFile file fault) }
+    workers: u32,
+) -> Result<Status, RunFault>
+    ensures { Judges workers Text source.old source.new sink.old sink.new result }
 {
-    match run_cert(rt, rt.alloc(), source, sink) {
-        Ok(status) => Ok(status),
-        Err(fault) => Err(fault_of_run(fault, file)),
-    }
+    live(rt, rt.alloc(), source, sink, workers, &NoGate)
 }
 
-/// Writes the checker's line on the trace in the file and the certificate in the other; `-` is standard
-/// input. The trace is opened first.
-fn verify_files<H: Files + Input + Print + AllocGlobal + Threads + Sync>(
+/// Writes the certificate of the recording that the file spells.
+fn certify_file<H: AllocGlobal + Threads + Sync, N: World, W: Writer + Drop>(
     rt: &H,
+    world: &mut N,
+    sink: &mut Sink<W>,
+    file: Word,
+) -> Result<Status, ProgramFault>
+    ensures { (deeds : List Deed) × RunsOn Shows (N.text world.old) file deeds sink.old sink.new result × Makes (N.deeds world.old) (N.deeds world.new) deeds }
+{
+    let Some(mut source) = world.open(file.as_str()) else {
+        return Err(ProgramFault::Read { file });
+    };
+    let ran = certify(rt, &mut source, sink);
+    world.close(&source);
+    answer_on(file, ran)
+}
+
+/// Writes the certificate of the recording that the source spells.
+fn certify<H: AllocGlobal + Threads + Sync, R: Reader + Drop, W: Writer + Drop>(
+    rt: &H,
+    source: &mut Source<R>,
+    sink: &mut Sink<W>,
+) -> Result<Status, RunFault>
+    ensures { Shows source.old source.new sink.old sink.new result }
+{
+    run_cert(rt, rt.alloc(), source, sink)
+}
+
+/// Writes the checker's line on the trace in the file and the certificate in the other. The trace is opened first.
+fn check_files<H: AllocGlobal + Threads + Sync, N: World, W: Writer + Drop>(
+    rt: &H,
+    world: &mut N,
+    sink: &mut Sink<W>,
     file: Word,
     cert: Word,
 ) -> Result<Status, ProgramFault>
-    ensures { IfErr result (λ fault. NamesEither file cert fault) }
+    ensures { (deeds : List Deed) × ChecksOn (N.text world.old) file cert deeds sink.old sink.new result × Makes (N.deeds world.old) (N.deeds world.new) deeds }
 {
-    if file.as_str() == "-" {
-        return verify_against(rt, &mut Source::new(rt.reader()), file, cert);
-    }
-    match fs::open(rt, file.as_str()) {
-        Ok(opened) => verify_against(rt, &mut Source::new(opened), file, cert),
-        Err(_) => Err(ProgramFault::Read { file }),
-    }
+    let Some(mut trace) = world.open(file.as_str()) else {
+        return Err(ProgramFault::Read { file });
+    };
+    let Some(mut other) = world.open(cert.as_str()) else {
+        world.close(&trace);
+        return Err(ProgramFault::Read { file: cert });
+    };
+    let ran = check(rt, &mut trace, &mut other, sink);
+    world.close(&trace);
+    world.close(&other);
+    answer_on(file, ran)
 }
 
-/// Writes the checker's line on a trace, where it is the source of this file, and the certificate in the other.
-fn verify_against<H: Files + Input + Print + AllocGlobal + Threads + Sync, T: Read + Drop>(
-    rt: &H,
-    trace: &mut Source<T>,
-    file: Word,
-    cert: Word,
-) -> Result<Status, ProgramFault>
-    ensures { IfErr result (λ fault. NamesEither file cert fault) }
-{
-    let mut sink = Sink::new(io::writer(rt));
-    if cert.as_str() == "-" {
-        return verify(rt, trace, &mut Source::new(rt.reader()), &mut sink, file);
-    }
-    match fs::open(rt, cert.as_str()) {
-        Ok(opened) => verify(rt, trace, &mut Source::new(opened), &mut sink, file),
-        Err(_) => Err(ProgramFault::Read { file: cert }),
-    }
-}
-
-/// Writes the checker's line on a trace and a certificate, where the trace is the source of this file.
-fn verify<H: AllocGlobal + Threads + Sync, T: Read + Drop, C: Read + Drop, W: Write + Drop>(
+/// Writes the checker's line on a trace and a certificate.
+fn check<H: AllocGlobal + Threads + Sync, T: Reader + Drop, C: Reader + Drop, W: Writer + Drop>(
     rt: &H,
     trace: &mut Source<T>,
     cert: &mut Source<C>,
     sink: &mut Sink<W>,
-    file: Word,
-) -> Result<Status, ProgramFault>
-    ensures answer { IfOk result (λ status. IfSome trace.old.bytes (λ t. IfSome cert.old.bytes (λ c. Verifies t c sink.old.bytes sink.new.bytes status))) }
-    ensures file { IfErr result (λ fault. NamesFile file fault) }
+) -> Result<Status, RunFault>
+    ensures { Checks trace.old trace.new cert.old cert.new sink.old sink.new result }
 {
-    match run_verify(rt, rt.alloc(), trace, cert, sink) {
+    run_verify(rt, rt.alloc(), trace, cert, sink)
+}
+
+/// The program's answer for an engine's on the file.
+fn answer_on(file: Word, ran: Result<Status, RunFault>) -> Result<Status, ProgramFault>
+    ensures { result ≡ answer_on file ran }
+{
+    match ran {
         Ok(status) => Ok(status),
-        Err(fault) => Err(fault_of_run(fault, file)),
+        Err(fault) => Err(fault_of_run(file, fault)),
     }
 }
 
 /// The program's fault for a run's, where the text came from the file.
-fn fault_of_run(fault: RunFault, file: Word) -> ProgramFault
-    ensures { IsFaultOfRun fault file result }
+fn fault_of_run(file: Word, fault: RunFault) -> ProgramFault
+    ensures { result ≡ fault_of_run file fault }
 {
     match fault {
         RunFault::Workers => ProgramFault::Usage,

@@ -9,11 +9,10 @@ ghost use Rattle.finder_cli.specs.Certified.{IsLineOn, Verifies, VerifiesFront, 
 use super::answer_line::line_of;
 use super::output::{Output, whole_text, write_output};
 use super::status::{RunFault, Status};
-use byte_streams::{Sink, Source};
+use byte_streams::{Reader, Sink, Source, Writer};
 use cert_check::{Answer, check};
 use events::Memory;
 use std::alloc::Global;
-use std::io::{Read, Write};
 use std::thread::Threads;
 
 /// Reads a trace to its end, then a certificate, and writes the checker's line: whether the certificate is
@@ -21,7 +20,7 @@ use std::thread::Threads;
 ///
 /// Texts that do not read are answers of the checker and no faults. Nothing is written before the whole line
 /// is made.
-pub fn run_verify<H: Threads + Sync, T: Read + Drop, C: Read + Drop, W: Write + Drop>(
+pub fn run_verify<H: Threads + Sync, T: Reader + Drop, C: Reader + Drop, W: Writer + Drop>(
     rt: &H,
     alloc: Global,
     trace: &mut Source<T>,
@@ -29,12 +28,11 @@ pub fn run_verify<H: Threads + Sync, T: Read + Drop, C: Read + Drop, W: Write + 
     sink: &mut Sink<W>,
 ) -> Result<Status, RunFault>
     ensures answer { IfOk result (λ status. IfSome trace.old.bytes (λ t. IfSome cert.old.bytes (λ c. Verifies t c sink.old.bytes sink.new.bytes status))) }
-    ensures end { OnOk result (IsAtEnd trace.new.bytes × IsAtEnd cert.new.bytes) }
+    ensures end { OnOk result (IsAtEnd trace.new.bytes × (trace.new.ended ≡ true) × IsAtEnd cert.new.bytes × (cert.new.ended ≡ true)) }
     ensures faults { IfErr result IsOfVerifying }
-    ensures read { IfErr result (λ fault. fault ≡ RunFault.Read → IsClosed trace.new ⊎ IsClosed cert.new) }
+    // The certificate is read only after the whole trace.
+    ensures read { IfErr result (λ fault. fault ≡ RunFault.Read → (IsClosed trace.new × (cert.new ≡ cert.old)) ⊎ ((trace.new.ended ≡ true) × IsClosed cert.new)) }
     ensures memory { IfErr result (λ fault. fault ≡ RunFault.Memory → (trace.new.failed ≡ false) × ((cert.new ≡ cert.old) ⊎ (cert.new.failed ≡ false))) }
-    // The certificate is read only behind the whole trace.
-    ensures order { IfErr result (λ fault. fault ≡ RunFault.Read → (cert.new ≡ cert.old) ⊎ IsClosed cert.new) }
     ensures write { IfErr result (λ fault. fault ≡ RunFault.Write → (sink.new.failed ≡ true) × IfSome trace.old.bytes (λ t. IfSome cert.old.bytes (λ c. VerifiesFront t c sink.old.bytes sink.new.bytes))) }
     ensures unwritten { IfErr result (λ fault. fault ≢ RunFault.Write → sink.new ≡ sink.old) }
 {

@@ -1,4 +1,4 @@
-use crate::program::ProgramFault;
+use crate::fault::ProgramFault;
 use crate::status::{RunFault, Status};
 use byte_streams::{ReadFault, WriteFault};
 use command_line::{Word, WordsFault};

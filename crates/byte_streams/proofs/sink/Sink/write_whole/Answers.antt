@@ -1,19 +1,29 @@
-use Rattle.std.proofs.Common.{ℕ, ap, arith, length-take, length-drop}
-use Rattle.byte_streams.proofs.Counts.{one-more}
+use Rattle.std.proofs.Common.{◌≡◌, ◌∙◌, ◌<◌, ◌-◌, ℕ, arith, drop, false, length, length-take, length-drop, sym, take, true≢false}
+use Rattle.byte_streams.proofs.Calls.{written-more, write-failed}
 use Rattle.byte_streams.proofs.Fronts.{front-grows}
 use Rattle.byte_streams.proofs.sink.Sink.write_whole.Goals as goal
+
+pub returns-in_default-clause-made : goal.returns-in_default-clause-made
+returns-in_default-clause-made g c = λ fine.
+    let bytes = c.args.bytes.now in
+    let at = c.loop-at.at in
+    let some : 0 < length (take (length bytes - at) (drop at bytes)) = omega (arith, c.loop-at-test.true, length-take {A = ℕ}, length-drop {A = ℕ}) in
+    let one = c.in_default.ensures.asked (c.loop-at.invariant.still ∙ fine) some in
+    write-failed c.args.self.now c.loop-at.self c.write.new.self bytes at _ one.0 (c.loop-at.invariant.writes fine) c.loop-at-test.true one.1 one.2
 
 pub loop-at-preserved : goal.loop-at-preserved
 loop-at-preserved g c =
     let wrote = c.in-Some.ensures in
-    let fine = wrote.went.0 in
-    let open_before = wrote.went.1 in
-    let kept = c.loop-at.invariant.still in
+    let bytes = c.args.bytes.now in
+    let at = c.loop-at.at in
+    let some : 0 < length (take (length bytes - at) (drop at bytes)) = omega (arith, c.loop-at-test.true, length-take {A = ℕ}, length-drop {A = ℕ}) in
+    let fine_before = wrote.went.1 some in
     record {
-      within = omega (arith, wrote.within, length-take {A = ℕ}, length-drop {A = ℕ});
-      written = front-grows _ _ _ c.args.bytes.now c.loop-at.at c.in-Some.n c.loop-at.invariant.written wrote.bytes;
-      still = cc;
-      closed = λ failed. cc;
-      first = λ none. absurd (omega (arith, wrote.within));
-      calls = λ some. one-more _ _ _ c.loop-at.at _ wrote.went.2 (λ none. ap (λ s. s.calls) (c.loop-at.invariant.first none)) c.loop-at.invariant.calls;
+      within = omega (arith, wrote.within.0, length-take {A = ℕ}, length-drop {A = ℕ});
+      written = front-grows _ _ _ bytes at c.in-Some.n c.loop-at.invariant.written wrote.bytes;
+      still = wrote.went.0 ∙ c.loop-at.invariant.still;
+      closed = λ failed. absurd (true≢false (sym failed ∙ sym c.loop-at.invariant.still ∙ fine_before));
+      first = λ none. absurd (omega (arith, wrote.within.1 some, none));
+      writes = λ fine. let one = wrote.asked fine_before some in
+          written-more c.args.self.now c.loop-at.self c.write.new.self bytes at c.in-Some.n one.0 (c.loop-at.invariant.writes fine) one.1 one.2;
     }

@@ -1,5 +1,6 @@
-use Rattle.std.proofs.Common.{length, ◌+◌, ◌-◌, ◌^◌, ◌≡◌, ◌≤◌, ◌<◌, min, true, take}
+use Rattle.std.proofs.Common.{length, ◌-◌, ◌≡◌, ◌≤◌, true, false, take}
 use Rattle.std.specs.Io.KnownBytes.{Appends}
+use Rattle.byte_streams.proofs.Calls.{WrittenSoFar}
 use Rattle.byte_streams.proofs.sink.Sink.write_whole.Given as goal
 
 abbrev pub invariant-loop-at : goal.invariant-loop-at
@@ -9,7 +10,7 @@ invariant-loop-at g l = record {
   still : l.self.failed ≡ l.fn.self.failed;
   closed : l.fn.self.failed ≡ true → l.at ≡ 0;
   first : l.at ≡ 0 → l.self ≡ l.fn.self;
-  calls : 0 < l.at → min (l.fn.self.calls + 1) (2 ^ 64 - 1) ≤ l.self.calls;
+  writes : l.fn.self.failed ≡ false → WrittenSoFar l.fn.self l.self (take l.at l.bytes);
 }
 
 abbrev pub decreases-loop-at : goal.decreases-loop-at
