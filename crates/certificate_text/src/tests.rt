@@ -176,7 +176,7 @@ fn faults_of_the_first_two_lines(rt: HostRuntime) {
 }
 
 /// Texts with a line behind those that has no right shape.
-static LATER_LINES: [(&str, u64); 20] = [
+static LATER_LINES: [(&str, u64); 21] = [
     ("cert 1\ncontents 0.1\ncontents 0.1\n", 3),
     ("cert 1\naccepted\n", 3),
     ("cert 1\naccepted\norder\n", 3),
@@ -187,8 +187,9 @@ static LATER_LINES: [(&str, u64); 20] = [
         3,
     ),
     ("cert 1\naccepted\norder : a\norder : a\n", 4),
-    // Claimed steps are missing.
+    // Claimed steps are missing, and no room is made for them.
     ("cert 1\nrefused 4294967295\n", 3),
+    ("cert 1\nrefused 4294967295\nstep a b 0.2\n", 4),
     ("cert 1\nrefused 2\nstep a b 0.2\n", 4),
     ("cert 1\nrefused 2\nstep a b 0.2 \n", 3),
     ("cert 1\nrefused 2\nstep a b\n", 3),
