@@ -2,7 +2,7 @@
 use Rattle.std.specs.Prelude.{◌≡◌, ◌≢◌, ℕ, ◌+◌, ◌<◌, List, [], ◌∷◌, ◌++◌, length, map, slice_get, slice_index, Some}
 use Rattle.events.specs.Names.{NameBytes}
 use Rattle.specification.specs.LayerRule.{Row}
-use Rattle.specification.proofs.Members.{In, Once}
+use Rattle.specification.specs.Members.{In, Once}
 
 -- a name and its value
 abbrev pub Noted : Type 0

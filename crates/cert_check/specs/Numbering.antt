@@ -7,7 +7,7 @@ use Rattle.events.specs.History.{History, IsLegal}
 use Rattle.events.specs.Operations.{operation_names, response}
 use Rattle.specification.specs.Faults.{IsSound}
 use Rattle.specification.specs.Elements.{elements, number_in, numbers_in}
-use Rattle.specification.proofs.Members.{Once}
+use Rattle.specification.specs.Members.{Once}
 use Rattle.cert_check.specs.Values.{IsGradual, IsDeepBefore}
 use Rattle.cert_check.specs.declared.numbered.Numbered.{Numbered}
 

@@ -1,6 +1,6 @@
 -- Values that stand along a list of elements' numbers.
 use Rattle.std.specs.Prelude.{ℕ, ◌+◌, ◌<◌, ◌≤◌, List, slice_index}
-use Rattle.specification.proofs.Members.{Before}
+use Rattle.specification.specs.Members.{Before}
 
 -- each value is above those before it
 abbrev pub IsRising : List ℕ → Type 0

@@ -5,7 +5,7 @@ ghost use Rattle.events.specs.History.{IsLegal};
 ghost use Rattle.events.specs.Operations.{response};
 ghost use Rattle.specification.specs.Responses.{responses_of};
 ghost use Rattle.specification.specs.ValidCertificate.{StepIsRight, IsFirstWrongStep};
-ghost use Rattle.specification.proofs.Members.{Before};
+ghost use Rattle.specification.specs.Members.{Before};
 ghost use Rattle.cert_check.specs.Ring.{next_place};
 
 use events::{Name, OpName, Recording, Response};

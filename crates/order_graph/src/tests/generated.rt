@@ -1,4 +1,4 @@
-use super::graphs::{ask_covering, ask_graph};
+use super::graphs::{Kept, ask};
 use super::plain::{agrees, tells_the_same};
 use sample_recordings::{Random, generated};
 use std::alloc::Global;
@@ -11,9 +11,13 @@ fn next_agrees(
     alloc: Global,
     random: &mut Random,
 ) -> Result<bool, Fail> {
-    ask_graph(rt, alloc, generated(alloc, random)?, |recording, graph| {
-        Ok(agrees(recording, graph))
-    })
+    ask(
+        rt,
+        alloc,
+        generated(alloc, random)?,
+        Kept::All,
+        |recording, graph| { Ok(agrees(recording, graph)) },
+    )
 }
 
 /// Whether the covering responses of the next generated recording show what the plain programs find.
@@ -22,9 +26,13 @@ fn next_covering_tells_the_same(
     alloc: Global,
     random: &mut Random,
 ) -> Result<bool, Fail> {
-    ask_covering(rt, alloc, generated(alloc, random)?, |recording, graph| {
-        Ok(tells_the_same(recording, graph))
-    })
+    ask(
+        rt,
+        alloc,
+        generated(alloc, random)?,
+        Kept::Covering,
+        |recording, graph| { Ok(tells_the_same(recording, graph)) },
+    )
 }
 
 #[test]

@@ -1,5 +1,7 @@
 //! Questions on the graphs of recordings, which must be sound. A call that finds no memory is made again. A test that
 //! holds no graph of its own is proved with far less work.
+ghost use Rattle.specification.specs.Faults.{IsSound};
+
 use crate::OrderGraph;
 use events::{Memory, Recording};
 use sample_recordings::check_sound;
@@ -7,36 +9,36 @@ use std::alloc::Global;
 use std::test::Fail;
 use std::thread::Threads;
 
-/// What a question on a recording and its graph has for an answer.
-pub fn ask_graph<Q: FnOnce(&Recording, &OrderGraph) -> Result<bool, Fail>>(
-    rt: &(impl Threads + Sync),
-    alloc: Global,
-    recording: Recording,
-    question: Q,
-) -> Result<bool, Fail>
-    requires { Q.IsAlwaysCallable question }
-{
-    check_sound(rt, alloc, &recording)?;
-    let graph = match OrderGraph::of(alloc, &recording) {
-        Ok(graph) => graph,
-        Err(Memory) => OrderGraph::of(alloc, &recording)?,
-    };
-    question(&recording, &graph)
+/// Of which responses a graph is.
+#[derive(Clone, Copy)]
+pub enum Kept {
+    All,
+    Covering,
 }
 
-/// The same, of the graph of responses that cover those of the recording.
-pub fn ask_covering<Q: FnOnce(&Recording, &OrderGraph) -> Result<bool, Fail>>(
+fn graph_of(alloc: Global, recording: &Recording, kept: Kept) -> Result<OrderGraph, Memory>
+    requires { IsSound recording.now }
+{
+    match kept {
+        Kept::All => OrderGraph::of(alloc, recording),
+        Kept::Covering => OrderGraph::covering(alloc, recording),
+    }
+}
+
+/// What a question on a recording and its graph has for an answer.
+pub fn ask<Q: FnOnce(&Recording, &OrderGraph) -> Result<bool, Fail>>(
     rt: &(impl Threads + Sync),
     alloc: Global,
     recording: Recording,
+    kept: Kept,
     question: Q,
 ) -> Result<bool, Fail>
     requires { Q.IsAlwaysCallable question }
 {
     check_sound(rt, alloc, &recording)?;
-    let graph = match OrderGraph::covering(alloc, &recording) {
+    let graph = match graph_of(alloc, &recording, kept) {
         Ok(graph) => graph,
-        Err(Memory) => OrderGraph::covering(alloc, &recording)?,
+        Err(Memory) => graph_of(alloc, &recording, kept)?,
     };
     question(&recording, &graph)
 }

@@ -1,4 +1,4 @@
-use super::graphs::{ask_covering, ask_graph};
+use super::graphs::{Kept, ask};
 use super::plain::{agrees, tells_the_same};
 use crate::{Looked, OrderGraph, Spot};
 use events::{Name, OpName};
@@ -45,9 +45,13 @@ fn shows(
     text: &str,
     expected: &[Shown],
 ) -> Result<bool, Fail> {
-    ask_graph(rt, alloc, recording(alloc, text)?, |recording, graph| {
-        Ok(has_shown(graph, expected) && agrees(recording, graph))
-    })
+    ask(
+        rt,
+        alloc,
+        recording(alloc, text)?,
+        Kept::All,
+        |recording, graph| { Ok(has_shown(graph, expected) && agrees(recording, graph)) },
+    )
 }
 
 /// Whether there are four elements, and a list for each of the eight operations of the ring.
@@ -93,7 +97,15 @@ fn has_marks(ring: &OrderGraph) -> bool {
 #[test]
 fn marks_of_the_ring_of_four(rt: HostRuntime) -> Result<(), Fail> {
     let ring = recording(rt.alloc(), RING_OF_FOUR)?;
-    assert!(rt; ask_graph(&rt, rt.alloc(), ring, |_, graph| Ok(has_marks(graph)))?);
+    assert!(rt;
+        ask(
+            &rt,
+            rt.alloc(),
+            ring,
+            Kept::All,
+            |_, graph| Ok(has_marks(graph))
+        )?
+    );
     Ok(())
 }
 
@@ -140,7 +152,7 @@ fn is_b_and_a(graph: &OrderGraph) -> Result<bool, Fail> {
 #[test]
 fn elements_are_numbered_by_operations_and_not_by_arrival(rt: HostRuntime) -> Result<(), Fail> {
     let later = recording(rt.alloc(), LATER_REPLICA_FIRST)?;
-    let right = ask_graph(&rt, rt.alloc(), later, |recording, graph| {
+    let right = ask(&rt, rt.alloc(), later, Kept::All, |recording, graph| {
         Ok(is_b_and_a(graph)? && agrees(recording, graph))
     })?;
     assert!(rt; right);
@@ -150,7 +162,7 @@ fn elements_are_numbered_by_operations_and_not_by_arrival(rt: HostRuntime) -> Re
 #[test]
 fn a_recording_with_no_element(rt: HostRuntime) -> Result<(), Fail> {
     let nothing = recording(rt.alloc(), EMPTY)?;
-    let right = ask_graph(&rt, rt.alloc(), nothing, |recording, graph| {
+    let right = ask(&rt, rt.alloc(), nothing, Kept::All, |recording, graph| {
         Ok(graph.elements() == 0 && graph.lists() == 0 && agrees(recording, graph))
     })?;
     assert!(rt; right);
@@ -165,7 +177,7 @@ fn is_shown_once(graph: &OrderGraph) -> bool {
 #[test]
 fn an_element_that_no_response_shows(rt: HostRuntime) -> Result<(), Fail> {
     let deleted = recording(rt.alloc(), DELETED_UNSEEN)?;
-    let right = ask_graph(&rt, rt.alloc(), deleted, |recording, graph| {
+    let right = ask(&rt, rt.alloc(), deleted, Kept::All, |recording, graph| {
         Ok(is_shown_once(graph) && agrees(recording, graph))
     })?;
     assert!(rt; right);
@@ -184,7 +196,7 @@ fn has_six_lists(ring: &OrderGraph) -> bool {
 #[test]
 fn covering_responses_of_the_ring_of_four(rt: HostRuntime) -> Result<(), Fail> {
     let ring = recording(rt.alloc(), RING_OF_FOUR)?;
-    let right = ask_covering(&rt, rt.alloc(), ring, |recording, graph| {
+    let right = ask(&rt, rt.alloc(), ring, Kept::Covering, |recording, graph| {
         Ok(
             has_six_lists(graph)
                 && has_shown(graph, &RING_SHOWN)

@@ -1,4 +1,6 @@
 //! The least orders of recordings, which must be sound. A call that finds no memory is made again.
+ghost use Rattle.specification.specs.Faults.{IsSound};
+
 use crate::{Order, order};
 use events::{Memory, Name, Recording};
 use order_graph::OrderGraph;
@@ -7,16 +9,11 @@ use std::alloc::Global;
 use std::test::Fail;
 use std::thread::Threads;
 
-fn graph(
-    rt: &(impl Threads + Sync),
-    alloc: Global,
-    recording: &Recording,
-) -> Result<OrderGraph, Fail> {
-    check_sound(rt, alloc, recording)?;
-    match OrderGraph::of(alloc, recording) {
-        Ok(graph) => Ok(graph),
-        Err(Memory) => Ok(OrderGraph::of(alloc, recording)?),
-    }
+fn order_of(alloc: Global, recording: &Recording) -> Result<Option<Order>, Memory>
+    requires { IsSound recording.now }
+{
+    let graph = OrderGraph::of(alloc, recording)?;
+    order(alloc, &graph)
 }
 
 /// The least order of a recording.
@@ -25,10 +22,10 @@ pub fn least_order(
     alloc: Global,
     recording: &Recording,
 ) -> Result<Option<Order>, Fail> {
-    let graph = graph(rt, alloc, recording)?;
-    match order(alloc, &graph) {
+    check_sound(rt, alloc, recording)?;
+    match order_of(alloc, recording) {
         Ok(found) => Ok(found),
-        Err(Memory) => Ok(order(alloc, &graph)?),
+        Err(Memory) => Ok(order_of(alloc, recording)?),
     }
 }
 
