@@ -1,6 +1,6 @@
 -- The first fault of a text, from what its right lines are and what follows them.
-use Rattle.std.proofs.Common.{◌≡◌, ℕ, ◌+◌, ◌≤◌, List, [], ◌∷◌, ◌++◌, length, sym, ap, ◌∙◌, Option, Some, None, IfSome, inl, inr, arith}
-use Rattle.std.proofs.lemmas.List.{append_assoc, append-nil}
+use Rattle.std.proofs.Common.{◌≡◌, ℕ, ◌+◌, ◌≤◌, List, [], ◌∷◌, ◌++◌, length, ◌∙◌, Option, Some, None, IfSome, inl, inr, arith}
+use Rattle.std.proofs.lemmas.List.{append-nil}
 use Rattle.specification.specs.Lines.{Line, text_of, IsOneLine}
 use Rattle.specification.specs.CertificateText as format
 use Rattle.specification.specs.CertificateText.{BeginsCertificate, HasWrongLine, LacksCertificateLine, IsCertificateCut, IsFirstCertFault, cause_behind}
@@ -11,6 +11,8 @@ use Rattle.certificate_text.specs.declared.fault.CertCause.{CertCause}
 use Rattle.certificate_text.specs.declared.fault.CertCause.TheVariants as cause
 use Rattle.certificate_text.specs.CertificateOf.{cause_of, cause_of_stop}
 use Rattle.certificate_text.specs.Progress.{IsWrongBehind, LacksMore}
+use Rattle.format_words.proofs.Places as places
+use Rattle.format_words.proofs.Places.{text-with}
 use Rattle.certificate_text.specs.Place.{IsBehindRightLines, TakesMemory, TakesMemoryAt}
 
 never-cut : (lines : List Line) → format.cut ≡ cause_behind lines → ⊥
@@ -41,7 +43,7 @@ wrong-fault text number lines line rest behind (Some cause) whole cut one is beg
       faulty = line;
       one_line = one;
       more = behind;
-      text_is = whole ∙ ap (λ l. text_of lines ++ l) cut ∙ sym (append_assoc (text_of lines) line (10 ∷ behind));
+      text_is = text-with text lines line rest behind whole cut;
       number = is;
       wrong = wrong.1;
       cause_is = wrong.0;
@@ -67,16 +69,7 @@ behind-right text number lines rest whole is begins = record { good = lines; beg
 
 pub ended-line : (text : List ℕ) (number : ℕ) (lines : List Line) (line rest behind : List ℕ) →
     text ≡ text_of lines ++ rest → rest ≡ line ++ 10 ∷ behind → IsOneLine line → number ≡ length lines + 1 → BeginsCertificate lines → TakesMemory lines line → TakesMemoryAt text number
-ended-line text number lines line rest behind whole cut one is begins takes = record {
-  good = lines;
-  begins = begins;
-  next = line;
-  one_line = one;
-  more = behind;
-  text_is = whole ∙ ap (λ l. text_of lines ++ l) cut ∙ sym (append_assoc (text_of lines) line (10 ∷ behind));
-  number = is;
-  takes = takes;
-}
+ended-line text number lines line rest behind whole cut one is begins takes = places.ended-line BeginsCertificate TakesMemory text number lines line rest behind whole cut one is begins takes
 
 -- a line whose reading stopped has the cause of one that says no such thing, or there was no memory
 pub stop-fault : {Y : Type 0} (takes : Y → Type 0) (unsaid : CertCause) (s : Stop) (read : Option Y) (P : format.CertCause → Type 0) → Fails takes s read → (read ≡ None → IfSome (cause_of unsaid) P) → IfSome (cause_of (cause_of_stop unsaid s)) P

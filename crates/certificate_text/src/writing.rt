@@ -10,7 +10,7 @@ ghost use Rattle.certificate_text.specs.Texts.{accepted_text, fault_text};
 
 use super::certificate::Certificate;
 use events::{Memory, OpName};
-use format_words::{push_name, push_number, push_operation};
+use format_words::{push_doubled, push_list, push_number, push_operation, push_shown};
 use std::alloc::Global;
 use witnesses::{Layer, Layers, Order, Row, Step, Steps};
 
@@ -41,23 +41,6 @@ fn push_kind(alloc: Global, text: &mut Vec<u8>, certificate: &Certificate) -> Re
     }
 }
 
-/// Adds the line of a doubled name.
-fn push_doubled(
-    alloc: Global,
-    text: &mut Vec<u8>,
-    first: OpName,
-    again: OpName,
-) -> Result<(), Memory>
-    ensures { OnOk result (text.new.items ≡ text.old.items ++ text_of (kind_lines (format.names_fault (spec.doubled first again)))) }
-{
-    text.extend_from_slice(b"doubled ")?;
-    push_operation(alloc, text, first)?;
-    text.push(b' ')?;
-    push_operation(alloc, text, again)?;
-    text.push(b'\n')?;
-    Ok(())
-}
-
 /// Adds the line of an operation that is wrong, behind this word.
 fn push_fault(alloc: Global, text: &mut Vec<u8>, word: &[u8], at: OpName) -> Result<(), Memory>
     ensures { OnOk result (text.new.items ≡ text.old.items ++ fault_text word.now at) }
@@ -73,20 +56,8 @@ fn push_accepted(text: &mut Vec<u8>, order: &Order) -> Result<(), Memory>
     ensures { OnOk result (text.new.items ≡ text.old.items ++ accepted_text order.now) }
 {
     text.extend_from_slice(b"accepted\norder :")?;
-    push_order(text, order)?;
+    push_list(text, order.names())?;
     text.push(b'\n')?;
-    Ok(())
-}
-
-/// Adds the names of an order, each behind a space.
-fn push_order(text: &mut Vec<u8>, order: &Order) -> Result<(), Memory>
-    ensures { OnOk result (text.new.items ≡ text.old.items ++ names_text order.now) }
-{
-    for i in 0..order.len() {
-        if let Some(name) = order.get(i) {
-            push_name(text, name)?;
-        }
-    }
     Ok(())
 }
 
@@ -123,11 +94,7 @@ fn push_steps(alloc: Global, text: &mut Vec<u8>, steps: &Steps) -> Result<(), Me
 fn push_step(alloc: Global, text: &mut Vec<u8>, step: &Step) -> Result<(), Memory>
     ensures { OnOk result (text.new.items ≡ text.old.items ++ (step_line step.now ++ 10 ∷ [])) }
 {
-    text.extend_from_slice(b"step")?;
-    push_name(text, &step.from)?;
-    push_name(text, &step.to)?;
-    text.push(b' ')?;
-    push_operation(alloc, text, step.shown)?;
+    push_shown(alloc, text, &step.from, &step.to, step.shown)?;
     text.push(b'\n')?;
     Ok(())
 }
@@ -173,17 +140,5 @@ fn push_layer_at(text: &mut Vec<u8>, place: usize, layer: &Layer) -> Result<(), 
     if place > 0 {
         text.extend_from_slice(b" /")?;
     }
-    push_layer(text, layer)
-}
-
-/// Adds the names of a layer, each behind a space.
-fn push_layer(text: &mut Vec<u8>, layer: &Layer) -> Result<(), Memory>
-    ensures { OnOk result (text.new.items ≡ text.old.items ++ names_text layer.now) }
-{
-    for i in 0..layer.len() {
-        if let Some(name) = layer.get(i) {
-            push_name(text, name)?;
-        }
-    }
-    Ok(())
+    push_list(text, layer.names())
 }

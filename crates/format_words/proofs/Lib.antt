@@ -12,3 +12,5 @@ pub mod Operations
 pub mod Spaced
 pub mod CutText
 pub mod TwoCuts
+pub mod Places
+pub mod OneFault

@@ -9,6 +9,14 @@ use Rattle.specification.specs.Lines.{names_text}
 pub front-more : {X : Type 0} (xs : List X) (i : ℕ) (x : X) → slice_get xs i ≡ Some x → take (i + 1) xs ≡ take i xs ++ x ∷ []
 front-more xs i x e = take_more xs i x (slice_get_within xs i x e) ∙ ap (λ y. take i xs ++ y ∷ []) (get_or_from_slice_get xs i x x e)
 
+-- by what stands at the place
+pub name-next : (start text : List ℕ) (names : List NameBytes) (i : ℕ) (name : NameBytes) → text ≡ start ++ names_text (take i names) → i < length names
+    → name ≡ get_or names i name → text ++ (32 ∷ name) ≡ start ++ names_text (take (i + 1) names)
+name-next start text names i name h lt is =
+    ap (λ t. t ++ (32 ∷ name)) h
+    ∙ flat_map_more (λ a. 32 ∷ a) start (take i names) name
+    ∙ ap (λ l. start ++ names_text l) (sym (take_more names i name lt ∙ ap (λ y. take i names ++ y ∷ []) (sym is)))
+
 pub name-more : (start text : List ℕ) (names : List NameBytes) (i : ℕ) (name : NameBytes) → text ≡ start ++ names_text (take i names) → slice_get names i ≡ Some name → text ++ (32 ∷ name) ≡ start ++ names_text (take (i + 1) names)
 name-more start text names i name h e =
     ap (λ t. t ++ (32 ∷ name)) h

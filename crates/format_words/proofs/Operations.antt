@@ -1,5 +1,5 @@
 -- What words are names of operations.
-use Rattle.std.proofs.Common.{◌≡◌, ℕ, suc, ◌+◌, ◌<◌, ◌≤◌, ◌^◌, ◌==◌, Bool, true, false, not, ltb, cond, nat_le, List, [], ◌∷◌, ◌++◌, length, take, drop, position, decimal, Some, None, refl, sym, ap, ◌∙◌, subst, arith, add-one, length-append}
+use Rattle.std.proofs.Common.{◌≡◌, ℕ, suc, ◌+◌, ◌<◌, ◌==◌, Bool, true, false, ltb, cond, nat_le, List, [], ◌∷◌, ◌++◌, length, take, drop, position, decimal, Some, None, refl, ap, ◌∙◌, subst, arith, add-one, length-append}
 use Rattle.std.specs.List.{position_or_len}
 use Rattle.std.proofs.Math.Numerals.{one-add}
 use Rattle.std.proofs.lemmas.Option.{cond_some, some_pair_parts}

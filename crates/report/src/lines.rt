@@ -11,7 +11,7 @@ ghost use Rattle.report.specs.Texts.{counts_text, faulty_text, accepted_text, re
 use super::counts::{Counts, counts_of};
 use certificate::{Order, Step, Steps, Verdict};
 use events::{Memory, OpName, Recording};
-use format_words::{push_name, push_names, push_number, push_operation};
+use format_words::{push_doubled, push_list, push_names, push_number, push_operation, push_shown};
 use std::alloc::Global;
 
 /// The report of a recording's verdict, as lines that each end with one LF: the counts, and then what the
@@ -60,23 +60,6 @@ fn push_verdict(
     }
 }
 
-/// Adds the line of a doubled name.
-fn push_doubled(
-    alloc: Global,
-    text: &mut Vec<u8>,
-    first: OpName,
-    again: OpName,
-) -> Result<(), Memory>
-    ensures { OnOk result (text.new.items ≡ text.old.items ++ text_of (fault_lines (spec.doubled first again))) }
-{
-    text.extend_from_slice(b"doubled ")?;
-    push_operation(alloc, text, first)?;
-    text.push(b' ')?;
-    push_operation(alloc, text, again)?;
-    text.push(b'\n')?;
-    Ok(())
-}
-
 /// Adds the lines of an operation that is wrong, behind this word.
 fn push_faulty(alloc: Global, text: &mut Vec<u8>, word: &[u8], at: OpName) -> Result<(), Memory>
     ensures { OnOk result (text.new.items ≡ text.old.items ++ faulty_text word.now at) }
@@ -92,20 +75,8 @@ fn push_accepted(text: &mut Vec<u8>, order: &Order) -> Result<(), Memory>
     ensures { OnOk result (text.new.items ≡ text.old.items ++ accepted_text order.now) }
 {
     text.extend_from_slice(b"accepted\nstrong yes\nweak yes\norder :")?;
-    push_order(text, order)?;
+    push_list(text, order.names())?;
     text.push(b'\n')?;
-    Ok(())
-}
-
-/// Adds the names of an order, each behind a space.
-fn push_order(text: &mut Vec<u8>, order: &Order) -> Result<(), Memory>
-    ensures { OnOk result (text.new.items ≡ text.old.items ++ names_text order.now) }
-{
-    for i in 0..order.len() {
-        if let Some(name) = order.get(i) {
-            push_name(text, name)?;
-        }
-    }
     Ok(())
 }
 
@@ -164,11 +135,7 @@ fn push_step(
 ) -> Result<(), Memory>
     ensures { OnOk result (text.new.items ≡ text.old.items ++ (report_step recording.now step.now ++ 10 ∷ [])) }
 {
-    text.extend_from_slice(b"step")?;
-    push_name(text, &step.from)?;
-    push_name(text, &step.to)?;
-    text.push(b' ')?;
-    push_operation(alloc, text, step.shown)?;
+    push_shown(alloc, text, &step.from, &step.to, step.shown)?;
     text.extend_from_slice(b" :")?;
     push_response(text, recording, step.shown)?;
     text.push(b'\n')?;

@@ -1,9 +1,10 @@
 -- The first fault of a text, from what its right lines are and what follows them.
-use Rattle.std.proofs.Common.{◌≡◌, ℕ, ◌+◌, List, [], ◌∷◌, ◌++◌, length, sym, ap, ◌∙◌, Option, Some, None, IfSome, inl}
-use Rattle.std.proofs.lemmas.List.{append_assoc}
+use Rattle.std.proofs.Common.{◌≡◌, ℕ, ◌+◌, List, [], ◌∷◌, ◌++◌, length, Option, Some, None, IfSome, inl}
 use Rattle.specification.specs.Lines.{Line, text_of, IsOneLine}
 use Rattle.specification.specs.TraceText as format
 use Rattle.specification.specs.TraceText.{IsFaultyLine, IsMissingLine, BeginsSpelling, HasWholeFault, IsCutAt, LacksLine, IsFirstLineFault}
+use Rattle.format_words.proofs.Places as places
+use Rattle.format_words.proofs.Places.{text-with}
 use Rattle.trace_text.specs.Place.{TakesMemory, TakesMemoryAt}
 
 never-cut : (lines : List Line) (line : Line) → IsFaultyLine lines line format.cut → ⊥
@@ -28,7 +29,7 @@ whole-fault text number lines line rest behind cause whole cut one_line is begin
       faulty = line;
       one_line = one_line;
       more = behind;
-      text_is = whole ∙ ap (λ l. text_of lines ++ l) cut ∙ sym (append_assoc (text_of lines) line (10 ∷ behind));
+      text_is = text-with text lines line rest behind whole cut;
       number = is;
       is_faulty = faulty;
     })
@@ -40,13 +41,4 @@ line-fault text number lines line rest behind (Some cause) whole cut one_line is
 
 pub ended-line : (text : List ℕ) (number : ℕ) (lines : List Line) (line rest behind : List ℕ) →
     text ≡ text_of lines ++ rest → rest ≡ line ++ 10 ∷ behind → IsOneLine line → number ≡ length lines + 1 → BeginsSpelling lines → TakesMemory lines line → TakesMemoryAt text number
-ended-line text number lines line rest behind whole cut one_line is begins takes = record {
-  good = lines;
-  begins = begins;
-  next = line;
-  one_line = one_line;
-  more = behind;
-  text_is = whole ∙ ap (λ l. text_of lines ++ l) cut ∙ sym (append_assoc (text_of lines) line (10 ∷ behind));
-  number = is;
-  takes = takes;
-}
+ended-line text number lines line rest behind whole cut one is begins takes = places.ended-line BeginsSpelling TakesMemory text number lines line rest behind whole cut one is begins takes

@@ -4,17 +4,14 @@ use Rattle.events.specs.History.{History, IsLegal}
 use Rattle.events.specs.Session.{first_refusal}
 use Rattle.events.specs.declared.TheConstants.{MOST_REPLICAS}
 use Rattle.events.specs.declared.recording.Entry.{Entry}
-use Rattle.specification.specs.Lines.{Line, text_of, IsOneLine}
+use Rattle.specification.specs.Lines.{Line}
 use Rattle.specification.specs.TraceText.{BeginsSpelling, IsEntry, entry_line, replicas_line, trace_lines}
 use Rattle.trace_text.specs.Reading.{HasEntryNames}
+use Rattle.format_words.specs.Place as place
 
 -- the lines before the one of this number are the first ones of some recording's spelling
-pub record IsBehindRightLines (text : List ℕ) (line : ℕ) : Type 0 where
-  pub good : List Line
-  pub begins : BeginsSpelling good
-  pub rest : List ℕ
-  pub text_is : text ≡ text_of good ++ rest
-  pub number : line ≡ length good + 1
+abbrev pub IsBehindRightLines : List ℕ → ℕ → Type 0
+IsBehindRightLines text line = place.IsBehindRightLines BeginsSpelling text line
 
 -- behind these right lines, reading this line takes memory: it begins a recording, or it is an entry that has names in
 -- its response, or one that is recorded
@@ -25,13 +22,6 @@ TakesMemory (first ∷ second ∷ entries) line =
     (h : History) × IsLegal h × (trace_lines h ≡ first ∷ second ∷ entries)
     × (e : Entry) × IsEntry e × (line ≡ entry_line e) × (HasEntryNames e ⊎ (first_refusal h.replicas h.entries e ≡ None))
 
--- the line of this number is there, with its LF, behind right lines, and reading it takes memory
-pub record TakesMemoryAt (text : List ℕ) (line : ℕ) : Type 0 where
-  pub good : List Line
-  pub begins : BeginsSpelling good
-  pub next : Line
-  pub one_line : IsOneLine next
-  pub more : List ℕ
-  pub text_is : text ≡ text_of good ++ next ++ 10 ∷ more
-  pub number : line ≡ length good + 1
-  pub takes : TakesMemory good next
+-- the line of this number is there, with its LF, after right lines, and reading it takes memory
+abbrev pub TakesMemoryAt : List ℕ → ℕ → Type 0
+TakesMemoryAt text line = place.TakesMemoryAt BeginsSpelling TakesMemory text line

@@ -33,6 +33,13 @@ impl Order {
         Order { names }
     }
 
+    /// The names, in their order.
+    pub fn names(&self) -> &[Name]
+        ensures { result.now ≡ self.now }
+    {
+        self.names.as_slice()
+    }
+
     /// The names, given back as the vector that holds them. It takes no memory.
     pub fn into_names(self) -> Vec<Name>
         ensures { result.items ≡ self }

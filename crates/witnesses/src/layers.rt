@@ -25,6 +25,13 @@ impl Layer {
         Layer { names }
     }
 
+    /// The names, in their order.
+    pub fn names(&self) -> &[Name]
+        ensures { result.now ≡ self.now }
+    {
+        self.names.as_slice()
+    }
+
     /// How many names there are.
     pub fn len(&self) -> usize
         ensures { result ≡ length self.now }

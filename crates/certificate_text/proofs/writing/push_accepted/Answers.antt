@@ -10,5 +10,5 @@ returns c =
     let head : List ℕ = codes "accepted\norder :" in
     let names : List ℕ = names_text c.args.order.now in
     c.in_ok-push.ensures.items
-    ∙ ap (λ t. t ++ 10 ∷ []) (c.in_ok-push_order.ensures ∙ ap (λ t. t ++ names) c.in_ok-extend_from_slice.ensures.items)
+    ∙ ap (λ t. t ++ 10 ∷ []) (c.in_ok-push_list.ensures ∙ ap (λ l. l ++ names_text c.names.result.now) c.in_ok-extend_from_slice.ensures.items ∙ ap (λ l. (text ++ head) ++ names_text l) c.names.ensures)
     ∙ append_assoc (text ++ head) names (10 ∷ []) ∙ append_assoc text head (names ++ 10 ∷ [])
