@@ -2,3 +2,4 @@ pub mod Answers
 pub mod Commands
 pub mod Tasks
 pub mod Workers
+pub mod FaultWords
