@@ -8,7 +8,7 @@ mod certifying;
 mod judging;
 mod verdict;
 
-pub use certificate_text::{Certificate, Layer, Layers, Row};
+pub use certificate_text::{CertCause, CertFault, Certificate, Layer, Layers, Row};
 pub use certifying::certify;
 pub use judging::judge;
 pub use level_search::{Gate, NoGate, SearchFault};

@@ -3,3 +3,4 @@ pub mod Commands
 pub mod Tasks
 pub mod Workers
 pub mod Asked
+pub mod FaultWords

@@ -11,7 +11,8 @@ use super::task::{Form, Task, Word};
 use clap::error::ErrorKind;
 use clap::{Arg, ArgAction, ArgMatches, Command};
 use std::alloc::{AllocError, Global};
-use thiserror::Error;
+use std::error::Error;
+use std::fmt;
 
 /// How many workers search where the words give no number.
 pub const WORKERS: u32 = 4;
@@ -22,18 +23,33 @@ pub const MOST_WORKERS: u32 = 64;
 const VERSION: &str = "0.2.0";
 
 /// Why the words of a command line give no task.
-#[derive(Debug, Drop, Error)]
+#[derive(Debug, Drop)]
 pub enum WordsFault {
     /// They are no command, or give a number of workers that is none.
-    #[error("usage")]
     Usage,
-    /// They ask for help, or for the version: its text.
-    #[error("help")]
+    /// They ask for help, or for the version: its text, which is not empty.
     Help { text: String },
     /// A growth was refused.
-    #[error("memory")]
     Memory,
 }
+
+/// One word: `usage`, `help` or `memory`.
+impl fmt::Display for WordsFault {
+    ghost use Rattle.std.specs.Prelude.{Some};
+    ghost use Rattle.command_line.specs.FaultWords.{fault_word};
+
+    ghost output = { λ fault. Some (fault_word fault) };
+
+    fn fmt<W: fmt::Write>(&self, f: &mut fmt::Formatter<W>) -> fmt::Result {
+        f.write_str(match self {
+            WordsFault::Usage => "usage",
+            WordsFault::Help { text: _ } => "help",
+            WordsFault::Memory => "memory",
+        })
+    }
+}
+
+impl Error for WordsFault {}
 
 impl From<AllocError> for WordsFault {
     ghost use Rattle.command_line.specs.declared.words.WordsFault.TheVariants.{Memory};
