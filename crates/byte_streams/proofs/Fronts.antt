@@ -5,13 +5,14 @@ use Rattle.std.proofs.lemmas.List.{take_rest}
 use Rattle.std.specs.Io.KnownBytes.{Appends}
 use Rattle.std.proofs.KnownBytes.{Appends-trans}
 
--- a front of the bytes, and then a front of what is left
-pub front-joined : (bytes : List ℕ) (at n : ℕ) → take (at + n) bytes ≡ take at bytes ++ take n (take (length bytes - at) (drop at bytes))
+-- a prefix of the bytes, and then a prefix of what is left
+pub front-joined : (bytes : List ℕ) (at n : ℕ)
+    → take (at + n) bytes ≡ take at bytes ++ take n (take (length bytes - at) (drop at bytes))
 front-joined bytes at n =
     let rest : take n (take (length bytes - at) (drop at bytes)) ≡ take n (drop at bytes) = ap (take n) (take_rest bytes at) in
     take-add at n bytes ∙ ap (λ l. take at bytes ++ l) (sym rest)
 
--- a front of the bytes was written, and then a front of what was left
+-- a prefix of the bytes was written, and then a prefix of what was left
 pub front-grows : (a b c : Option (List ℕ)) (bytes : List ℕ) (at n : ℕ)
     → Appends a b (take at bytes) → Appends b c (take n (take (length bytes - at) (drop at bytes))) → Appends a c (take (at + n) bytes)
 front-grows a b c bytes at n first second =

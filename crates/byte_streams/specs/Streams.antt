@@ -18,8 +18,8 @@ Makes None new calls = ⊤
 Makes (Some before) None calls = ⊥
 Makes (Some before) (Some after) calls = after ≡ before ++ calls
 
--- the bytes that a reader has left, its calls, how many of them were made here, whether one failed, and whether one
--- came to the end
+-- the bytes that a reader has left, its calls, how many of them were made here, whether one failed, and
+-- whether one came to the end
 pub record SourceState : Type 0 where
   pub bytes : Option (List ℕ)
   pub calls : Option (List ReadCall)
@@ -52,7 +52,8 @@ HaveCome (call ∷ calls) = IsSome call.came × HaveCome calls
 
 -- the last read failed, and no other
 abbrev pub EndInFailure : List ReadCall → Type 0
-EndInFailure calls = (before : List ReadCall) × (asked : ℕ) × (calls ≡ before ++ (record { asked = asked; came = None } ∷ [])) × HaveCome before
+EndInFailure calls = (before : List ReadCall) × (asked : ℕ)
+    × (calls ≡ before ++ (record { asked = asked; came = None } ∷ [])) × HaveCome before
 
 -- the bytes that a writer holds, its calls, and whether one failed or took no byte
 pub record SinkState : Type 0 where
@@ -60,7 +61,7 @@ pub record SinkState : Type 0 where
   pub calls : Option (List WriteCall)
   pub failed : Bool
 
--- known bytes grow by a front of these, and not by all
+-- known bytes grow by a prefix of these, and not by all
 abbrev pub AppendsFront : Option (List ℕ) → Option (List ℕ) → List ℕ → Type 0
 AppendsFront old new bytes = (n : ℕ) × (n < length bytes) × Appends old new (take n bytes)
 
@@ -88,4 +89,5 @@ HaveTaken (call ∷ calls) = IsSome (at_least_one call.taken) × HaveTaken calls
 -- the last write failed or took no byte, and no other
 abbrev pub EndInRefusal : List WriteCall → Type 0
 EndInRefusal calls =
-    (before : List WriteCall) × (last : WriteCall) × (calls ≡ before ++ (last ∷ [])) × (at_least_one last.taken ≡ None) × HaveTaken before
+    (before : List WriteCall) × (last : WriteCall) × (calls ≡ before ++ (last ∷ []))
+    × (at_least_one last.taken ≡ None) × HaveTaken before

@@ -17,6 +17,7 @@ EndedBy Memory reads calls = HaveCome calls × (0 < length (all_that_came calls)
 abbrev pub TakenAs : List ℕ → List WriteCall → Type 0
 TakenAs text calls = HaveTaken calls × (all_that_was_taken calls ≡ text)
 
--- the last write failed or took no byte, and those before it took a front of the text, and not all
+-- the last write failed or took no byte, and those before it took a prefix of the text, and not all
 abbrev pub TakenInPart : List ℕ → List WriteCall → Type 0
-TakenInPart text calls = EndInRefusal calls × ((n : ℕ) × (n < length text) × (all_that_was_taken calls ≡ take n text))
+TakenInPart text calls = EndInRefusal calls × ((n : ℕ) × (n < length text)
+    × (all_that_was_taken calls ≡ take n text))

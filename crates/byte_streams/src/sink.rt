@@ -43,15 +43,19 @@ impl<W: Writer + Drop> Sink<W> {
     }
 
     /// Writes once, from the front of the bytes, and answers how many were taken: at least one. Answers
-    /// `None` where the write fails or takes no byte. After that it answers `None` and asks the writer no more. No byte
-    /// needs no write: then it answers 0.
+    /// `None` where the write fails or takes no byte. After that it answers `None` and asks the writer no
+    /// more. No byte needs no write: then it answers 0.
     pub fn write(&mut self, bytes: &[u8]) -> Option<usize>
         ensures within { IfSome result (λ n. (n ≤ length bytes.now) × (0 < length bytes.now → 0 < n)) }
         ensures bytes { IfSome result (λ n. Appends self.old.bytes self.new.bytes (take n bytes.now)) }
-        ensures went { IfSome result (λ n. (self.new.failed ≡ self.old.failed) × (0 < length bytes.now → self.old.failed ≡ false)) }
+        ensures went { IfSome result (λ n. (self.new.failed ≡ self.old.failed) × (0 < length bytes.now
+            → self.old.failed ≡ false)) }
         ensures failed { result ≡ None → Keeps self.old.bytes self.new.bytes × (self.new.failed ≡ true) }
-        ensures asked { self.old.failed ≡ false → 0 < length bytes.now → (taken : Option ℕ) × (result ≡ at_least_one taken) × Makes self.old.calls self.new.calls (record { handed = bytes.now; taken = taken } ∷ []) }
-        ensures closed { self.old.failed ≡ true → 0 < length bytes.now → (result ≡ None) × (self.new ≡ self.old) }
+        ensures asked { self.old.failed ≡ false → 0 < length bytes.now → (taken : Option ℕ)
+            × (result ≡ at_least_one taken)
+            × Makes self.old.calls self.new.calls (record { handed = bytes.now; taken = taken } ∷ []) }
+        ensures closed { self.old.failed ≡ true → 0 < length bytes.now → (result ≡ None)
+            × (self.new ≡ self.old) }
         ensures nothing { length bytes.now ≡ 0 → (result ≡ Some 0) × (self.new ≡ self.old) }
     {
         if bytes.is_empty() {
@@ -70,11 +74,13 @@ impl<W: Writer + Drop> Sink<W> {
     }
 
     /// Writes all of the bytes, in as many writes as the writer needs. Where a write fails or takes no
-    /// byte, the last of those that were made, a front of them was written, and not all. No byte needs no write.
+    /// byte, the last of those that were made, a prefix of them was written, and not all. No byte needs no
+    /// write.
     pub fn write_whole(&mut self, bytes: &[u8]) -> Result<(), WriteFault>
         ensures ok { OnOk result (Appends self.old.bytes self.new.bytes bytes.now × (self.new.failed ≡ self.old.failed)) }
         ensures err { OnErr result (AppendsFront self.old.bytes self.new.bytes bytes.now × (self.new.failed ≡ true)) }
-        ensures made { self.old.failed ≡ false → (calls : List WriteCall) × Makes self.old.calls self.new.calls calls
+        ensures made { self.old.failed ≡ false → (calls : List WriteCall)
+            × Makes self.old.calls self.new.calls calls
             × MatchResult result (λ _. TakenAs bytes.now calls) (λ _. TakenInPart bytes.now calls) }
         ensures closed { self.old.failed ≡ true → 0 < length bytes.now → IsErr result × (self.new ≡ self.old) }
         ensures nothing { bytes.now ≡ [] → IsOk result × (self.new ≡ self.old) }

@@ -2,8 +2,9 @@
 
 use std::io::Write;
 
-/// A writer that shows contracts how each call went. Every writer of the standard library is one; of its calls nothing
-/// is known to a contract, but what asks a `Writer` is proved for those whose calls are known, too.
+/// A writer that shows contracts how each call went. Every writer of the standard library is one; of its
+/// calls nothing is known to a contract, but what asks a `Writer` is proved for those whose calls are
+/// known, too.
 pub trait Writer {
     ghost use Rattle.std.specs.Prelude.{◌≡◌, ◌≤◌, ◌∷◌, [], IfSome, List, MatchOption, Option, length, take, ℕ};
     ghost use Rattle.std.specs.Io.KnownBytes.{Appends, Keeps};
@@ -15,11 +16,14 @@ pub trait Writer {
     // The writes that were made, where they are known.
     ghost writes_made: { Self → Option (List WriteCall) };
 
-    /// Writes once, from the front of the bytes, and answers how many were taken. Answers `None` where the write fails.
+    /// Writes once, from the front of the bytes, and answers how many were taken. Answers `None` where the
+    /// write fails.
     fn write_once(&mut self, bytes: &[u8]) -> Option<usize>
         ensures within { IfSome result (λ n. n ≤ length bytes.now) }
-        ensures bytes { MatchOption result (Keeps (bytes_held self.old) (bytes_held self.new)) (λ n. Appends (bytes_held self.old) (bytes_held self.new) (take n bytes.now)) }
-        ensures made { Makes (writes_made self.old) (writes_made self.new) (record { handed = bytes.now; taken = result } ∷ []) };
+        ensures bytes { MatchOption result (Keeps (bytes_held self.old) (bytes_held self.new)) (λ n. Appends
+            (bytes_held self.old) (bytes_held self.new) (take n bytes.now)) }
+        ensures made { Makes (writes_made self.old) (writes_made self.new)
+            (record { handed = bytes.now; taken = result } ∷ []) };
 }
 
 impl<W: Write> Writer for W {

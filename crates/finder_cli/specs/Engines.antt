@@ -10,39 +10,53 @@ use Rattle.finder_cli.specs.declared.status.RunFault.{RunFault}
 use Rattle.finder_cli.specs.declared.status.RunFault.TheVariants as run
 
 -- the report of the verdict on the recording that the source spells
-pub record Judges (count : ℕ) (form : Form) (before after : SourceState) (old new : SinkState) (answer : Result Status RunFault) : Type 0 where
-  pub report : IfOk answer (λ status. IfSome before.bytes (λ text. Reports text form old.bytes new.bytes status))
+pub record Judges (count : ℕ) (form : Form) (before after : SourceState) (old new : SinkState)
+    (answer : Result Status RunFault) : Type 0 where
+  pub report : IfOk answer (λ status. IfSome before.bytes
+      (λ text. Reports text form old.bytes new.bytes status))
   pub end : OnOk answer (IsAtEnd after.bytes × (after.ended ≡ true))
   pub workers : IsErrOf answer run.Workers ↔ IsNoWorkers count
   pub unread : IsNoWorkers count → after ≡ before
   pub read : IfErr answer (λ fault. fault ≡ run.Read → IsClosed after)
   pub memory : IfErr answer (λ fault. fault ≡ run.Memory → after.failed ≡ false)
   pub trace : IfErr answer (λ fault. IfSome before.bytes (λ text. NamesFirstFault text fault))
-  pub write : IfErr answer (λ fault. fault ≡ run.Write → (new.failed ≡ true) × IfSome before.bytes (λ text. ReportsFront text form old.bytes new.bytes))
+  pub write : IfErr answer (λ fault. fault ≡ run.Write → (new.failed ≡ true)
+      × IfSome before.bytes (λ text. ReportsFront text form old.bytes new.bytes))
   pub unwritten : IfErr answer (λ fault. fault ≢ run.Write → new ≡ old)
 
 -- the same without a session: no thread is missed, and no recorder gives up
-abbrev pub JudgesAlone : ℕ → Form → SourceState → SourceState → SinkState → SinkState → Result Status RunFault → Type 0
-JudgesAlone count form before after old new answer = Judges count form before after old new answer × IfErr answer IsOfRun
+abbrev pub JudgesAlone : ℕ → Form → SourceState → SourceState → SinkState → SinkState → Result Status RunFault
+    → Type 0
+JudgesAlone count form before after old new answer = Judges count form before after old new answer
+    × IfErr answer IsOfRun
 
 -- the certificate of the verdict on the recording that the source spells
-pub record Shows (before after : SourceState) (old new : SinkState) (answer : Result Status RunFault) : Type 0 where
-  pub certificate : IfOk answer (λ status. IfSome before.bytes (λ text. Certifies text old.bytes new.bytes status))
+pub record Shows (before after : SourceState) (old new : SinkState)
+    (answer : Result Status RunFault) : Type 0 where
+  pub certificate : IfOk answer (λ status. IfSome before.bytes
+      (λ text. Certifies text old.bytes new.bytes status))
   pub end : OnOk answer (IsAtEnd after.bytes × (after.ended ≡ true))
   pub workers : ¬ IsErrOf answer run.Workers
   pub faults : IfErr answer IsOfRun
   pub read : IfErr answer (λ fault. fault ≡ run.Read → IsClosed after)
   pub memory : IfErr answer (λ fault. fault ≡ run.Memory → after.failed ≡ false)
   pub trace : IfErr answer (λ fault. IfSome before.bytes (λ text. NamesFirstFault text fault))
-  pub write : IfErr answer (λ fault. fault ≡ run.Write → (new.failed ≡ true) × IfSome before.bytes (λ text. CertifiesFront text old.bytes new.bytes))
+  pub write : IfErr answer (λ fault. fault ≡ run.Write → (new.failed ≡ true)
+      × IfSome before.bytes (λ text. CertifiesFront text old.bytes new.bytes))
   pub unwritten : IfErr answer (λ fault. fault ≢ run.Write → new ≡ old)
 
 -- the checker's line on the trace and the certificate
-pub record Checks (trace trace_after cert cert_after : SourceState) (old new : SinkState) (answer : Result Status RunFault) : Type 0 where
-  pub line : IfOk answer (λ status. IfSome trace.bytes (λ t. IfSome cert.bytes (λ c. Verifies t c old.bytes new.bytes status)))
-  pub end : OnOk answer (IsAtEnd trace_after.bytes × (trace_after.ended ≡ true) × IsAtEnd cert_after.bytes × (cert_after.ended ≡ true))
+pub record Checks (trace trace_after cert cert_after : SourceState) (old new : SinkState)
+    (answer : Result Status RunFault) : Type 0 where
+  pub line : IfOk answer (λ status. IfSome trace.bytes (λ t. IfSome cert.bytes (λ
+      c. Verifies t c old.bytes new.bytes status)))
+  pub end : OnOk answer (IsAtEnd trace_after.bytes × (trace_after.ended ≡ true) × IsAtEnd cert_after.bytes
+      × (cert_after.ended ≡ true))
   pub faults : IfErr answer IsOfVerifying
-  pub read : IfErr answer (λ fault. fault ≡ run.Read → (IsClosed trace_after × (cert_after ≡ cert)) ⊎ ((trace_after.ended ≡ true) × IsClosed cert_after))
-  pub memory : IfErr answer (λ fault. fault ≡ run.Memory → (trace_after.failed ≡ false) × ((cert_after ≡ cert) ⊎ (cert_after.failed ≡ false)))
-  pub write : IfErr answer (λ fault. fault ≡ run.Write → (new.failed ≡ true) × IfSome trace.bytes (λ t. IfSome cert.bytes (λ c. VerifiesFront t c old.bytes new.bytes)))
+  pub read : IfErr answer (λ fault. fault ≡ run.Read → (IsClosed trace_after × (cert_after ≡ cert))
+      ⊎ ((trace_after.ended ≡ true) × IsClosed cert_after))
+  pub memory : IfErr answer (λ fault. fault ≡ run.Memory → (trace_after.failed ≡ false) × ((cert_after ≡ cert)
+      ⊎ (cert_after.failed ≡ false)))
+  pub write : IfErr answer (λ fault. fault ≡ run.Write → (new.failed ≡ true)
+      × IfSome trace.bytes (λ t. IfSome cert.bytes (λ c. VerifiesFront t c old.bytes new.bytes)))
   pub unwritten : IfErr answer (λ fault. fault ≢ run.Write → new ≡ old)

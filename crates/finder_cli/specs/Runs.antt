@@ -36,7 +36,7 @@ IsReportOf text form report status =
 abbrev pub Reports : List ℕ → Form → Option (List ℕ) → Option (List ℕ) → Status → Type 0
 Reports text form old new status = (report : List ℕ) × IsReportOf text form report status × Appends old new report
 
--- a front of it was appended
+-- a prefix of it was appended
 abbrev pub ReportsFront : List ℕ → Form → Option (List ℕ) → Option (List ℕ) → Type 0
 ReportsFront text form old new = (report : List ℕ) × (status : Status) × IsReportOf text form report status × AppendsFront old new report
 

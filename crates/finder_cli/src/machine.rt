@@ -23,8 +23,8 @@ impl<I: Read, F: Read> Read for Opened<I, F> {
     }
 }
 
-/// The machine as a world: `-` names standard input, another word the file of that name. What its files hold, and what
-/// was done, is not known to contracts.
+/// The machine as a world: `-` names standard input, another word the file of that name. What its files
+/// hold, and what was done, is not known to contracts.
 #[derive(Drop)]
 pub struct Machine<'a, H: Files + Input + Eprint> {
     rt: &'a H,

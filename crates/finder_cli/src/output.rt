@@ -29,7 +29,8 @@ pub fn whole_text<R: Reader + Drop>(
     alloc: Global,
     source: &mut Source<R>,
 ) -> Result<Vec<u8>, RunFault>
-    ensures ok { IfOk result (λ text. Consumes source.old.bytes source.new.bytes text.items × IsAtEnd source.new.bytes × (source.new.failed ≡ false) × (source.new.ended ≡ true)) }
+    ensures ok { IfOk result (λ text. Consumes source.old.bytes source.new.bytes text.items
+        × IsAtEnd source.new.bytes × (source.new.failed ≡ false) × (source.new.ended ≡ true)) }
     ensures read { IfErr result (λ fault. fault ≡ RunFault.Read → IsClosed source.new) }
     ensures memory { IfErr result (λ fault. fault ≡ RunFault.Memory → source.new.failed ≡ false) }
     ensures reading { IfErr result IsOfReading }

@@ -39,12 +39,12 @@ pub fn all_words<H: Env + AllocGlobal>(rt: &H) -> Result<Vec<String>, WordsFault
     }
 }
 
-/// Does what the words ask for, the program's name first among them, writes the fault, if there is one, to standard
-/// error, and answers the exit status.
+/// Does what the words ask for, the program's name first among them, writes the fault, if there is one, to
+/// standard error, and answers the exit status.
 ///
-/// Of the words, those after the first are read. For a task the streams that its words name are opened in their order,
-/// its engine goes on them, and they are closed; what that engine answers is what the program answers. A file that can't
-/// be opened is named, and so is the trace where a read fails.
+/// Of the words, those after the first are read. For a task the streams that its words name are opened in
+/// their order, its engine goes on them, and they are closed; what that engine answers is what the program
+/// answers. A file that can't be opened is named, and so is the trace where a read fails.
 pub fn finder<H: AllocGlobal + Threads + Wait + Sync, N: World, W: Writer + Drop>(
     rt: &H,
     words: Result<Vec<String>, WordsFault>,
@@ -52,7 +52,8 @@ pub fn finder<H: AllocGlobal + Threads + Wait + Sync, N: World, W: Writer + Drop
     sink: &mut Sink<W>,
 ) -> u8
     ensures { (asked : Result Task WordsFault) × (deeds : List Deed) × (answer : Result Status ProgramFault)
-        × MatchResult words (λ all. IsAskedBy (drop 1 (map string_bytes all.items)) asked) (λ fault. asked ≡ Err fault)
+        × MatchResult words (λ all. IsAskedBy (drop 1 (map string_bytes all.items)) asked)
+        (λ fault. asked ≡ Err fault)
         × Does (N.text world.old) asked deeds sink.old sink.new answer
         × Makes (N.deeds world.old) (N.deeds world.new) (deeds ++ complaints answer)
         × (result ≡ number_of answer) }
@@ -74,7 +75,8 @@ fn answer<H: AllocGlobal + Threads + Wait + Sync, N: World, W: Writer + Drop>(
     sink: &mut Sink<W>,
 ) -> Result<Status, ProgramFault>
     ensures { (asked : Result Task WordsFault) × (deeds : List Deed)
-        × MatchResult words (λ all. IsAskedBy (drop 1 (map string_bytes all.items)) asked) (λ fault. asked ≡ Err fault)
+        × MatchResult words (λ all. IsAskedBy (drop 1 (map string_bytes all.items)) asked)
+        (λ fault. asked ≡ Err fault)
         × Does (N.text world.old) asked deeds sink.old sink.new result
         × Makes (N.deeds world.old) (N.deeds world.new) deeds }
 {
@@ -84,7 +86,8 @@ fn answer<H: AllocGlobal + Threads + Wait + Sync, N: World, W: Writer + Drop>(
 
 /// What the words after the first ask for.
 fn asked_by(alloc: Global, words: Result<Vec<String>, WordsFault>) -> Result<Task, WordsFault>
-    ensures { MatchResult words (λ all. IsAskedBy (drop 1 (map string_bytes all.items)) result) (λ fault. result ≡ Err fault) }
+    ensures { MatchResult words (λ all. IsAskedBy (drop 1 (map string_bytes all.items)) result)
+        (λ fault. result ≡ Err fault) }
 {
     match words {
         Ok(all) => read_given(alloc, &all),
@@ -109,7 +112,8 @@ fn do_asked<H: AllocGlobal + Threads + Wait + Sync, N: World, W: Writer + Drop>(
     world: &mut N,
     sink: &mut Sink<W>,
 ) -> Result<Status, ProgramFault>
-    ensures { (deeds : List Deed) × Does (N.text world.old) asked deeds sink.old sink.new result × Makes (N.deeds world.old) (N.deeds world.new) deeds }
+    ensures { (deeds : List Deed) × Does (N.text world.old) asked deeds sink.old sink.new result
+        × Makes (N.deeds world.old) (N.deeds world.new) deeds }
 {
     match asked {
         Ok(task) => do_task(rt, task, world, sink),
@@ -136,7 +140,8 @@ fn do_task<H: AllocGlobal + Threads + Wait + Sync, N: World, W: Writer + Drop>(
     world: &mut N,
     sink: &mut Sink<W>,
 ) -> Result<Status, ProgramFault>
-    ensures { (deeds : List Deed) × DoesTask (N.text world.old) task deeds sink.old sink.new result × Makes (N.deeds world.old) (N.deeds world.new) deeds }
+    ensures { (deeds : List Deed) × DoesTask (N.text world.old) task deeds sink.old sink.new result
+        × Makes (N.deeds world.old) (N.deeds world.new) deeds }
 {
     match task {
         Task::Verdict {
@@ -159,7 +164,9 @@ fn judge_file<H: AllocGlobal + Threads + Sync, N: World, W: Writer + Drop>(
     workers: u32,
     form: Form,
 ) -> Result<Status, ProgramFault>
-    ensures { (deeds : List Deed) × RunsOn (JudgesAlone workers form) (N.text world.old) file deeds sink.old sink.new result × Makes (N.deeds world.old) (N.deeds world.new) deeds }
+    ensures { (deeds : List Deed)
+        × RunsOn (JudgesAlone workers form) (N.text world.old) file deeds sink.old sink.new result
+        × Makes (N.deeds world.old) (N.deeds world.new) deeds }
 {
     let Some(mut source) = world.open(file.as_str()) else {
         return Err(ProgramFault::Read { file });
@@ -190,7 +197,9 @@ fn rehearse_file<H: AllocGlobal + Threads + Wait + Sync, N: World, W: Writer + D
     file: Word,
     workers: u32,
 ) -> Result<Status, ProgramFault>
-    ensures { (deeds : List Deed) × RunsOn (Judges workers Text) (N.text world.old) file deeds sink.old sink.new result × Makes (N.deeds world.old) (N.deeds world.new) deeds }
+    ensures { (deeds : List Deed)
+        × RunsOn (Judges workers Text) (N.text world.old) file deeds sink.old sink.new result
+        × Makes (N.deeds world.old) (N.deeds world.new) deeds }
 {
     let Some(mut source) = world.open(file.as_str()) else {
         return Err(ProgramFault::Read { file });
@@ -219,7 +228,8 @@ fn certify_file<H: AllocGlobal + Threads + Sync, N: World, W: Writer + Drop>(
     sink: &mut Sink<W>,
     file: Word,
 ) -> Result<Status, ProgramFault>
-    ensures { (deeds : List Deed) × RunsOn Shows (N.text world.old) file deeds sink.old sink.new result × Makes (N.deeds world.old) (N.deeds world.new) deeds }
+    ensures { (deeds : List Deed) × RunsOn Shows (N.text world.old) file deeds sink.old sink.new result
+        × Makes (N.deeds world.old) (N.deeds world.new) deeds }
 {
     let Some(mut source) = world.open(file.as_str()) else {
         return Err(ProgramFault::Read { file });
@@ -240,7 +250,8 @@ fn certify<H: AllocGlobal + Threads + Sync, R: Reader + Drop, W: Writer + Drop>(
     run_cert(rt, rt.alloc(), source, sink)
 }
 
-/// Writes the checker's line on the trace in the file and the certificate in the other. The trace is opened first.
+/// Writes the checker's line on the trace in the file and the certificate in the other. The trace is opened
+/// first.
 fn check_files<H: AllocGlobal + Threads + Sync, N: World, W: Writer + Drop>(
     rt: &H,
     world: &mut N,
@@ -248,7 +259,8 @@ fn check_files<H: AllocGlobal + Threads + Sync, N: World, W: Writer + Drop>(
     file: Word,
     cert: Word,
 ) -> Result<Status, ProgramFault>
-    ensures { (deeds : List Deed) × ChecksOn (N.text world.old) file cert deeds sink.old sink.new result × Makes (N.deeds world.old) (N.deeds world.new) deeds }
+    ensures { (deeds : List Deed) × ChecksOn (N.text world.old) file cert deeds sink.old sink.new result
+        × Makes (N.deeds world.old) (N.deeds world.new) deeds }
 {
     let Some(mut trace) = world.open(file.as_str()) else {
         return Err(ProgramFault::Read { file });

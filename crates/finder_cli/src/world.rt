@@ -3,9 +3,9 @@
 use super::fault::ProgramFault;
 use byte_streams::{Reader, Source};
 
-/// What the program asks of the world beside its words, memory, threads and standard output: the streams that words
-/// name, and standard error. It shows contracts what was done, in order; so what the program does is proved for every
-/// world.
+/// What the program asks of the world beside its words, memory, threads and standard output: the streams
+/// that words name, and standard error. It shows contracts what was done, in order; so what the program
+/// does is proved for every world.
 pub trait World {
     ghost use Rattle.std.specs.Prelude.{◌≡◌, ◌∷◌, [], IfSome, List, MatchOption, Option, ℕ};
     ghost use Rattle.byte_streams.specs.Streams.{Makes};
@@ -23,7 +23,8 @@ pub trait World {
     fn open(&mut self, file: &str) -> Option<Source<Self::Stream>>
         ensures stays { text self.new ≡ text self.old }
         ensures fresh { IfSome result (λ source. IsFresh source × (source.bytes ≡ text self.old file.now)) }
-        ensures done { MatchOption result (Makes (deeds self.old) (deeds self.new) (missed file.now ∷ [])) (λ source. Makes (deeds self.old) (deeds self.new) (opened file.now source ∷ [])) };
+        ensures done { MatchOption result (Makes (deeds self.old) (deeds self.new) (missed file.now ∷ []))
+            (λ source. Makes (deeds self.old) (deeds self.new) (opened file.now source ∷ [])) };
 
     /// Takes note of a stream that is done with, as it is left.
     fn close(&mut self, source: &Source<Self::Stream>)

@@ -1,5 +1,5 @@
-//! Streams of 140 million bytes, more than the longest legal trace has, in one byte a call and in large pieces, whole and
-//! with a failure late.
+//! Streams of 140 million bytes, more than the longest legal trace has, in one byte a call and in large
+//! pieces, whole and with a failure late.
 
 use byte_streams::{ReadFault, Sink, Source, WriteFault};
 use std::alloc::Global;

@@ -12,6 +12,7 @@ returns-in-Err g c =
       Err c.in-Err.fault,
       did.2,
       did.3,
-      Makes-trans (deeds c.args.world.now) (deeds c.answer.new.world) (deeds c.complain.new.self) did.1 (complained c.in-Err.fault ∷ []) did.4 c.complain.ensures.done,
+      Makes-trans (deeds c.args.world.now) (deeds c.answer.new.world) (deeds c.complain.new.self) did.1
+          (complained c.in-Err.fault ∷ []) did.4 c.complain.ensures.done,
       c.number-in-Err.ensures,
     )

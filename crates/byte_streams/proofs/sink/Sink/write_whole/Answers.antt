@@ -7,16 +7,27 @@ pub returns-in_default-clause-made : goal.returns-in_default-clause-made
 returns-in_default-clause-made g c = λ fine.
     let bytes = c.args.bytes.now in
     let at = c.loop-at.at in
-    let some : 0 < length (take (length bytes - at) (drop at bytes)) = omega (arith, c.loop-at-test.true, length-take {A = ℕ}, length-drop {A = ℕ}) in
+    let some : 0 < length (take (length bytes - at) (drop at bytes)) = omega (
+      arith,
+      c.loop-at-test.true,
+      length-take {A = ℕ},
+      length-drop {A = ℕ},
+    ) in
     let one = c.in_default.ensures.asked (c.loop-at.invariant.still ∙ fine) some in
-    write-failed c.args.self.now c.loop-at.self c.write.new.self bytes at _ one.0 (c.loop-at.invariant.writes fine) c.loop-at-test.true one.1 one.2
+    write-failed c.args.self.now c.loop-at.self c.write.new.self bytes at _ one.0
+    (c.loop-at.invariant.writes fine) c.loop-at-test.true one.1 one.2
 
 pub loop-at-preserved : goal.loop-at-preserved
 loop-at-preserved g c =
     let wrote = c.in-Some.ensures in
     let bytes = c.args.bytes.now in
     let at = c.loop-at.at in
-    let some : 0 < length (take (length bytes - at) (drop at bytes)) = omega (arith, c.loop-at-test.true, length-take {A = ℕ}, length-drop {A = ℕ}) in
+    let some : 0 < length (take (length bytes - at) (drop at bytes)) = omega (
+      arith,
+      c.loop-at-test.true,
+      length-take {A = ℕ},
+      length-drop {A = ℕ},
+    ) in
     let fine_before = wrote.went.1 some in
     record {
       within = omega (arith, wrote.within.0, length-take {A = ℕ}, length-drop {A = ℕ});
@@ -25,5 +36,6 @@ loop-at-preserved g c =
       closed = λ failed. absurd (true≢false (sym failed ∙ sym c.loop-at.invariant.still ∙ fine_before));
       first = λ none. absurd (omega (arith, wrote.within.1 some, none));
       writes = λ fine. let one = wrote.asked fine_before some in
-          written-more c.args.self.now c.loop-at.self c.write.new.self bytes at c.in-Some.n one.0 (c.loop-at.invariant.writes fine) one.1 one.2;
+          written-more c.args.self.now c.loop-at.self c.write.new.self bytes at c.in-Some.n one.0
+          (c.loop-at.invariant.writes fine) one.1 one.2;
     }

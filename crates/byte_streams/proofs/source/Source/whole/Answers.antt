@@ -12,9 +12,11 @@ returns-then-n-eq0-clause-made g c = λ fresh.
     let some : 0 < length c.read.new.buffer = search rules in
     let came = take c.in-Some.n c.read.new.buffer in
     let none : c.loop-n.all.items ++ came ≡ c.loop-n.all.items =
-    ap (λ n. c.loop-n.all.items ++ take n c.read.new.buffer) c.if-n-eq0.true ∙ append-nil c.loop-n.all.items in
+    ap (λ n. c.loop-n.all.items ++ take n c.read.new.buffer) c.if-n-eq0.true
+    ∙ append-nil c.loop-n.all.items in
     let all : ReadSoFar c.args.self.now c.read.new.self (c.loop-n.all.items ++ came) =
-    read-more c.args.self.now c.loop-n.self c.read.new.self c.loop-n.all.items came _ (c.loop-n.invariant.reads fresh) (read.asked (read.went.3 (c.loop-n.invariant.still fresh).1) some) in
+    read-more c.args.self.now c.loop-n.self c.read.new.self c.loop-n.all.items came _
+    (c.loop-n.invariant.reads fresh) (read.asked (read.went.3 (c.loop-n.invariant.still fresh).1) some) in
     (all.calls, all.made, all.count, (all.came, all.gave ∙ none))
 
 pub returns-then-is_err-clause-memory : goal.returns-then-is_err-clause-memory
@@ -22,8 +24,22 @@ returns-then-is_err-clause-memory g c = λ _.
     let read = c.in-Some.ensures in
     let came = take c.in-Some.n c.read.new.buffer in
     let more : 0 < length (c.loop-n.all.items ++ came) =
-    omega (arith, c.if-n-eq0.false, read.within, length-append c.loop-n.all.items came, length-take {A = ℕ}) in
-    (read.went.0, (c.loop-n.all.items ++ came, more, Consumes-trans _ _ _ c.loop-n.all.items came c.loop-n.invariant.bytes read.bytes.0))
+    omega (
+      arith,
+      c.if-n-eq0.false,
+      read.within,
+      length-append
+          c.loop-n.all.items came,
+      length-take {A = ℕ},
+    ) in (
+      read.went.0,
+      (
+        c.loop-n.all.items ++ came,
+        more,
+        Consumes-trans _ _ _ c.loop-n.all.items came
+            c.loop-n.invariant.bytes read.bytes.0,
+      ),
+    )
 
 pub returns-then-is_err-clause-made : goal.returns-then-is_err-clause-made
 returns-then-is_err-clause-made g c = λ fresh.
@@ -31,9 +47,17 @@ returns-then-is_err-clause-made g c = λ fresh.
     let some : 0 < length c.read.new.buffer = search rules in
     let came = take c.in-Some.n c.read.new.buffer in
     let more : 0 < length (c.loop-n.all.items ++ came) =
-    omega (arith, c.if-n-eq0.false, read.within, length-append c.loop-n.all.items came, length-take {A = ℕ}) in
+    omega (
+      arith,
+      c.if-n-eq0.false,
+      read.within,
+      length-append
+          c.loop-n.all.items came,
+      length-take {A = ℕ},
+    ) in
     let all : ReadSoFar c.args.self.now c.read.new.self (c.loop-n.all.items ++ came) =
-    read-more c.args.self.now c.loop-n.self c.read.new.self c.loop-n.all.items came _ (c.loop-n.invariant.reads fresh) (read.asked (read.went.3 (c.loop-n.invariant.still fresh).1) some) in
+    read-more c.args.self.now c.loop-n.self c.read.new.self c.loop-n.all.items came _
+    (c.loop-n.invariant.reads fresh) (read.asked (read.went.3 (c.loop-n.invariant.still fresh).1) some) in
     (all.calls, all.made, all.count, (all.came, subst (λ l. 0 < length l) (sym all.gave) more))
 
 pub loop-n-preserved : goal.loop-n-preserved
@@ -43,13 +67,25 @@ loop-n-preserved g c =
     let came = take c.in-Some.n c.read.new.buffer in
     let grown : c.extend_from_slice.new.self.items ≡ c.loop-n.all.items ++ came = search rules in
     record {
-      bytes = subst (Consumes c.args.self.now.bytes c.read.new.self.bytes) (sym grown) (Consumes-trans _ _ _ c.loop-n.all.items came c.loop-n.invariant.bytes read.bytes.0);
-      closed = λ shut. absurd (some-is-none (read.closed (subst IsClosed (sym (c.loop-n.invariant.closed shut)) shut)).0);
-      ended = λ done. absurd (c.if-n-eq0.false (ap (λ o. unwrap_or o 0) (read.ended (ap (λ s. s.ended) (c.loop-n.invariant.ended done).0 ∙ done)).0));
-      still = λ fresh. let ready = read.went.3 (c.loop-n.invariant.still fresh).1 in
-          (read.went.0, is-false _ (λ done. c.if-n-eq0.false ((read.end some).0 done)), omega (arith, ready.2, (read.asked ready some).0));
+      bytes = subst (Consumes c.args.self.now.bytes c.read.new.self.bytes) (sym grown) (Consumes-trans _ _ _
+          c.loop-n.all.items came c.loop-n.invariant.bytes read.bytes.0);
+      closed = λ shut. absurd (some-is-none (read.closed (subst IsClosed (sym
+          (c.loop-n.invariant.closed shut)) shut)).0);
+      ended = λ done. absurd (c.if-n-eq0.false (ap (λ o. unwrap_or o 0) (read.ended (ap (λ s. s.ended)
+          (c.loop-n.invariant.ended done).0 ∙ done)).0));
+      still = λ fresh. let ready = read.went.3 (c.loop-n.invariant.still fresh).1 in (
+        read.went.0,
+        is-false _ (λ done. c.if-n-eq0.false ((read.end some).0 done)),
+        omega (
+          arith,
+          ready.2,
+          (read.asked ready some).0,
+        ),
+      );
       reads = λ fresh. subst (ReadSoFar c.args.self.now c.read.new.self) (sym grown)
-          (read-more c.args.self.now c.loop-n.self c.read.new.self c.loop-n.all.items came _ (c.loop-n.invariant.reads fresh) (read.asked (read.went.3 (c.loop-n.invariant.still fresh).1) some));
+          (read-more c.args.self.now c.loop-n.self c.read.new.self c.loop-n.all.items came _
+          (c.loop-n.invariant.reads fresh) (read.asked (read.went.3
+          (c.loop-n.invariant.still fresh).1) some));
     }
 
 pub returns-clause-made : goal.returns-clause-made
@@ -60,8 +96,10 @@ returns-clause-made g c = λ fresh.
     let some : 0 < length c.read.new.buffer = search rules in
     elim (eq-or-lt_of_le still.2) [
       | inl full ↦ let same = (read.closed (still.1, inr full)).1 in
-          let all : ReadSoFar c.args.self.now c.read.new.self c.loop-n.all.items = subst (λ s. ReadSoFar c.args.self.now s c.loop-n.all.items) (sym same) before in
+          let all : ReadSoFar c.args.self.now c.read.new.self c.loop-n.all.items = subst (λ s. ReadSoFar
+          c.args.self.now s c.loop-n.all.items) (sym same) before in
           (all.calls, all.made, all.count, inr (all.came, ap (λ s. s.reads) same ∙ full))
-      | inr under ↦ let all = read-failed c.args.self.now c.loop-n.self c.read.new.self c.loop-n.all.items _ before (read.asked (still.1, still.0, under) some) in
+      | inr under ↦ let all = read-failed c.args.self.now c.loop-n.self c.read.new.self
+          c.loop-n.all.items _ before (read.asked (still.1, still.0, under) some) in
           (all.0, all.1, all.2, inl all.3)
     ]
