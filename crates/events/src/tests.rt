@@ -323,8 +323,8 @@ enum Act {
     Receive(u32, u32),
 }
 
-/// A replica, what it does so many times in turn, and the reply to the first time. Where that is a count, each later
-/// one is one more.
+/// A replica, what it does so many times in turn, and the reply to the first time. Where that is a count,
+/// each later one is one more.
 #[derive(Clone, Copy)]
 struct Step(u32, Act, u32, Result<u32, Refusal>);
 

@@ -37,7 +37,7 @@ pub fn push_doubled(
     Ok(())
 }
 
-/// Adds a step without the end of its line: two elements, and the operation that shows the one before the other.
+/// Adds a step without the end of its line: two elements, and the operation that shows them so.
 pub fn push_shown(
     alloc: Global,
     text: &mut Vec<u8>,

@@ -1,5 +1,5 @@
-//! Questions on the graphs of recordings, which must be sound. A call that finds no memory is made again. A test that
-//! holds no graph of its own is proved with far less work.
+//! Questions on the graphs of recordings, which must be sound. A call that finds no memory is made again. A
+//! test that holds no graph of its own is proved with far less work.
 ghost use Rattle.specification.specs.Faults.{IsSound};
 
 use crate::OrderGraph;

@@ -38,7 +38,8 @@ fn has_shown(graph: &OrderGraph, expected: &[Shown]) -> bool {
     true
 }
 
-/// Whether they are so in the graph of the recording that a text spells, which agrees with the plain programs.
+/// Whether they are so in the graph of the recording that a text spells, which agrees with the plain
+/// programs.
 fn shows(
     rt: &(impl Threads + Sync),
     alloc: Global,

@@ -70,41 +70,22 @@ fn is_order(order: &Order, names: [&str; 3]) -> bool {
     order.len() == 3
 }
 
-/// Whether the next turn accepts, with the order that both have seen.
-fn is_accepted<H: Threads + Wait + Sync>(
+/// What the next turn finds: three steps where it refuses, and none where it accepts, with the order that both have
+/// seen. Nothing where it finds something else.
+fn next_steps<H: Threads + Wait + Sync>(
     rt: &H,
     alloc: Global,
     session: &Session,
     observer: &mut Observer,
-) -> bool
+) -> Option<u32>
     requires { observer.old.session ≡ session.now }
     ensures { observer.new.session ≡ session.now }
 {
-    let Ok(verdicts) = judged(rt, alloc, session, observer, 1, 2) else {
-        return false;
-    };
-    match verdicts.get(0) {
-        Some(Verdict::Accepted(order)) => is_order(order, ["a", "x", "b"]),
-        _ => false,
-    }
-}
-
-/// Whether the next turn refuses, with three steps.
-fn is_refused<H: Threads + Wait + Sync>(
-    rt: &H,
-    alloc: Global,
-    session: &Session,
-    observer: &mut Observer,
-) -> bool
-    requires { observer.old.session ≡ session.now }
-    ensures { observer.new.session ≡ session.now }
-{
-    let Ok(verdicts) = judged(rt, alloc, session, observer, 1, 2) else {
-        return false;
-    };
-    match verdicts.get(0) {
-        Some(Verdict::Refused { k, steps }) => *k == 3 && steps.len() == 3,
-        _ => false,
+    let verdicts = judged(rt, alloc, session, observer, 1, 2).ok()?;
+    match verdicts.get(0)? {
+        Verdict::Accepted(order) if is_order(order, ["a", "x", "b"]) => Some(0),
+        Verdict::Refused { k, steps } if *k == 3 && steps.len() == 3 => Some(3),
+        _ => None,
     }
 }
 
@@ -127,7 +108,7 @@ fn watched_three_way_cycle(rt: HostRuntime) {
             8
         )
     );
-    assert!(rt; is_accepted(&rt, alloc, &session, &mut observer));
+    assert!(rt; next_steps(&rt, alloc, &session, &mut observer) == Some(0));
     assert!(rt;
         hand_in(
             &rt,
@@ -139,5 +120,5 @@ fn watched_three_way_cycle(rt: HostRuntime) {
             9
         )
     );
-    assert!(rt; is_refused(&rt, alloc, &session, &mut observer));
+    assert!(rt; next_steps(&rt, alloc, &session, &mut observer) == Some(3));
 }

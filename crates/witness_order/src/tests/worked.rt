@@ -16,8 +16,8 @@ const TWO_REPLICAS: &str = "trace 1\nreplicas 2\n0 ins a 0 : a\n1 ins b 0 : b\n"
 const SHOWN_BESIDE_NONE: &str =
     "trace 1\nreplicas 2\n0 ins a 0 : a\n0 del a :\n1 ins c 0 : c\n1 ins b 0 : b c\n0 read :\n";
 
-/// Whether the least order of the recording that a text spells is the expected one, or is expected to be none;
-/// and whether the plain program says so too.
+/// Whether the least order of the recording that a text spells is the expected one, or is expected to be
+/// none; and whether the plain program says so too.
 fn gives(
     rt: &(impl Threads + Sync),
     alloc: Global,
