@@ -69,18 +69,12 @@ works_next a b c i j k first forward second =
 
 pub works_step : (a b c : State) (i j k : ℕ) → Works a b i j → Works b c (ticked j) k → Works a c (ticked i) k
 works_step a b c i j k first second =
-    let low = first.forward in let high = second.forward in
-    record {
+    let low = first.forward in
+    works_both a b c (ticked i) (ticked j) k (record {
       forward = omega arith;
-      reach = λ h. elim (cases_lt a.tail b.tail) [
-        | inl early ↦ let one = first.reach early in omega arith
-        | inr late ↦ let one = second.reach (omega arith) in omega arith
-      ];
-      found = λ h t. elim (cases_Bool b.found) [
-        | inl early ↦ let one = first.found h early in omega arith
-        | inr late ↦ let one = second.found late t in omega arith
-      ];
-    }
+      reach = λ h. let one = first.reach h in omega arith;
+      found = λ h t. let one = first.found h t in omega arith;
+    }) second
 
 pub still_expanded : (P : ℕ → Type 0) (s : ℕ) (a b : State) (rows : List (List ℕ)) (x : ℕ) → Grows P s a b
     → IsExpanded rows a.marks.items x → IsExpanded rows b.marks.items x

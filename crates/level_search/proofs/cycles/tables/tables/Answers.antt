@@ -4,30 +4,22 @@ use Rattle.std.proofs.lemmas.Grind.{common_steps}
 use Rattle.order_graph.specs.Lists.{lists_of}
 use Rattle.level_search.specs.Graph.{graph_of}
 use Rattle.level_search.specs.Rings.{IsTable, IsTableOf}
-use Rattle.level_search.proofs.TableRows.{bits_of, push_before, push_last, table_at}
+use Rattle.level_search.proofs.TableRows.{bits_of, push_before, push_last, table_slice}
 use Rattle.level_search.proofs.cycles.tables.tables.Goals as goal
 
 pub next_table-requires-clause-table : goal.next_table-requires-clause-table
 next_table-requires-clause-table c =
-    let n : ℕ = c.loop-n.n - 1 in
     let count = c.loop-n.invariant.count in
     let low = c.loop-n.auto.n in
-    let is : get_or (map bits_of c.loop-n.all.items) n [] ≡ c.as_slice.result.now =
-    table_at c.loop-n.all.items n c.index.result.now (omega arith) c.index.ensures ∙ sym c.as_slice.ensures.value in
-    let kept : IsTableOf (graph_of c.args.graph.now) c.args.z n c.as_slice.result.now =
-    subst (λ (t : List Bool). IsTableOf (graph_of c.args.graph.now) c.args.z n t) is (c.loop-n.invariant.tables n (omega arith)) in
-    kept.table_is
+    (table_slice (IsTableOf (graph_of c.args.graph.now) c.args.z (c.loop-n.n - 1)) c.loop-n.all.items (c.loop-n.n - 1) c.index.result.now c.as_slice.result.now (omega arith)
+    c.index.ensures c.as_slice.ensures.value (c.loop-n.invariant.tables (c.loop-n.n - 1) (omega arith))).table_is
 
 pub next_table-requires-clause-count : goal.next_table-requires-clause-count
 next_table-requires-clause-count c =
-    let n : ℕ = c.loop-n.n - 1 in
     let count = c.loop-n.invariant.count in
     let low = c.loop-n.auto.n in
-    let is : get_or (map bits_of c.loop-n.all.items) n [] ≡ c.as_slice.result.now =
-    table_at c.loop-n.all.items n c.index.result.now (omega arith) c.index.ensures ∙ sym c.as_slice.ensures.value in
-    let kept : IsTableOf (graph_of c.args.graph.now) c.args.z n c.as_slice.result.now =
-    subst (λ (t : List Bool). IsTableOf (graph_of c.args.graph.now) c.args.z n t) is (c.loop-n.invariant.tables n (omega arith)) in
-    kept.count
+    (table_slice (IsTableOf (graph_of c.args.graph.now) c.args.z (c.loop-n.n - 1)) c.loop-n.all.items (c.loop-n.n - 1) c.index.result.now c.as_slice.result.now (omega arith)
+    c.index.ensures c.as_slice.ensures.value (c.loop-n.invariant.tables (c.loop-n.n - 1) (omega arith))).count
 
 pub loop-n-preserved : goal.loop-n-preserved
 loop-n-preserved c =
