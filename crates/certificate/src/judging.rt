@@ -7,7 +7,7 @@ ghost use Rattle.certificate.specs.VerdictOf.{verdict_of, IsRefusalOf};
 use super::verdict::Verdict;
 use contents_check::first_fault;
 use events::Recording;
-use level_search::{Gate, SearchFault, conflict_number, least_cycle};
+use level_search::{Gate, MOST_WORKERS, SearchFault, conflict_number, least_cycle};
 use order_graph::OrderGraph;
 use std::alloc::Global;
 use std::thread::Threads;
@@ -34,9 +34,9 @@ pub fn judge<H: Threads + Sync, G: Gate>(
     ensures verdict { IfOk result (λ v. IsVerdict recording.now (verdict_of v)) }
     ensures specifications { IfOk result (λ v. DecidesSpecifications recording.now (verdict_of v)) }
     ensures proof { IfOk result (λ v. ProvesItself recording.now (verdict_of v)) }
-    ensures workers { IsErrOf result SearchFault.Workers ↔ ((workers < 1) ⊎ (64 < workers)) }
+    ensures workers { IsErrOf result SearchFault.Workers ↔ ((workers < 1) ⊎ (MOST_WORKERS < workers)) }
 {
-    if workers == 0 || workers > 64 {
+    if workers == 0 || workers > MOST_WORKERS {
         return Err(SearchFault::Workers);
     }
     // Its contract has that the recording is legal.
@@ -57,7 +57,7 @@ fn judge_sound<H: Threads + Sync, G: Gate>(
     gate: &G,
 ) -> Result<Verdict, SearchFault>
     requires sound { IsSound recording.now }
-    requires workers { (1 ≤ workers) × (workers ≤ 64) }
+    requires workers { (1 ≤ workers) × (workers ≤ MOST_WORKERS) }
     ensures verdict { IfOk result (λ v. IsVerdict recording.now (verdict_of v)) }
     ensures workers { ¬ IsErrOf result SearchFault.Workers }
 {
@@ -80,7 +80,7 @@ fn refuse<H: Threads + Sync, G: Gate>(
     gate: &G,
 ) -> Result<Verdict, SearchFault>
     requires disordered { HasNoOrder graph.now }
-    requires workers { (1 ≤ workers) × (workers ≤ 64) }
+    requires workers { (1 ≤ workers) × (workers ≤ MOST_WORKERS) }
     ensures verdict { IfOk result (λ v. IsRefusalOf graph.now (verdict_of v)) }
     ensures workers { ¬ IsErrOf result SearchFault.Workers }
 {

@@ -61,7 +61,7 @@ fn rehearsed_report<H: Threads + Wait + Sync, G: Gate>(
     workers: u32,
     gate: &G,
 ) -> Result<Output, RunFault>
-    requires workers { (1 ≤ workers) × (workers ≤ 64) }
+    requires workers { (1 ≤ workers) × (workers ≤ MOST_WORKERS) }
     ensures ok { IfOk result (λ report. IsReportOf text.now Text report.bytes.items report.status) }
     ensures trace { IfErr result (λ fault. NamesFirstFault text.now fault × IsOfRehearsal fault) }
 {
@@ -86,7 +86,7 @@ fn rehearsed<H: Threads + Wait + Sync, G: Gate>(
     workers: u32,
     gate: &G,
 ) -> Result<Recording, RunFault>
-    requires workers { (1 ≤ workers) × (workers ≤ 64) }
+    requires workers { (1 ≤ workers) × (workers ≤ MOST_WORKERS) }
     ensures ok { IfOk result (λ closed. SameStreams recording.now closed) }
     ensures fault { IfErr result IsOfRehearsal }
     ensures no_line { IfErr result (λ fault. (line : _) → fault ≢ RunFault.Trace line) }

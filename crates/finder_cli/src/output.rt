@@ -12,6 +12,7 @@ ghost use Rattle.finder_cli.specs.Runs.{NamesFirstFault, IsOfText, IsOfReading, 
 use super::status::{RunFault, Status};
 use byte_streams::{ReadFault, Reader, Sink, Source, Writer};
 use certificate::{NoGate, SearchFault, Verdict, judge};
+use command_line::MOST_WORKERS;
 use events::{Memory, Recording, Refusal};
 use std::alloc::Global;
 use std::thread::Threads;
@@ -84,7 +85,7 @@ pub fn verdict_on<H: Threads + Sync>(
     recording: &Recording,
     workers: u32,
 ) -> Result<Verdict, Memory>
-    requires workers { (1 ≤ workers) × (workers ≤ 64) }
+    requires workers { (1 ≤ workers) × (workers ≤ MOST_WORKERS) }
     ensures { IfOk result (λ v. IsVerdict recording.now (verdict_of v)) }
 {
     match judge(rt, alloc, recording, workers, &NoGate) {

@@ -54,7 +54,7 @@ fn report_on<H: Threads + Sync>(
     workers: u32,
     form: Form,
 ) -> Result<Output, RunFault>
-    requires workers { (1 ≤ workers) × (workers ≤ 64) }
+    requires workers { (1 ≤ workers) × (workers ≤ MOST_WORKERS) }
     ensures ok { IfOk result (λ report. IsReportOf text.now form report.bytes.items report.status) }
     ensures trace { IfErr result (λ fault. NamesFirstFault text.now fault × IsOfText fault) }
 {

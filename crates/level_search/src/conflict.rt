@@ -1,6 +1,7 @@
 ghost use Rattle.std.specs.Prelude.{◌≡◌, ◌⊎◌, ◌↔◌, ◌<◌, IfOk, IsErrOf};
 ghost use Rattle.specification.specs.Conflict.{IsConflictNumber};
 
+use super::MOST_WORKERS;
 use super::gate::Gate;
 use super::search_fault::SearchFault;
 use super::workers::least_length;
@@ -32,9 +33,9 @@ pub fn conflict_number<H: Threads + Sync, G: Gate>(
     gate: &G,
 ) -> Result<Option<u32>, SearchFault>
     ensures number { IfOk result (λ k. IsConflictNumber graph.now k) }
-    ensures workers { IsErrOf result SearchFault.Workers ↔ ((workers < 1) ⊎ (64 < workers)) }
+    ensures workers { IsErrOf result SearchFault.Workers ↔ ((workers < 1) ⊎ (MOST_WORKERS < workers)) }
 {
-    if workers == 0 || workers > 64 {
+    if workers == 0 || workers > MOST_WORKERS {
         return Err(SearchFault::Workers);
     }
     // Its contract has that the responses are proper.

@@ -13,10 +13,13 @@ mod workers;
 pub use conflict::conflict_number;
 pub use cycles::least_cycle;
 pub use gate::{Gate, NoGate};
-pub use laws::least_offer_is_shortest;
+pub use laws::{least_offer_is_shortest, most_workers_is_the_number};
 pub use search_fault::SearchFault;
 pub use searching::{BoundSource, PlainBound, Scratch, distances, search};
 pub use witnesses::{Step, Steps};
+
+/// How many workers may search side by side: each has a seat at the shared bound.
+pub const MOST_WORKERS: u32 = 64;
 
 #[cfg(test)]
 mod tests;

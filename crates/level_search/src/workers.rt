@@ -8,6 +8,7 @@ ghost use Rattle.level_search.specs.Team.{CanWork, HasWorked, HaveWorked, Honest
 mod bound_seat;
 mod worker;
 
+use super::MOST_WORKERS;
 use super::gate::Gate;
 use super::sources::feedback_vertex_set;
 use events::Memory;
@@ -27,7 +28,7 @@ fn team<'a>(
     mut first: Seat,
     workers: u32,
 ) -> Result<Vec<Worker<'a>>, Memory>
-    requires workers { (1 ≤ workers) × (workers ≤ 64) }
+    requires workers { (1 ≤ workers) × (workers ≤ MOST_WORKERS) }
     requires first { first ≡ fresh_seat bound.now true NO_OFFER (workers - 1) }
     ensures { IfOk result (λ team. IsTeam bound.now graph.now sources.now (workers - 1) team.items) }
 {
@@ -107,7 +108,7 @@ fn least_from<H: Threads + Sync, G: Gate>(
     workers: u32,
     gate: &G,
 ) -> Result<u32, Memory>
-    requires workers { (1 ≤ workers) × (workers ≤ 64) }
+    requires workers { (1 ≤ workers) × (workers ≤ MOST_WORKERS) }
     requires proper { AreProper graph.now }
     requires known { All (λ s. s < length graph.now.elements) sources.now }
     requires count { length sources.now ≤ length graph.now.elements }
@@ -133,7 +134,7 @@ pub fn least_length<H: Threads + Sync, G: Gate>(
     workers: u32,
     gate: &G,
 ) -> Result<u32, Memory>
-    requires workers { (1 ≤ workers) × (workers ≤ 64) }
+    requires workers { (1 ≤ workers) × (workers ≤ MOST_WORKERS) }
     requires proper { AreProper graph.now }
     ensures { IfOk result (IsLeastLength graph.now) }
 {

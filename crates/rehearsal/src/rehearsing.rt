@@ -8,8 +8,8 @@ ghost use Rattle.rehearsal.specs.Replays.{AreReplayed};
 use super::fault::{RehearsalFault, foremost, of_watch};
 use super::team::{Back, Team, joined, started};
 use super::watcher::{Returned, Watched, watch_turns};
-use events::{Memory, Recording};
-use level_search::Gate;
+use events::{MOST_REPLICAS, Memory, Recording};
+use level_search::{Gate, MOST_WORKERS};
 use sessions::{Observer, Pass, Session};
 use std::alloc::Global;
 use std::snapshot::Snapshot;
@@ -46,9 +46,9 @@ pub fn rehearse<H: Threads + Wait + Sync, G: Gate>(
     gate: &G,
 ) -> Result<Recording, RehearsalFault>
     ensures streams { IfOk result (λ closed. SameStreams recording.now closed) }
-    ensures workers { IsErrOf result RehearsalFault.Workers ↔ ((workers < 1) ⊎ (64 < workers)) }
+    ensures workers { IsErrOf result RehearsalFault.Workers ↔ ((workers < 1) ⊎ (MOST_WORKERS < workers)) }
 {
-    if workers == 0 || workers > 64 {
+    if workers == 0 || workers > MOST_WORKERS {
         return Err(RehearsalFault::Workers);
     }
     let Opened {
@@ -64,7 +64,7 @@ pub fn rehearse<H: Threads + Wait + Sync, G: Gate>(
 
 /// A session of so many replicas, and an observer that pass 0 made.
 fn open(alloc: Global, replicas: u32) -> Result<Opened, Memory>
-    requires { (1 ≤ replicas) × (replicas ≤ 16) }
+    requires { (1 ≤ replicas) × (replicas ≤ MOST_REPLICAS) }
     ensures replicas { IfOk result (λ o. o.session.replicas ≡ replicas) }
     ensures passes { IfOk result (λ o. AreOpened o.session o.passes.items) }
     ensures observer { IfOk result (λ o. o.observer.session ≡ o.session) }
