@@ -6,7 +6,8 @@ use std::io::Read;
 /// calls nothing is known to a contract, but what asks a `Reader` is proved for those whose calls are
 /// known, too.
 pub trait Reader {
-    ghost use Rattle.std.specs.Prelude.{◌≡◌, ◌≤◌, ◌<◌, ◌∷◌, [], IfSome, List, MatchOption, Option, length, option_map, take, ℕ};
+    ghost use Rattle.std.specs.Prelude.{◌≡◌, ◌≤◌, ◌<◌, ◌∷◌, [], IfSome, List, MatchOption, Option, length};
+    ghost use Rattle.std.specs.Prelude.{option_map, take, ℕ};
     ghost use Rattle.std.specs.Io.KnownBytes.{Consumes, Keeps, IsAtEnd};
     ghost use Rattle.byte_streams.specs.Streams.{Makes, ReadCall};
 
@@ -16,7 +17,7 @@ pub trait Reader {
     // The reads that were made, where they are known.
     ghost reads_made: { Self → Option (List ReadCall) };
 
-    /// Reads once into the front of the buffer, and answers how many bytes came: none only at the end, or
+    /// Reads once into the beginning of the buffer, and answers how many bytes came: none only at the end, or
     /// where the buffer is empty. Answers `None` where the read fails.
     fn read_once(&mut self, buffer: &mut [u8]) -> Option<usize>
         ensures within { IfSome result (λ n. n ≤ length buffer.new) }

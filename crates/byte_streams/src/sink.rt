@@ -21,11 +21,16 @@ impl<W: Writer + Drop> Model for Sink<W> {
 
     ghost Value = { SinkState };
 
-    ghost view = { λ s. record { bytes = W.bytes_held s.inner; calls = W.writes_made s.inner; failed = s.has_failed } };
+    ghost view = { λ s. record {
+      bytes = W.bytes_held s.inner;
+      calls = W.writes_made s.inner;
+      failed = s.has_failed;
+    } };
 }
 
 impl<W: Writer + Drop> Sink<W> {
-    ghost use Rattle.std.specs.Prelude.{◌≡◌, ◌≤◌, ◌<◌, ◌∷◌, [], true, false, None, Some, IfSome, IsOk, IsErr, OnOk, OnErr, List, MatchResult, Option, length, take, ℕ};
+    ghost use Rattle.std.specs.Prelude.{◌≡◌, ◌≤◌, ◌<◌, ◌∷◌, [], true, false, None, Some, IfSome, IsOk, IsErr};
+    ghost use Rattle.std.specs.Prelude.{OnOk, OnErr, List, MatchResult, Option, length, take, ℕ};
     ghost use Rattle.std.specs.Io.KnownBytes.{Appends, Keeps};
     ghost use Rattle.byte_streams.specs.Streams.{AppendsFront, Makes, WriteCall, at_least_one};
     ghost use Rattle.byte_streams.specs.Wholes.{TakenAs, TakenInPart};
@@ -42,7 +47,7 @@ impl<W: Writer + Drop> Sink<W> {
         }
     }
 
-    /// Writes once, from the front of the bytes, and answers how many were taken: at least one. Answers
+    /// Writes once, from the beginning of the bytes, and answers how many were taken: at least one. Answers
     /// `None` where the write fails or takes no byte. After that it answers `None` and asks the writer no
     /// more. No byte needs no write: then it answers 0.
     pub fn write(&mut self, bytes: &[u8]) -> Option<usize>
@@ -77,12 +82,15 @@ impl<W: Writer + Drop> Sink<W> {
     /// byte, the last of those that were made, a prefix of them was written, and not all. No byte needs no
     /// write.
     pub fn write_whole(&mut self, bytes: &[u8]) -> Result<(), WriteFault>
-        ensures ok { OnOk result (Appends self.old.bytes self.new.bytes bytes.now × (self.new.failed ≡ self.old.failed)) }
-        ensures err { OnErr result (AppendsFront self.old.bytes self.new.bytes bytes.now × (self.new.failed ≡ true)) }
+        ensures ok { OnOk result (Appends self.old.bytes self.new.bytes bytes.now
+            × (self.new.failed ≡ self.old.failed)) }
+        ensures err { OnErr result (AppendsFront self.old.bytes self.new.bytes bytes.now
+            × (self.new.failed ≡ true)) }
         ensures made { self.old.failed ≡ false → (calls : List WriteCall)
             × Makes self.old.calls self.new.calls calls
             × MatchResult result (λ _. TakenAs bytes.now calls) (λ _. TakenInPart bytes.now calls) }
-        ensures closed { self.old.failed ≡ true → 0 < length bytes.now → IsErr result × (self.new ≡ self.old) }
+        ensures closed { self.old.failed ≡ true → 0 < length bytes.now → IsErr result
+            × (self.new ≡ self.old) }
         ensures nothing { bytes.now ≡ [] → IsOk result × (self.new ≡ self.old) }
     {
         let mut at = 0;

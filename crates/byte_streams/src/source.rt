@@ -7,8 +7,8 @@ use std::alloc::Global;
 use std::marker::Model;
 use thiserror::Error;
 
-/// How many reads are made of a reader: more than the longest legal trace has bytes. A certificate may be longer, so a
-/// reader that gives it byte by byte can be cut short.
+/// How many reads are made of a reader: more than the longest legal trace has bytes. A certificate may be
+/// longer, so a reader that gives it byte by byte can be cut short.
 pub const READS: u32 = 268_435_456;
 
 /// How many bytes are asked for at once.
@@ -20,7 +20,7 @@ pub enum ReadFault {
     /// A read failed, or the limit of reads was reached before the end.
     #[error("cannot read")]
     Read,
-    /// A growth was refused.
+    /// An allocation failed.
     #[error("memory")]
     Memory,
 }
@@ -41,14 +41,22 @@ impl<R: Reader + Drop> Model for Source<R> {
 
     ghost Value = { SourceState };
 
-    ghost view = { λ s. record { bytes = R.bytes_left s.inner; calls = R.reads_made s.inner; reads = s.reads; failed = s.has_failed; ended = s.has_ended } };
+    ghost view = { λ s. record {
+      bytes = R.bytes_left s.inner;
+      calls = R.reads_made s.inner;
+      reads = s.reads;
+      failed = s.has_failed;
+      ended = s.has_ended;
+    } };
 
     ghost invariant = { λ s. (s.reads ≤ 268435456) × (s.has_ended ≡ true → (s.has_failed ≡ false)
         × IsAtEnd (R.bytes_left s.inner)) };
 }
 
 impl<R: Reader + Drop> Source<R> {
-    ghost use Rattle.std.specs.Prelude.{◌≡◌, ◌≤◌, ◌<◌, ◌+◌, ◌⊎◌, ◌↔◌, ◌∷◌, [], true, false, None, Some, Err, IfSome, IfOk, IfErr, IsOkAnd, List, MatchResult, length, option_map, take, ℕ};
+    ghost use Rattle.std.specs.Prelude.{◌≡◌, ◌≤◌, ◌<◌, ◌+◌, ◌⊎◌, ◌↔◌, ◌∷◌, [], true, false, None, Some, Err};
+    ghost use Rattle.std.specs.Prelude.{IfSome, IfOk, IfErr, IsOkAnd, List, MatchResult, length, option_map};
+    ghost use Rattle.std.specs.Prelude.{take, ℕ};
     ghost use Rattle.std.specs.Io.KnownBytes.{Consumes, Keeps, IsAtEnd};
     ghost use Rattle.byte_streams.specs.Streams.{IsClosed, IsOpen, Makes, ReadCall};
     ghost use Rattle.byte_streams.specs.Wholes.{CameAs, EndedBy};
@@ -67,13 +75,14 @@ impl<R: Reader + Drop> Source<R> {
         }
     }
 
-    /// Reads once into the front of the buffer, and answers how many bytes came: none only at the end,
+    /// Reads once into the beginning of the buffer, and answers how many bytes came: none only at the end,
     /// or where the buffer is empty. Answers `None` where the read fails. After a failed read, or after
     /// `READS` reads that did not come to the end, it answers `None` and asks the reader no more; after the
     /// end it answers 0 and asks it no more. An empty buffer uses up no read.
     pub fn read(&mut self, buffer: &mut [u8]) -> Option<usize>
         ensures within { IfSome result (λ n. n ≤ length buffer.new) }
-        ensures bytes { IfSome result (λ n. Consumes self.old.bytes self.new.bytes (take n buffer.new) × (n ≡ 0 → 0 < length buffer.new → IsAtEnd self.new.bytes)) }
+        ensures bytes { IfSome result (λ n. Consumes self.old.bytes self.new.bytes (take n buffer.new)
+            × (n ≡ 0 → 0 < length buffer.new → IsAtEnd self.new.bytes)) }
         ensures end { IfSome result (λ n. 0 < length buffer.new → (self.new.ended ≡ true) ↔ (n ≡ 0)) }
         ensures went { IfSome result (λ n. (self.new.failed ≡ false) × (self.old.failed ≡ false) × (0 < n
             → IsOpen self.old) × (self.old.ended ≡ false → IsOpen self.old)) }

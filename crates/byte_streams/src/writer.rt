@@ -6,7 +6,8 @@ use std::io::Write;
 /// calls nothing is known to a contract, but what asks a `Writer` is proved for those whose calls are
 /// known, too.
 pub trait Writer {
-    ghost use Rattle.std.specs.Prelude.{◌≡◌, ◌≤◌, ◌∷◌, [], IfSome, List, MatchOption, Option, length, take, ℕ};
+    ghost use Rattle.std.specs.Prelude.{◌≡◌, ◌≤◌, ◌∷◌, [], IfSome, List, MatchOption, Option, length, take};
+    ghost use Rattle.std.specs.Prelude.{ℕ};
     ghost use Rattle.std.specs.Io.KnownBytes.{Appends, Keeps};
     ghost use Rattle.byte_streams.specs.Streams.{Makes, WriteCall};
 
@@ -16,8 +17,8 @@ pub trait Writer {
     // The writes that were made, where they are known.
     ghost writes_made: { Self → Option (List WriteCall) };
 
-    /// Writes once, from the front of the bytes, and answers how many were taken. Answers `None` where the
-    /// write fails.
+    /// Writes once, from the beginning of the bytes, and answers how many were taken. Answers `None` where
+    /// the write fails.
     fn write_once(&mut self, bytes: &[u8]) -> Option<usize>
         ensures within { IfSome result (λ n. n ≤ length bytes.now) }
         ensures bytes { MatchOption result (Keeps (bytes_held self.old) (bytes_held self.new)) (λ n. Appends

@@ -32,7 +32,7 @@ Once-push (y ∷ ys) x once none = (
   Once-push ys x once.1 (λ i. none (inr i)),
 )
 
--- a front of what can be noted can be noted
+-- a prefix of what can be noted can be noted
 pub can_front : (names : List NameBytes) (ps qs : List Noted) → CanBeNoted names (ps ++ qs) → CanBeNoted names ps
 can_front names ps qs can = record {
   elements = λ p i. can.elements p (In-append_left p ps qs i);

@@ -1,4 +1,4 @@
--- The ring of a list at a place: what stands there, and what stands behind it.
+-- The ring of a list at a place: what stands there, and what stands after it.
 use Rattle.std.proofs.Common.{◌≡◌, ◌≢◌, ℕ, zero, suc, ◌+◌, ◌<◌, ◌⊎◌, inl, inr, Bool, true, false, cond, eqb, Some, List, [], ◌∷◌, map, length, refl, sym, ◌∙◌, ap, arith, eq-eqb}
 use Rattle.std.specs.Prelude.{slice_get}
 use Rattle.std.proofs.lemmas.Bool.{eqb-true}

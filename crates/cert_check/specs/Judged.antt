@@ -1,4 +1,4 @@
--- What is judged of a recording and a certificate, behind the reading of texts.
+-- What is judged of a recording and a certificate, after the reading of texts.
 use Rattle.std.specs.Prelude.{◌≡◌, ℕ, Option, Some, None, List, length, slice_get}
 use Rattle.events.specs.Names.{NameBytes}
 use Rattle.events.specs.History.{History}

@@ -1,3 +1,5 @@
+//! What the checker answers.
+
 use events::{Name, OpName};
 
 /// What a certificate shows.
@@ -15,8 +17,8 @@ pub enum Kind {
     Refused,
 }
 
-/// Why a certificate is not valid. Where several reasons hold, the first of this list is answered; rows are looked
-/// at one after the other, in order of the elements' numbers.
+/// Why a certificate is not valid. Where several reasons hold, the first of this list is answered; rows are
+/// looked at one after the other, in order of the elements' numbers.
 #[derive(Clone, Copy, Debug, PartialEq, Eq)]
 pub enum Reason {
     /// The trace spells no recording.
@@ -37,7 +39,7 @@ pub enum Reason {
     MissingLayer { source: Name },
     /// The row of this element does not meet the layer rule.
     ShortLayer { source: Name },
-    /// A row with this source stands behind those of all elements.
+    /// A row with this source stands after those of all elements.
     ExtraLayer { source: Name },
 }
 

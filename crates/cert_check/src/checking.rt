@@ -1,3 +1,5 @@
+//! The checker, from the two texts.
+
 ghost use Rattle.std.specs.Prelude.{◌≡◌, ◌↔◌, IfOk, IfErr, IsTrue};
 ghost use Rattle.cert_check.specs.AnswerOf.{IsAnswer, ImpliesOfTexts};
 ghost use Rattle.cert_check.specs.OutOfMemory.{TakesMemory};
@@ -13,8 +15,9 @@ use trace_text::{Cause, read};
 /// Whether the certificate is valid for the recording that the trace spells; where not, the first reason.
 ///
 /// It searches nothing: beyond reading the texts and looking for a fault, a row of a certificate costs the
-/// places of all responses and the elements, and a step the response of its operation. Its memory is linear in
-/// the texts. Out of memory is never answered for a text that is faulty before any line of it takes memory.
+/// places of all responses and the elements, and a step the response of its operation. Its memory is linear
+/// in the texts. Out of memory is never answered for a text that is faulty before any line of it takes
+/// memory.
 pub fn check<H: Threads + Sync>(
     rt: &H,
     alloc: Global,
@@ -30,7 +33,7 @@ pub fn check<H: Threads + Sync>(
     let recording = match read(alloc, trace) {
         Ok(recording) => recording,
         Err(fault) => {
-            return if is_want_of_memory(fault.cause) {
+            return if is_out_of_memory(fault.cause) {
                 Err(Memory)
             } else {
                 Ok(Answer::No(Reason::Trace))
@@ -50,7 +53,7 @@ pub fn check<H: Threads + Sync>(
 }
 
 /// Whether the reading of a trace found no memory.
-fn is_want_of_memory(cause: Cause) -> bool
+fn is_out_of_memory(cause: Cause) -> bool
     ensures { IsTrue result ↔ (cause ≡ Cause.Refused Refusal.Memory) }
 {
     match cause {
@@ -59,7 +62,7 @@ fn is_want_of_memory(cause: Cause) -> bool
     }
 }
 
-/// Whether it is want of memory that a recording refuses an entry for.
+/// Whether it is out of memory that a recording refuses an entry for.
 fn is_memory(why: Refusal) -> bool
     ensures { IsTrue result ↔ (why ≡ Refusal.Memory) }
 {

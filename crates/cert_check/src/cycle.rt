@@ -1,3 +1,5 @@
+//! Whether a certificate's cycle and rows bear a refusal.
+
 ghost use Rattle.std.specs.Prelude.{IfOk};
 ghost use Rattle.events.specs.History.{IsLegal};
 ghost use Rattle.specification.specs.Faults.{IsSound};

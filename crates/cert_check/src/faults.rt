@@ -1,3 +1,5 @@
+//! Whether a certificate names the first fault.
+
 ghost use Rattle.std.specs.Prelude.{◌≡◌, ◌↔◌, IsTrue};
 ghost use Rattle.events.specs.History.{History};
 ghost use Rattle.specification.specs.Faults.{IsFirstFault};
@@ -38,7 +40,8 @@ fn kind(fault: &Fault) -> Kind
 
 /// Whether a certificate names the first fault of a recording.
 pub fn judge_fault(certificate: &Certificate, fault: &Fault) -> Answer
-    ensures { (h : History) → IsFirstFault h (fault_of fault.now) → IsJudged h (certificate_of certificate.now) result }
+    ensures { (h : History) → IsFirstFault h (fault_of fault.now)
+        → IsJudged h (certificate_of certificate.now) result }
 {
     if names(certificate, fault) {
         Answer::Yes(kind(fault))

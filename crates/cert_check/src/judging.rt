@@ -1,3 +1,5 @@
+//! A certificate beside its recording.
+
 ghost use Rattle.std.specs.Prelude.{IfOk};
 ghost use Rattle.events.specs.History.{IsLegal};
 ghost use Rattle.specification.specs.Faults.{IsSound};

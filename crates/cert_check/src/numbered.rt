@@ -1,3 +1,5 @@
+//! A recording's elements by number, and its responses as lists of numbers.
+
 use super::places::places_of;
 use super::values::{is_deep_before, is_gradual, is_rising};
 use element_numbers::{inserted_names, numbers_of};
@@ -18,7 +20,9 @@ pub struct Numbered {
     pub places: Vec<Vec<u32>>,
 }
 
-ghost use Rattle.std.specs.Prelude.{◌≡◌, ◌+◌, ◌-◌, ◌<◌, ◌∷◌, ◌++◌, ◌↔◌, ◌^◌, [], ℕ, List, All, IfOk, IsPermutation, IsTrue, MatchBool, MatchOption, length, map, slice_index, slice_get, Some};
+ghost use Rattle.std.specs.Prelude.{◌≡◌, ◌+◌, ◌-◌, ◌<◌, ◌∷◌, ◌++◌, ◌↔◌, ◌^◌, [], ℕ, List, All, IfOk};
+ghost use Rattle.std.specs.Prelude.{IsPermutation, IsTrue, MatchBool, MatchOption, length, map, slice_index};
+ghost use Rattle.std.specs.Prelude.{slice_get, Some};
 ghost use Rattle.specification.specs.Faults.{IsSound};
 ghost use Rattle.cert_check.specs.Numbering.{IsNumbering, IsOf, AreWithin, AreDeepAt, places_at};
 ghost use Rattle.cert_check.specs.Noted.{Noted, Holds, CanBeNoted, at_depth, pairs_from, placed_from};
@@ -88,7 +92,8 @@ impl Numbered {
     pub fn depths_of(&self, alloc: Global, k: u32, row: &Row) -> Result<Option<Vec<u32>>, Memory>
         requires numbering { IsNumbering self.now }
         requires layers { length row.now + 1 ≡ k }
-        ensures { IfOk result (λ found. MatchOption found (¬ CanBeNoted self.now.names.items (pairs_from 0 row.now))
+        ensures { IfOk result (λ found. MatchOption found
+            (¬ CanBeNoted self.now.names.items (pairs_from 0 row.now))
             (λ depths. Holds self.now.names.items (k - 1) (pairs_from 0 row.now) depths.items)) }
     {
         let mut depths = Vec::from_elem(alloc, k - 1, self.names.len())?;
@@ -106,7 +111,9 @@ impl Numbered {
     pub fn ranks_of(&self, alloc: Global, order: &Order) -> Result<Option<Vec<u32>>, Memory>
         requires numbering { IsNumbering self.now }
         ensures { IfOk result (λ found. MatchOption found (¬ IsPermutation self.now.names.items order.now)
-            (λ ranks. IsPermutation self.now.names.items order.now × Holds self.now.names.items (length self.now.names.items) (placed_from 0 order.now) ranks.items)) }
+            (λ ranks. IsPermutation self.now.names.items order.now
+            × Holds self.now.names.items (length self.now.names.items)
+            (placed_from 0 order.now) ranks.items)) }
     {
         let count = self.names.len() as u32;
         if order.len() != self.names.len() {
@@ -126,8 +133,10 @@ impl Numbered {
     /// The first list of places along which these values do not rise.
     pub fn first_not_rising(&self, values: &[u32]) -> Option<usize>
         requires { AreWithin (length values.now) self.now }
-        ensures { MatchOption result ((j : ℕ) → j < length self.now.places.items → IsRising (map (slice_index values.now) (places_at self.now j)))
-            (λ i. (i < length self.now.places.items) × (¬ IsRising (map (slice_index values.now) (places_at self.now i)))
+        ensures { MatchOption result ((j : ℕ) → j < length self.now.places.items
+            → IsRising (map (slice_index values.now) (places_at self.now j)))
+            (λ i. (i < length self.now.places.items)
+            × (¬ IsRising (map (slice_index values.now) (places_at self.now i)))
             × ((j : ℕ) → j < i → IsRising (map (slice_index values.now) (places_at self.now j)))) }
     {
         for (i, list) in self.places.iter().enumerate() {
@@ -141,7 +150,8 @@ impl Numbered {
     /// Whether these depths meet the layer rule for a source along each list of places.
     pub fn are_deep(&self, depths: &[u32], source: u32, bound: u32) -> bool
         requires { AreWithin (length depths.now) self.now }
-        ensures { IsTrue result ↔ ((j : ℕ) → j < length self.now.places.items → AreDeepAt self.now depths.now source bound j) }
+        ensures { IsTrue result ↔ ((j : ℕ) → j < length self.now.places.items
+            → AreDeepAt self.now depths.now source bound j) }
     {
         for list in &self.places {
             if !is_gradual(depths, list) || !is_deep_before(depths, source, bound, list) {

@@ -1,3 +1,5 @@
+//! Whether a certificate's order is an order of the elements that every response follows.
+
 ghost use Rattle.std.specs.Prelude.{◌≡◌, IfOk, IsPermutation, List, length};
 ghost use Rattle.events.specs.Names.{NameBytes};
 ghost use Rattle.events.specs.History.{History};
@@ -30,8 +32,10 @@ pub fn judge_order(alloc: Global, recording: &Recording, order: &Order) -> Resul
 fn judge_ranks(numbered: &Numbered, ranks: &[u32]) -> Answer
     requires within { AreWithin (length ranks.now) numbered.now }
     requires operations { length numbered.now.operations.items ≡ length numbered.now.places.items }
-    ensures { (h : History) (order : List NameBytes) → IsOf h numbered.now → IsPermutation numbered.now.names.items order →
-        Holds numbered.now.names.items (length numbered.now.names.items) (placed_from 0 order) ranks.now → IsJudged h (gives_order order) result }
+    ensures { (h : History) (order : List NameBytes) → IsOf h numbered.now
+        → IsPermutation numbered.now.names.items order →
+        Holds numbered.now.names.items (length numbered.now.names.items) (placed_from 0 order) ranks.now
+        → IsJudged h (gives_order order) result }
 {
     match numbered.first_not_rising(ranks) {
         None => Answer::Yes(Kind::Accepted),

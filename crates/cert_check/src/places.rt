@@ -1,3 +1,5 @@
+//! Responses as lists of numbers.
+
 ghost use Rattle.std.specs.Prelude.{◌≡◌, ◌≢◌, ◌<◌, ◌^◌, ◌==◌, AllPairs, IfOk, length, map, unwrap_or};
 ghost use Rattle.std.specs.Cmp.Lexicographic.{pointwise};
 ghost use Rattle.indexmap.specs.IndexMap.{get};
@@ -58,7 +60,8 @@ pub fn places_of(
 ) -> Result<Vec<Vec<u32>>, Memory>
     requires numbered { (a : NameBytes) → get (pointwise ◌==◌) numbers.now a ≡ number_in names.now a }
     requires few { length names.now < 2 ^ 32 }
-    ensures { IfOk result (λ lists. map (λ list. list.items) lists.items ≡ map (λ o. numbers_in names.now (response recording.now o)) operations.now) }
+    ensures { IfOk result (λ lists. map (λ list. list.items) lists.items ≡ map
+        (λ o. numbers_in names.now (response recording.now o)) operations.now) }
 {
     let mut lists = Vec::new(alloc);
     for operation in operations {

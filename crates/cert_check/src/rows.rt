@@ -1,6 +1,7 @@
 //! Rows of layers.
 
-ghost use Rattle.std.specs.Prelude.{◌≡◌, ◌↔◌, ◌+◌, ◌<◌, ◌^◌, ℕ, All, IfOk, IsTrue, MatchOption, Some, length, slice_get};
+ghost use Rattle.std.specs.Prelude.{◌≡◌, ◌↔◌, ◌+◌, ◌<◌, ◌^◌, ℕ, All, IfOk, IsTrue, MatchOption, Some, length};
+ghost use Rattle.std.specs.Prelude.{slice_get};
 ghost use Rattle.events.specs.Names.{NameBytes};
 ghost use Rattle.events.specs.History.{History};
 ghost use Rattle.specification.specs.Elements.{elements};
@@ -50,7 +51,8 @@ fn meets_rule(
     requires numbering { IsNumbering numbered.now }
     requires within { AreWithin (length numbered.now.names.items) numbered.now }
     requires layers { length row.now + 1 ≡ k }
-    ensures { IfOk result (λ meets. (h : History) (a : NameBytes) → IsOf h numbered.now → slice_get (elements h) source ≡ Some a →
+    ensures { IfOk result (λ meets. (h : History) (a : NameBytes) → IsOf h numbered.now
+        → slice_get (elements h) source ≡ Some a →
         IsTrue meets ↔ MeetsLayerRule (responses_of h) k a row.now) }
 {
     let found = numbered.depths_of(alloc, k, row)?;
@@ -72,7 +74,8 @@ fn row_fault(
     requires within { AreWithin (length numbered.now.names.items) numbered.now }
     requires rows { All (IsRow k) rows.now }
     requires element { i < length numbered.now.names.items }
-    ensures { IfOk result (λ found. (h : History) → IsOf h numbered.now → IsRowJudged (responses_of h) k rows.now i found) }
+    ensures { IfOk result (λ found. (h : History) → IsOf h numbered.now
+        → IsRowJudged (responses_of h) k rows.now i found) }
 {
     let source = numbered.names[i as usize];
     match rows.get(i as usize) {
@@ -100,7 +103,8 @@ pub fn rows_fault(
     requires numbering { IsNumbering numbered.now }
     requires within { AreWithin (length numbered.now.names.items) numbered.now }
     requires rows { All (IsRow k) rows.now }
-    ensures { IfOk result (λ found. (h : History) → IsOf h numbered.now → AreRowsJudged (responses_of h) k rows.now found) }
+    ensures { IfOk result (λ found. (h : History) → IsOf h numbered.now
+        → AreRowsJudged (responses_of h) k rows.now found) }
 {
     let count = numbered.names.len() as u32;
     for i in 0..count {

@@ -1,6 +1,7 @@
 //! Whether the steps of a cycle are shown and join.
 
-ghost use Rattle.std.specs.Prelude.{◌≡◌, ◌↔◌, ◌<◌, ◌^◌, ℕ, IsTrue, MatchOption, length, option_copied, slice_get};
+ghost use Rattle.std.specs.Prelude.{◌≡◌, ◌↔◌, ◌<◌, ◌^◌, ℕ, IsTrue, MatchOption, length, option_copied};
+ghost use Rattle.std.specs.Prelude.{slice_get};
 ghost use Rattle.events.specs.History.{IsLegal};
 ghost use Rattle.events.specs.Operations.{response};
 ghost use Rattle.specification.specs.Responses.{responses_of};
@@ -39,7 +40,7 @@ fn shows(recording: &Recording, by: OpName, from: &Name, to: &Name) -> bool
     }
 }
 
-/// The step behind the one at a place: behind the last the first.
+/// The step after the one at a place: after the last the first.
 fn next_step(steps: &Steps, i: usize) -> Option<&Step>
     requires { i < length steps.now }
     ensures { option_copied result ≡ slice_get steps.now (next_place (length steps.now) i) }
@@ -70,7 +71,8 @@ fn is_right_step(recording: &Recording, steps: &Steps, i: usize) -> bool
 pub fn first_wrong_step(recording: &Recording, steps: &Steps) -> Option<u32>
     requires legal { IsLegal recording.now }
     requires few { length steps.now < 2 ^ 32 }
-    ensures { MatchOption result ((i : ℕ) → i < length steps.now → StepIsRight (responses_of recording.now) steps.now i)
+    ensures { MatchOption result ((i : ℕ) → i < length steps.now
+        → StepIsRight (responses_of recording.now) steps.now i)
         (IsFirstWrongStep (responses_of recording.now) steps.now) }
 {
     for i in 0..steps.len() {

@@ -1,3 +1,5 @@
+//! Tests of the checker's answers.
+
 use super::{Answer, Kind, Reason, check};
 use events::{Memory, Name, OpName};
 use std::alloc::Global;

@@ -1,4 +1,7 @@
-ghost use Rattle.std.specs.Prelude.{◌≡◌, ℕ, ◌==◌, ◌<◌, ◌≤◌, ◌++◌, if◌then◌else◌, IfOk, OnOk, [], ◌∷◌, length, map, replicate, slice_index_or, vec_len};
+//! The certificate of a verdict.
+
+ghost use Rattle.std.specs.Prelude.{◌≡◌, ℕ, ◌==◌, ◌<◌, ◌≤◌, ◌++◌, if◌then◌else◌, IfOk, OnOk, [], ◌∷◌, length};
+ghost use Rattle.std.specs.Prelude.{map, replicate, slice_index_or, vec_len};
 ghost use Rattle.specification.specs.CertificateText.{IsSpellable};
 ghost use Rattle.specification.specs.ExactRows.{IsExactRow, AreExactRows, IsCertificateOf};
 ghost use Rattle.specification.specs.Faults.{IsSound};
@@ -18,25 +21,27 @@ use order_graph::OrderGraph;
 use std::alloc::Global;
 use witnesses::{Order, Steps};
 
-/// The certificate of a verdict: its fault, its order, or its steps, and for `k` of 3 and more one row of layers
-/// for each element, in order of numbers.
+/// The certificate of a verdict: its fault, its order, or its steps, and for `k` of 3 and more one row of
+/// layers for each element, in order of numbers.
 ///
-/// Layer j of a row, from 0, holds the elements that take j steps from the row's source and no fewer, in order of
-/// numbers; elements that take k - 1 steps or more stand in none. A certificate has one spelling, so the same
-/// recording gives the same bytes.
+/// Layer j of a row, from 0, holds the elements that take j steps from the row's source and no fewer, in
+/// order of numbers; elements that take k - 1 steps or more stand in none. A certificate has one spelling, so
+/// the same recording gives the same bytes.
 ///
-/// A fault, an order and a cycle of two elements cost their own length. For a greater `k` each row costs time linear
-/// in the places of all responses, the elements and k, and memory for as many names as have a distance below k - 1.
-/// So the memory may be quadratic in the elements: near the limits, 4,096 rows of up to 4,096 names of 33 bytes each,
-/// and it answers `Memory` where that is not to be had.
+/// A fault, an order and a cycle of two elements cost their own length. For a greater `k` each row costs time
+/// linear in the places of all responses, the elements and k, and memory for as many names as have a distance
+/// below k - 1. So the memory may be quadratic in the elements: near the limits, 4,096 rows of up to 4,096
+/// names of 33 bytes each, and it answers `Memory` where that is not to be had.
 pub fn certify(
     alloc: Global,
     recording: &Recording,
     verdict: &Verdict,
 ) -> Result<Certificate, Memory>
     requires verdict { IsVerdict recording.now (verdict_of verdict.now) }
-    ensures exact { IfOk result (λ c. IsCertificateOf recording.now (verdict_of verdict.now) (certificate_of c)) }
-    ensures valid { IfOk result (λ c. IsValid recording.now (certificate_of c) × IsSpellable (certificate_of c)) }
+    ensures exact { IfOk result (λ c. IsCertificateOf recording.now (verdict_of verdict.now)
+        (certificate_of c)) }
+    ensures valid { IfOk result (λ c. IsValid recording.now (certificate_of c)
+        × IsSpellable (certificate_of c)) }
 {
     // The contract of this call has that the recording is legal.
     let _ = recording.replicas();
@@ -147,7 +152,8 @@ fn row_of_layers(
     requires element { source < length graph.now.elements }
     requires fits { Fits scratch.old graph.now }
     requires places { length depths.old ≡ length graph.now.elements }
-    ensures row { IfOk result (λ row. IsExactRow graph.now k (slice_index_or graph.now.elements source []) row) }
+    ensures row { IfOk result (λ row. IsExactRow graph.now k
+        (slice_index_or graph.now.elements source []) row) }
     ensures fits { Fits scratch.new graph.now }
 {
     // The contract of this call has that the responses are proper.
@@ -173,7 +179,9 @@ fn no_names(alloc: Global, count: u32) -> Result<Vec<Vec<Name>>, Memory>
 fn add_at_depth(names: &mut Vec<Vec<Name>>, depth: u32, name: Name) -> Result<(), Memory>
     ensures count { vec_len names.new ≡ vec_len names.old }
     ensures names { OnOk result ((d : ℕ) → d < vec_len names.old
-        → slice_index_or (map (λ l. l.items) names.new.items) d [] ≡ slice_index_or (map (λ l. l.items) names.old.items) d [] ++ (if depth == d then name ∷ [] else [])) }
+        → slice_index_or (map (λ l. l.items) names.new.items) d []
+        ≡ slice_index_or (map (λ l. l.items) names.old.items) d [] ++
+        (if depth == d then name ∷ [] else [])) }
 {
     if (depth as usize) < names.len() {
         names[depth as usize].push(name)?;
@@ -190,7 +198,9 @@ fn names_by_depth(
 ) -> Result<Vec<Vec<Name>>, Memory>
     requires { length depths.now ≡ length graph.now.elements }
     ensures count { IfOk result (λ v. vec_len v ≡ limit) }
-    ensures names { IfOk result (λ v. (d : ℕ) → d < limit → slice_index_or (map (λ names. names.items) v.items) d [] ≡ names_deep d graph.now.elements depths.now) }
+    ensures names { IfOk result (λ v. (d : ℕ) → d < limit
+        → slice_index_or (map (λ names. names.items) v.items) d []
+        ≡ names_deep d graph.now.elements depths.now) }
 {
     let mut names = no_names(alloc, limit)?;
     for x in 0..graph.elements() {

@@ -1,3 +1,5 @@
+//! The verdict on a recording.
+
 ghost use Rattle.std.specs.Prelude.{◌⊎◌, ◌↔◌, ◌<◌, ◌≤◌, IfOk, IsErrOf};
 ghost use Rattle.specification.specs.Faults.{IsSound};
 ghost use Rattle.specification.specs.Orders.{HasNoOrder};

@@ -1,3 +1,5 @@
+//! Tests of verdicts on worked recordings.
+
 mod certificates;
 
 use super::{Gate, NoGate, SearchFault, Verdict, judge};
@@ -123,7 +125,7 @@ fn two_searches_at_once(rt: HostRuntime) {
     let answer = answered(&rt, rt.alloc(), THREE_WAY_CYCLE, 2, &hold);
     assert!(rt; answer == Said::Refused(3, 3));
     assert!(rt; hold.seen.load(Ordering::SeqCst) == 1);
-    // Where memory is wanted behind the three searches, they are made again.
+    // Where memory is wanted after the three searches, they are made again.
     let ended = hold.ended.load(Ordering::SeqCst);
     assert!(rt; ended == 3 || ended == 6);
 }

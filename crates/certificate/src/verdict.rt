@@ -1,3 +1,5 @@
+//! What is said of a recording.
+
 use contents_check::Fault;
 use events::OpName;
 use witnesses::{Order, Steps};

@@ -111,7 +111,7 @@ one_list_of_rows v k (s ∷ sources) (p ∷ ps) (q ∷ qs) a b =
     let tail : ps ≡ qs = one_list_of_rows v k sources ps qs a.1 b.1 in
     λ i. head i ∷ tail i
 
--- what stands behind something is an element
+-- what stands after something is an element
 second-element : (v : Responses) → AreProper v → (a b : NameBytes) → StandsBefore v a b → In b v.elements
 second-element v proper a b s = let t : ShowsIn v s.0 a b = ShowsIn-from_Shows v s.0 a b s.1 in names-elements v proper t.0 t.1 b (Before-second a b t.0.names t.3)
 

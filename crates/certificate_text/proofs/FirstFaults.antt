@@ -32,7 +32,7 @@ first-of-lacking text number lines format.kind e lacks = inr lacks
 first-of-lacking text number lines format.shape e lacks = inr lacks
 first-of-lacking text number lines format.cut e lacks = absurd (never-cut lines e)
 
--- a wrong line behind right ones
+-- a wrong line after right ones
 pub wrong-fault : (text : List ℕ) (number : ℕ) (lines : List Line) (line rest behind : List ℕ) (cause : Option format.CertCause) →
     text ≡ text_of lines ++ rest → rest ≡ line ++ 10 ∷ behind → IsOneLine line → number ≡ length lines + 1 → BeginsCertificate lines → IfSome cause (IsWrongBehind lines line) → IfSome cause (IsFirstCertFault text number)
 wrong-fault text number lines line rest behind None whole cut one is begins wrong = tt
@@ -49,14 +49,14 @@ wrong-fault text number lines line rest behind (Some cause) whole cut one is beg
       cause_is = wrong.0;
     })
 
--- a line is missing behind right ones
+-- a line is missing after right ones
 pub lacking-fault : (text : List ℕ) (number : ℕ) (lines : List Line) (cause : Option format.CertCause) →
     text ≡ text_of lines → number ≡ length lines + 1 → BeginsCertificate lines → IfSome cause (LacksMore lines) → IfSome cause (IsFirstCertFault text number)
 lacking-fault text number lines None whole is begins lacks = tt
 lacking-fault text number lines (Some cause) whole is begins lacks =
     first-of-lacking text number lines cause lacks.0 (record { good = lines; begins = begins; text_is = whole; not_whole = lacks.1; number = is; cause_is = lacks.0 })
 
--- behind right lines, bytes without LF
+-- after right lines, bytes without LF
 pub cut-fault : (text : List ℕ) (number : ℕ) (lines : List Line) (rest : Line) → 1 ≤ length rest → IsOneLine rest → text ≡ text_of lines ++ rest → number ≡ length lines + 1 → BeginsCertificate lines → IsCertificateCut text number
 cut-fault text number lines rest some one whole is begins = record { good = lines; begins = begins; rest = rest; some_byte = some; one_line = one; text_is = whole; number = is }
 

@@ -1,4 +1,4 @@
--- Which lines go on a spelling behind right lines, and which go on none.
+-- Which lines go on a spelling after right lines, and which go on none.
 use Rattle.std.proofs.Common.{◌≡◌, ℕ, ◌<◌, ◌≤◌, ◌^◌, List, [], ◌∷◌, ◌++◌, length, map, codes, decimal, None, refl, sym, ap, ◌∙◌, subst, arith, append_assoc, length-append}
 use Rattle.std.specs.List.{All}
 use Rattle.std.proofs.lemmas.List.{append-nil, map_push}
@@ -99,7 +99,7 @@ cycle-behind k steps rows line part (c, spellable, more, is) =
     (more, of-cycle c k (((map step_line steps ++ map row_line rows) ++ line ∷ []) ++ more) spellable p.0 p.1)
 
 module _ {X : Type 0} (f : X → Line) (P : X → Type 0) where
-  -- the line behind a front of such lines is one of them
+  -- the line after a prefix of such lines is one of them
   there : (xs ys : List X) (line : Line) (more rest : List Line) → length xs < length ys → All P ys → map f xs ++ line ∷ more ≡ map f ys ++ rest → (y : X) × P y × (line ≡ f y)
   there xs [] line more rest h all is = absurd (omega arith)
   there [] (y ∷ ys) line more rest h all is = (y, All-head P y ys all, cc)
@@ -141,7 +141,7 @@ rows-behind k steps rows line part whole begins =
     ∙ ap (λ (l : List Line). map step_line steps ++ l) (append_assoc (map row_line rows) (line ∷ []) p.0)) ∙ p.1.is in
     (p.0, p.1.rows, p.1.spellable.4, p.1.spellable.5, behind-as-many step_line IsStep steps p.1.steps (map row_line rows ++ line ∷ p.0) (map row_line p.1.rows) (omega (arith, p.1.spellable.2)) lines)
 
--- a line of which no row is read, behind all steps
+-- a line of which no row is read, after all steps
 pub no-row : (k : ℕ) (steps : List Step) (rows : List Row) (line : Line) → IsPartOfCycle k steps rows → length steps ≡ k → row_at k (words_of line) ≡ None →
     ¬ BeginsCertificate (certificate_lines (gives_cycle k steps rows) ++ line ∷ [])
 no-row k steps rows line part whole e begins =

@@ -59,7 +59,7 @@ kind-more-plain (Position at) h = one-plain (operation_text at) (plain-operation
 kind-more-plain Accepted h = All-nil IsPlain
 kind-more-plain (Refused k) h = one-plain (decimal k) (plain-number k h.1)
 
--- one operation, and nothing behind it
+-- one operation, and nothing after it
 alone-is : (make : Operation → Kind) (ws : List Word) (kind : Kind) →
     (operation_at ws >>= λ at. no_more at.1 >>= λ none. Some (make at.0)) ≡ Some kind → (o : Operation) × IsOperationName o × (ws ≡ operation_text o ∷ []) × (make o ≡ kind)
 alone-is make ws kind e =

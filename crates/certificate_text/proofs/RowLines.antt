@@ -20,7 +20,7 @@ use Rattle.format_words.proofs.WordsBack.{bind-some, after-word-is, word-again}
 use Rattle.format_words.proofs.Spaced.{IsPlain, plain-name, plain-literal, spaced, words-of-spaced, spaced-by-words}
 use Rattle.certificate_text.specs.Reading.{layers_at, has_form, row_at}
 
--- a row's words behind `layers`
+-- a row's words after `layers`
 abbrev pub layers_words : Row → List Word
 layers_words [] = []
 layers_words (layer ∷ []) = layer
@@ -45,7 +45,7 @@ map-some : {A B : Type 0} (f : A → B) (o : Option A) (y : B) → option_map f 
 map-some f None y e = absurd (cc)
 map-some f (Some x) y e = (x, refl, same_Some (f x) y e)
 
--- what is read behind some names of a layer
+-- what is read after some names of a layer
 abbrev LayersAre : List NameBytes → List Word → Row → Type 0
 LayersAre layer ws row = (1 ≤ length row) × AreNames row × (layer ++ ws ≡ layers_words row)
 

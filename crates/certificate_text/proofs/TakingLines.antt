@@ -53,7 +53,7 @@ step-takes k steps rows s line part less e =
     let more = step-more k steps rows s line part less p.0 p.1 in
     (two-lines k steps rows, subst BeginsCertificate more.1 (cycle-begins k (steps ++ s ∷ []) rows more.0), (λ is. step-is-no-order s (sym p.1 ∙ is)))
 
--- the line of a row, behind all steps
+-- the line of a row, after all steps
 pub row-takes : (k : ℕ) (steps : List Step) (rows : List Row) (r : Row) (line : Line) → IsPartOfCycle k steps rows → length steps ≡ k → 3 ≤ k → row_at k (words_of line) ≡ Some r → TakesMemory (certificate_lines (gives_cycle k steps rows)) line
 row-takes k steps rows r line part whole long e =
     let p = row-spells k line r e in

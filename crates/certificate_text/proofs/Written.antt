@@ -16,7 +16,7 @@ line-more f start text xs i x is at =
     ∙ flat_map_more (λ (l : Line). l ++ 10 ∷ []) start (map f (take i xs)) (f x)
     ∙ ap (λ (ls : List Line). start ++ text_of ls) (sym (map_push f (take i xs) x) ∙ ap (map f) (sym (front-more xs i x at)))
 
--- a layer behind others
+-- a layer after others
 layers-behind : (first : List NameBytes) (row : Row) (layer : List NameBytes) → layers_text ((first ∷ row) ++ layer ∷ []) ≡ layers_text (first ∷ row) ++ (codes " /" ++ names_text layer)
 layers-behind first [] layer = append_assoc (names_text first) (codes " /") (names_text layer)
 layers-behind first (next ∷ row) layer =

@@ -16,7 +16,7 @@ certificate_of (Position at) = format.names_fault (fault.position at)
 certificate_of (Accepted order) = format.gives_order order
 certificate_of (Refused k steps layers) = format.gives_cycle k steps layers
 
--- want of memory is no fault of the text
+-- out of memory is no fault of the text
 abbrev pub cause_of : CertCause → Option format.CertCause
 cause_of cause.Header = Some format.header
 cause_of cause.Kind = Some format.kind

@@ -8,7 +8,7 @@ use Rattle.format_words.specs.Place as place
 abbrev pub IsBehindRightLines : List ℕ → ℕ → Type 0
 IsBehindRightLines text line = place.IsBehindRightLines BeginsCertificate text line
 
--- behind these right lines, reading this line takes memory: it is the third or a later one, some certificate's spelling
+-- after these right lines, reading this line takes memory: it is the third or a later one, some certificate's spelling
 -- goes on with it, and it is not that of an order without names
 abbrev pub TakesMemory : List Line → Line → Type 0
 TakesMemory lines line = (2 ≤ length lines) × BeginsCertificate (lines ++ line ∷ []) × (line ≢ codes "order :")

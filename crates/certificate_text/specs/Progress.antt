@@ -59,10 +59,10 @@ IsRight (progress.Kind k) = IsKind k
 IsRight (progress.Ordered order) = All IsName order
 IsRight (progress.Cycle c) = IsRightCycle c
 
--- behind these lines, this line goes on no spelling, for this cause
+-- after these lines, this line goes on no spelling, for this cause
 abbrev pub IsWrongBehind : List Line → Line → format.CertCause → Type 0
 IsWrongBehind lines line cause = (cause ≡ cause_behind lines) × (¬ BeginsCertificate (lines ++ line ∷ []))
 
--- behind these lines another must stand
+-- after these lines another must stand
 abbrev pub LacksMore : List Line → format.CertCause → Type 0
 LacksMore lines cause = (cause ≡ cause_behind lines) × (¬ IsWholeCertificate lines)

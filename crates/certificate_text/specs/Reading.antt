@@ -80,7 +80,7 @@ layers_at layer (w ∷ ws) =
     if bytes_eq w (codes "/") then option_map (λ row. layer ∷ row) (layers_at [] ws)
     else (name_of w >>= λ name. layers_at (layer ++ name ∷ []) ws)
 
--- layers, and more of them behind
+-- layers, and more of them after
 abbrev pub onto_layers : Row → Option Row → Option Row
 onto_layers done more = option_map (λ (layers : Row). done ++ layers) more
 

@@ -1,3 +1,5 @@
+//! What a certificate claims.
+
 use events::OpName;
 use witnesses::{Layers, Order, Steps};
 
@@ -20,8 +22,8 @@ pub enum Certificate {
     },
     /// An order that every response follows.
     Accepted(Order),
-    /// A cycle of `k` steps, 2 or more; for `k` of 3 and more `layers` has a row for each element, in order of
-    /// numbers, which shows that no cycle through the row's source is shorter than `k`.
+    /// A cycle of `k` steps, 2 or more; for `k` of 3 and more `layers` has a row for each element, in order
+    /// of numbers, which shows that no cycle through the row's source is shorter than `k`.
     Refused {
         k: u32,
         steps: Steps,

@@ -36,8 +36,10 @@ impl Cycle {
     pub fn with_line(self, alloc: Global, line: &[u8]) -> Result<Cycle, CertCause>
         requires { IsRightCycle self }
         ensures ok { IfOk result (λ c. IsRightCycle c × (cycle_lines c ≡ cycle_lines self ++ line.now ∷ [])) }
-        ensures fault { IfErr result (λ cause. IfSome (cause_of cause) (IsWrongBehind (cycle_lines self) line.now)) }
-        ensures memory { IfErr result (λ cause. cause ≡ CertCause.Memory → TakesMemory (cycle_lines self) line.now) }
+        ensures fault { IfErr result (λ cause. IfSome (cause_of cause)
+            (IsWrongBehind (cycle_lines self) line.now)) }
+        ensures memory { IfErr result (λ cause. cause ≡ CertCause.Memory
+            → TakesMemory (cycle_lines self) line.now) }
     {
         if self.steps.len() < self.k as usize {
             self.with_step(line)
@@ -53,8 +55,10 @@ impl Cycle {
         requires right { IsRightCycle self }
         requires more { length self.steps.items < self.k }
         ensures ok { IfOk result (λ c. IsRightCycle c × (cycle_lines c ≡ cycle_lines self ++ line.now ∷ [])) }
-        ensures fault { IfErr result (λ cause. IfSome (cause_of cause) (IsWrongBehind (cycle_lines self) line.now)) }
-        ensures memory { IfErr result (λ cause. cause ≡ CertCause.Memory → TakesMemory (cycle_lines self) line.now) }
+        ensures fault { IfErr result (λ cause. IfSome (cause_of cause)
+            (IsWrongBehind (cycle_lines self) line.now)) }
+        ensures memory { IfErr result (λ cause. cause ≡ CertCause.Memory
+            → TakesMemory (cycle_lines self) line.now) }
     {
         match step_of(line) {
             Ok(step) => match self.steps.push(step) {
@@ -65,14 +69,16 @@ impl Cycle {
         }
     }
 
-    /// Takes a row's line, behind all steps.
+    /// Takes a row's line, after all steps.
     fn with_row(mut self, alloc: Global, line: &[u8]) -> Result<Cycle, CertCause>
         requires right { IsRightCycle self }
         requires steps { length self.steps.items ≡ self.k }
         requires long { 3 ≤ self.k }
         ensures ok { IfOk result (λ c. IsRightCycle c × (cycle_lines c ≡ cycle_lines self ++ line.now ∷ [])) }
-        ensures fault { IfErr result (λ cause. IfSome (cause_of cause) (IsWrongBehind (cycle_lines self) line.now)) }
-        ensures memory { IfErr result (λ cause. cause ≡ CertCause.Memory → TakesMemory (cycle_lines self) line.now) }
+        ensures fault { IfErr result (λ cause. IfSome (cause_of cause)
+            (IsWrongBehind (cycle_lines self) line.now)) }
+        ensures memory { IfErr result (λ cause. cause ≡ CertCause.Memory
+            → TakesMemory (cycle_lines self) line.now) }
     {
         match row_of(alloc, self.k, line) {
             Ok(row) => match self.rows.push(row) {
@@ -86,7 +92,8 @@ impl Cycle {
     /// The certificate, where no step is missing.
     pub fn end(self) -> Result<Certificate, CertCause>
         requires { IsRightCycle self }
-        ensures ok { IfOk result (λ c. IsSpellable (certificate_of c) × (cycle_lines self ≡ certificate_lines (certificate_of c))) }
+        ensures ok { IfOk result (λ c. IsSpellable (certificate_of c)
+            × (cycle_lines self ≡ certificate_lines (certificate_of c))) }
         ensures fault { IfErr result (λ cause. IfSome (cause_of cause) (LacksMore (cycle_lines self))) }
         ensures memory { IfErr result (λ cause. cause ≢ CertCause.Memory) }
     {

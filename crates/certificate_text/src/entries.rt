@@ -1,10 +1,11 @@
-//! The lines behind the second: an order, steps and rows.
+//! The lines after the second: an order, steps and rows.
 
 ghost use Rattle.std.specs.Prelude.{◌≡◌, ◌+◌, ◌<◌, ◌≤◌, ◌^◌, ◌∷◌, [], List, Some, None, IfOk, IfErr};
 ghost use Rattle.events.specs.Names.{NameBytes};
 ghost use Rattle.format_words.specs.Words.{Word, words_of, words_behind};
 ghost use Rattle.format_words.specs.Reading.{Fails, Gives, Grows, HasSome, Says};
-ghost use Rattle.certificate_text.specs.Reading.{order_at, step_at, layers_at, onto_layers, has_form, row_at, form_of, is_form, HasForm, GoesOn};
+ghost use Rattle.certificate_text.specs.Reading.{order_at, step_at, layers_at, onto_layers, has_form, row_at};
+ghost use Rattle.certificate_text.specs.Reading.{form_of, is_form, HasForm, GoesOn};
 
 use events::Name;
 use format_words::{
@@ -54,8 +55,11 @@ fn with_word(
     mut layer: Vec<Name>,
     word: &[u8],
 ) -> Result<Vec<Name>, Stop>
-    ensures ok { IfOk result (λ next. (ws : List Word) → onto_layers row.old.items (layers_at layer.items (word.now ∷ ws)) ≡ onto_layers row.new.items (layers_at next.items ws)) }
-    ensures shape { IfErr result (λ stop. stop ≡ Stop.Shape → (ws : List Word) → layers_at layer.items (word.now ∷ ws) ≡ None) }
+    ensures ok { IfOk result (λ next. (ws : List Word)
+        → onto_layers row.old.items (layers_at layer.items (word.now ∷ ws))
+        ≡ onto_layers row.new.items (layers_at next.items ws)) }
+    ensures shape { IfErr result (λ stop. stop ≡ Stop.Shape → (ws : List Word)
+        → layers_at layer.items (word.now ∷ ws) ≡ None) }
 {
     if word == b"/".as_slice() {
         row.push(Layer::from_names(layer))?;
@@ -96,8 +100,10 @@ fn has_form(k: u32, layers: &[Layer]) -> bool
 fn count_word(form: (usize, usize), word: &[u8]) -> Result<(usize, usize), Shape>
     requires { form.0 + form.1 + 1 < 2 ^ 64 }
     ensures more { IfOk result (λ next. next.0 + next.1 ≤ form.0 + form.1 + 1) }
-    ensures ok { IfOk result (λ next. (row : List (List NameBytes)) (layer : List NameBytes) → HasForm row layer form → GoesOn row layer word.now next) }
-    ensures shape { IfErr result (λ _. (layer : List NameBytes) (ws : List Word) → layers_at layer (word.now ∷ ws) ≡ None) }
+    ensures ok { IfOk result (λ next. (row : List (List NameBytes)) (layer : List NameBytes)
+        → HasForm row layer form → GoesOn row layer word.now next) }
+    ensures shape { IfErr result (λ _. (layer : List NameBytes) (ws : List Word)
+        → layers_at layer (word.now ∷ ws) ≡ None) }
 {
     if word == b"/".as_slice() {
         return Ok((form.0, form.1 + 1));
@@ -110,9 +116,11 @@ fn count_word(form: (usize, usize), word: &[u8]) -> Result<(usize, usize), Shape
     }
 }
 
-/// How many names the first layer has that a row's words say, and how many layers there are. It takes no memory.
+/// How many names the first layer has that a row's words say, and how many layers there are. It takes no
+/// memory.
 fn form_of(rest: &[u8]) -> Result<(usize, usize), Shape>
-    ensures ok { IfOk result (λ form. (row : List (List NameBytes)) × (layers_at [] (words_behind rest.now) ≡ Some row) × (form_of row ≡ form)) }
+    ensures ok { IfOk result (λ form. (row : List (List NameBytes))
+        × (layers_at [] (words_behind rest.now) ≡ Some row) × (form_of row ≡ form)) }
     ensures small { IfOk result (λ form. form.1 + 1 < 2 ^ 64) }
     ensures shape { IfErr result (λ _. layers_at [] (words_behind rest.now) ≡ None) }
 {

@@ -1,3 +1,5 @@
+//! Why a text spells no certificate.
+
 ghost use Rattle.std.specs.Prelude.{◌≡◌};
 ghost use Rattle.certificate_text.specs.CertificateOf.{cause_of_stop};
 

@@ -2,7 +2,8 @@
 
 ghost use Rattle.format_words.specs.Words.{words_of, words_behind};
 ghost use Rattle.format_words.specs.Reading.{Says};
-ghost use Rattle.certificate_text.specs.Reading.{doubled_at, contents_at, position_at, accepted_at, refused_at, kind_by, kind_at};
+ghost use Rattle.certificate_text.specs.Reading.{doubled_at, contents_at, position_at, accepted_at};
+ghost use Rattle.certificate_text.specs.Reading.{refused_at, kind_by, kind_at};
 
 use events::OpName;
 use format_words::{Shape, end, first_word, next_number, next_word, operation_of};

@@ -1,8 +1,10 @@
-//! The laws over certificates, each as the contract of a function with an empty body: there is nothing to run, and the
-//! gate asks for the proof.
+//! The laws over certificates, each as the contract of a function with an empty body: there is nothing to
+//! run, and the gate asks for the proof.
 
-ghost use Rattle.certificate_text.specs.Laws.{CertificatesAreOfStreams, CertificatesAreUnique, CertificatesAreValid};
-ghost use Rattle.certificate_text.specs.Laws.{EachTextSpellsOrHasFault, SpelledTextsHaveNoFault, TextsHaveOneFirstFault, TextsSpellOneCertificate};
+ghost use Rattle.certificate_text.specs.Laws.{CertificatesAreOfStreams, CertificatesAreUnique};
+ghost use Rattle.certificate_text.specs.Laws.{CertificatesAreValid};
+ghost use Rattle.certificate_text.specs.Laws.{EachTextSpellsOrHasFault, SpelledTextsHaveNoFault};
+ghost use Rattle.certificate_text.specs.Laws.{TextsHaveOneFirstFault, TextsSpellOneCertificate};
 
 /// A text spells at most one certificate, so whatever is said of what a text spells is said of one value.
 pub fn texts_spell_one_certificate()
@@ -24,10 +26,10 @@ pub fn each_text_spells_or_has_a_fault()
     ensures { EachTextSpellsOrHasFault }
 {}
 
-/// The certificate of a verdict on a legal recording is valid, so a checker accepts it, and it has a spelling, so it
-/// can be written. Where k is 3 or more its rows give the distances from each element, which meet the layer rule: what
-/// stands behind an element is at most one step farther, and what stands before the source is k - 1 steps away or more,
-/// since otherwise a cycle would be shorter than k.
+/// The certificate of a verdict on a legal recording is valid, so a checker accepts it, and it has a
+/// spelling, so it can be written. Where k is 3 or more its rows give the distances from each element, which
+/// meet the layer rule: what stands after an element is at most one step farther, and what stands before the
+/// source is k - 1 steps away or more, since otherwise a cycle would be shorter than k.
 pub fn certificates_are_valid()
     ensures { CertificatesAreValid }
 {}
@@ -37,8 +39,8 @@ pub fn certificates_are_unique()
     ensures { CertificatesAreUnique }
 {}
 
-/// Two recordings with as many replicas and with the same streams have the same certificates, however their entries
-/// were merged.
+/// Two recordings with as many replicas and with the same streams have the same certificates, however their
+/// entries were merged.
 pub fn certificates_are_of_streams()
     ensures { CertificatesAreOfStreams }
 {}

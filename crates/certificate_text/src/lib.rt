@@ -1,9 +1,10 @@
 //! Certificates and their text.
 //!
-//! A certificate shows why a verdict is right: it names the first fault, gives an order, or gives a cycle with
-//! rows of layers that show that none is shorter. Its text is lines of ASCII, each ended by one LF: `cert 1`;
-//! then `doubled F G`, `contents E` or `position E`; or `accepted` and `order : names`; or `refused k`, `k`
-//! lines `step a b E`, and for `k` of 3 and more rows `layers` with `k - 1` layers of names, ` /` between two.
+//! A certificate shows why a verdict is right: it names the first fault, gives an order, or gives a cycle
+//! with rows of layers that show that none is shorter. Its text is lines of ASCII, each ended by one LF:
+//! `cert 1`; then `doubled F G`, `contents E` or `position E`; or `accepted` and `order : names`; or `refused
+//! k`, `k` lines `step a b E`, and for `k` of 3 and more rows `layers` with `k - 1` layers of names, ` /`
+//! between two.
 //!
 //! No crate that searches stands below this one, so that a checker can stand on it.
 #![tactic(auto)]

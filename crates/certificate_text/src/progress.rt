@@ -30,10 +30,11 @@ pub enum Progress {
     Cycle(Cycle),
 }
 
-/// The second line, behind the first.
+/// The second line, after the first.
 fn second(line: &[u8]) -> Result<Progress, CertCause>
     ensures ok { IfOk result (λ p. IsRight p × (good p ≡ codes "cert 1" ∷ line.now ∷ [])) }
-    ensures fault { IfErr result (λ cause. IfSome (cause_of cause) (IsWrongBehind (codes "cert 1" ∷ []) line.now)) }
+    ensures fault { IfErr result (λ cause. IfSome (cause_of cause)
+        (IsWrongBehind (codes "cert 1" ∷ []) line.now)) }
     ensures memory { IfErr result (λ cause. cause ≢ CertCause.Memory) }
 {
     match kind_of(line) {
@@ -42,11 +43,13 @@ fn second(line: &[u8]) -> Result<Progress, CertCause>
     }
 }
 
-/// The order's line, behind `accepted`.
+/// The order's line, after `accepted`.
 fn ordered(alloc: Global, line: &[u8]) -> Result<Progress, CertCause>
     ensures ok { IfOk result (λ p. IsRight p × (good p ≡ codes "cert 1" ∷ codes "accepted" ∷ line.now ∷ [])) }
-    ensures fault { IfErr result (λ cause. IfSome (cause_of cause) (IsWrongBehind (codes "cert 1" ∷ codes "accepted" ∷ []) line.now)) }
-    ensures memory { IfErr result (λ cause. cause ≡ CertCause.Memory → TakesMemory (codes "cert 1" ∷ codes "accepted" ∷ []) line.now) }
+    ensures fault { IfErr result (λ cause. IfSome (cause_of cause)
+        (IsWrongBehind (codes "cert 1" ∷ codes "accepted" ∷ []) line.now)) }
+    ensures memory { IfErr result (λ cause. cause ≡ CertCause.Memory
+        → TakesMemory (codes "cert 1" ∷ codes "accepted" ∷ []) line.now) }
 {
     match order_of(alloc, line) {
         Ok(order) => Ok(Progress::Ordered(order)),
@@ -58,8 +61,10 @@ fn ordered(alloc: Global, line: &[u8]) -> Result<Progress, CertCause>
 fn third(alloc: Global, kind: Kind, line: &[u8]) -> Result<Progress, CertCause>
     requires { IsKind kind }
     ensures ok { IfOk result (λ p. IsRight p × (good p ≡ codes "cert 1" ∷ kind_line kind ∷ line.now ∷ [])) }
-    ensures fault { IfErr result (λ cause. IfSome (cause_of cause) (IsWrongBehind (codes "cert 1" ∷ kind_line kind ∷ []) line.now)) }
-    ensures memory { IfErr result (λ cause. cause ≡ CertCause.Memory → TakesMemory (codes "cert 1" ∷ kind_line kind ∷ []) line.now) }
+    ensures fault { IfErr result (λ cause. IfSome (cause_of cause)
+        (IsWrongBehind (codes "cert 1" ∷ kind_line kind ∷ []) line.now)) }
+    ensures memory { IfErr result (λ cause. cause ≡ CertCause.Memory
+        → TakesMemory (codes "cert 1" ∷ kind_line kind ∷ []) line.now) }
 {
     match kind {
         Kind::Accepted => ordered(alloc, line),
@@ -76,8 +81,10 @@ fn third(alloc: Global, kind: Kind, line: &[u8]) -> Result<Progress, CertCause>
 /// The certificate of two lines.
 fn fault_alone(kind: Kind) -> Result<Certificate, CertCause>
     requires { IsKind kind }
-    ensures ok { IfOk result (λ c. IsSpellable (certificate_of c) × (codes "cert 1" ∷ kind_line kind ∷ [] ≡ certificate_lines (certificate_of c))) }
-    ensures fault { IfErr result (λ cause. IfSome (cause_of cause) (LacksMore (codes "cert 1" ∷ kind_line kind ∷ []))) }
+    ensures ok { IfOk result (λ c. IsSpellable (certificate_of c)
+        × (codes "cert 1" ∷ kind_line kind ∷ [] ≡ certificate_lines (certificate_of c))) }
+    ensures fault { IfErr result (λ cause. IfSome (cause_of cause)
+        (LacksMore (codes "cert 1" ∷ kind_line kind ∷ []))) }
     ensures memory { IfErr result (λ cause. cause ≢ CertCause.Memory) }
 {
     match kind {
@@ -118,7 +125,8 @@ impl Progress {
     /// The certificate, where no line is missing.
     pub fn end(self) -> Result<Certificate, CertCause>
         requires { IsRight self }
-        ensures ok { IfOk result (λ c. IsSpellable (certificate_of c) × (good self ≡ certificate_lines (certificate_of c))) }
+        ensures ok { IfOk result (λ c. IsSpellable (certificate_of c)
+            × (good self ≡ certificate_lines (certificate_of c))) }
         ensures fault { IfErr result (λ cause. IfSome (cause_of cause) (LacksMore (good self))) }
         ensures memory { IfErr result (λ cause. cause ≢ CertCause.Memory) }
     {

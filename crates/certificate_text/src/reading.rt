@@ -14,19 +14,22 @@ use std::alloc::Global;
 impl Certificate {
     /// The certificate that the text spells, or the text's first faulty line with its cause.
     ///
-    /// `Memory` stands only at a line after right lines whose reading takes memory: a right line, the third or a later
-    /// one, but for that of an order without names. So it is never answered for another fault of the text. That memory
-    /// did run out, no contract can say.
-    /// Nothing is reserved by a `k` that is merely claimed. It takes time and memory in proportion to the text.
+    /// `Memory` stands only at a line after right lines whose reading takes memory: a right line, the third
+    /// or a later one, but for that of an order without names. So it is never answered for another fault of
+    /// the text. That memory did run out, no contract can say. Nothing is reserved by a `k` that is merely
+    /// claimed. It takes time and memory in proportion to the text.
     pub fn read(alloc: Global, bytes: &[u8]) -> Result<Certificate, CertFault>
         ensures ok { IfOk result (λ c. format.SpellsCertificate bytes.now (certificate_of c)) }
-        ensures fault { IfErr result (λ fault. IfSome (cause_of fault.cause) (λ cause. format.IsFirstCertFault bytes.now fault.line cause)) }
+        ensures fault { IfErr result (λ fault. IfSome (cause_of fault.cause)
+            (λ cause. format.IsFirstCertFault bytes.now fault.line cause)) }
         // Out of memory too is answered at a line after right lines.
         ensures place { IfErr result (λ fault. IsBehindRightLines bytes.now fault.line) }
         // And the line is there, with its LF, and is right: any other line is its own fault.
-        ensures memory { IfErr result (λ fault. fault.cause ≡ CertCause.Memory → TakesMemoryAt bytes.now fault.line) }
+        ensures memory { IfErr result (λ fault. fault.cause ≡ CertCause.Memory
+            → TakesMemoryAt bytes.now fault.line) }
         // What is spelled is read, unless memory runs out.
-        ensures spelled { (c : format.Certificate) → format.SpellsCertificate bytes.now c → MatchResult result (λ d. certificate_of d ≡ c) (λ fault. fault.cause ≡ CertCause.Memory) }
+        ensures spelled { (c : format.Certificate) → format.SpellsCertificate bytes.now c
+            → MatchResult result (λ d. certificate_of d ≡ c) (λ fault. fault.cause ≡ CertCause.Memory) }
     {
         read_lines(alloc, bytes)
     }
@@ -35,9 +38,11 @@ impl Certificate {
 /// The certificate that the text spells, or the first faulty line.
 fn read_lines(alloc: Global, bytes: &[u8]) -> Result<Certificate, CertFault>
     ensures ok { IfOk result (λ c. format.SpellsCertificate bytes.now (certificate_of c)) }
-    ensures fault { IfErr result (λ fault. IfSome (cause_of fault.cause) (λ cause. format.IsFirstCertFault bytes.now fault.line cause)) }
+    ensures fault { IfErr result (λ fault. IfSome (cause_of fault.cause)
+        (λ cause. format.IsFirstCertFault bytes.now fault.line cause)) }
     ensures place { IfErr result (λ fault. IsBehindRightLines bytes.now fault.line) }
-    ensures memory { IfErr result (λ fault. fault.cause ≡ CertCause.Memory → TakesMemoryAt bytes.now fault.line) }
+    ensures memory { IfErr result (λ fault. fault.cause ≡ CertCause.Memory
+        → TakesMemoryAt bytes.now fault.line) }
 {
     let mut progress = Progress::Start;
     let mut line = 1u64;

@@ -1,3 +1,5 @@
+//! Tests of certificates' texts, both ways.
+
 ghost use Rattle.std.specs.Prelude.{IfOk};
 ghost use Rattle.specification.specs.CertificateText.{IsSpellable};
 ghost use Rattle.certificate_text.specs.CertificateOf.{certificate_of};
@@ -175,7 +177,7 @@ fn faults_of_the_first_two_lines(rt: HostRuntime) {
     }
 }
 
-/// Texts with a line behind those that has no right shape.
+/// Texts with a line after those that has no right shape.
 static LATER_LINES: [(&str, u64); 21] = [
     ("cert 1\ncontents 0.1\ncontents 0.1\n", 3),
     ("cert 1\naccepted\n", 3),

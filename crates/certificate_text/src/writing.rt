@@ -3,7 +3,8 @@
 ghost use Rattle.std.specs.Prelude.{◌≡◌, ◌==◌, ◌++◌, ◌∷◌, [], if◌then◌else◌, codes, map, IfOk, OnOk};
 ghost use Rattle.specification.specs.Lines.{text_of, names_text, operation_text, order_line};
 ghost use Rattle.specification.specs.Faults as spec;
-ghost use Rattle.specification.specs.CertificateText.{IsSpellable, certificate_text, kind_lines, layers_text, row_line, step_line};
+ghost use Rattle.specification.specs.CertificateText.{IsSpellable, certificate_text, kind_lines, layers_text};
+ghost use Rattle.specification.specs.CertificateText.{row_line, step_line};
 ghost use Rattle.specification.specs.CertificateText as format;
 ghost use Rattle.certificate_text.specs.CertificateOf.{certificate_of};
 ghost use Rattle.certificate_text.specs.Texts.{accepted_text, fault_text};
@@ -28,9 +29,10 @@ impl Certificate {
     }
 }
 
-/// Adds the lines behind the first.
+/// Adds the lines after the first.
 fn push_kind(alloc: Global, text: &mut Vec<u8>, certificate: &Certificate) -> Result<(), Memory>
-    ensures { OnOk result (text.new.items ≡ text.old.items ++ text_of (kind_lines (certificate_of certificate.now))) }
+    ensures { OnOk result (text.new.items
+        ≡ text.old.items ++ text_of (kind_lines (certificate_of certificate.now))) }
 {
     match certificate {
         Certificate::Doubled { first, again } => push_doubled(alloc, text, *first, *again),
@@ -41,7 +43,7 @@ fn push_kind(alloc: Global, text: &mut Vec<u8>, certificate: &Certificate) -> Re
     }
 }
 
-/// Adds the line of an operation that is wrong, behind this word.
+/// Adds the line of an operation that is wrong, after this word.
 fn push_fault(alloc: Global, text: &mut Vec<u8>, word: &[u8], at: OpName) -> Result<(), Memory>
     ensures { OnOk result (text.new.items ≡ text.old.items ++ fault_text word.now at) }
 {
@@ -69,7 +71,8 @@ fn push_refused(
     steps: &Steps,
     layers: &Layers,
 ) -> Result<(), Memory>
-    ensures { OnOk result (text.new.items ≡ text.old.items ++ text_of (kind_lines (format.gives_cycle k steps.now layers.now))) }
+    ensures { OnOk result (text.new.items
+        ≡ text.old.items ++ text_of (kind_lines (format.gives_cycle k steps.now layers.now))) }
 {
     text.extend_from_slice(b"refused ")?;
     push_number(alloc, text, k)?;
@@ -133,9 +136,10 @@ fn push_layers(text: &mut Vec<u8>, row: &Row) -> Result<(), Memory>
     Ok(())
 }
 
-/// Adds the layer at a place of its row, behind ` /` where another stands before it.
+/// Adds the layer at a place of its row, after ` /` where another stands before it.
 fn push_layer_at(text: &mut Vec<u8>, place: usize, layer: &Layer) -> Result<(), Memory>
-    ensures { OnOk result (text.new.items ≡ text.old.items ++ ((if place == 0 then [] else codes " /") ++ names_text layer.now)) }
+    ensures { OnOk result (text.new.items
+        ≡ text.old.items ++ ((if place == 0 then [] else codes " /") ++ names_text layer.now)) }
 {
     if place > 0 {
         text.extend_from_slice(b" /")?;

@@ -21,7 +21,7 @@ given_by words = subcommand_of finder_app words
 abbrev pub AsksForText : ErrorKind → Type 0
 AsksForText kind = (kind ≡ DisplayHelp) ⊎ (kind ≡ DisplayVersion)
 
--- what is answered to a fault of this kind; the text of help or version may be refused for want of memory
+-- what is answered to a fault of this kind; the text of help or version may be refused for out of memory
 abbrev pub IsFaultOf : ErrorKind → WordsFault → Type 0
 IsFaultOf kind Usage = (¬ AsksForText kind) × (kind ≢ OutOfMemory)
 IsFaultOf kind (Help text) = AsksForText kind
@@ -36,7 +36,7 @@ abbrev pub HasMistake : Kinds → Type 0
 HasMistake kinds = (kind : ErrorKind) × IsAmong kind kinds × IsFaultOf kind Usage
 
 -- the task that the words ask for; a text where they ask for help or the version; a usage fault where `clap` may find a mistake, or finds
--- none and the number of workers is none; or want of memory
+-- none and the number of workers is none; or out of memory
 abbrev pub IsAnswerToWords : List (List ℕ) → Result Task WordsFault → Type 0
 IsAnswerToWords words (Ok task) = (kinds_at words ≡ []) × AsksFor (given_by words) task
 IsAnswerToWords words (Err Usage) = HasMistake (kinds_at words) ⊎ ((kinds_at words ≡ []) × HasBadWorkers (given_by words))

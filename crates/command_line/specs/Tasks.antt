@@ -27,7 +27,7 @@ IsDefault (Live workers file) = ⊥
 abbrev pub IsFormOf : Option (List ℕ) → Form → Type 0
 IsFormOf flag form = (form ≡ Json) ↔ (flag ≡ Some (codes "true"))
 
--- the word that was given for an argument, or want of memory; and a usage fault where none was
+-- the word that was given for an argument, or out of memory; and a usage fault where none was
 abbrev pub IsWordOf : Option (List ℕ) → Result (List ℕ) WordsFault → Type 0
 IsWordOf None answer = MatchResult answer (λ _. ⊥) (λ fault. fault ≡ Usage)
 IsWordOf (Some word) answer = MatchResult answer (λ given. given ≡ word) (λ fault. fault ≡ Memory)
@@ -49,7 +49,7 @@ abbrev pub AsksFor : Option (List ℕ × List Row) → Task → Type 0
 AsksFor None task = ⊥
 AsksFor (Some given) task = IsTaskOf given.0 given.1 task
 
--- the task that the subcommand asks for; a usage fault where it asks for none; or want of memory
+-- the task that the subcommand asks for; a usage fault where it asks for none; or out of memory
 abbrev pub IsAnswerToSubcommand : Option (List ℕ × List Row) → Result Task WordsFault → Type 0
 IsAnswerToSubcommand given answer = MatchResult answer (AsksFor given)
     (λ fault. (fault ≡ Memory) ⊎ ((fault ≡ Usage) × ((task : Task) → ¬ AsksFor given task)))
@@ -60,7 +60,7 @@ HasBadWorkers None = ⊥
 HasBadWorkers (Some given) =
     ((given.0 ≡ codes "verdict") ⊎ (given.0 ≡ codes "live")) × ((n : ℕ) → IsWorkersOf (first_of (codes "workers") given.1) (Ok n) → ⊥)
 
--- the task that the subcommand asks for; a usage fault where its number of workers is none; or want of memory
+-- the task that the subcommand asks for; a usage fault where its number of workers is none; or out of memory
 abbrev pub IsAnswerWhereTaken : Option (List ℕ × List Row) → Result Task WordsFault → Type 0
 IsAnswerWhereTaken given answer =
     MatchResult answer (AsksFor given) (λ fault. (fault ≡ Memory) ⊎ ((fault ≡ Usage) × HasBadWorkers given))

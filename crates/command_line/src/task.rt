@@ -68,8 +68,8 @@ pub enum Task {
     Cert {
         file: Word,
     },
-    /// The report of a recording that recorder threads replay into one session, while a watcher judges snapshots of it; `-`
-    /// is standard input.
+    /// The report of a recording that recorder threads replay into one session, while a watcher judges
+    /// snapshots of it; `-` is standard input.
     Live {
         /// How many workers search: 1 to 64.
         workers: u32,

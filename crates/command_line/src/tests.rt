@@ -1,3 +1,5 @@
+//! Tests of what words ask for.
+
 use super::{Form, Task, WordsFault, read_words};
 use std::alloc::{AllocError, Global};
 use std::test::Fail;

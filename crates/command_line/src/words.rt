@@ -1,10 +1,14 @@
 //! The words of the command line.
 
-ghost use Rattle.std.specs.Prelude.{◌≡◌, ◌≢◌, [], Some, IfOk, MatchResult, codes, false, map, string_bytes, true};
-ghost use Rattle.clap.specs.Words.{first_value, found_of, kind_of, one_text, rows_of, rule_of, subcommand_rows_of, takes};
+ghost use Rattle.std.specs.Prelude.{◌≡◌, ◌≢◌, [], Some, IfOk, MatchResult, codes, false, map, string_bytes};
+ghost use Rattle.std.specs.Prelude.{true};
+ghost use Rattle.clap.specs.Words.{first_value, found_of, kind_of, one_text, rows_of, rule_of};
+ghost use Rattle.clap.specs.Words.{subcommand_rows_of, takes};
 ghost use Rattle.command_line.specs.Answers.{IsAnswerToWords, IsFaultOf, given_by};
-ghost use Rattle.command_line.specs.Commands.{IsCommandOf, cert_app, certificate_rule, file_rule, finder_app, json_rule, live_app, verdict_app, verify_app, workers_rule};
-ghost use Rattle.command_line.specs.Tasks.{HasWorkers, IsAnswerToSubcommand, IsDefault, IsFormOf, IsAnswerWhereTaken, IsWordOf};
+ghost use Rattle.command_line.specs.Commands.{IsCommandOf, cert_app, certificate_rule, file_rule, finder_app};
+ghost use Rattle.command_line.specs.Commands.{json_rule, live_app, verdict_app, verify_app, workers_rule};
+ghost use Rattle.command_line.specs.Tasks.{HasWorkers, IsAnswerToSubcommand, IsDefault, IsFormOf};
+ghost use Rattle.command_line.specs.Tasks.{IsAnswerWhereTaken, IsWordOf};
 ghost use Rattle.command_line.specs.Workers.{IsPositiveOf, IsWorkersOf};
 
 use super::task::{Form, Task, Word};
@@ -19,7 +23,7 @@ pub const WORKERS: u32 = 4;
 /// The most workers that may search; the fewest is 1.
 pub const MOST_WORKERS: u32 = 64;
 
-/// The version of the program, which `--version` prints behind its name.
+/// The version of the program, which `--version` prints after its name.
 const VERSION: &str = "0.2.0";
 
 /// Why the words of a command line give no task.
@@ -29,7 +33,7 @@ pub enum WordsFault {
     Usage,
     /// They ask for help, or for the version: its text, which is not empty.
     Help { text: String },
-    /// A growth was refused.
+    /// An allocation failed.
     Memory,
 }
 
@@ -61,20 +65,23 @@ impl From<AllocError> for WordsFault {
     }
 }
 
-/// The task that the words ask for: those behind the program's name.
+/// The task that the words ask for: those after the program's name.
 ///
-/// The commands are `verdict [--workers N] [--json] FILE`, `cert FILE`, `verify FILE CERT` and
-/// `live [--workers N] FILE`; N is 1 to 64, in digits and without leading zeros, and 4 where it is not given. No words mean `verdict -`.
+/// The commands are `verdict [--workers N] [--json] FILE`, `cert FILE`, `verify FILE CERT` and `live
+/// [--workers N] FILE`; N is 1 to 64, in digits and without leading zeros, and 4 where it is not given. No
+/// words mean `verdict -`.
 ///
-/// What other words mean is what `clap` makes of them for `finder_app`, which writes these commands out: the task has
-/// what they give for each argument, `Help` comes where they ask for help or for the version, and `Usage` where `clap` finds a mistake,
-/// or finds none and the number of workers is none. No clause says the text of help, or that memory suffices; and where
-/// `help` stands as a command, `clap` leaves open whether it is answered by help or by a usage fault.
+/// What other words mean is what `clap` makes of them for `finder_app`, which writes these commands out: the
+/// task has what they give for each argument, `Help` comes where they ask for help or for the version, and
+/// `Usage` where `clap` finds a mistake, or finds none and the number of workers is none. No clause says the
+/// text of help, or that memory suffices; and where `help` stands as a command, `clap` leaves open whether it
+/// is answered by help or by a usage fault.
 pub fn read_words(alloc: Global, words: &[String]) -> Result<Task, WordsFault>
     ensures workers { IfOk result HasWorkers }
     ensures none { words.now ≡ [] → MatchResult result IsDefault (λ fault. fault ≡ WordsFault.Memory) }
     ensures answer { words.now ≢ [] → IsAnswerToWords (map string_bytes words.now) result }
-    ensures taken { words.now ≢ [] → takes finder_app (map string_bytes words.now) ≡ true → IsAnswerWhereTaken (given_by (map string_bytes words.now)) result }
+    ensures taken { words.now ≢ [] → takes finder_app (map string_bytes words.now) ≡ true
+        → IsAnswerWhereTaken (given_by (map string_bytes words.now)) result }
 {
     if words.is_empty() {
         return default_task(alloc);
@@ -87,7 +94,8 @@ pub fn read_words(alloc: Global, words: &[String]) -> Result<Task, WordsFault>
 
 /// The task of a command line without words.
 fn default_task(alloc: Global) -> Result<Task, WordsFault>
-    ensures { MatchResult result (λ task. HasWorkers task × IsDefault task) (λ fault. fault ≡ WordsFault.Memory) }
+    ensures { MatchResult result (λ task. HasWorkers task × IsDefault task)
+        (λ fault. fault ≡ WordsFault.Memory) }
 {
     let file = Word::new(alloc, "-")?;
     Ok(Task::Verdict {

@@ -1,7 +1,7 @@
 //! The elements of a recording, and their numbers.
 //!
-//! Elements are numbered from 0 in the order of their inserts' operations. Search and checker both keep responses
-//! as lists of these numbers.
+//! Elements are numbered from 0 in the order of their inserts' operations. Search and checker both keep
+//! responses as lists of these numbers.
 #![tactic(auto)]
 
 mod names;

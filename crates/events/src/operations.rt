@@ -8,8 +8,8 @@ use super::{Body, Memory, OpName, Recording, Response};
 use std::alloc::Global;
 
 impl Recording {
-    /// The names of all operations, in order: replica by replica, from 1 on. It takes memory and time in their
-    /// number, at most 65,536.
+    /// The names of all operations, in order: replica by replica, from 1 on. It takes memory and time in
+    /// their number, at most 65,536.
     pub fn operations(&self, alloc: Global) -> Result<Vec<OpName>, Memory>
         ensures names { IfOk result (λ names. names.items ≡ operation_names self.now) }
         ensures legal { IsLegal self.now }
@@ -36,7 +36,8 @@ impl Recording {
 
 /// Adds the names of a replica's operations, of which there are `count`.
 fn add_replica(names: &mut Vec<OpName>, r: u32, count: u32) -> Result<(), Memory>
-    ensures { OnOk result (names.new.items ≡ names.old.items ++ map (λ n. record { replica = r; n = n }) (numbers_from 1 count)) }
+    ensures { OnOk result (names.new.items ≡ names.old.items ++ map
+        (λ n. record { replica = r; n = n }) (numbers_from 1 count)) }
 {
     for i in 0..count {
         names.push(OpName {

@@ -1,3 +1,5 @@
+//! Tests of names, responses and recordings.
+
 use super::{
     Body, Entry, Memory, Name, NameFault, NewFault, OpName, PushFault, Recording, Refusal, Refused,
     Response,

@@ -7,7 +7,7 @@ use Rattle.finder_cli.specs.Runs.{NamesFirstFault, IsOfText}
 use Rattle.finder_cli.specs.declared.status.RunFault.{RunFault}
 use Rattle.finder_cli.specs.declared.status.RunFault.TheVariants as run
 
--- want of memory has no line, and any other cause is the text's first fault
+-- out of memory has no line, and any other cause is the text's first fault
 pub trace_fault-names : (text : List ℕ) (fault : LineFault) (answer : RunFault) (cause : Option Cause) → cause_of fault.cause ≡ cause
     → IfSome cause (λ c. IsFirstLineFault text fault.line c) → MatchOption cause (answer ≡ run.Memory) (λ _. answer ≡ run.Trace fault)
     → NamesFirstFault text answer × IsOfText answer

@@ -22,7 +22,7 @@ written-of-read Q before after old new text read bytes status (Ok s) was of_text
     Consumes-whole before after read (λ t. (output : List ℕ) × Q t output s × Appends old new output) was.consumed was.ended (bytes, of_read, wrote.1)
 written-of-read Q before after old new text read bytes status (Err fault) was of_text wrote = tt
 
--- a front of one was written
+-- a prefix of one was written
 pub front-of-read : (Q : List ℕ → List ℕ → Status → Type 0) (failed : Bool) (before after old new : Option (List ℕ)) (text read bytes : List ℕ) (status : Status) (answer : Result Status RunFault)
     → WasRead before after text read → Q text bytes status → IfErr answer (λ f. (f ≡ Write) × (failed ≡ true) × AppendsFront old new bytes)
     → IfErr answer (λ f. f ≡ Write → (failed ≡ true) × IfSome before (λ t. (output : List ℕ) × (s : Status) × Q t output s × AppendsFront old new output))
@@ -44,7 +44,7 @@ written-of-both Q before after before_2 after_2 old new text read text_2 read_2 
     (bytes, subst (λ c. Q read c bytes s) was_2.same of_read, wrote.1))
 written-of-both Q before after before_2 after_2 old new text read text_2 read_2 bytes status (Err fault) was was_2 of_texts wrote = tt
 
--- a front of one was written
+-- a prefix of one was written
 pub front-of-both : (Q : List ℕ → List ℕ → List ℕ → Status → Type 0) (failed : Bool) (before after before_2 after_2 old new : Option (List ℕ)) (text read text_2 read_2 bytes : List ℕ) (status : Status) (answer : Result Status RunFault)
     → WasRead before after text read → WasRead before_2 after_2 text_2 read_2 → Q text text_2 bytes status
     → IfErr answer (λ f. (f ≡ Write) × (failed ≡ true) × AppendsFront old new bytes)

@@ -25,7 +25,7 @@ IsCertificateOn text output status =
 abbrev pub Certifies : List ℕ → Option (List ℕ) → Option (List ℕ) → Status → Type 0
 Certifies text old new status = (output : List ℕ) × IsCertificateOn text output status × Appends old new output
 
--- a front of it was appended
+-- a prefix of it was appended
 abbrev pub CertifiesFront : List ℕ → Option (List ℕ) → Option (List ℕ) → Type 0
 CertifiesFront text old new = (output : List ℕ) × (status : Status) × IsCertificateOn text output status × AppendsFront old new output
 
@@ -43,6 +43,6 @@ IsLineOn trace cert output status =
 abbrev pub Verifies : List ℕ → List ℕ → Option (List ℕ) → Option (List ℕ) → Status → Type 0
 Verifies trace cert old new status = (output : List ℕ) × IsLineOn trace cert output status × Appends old new output
 
--- a front of it was appended
+-- a prefix of it was appended
 abbrev pub VerifiesFront : List ℕ → List ℕ → Option (List ℕ) → Option (List ℕ) → Type 0
 VerifiesFront trace cert old new = (output : List ℕ) × (status : Status) × IsLineOn trace cert output status × AppendsFront old new output

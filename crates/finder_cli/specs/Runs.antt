@@ -40,7 +40,7 @@ Reports text form old new status = (report : List ℕ) × IsReportOf text form r
 abbrev pub ReportsFront : List ℕ → Form → Option (List ℕ) → Option (List ℕ) → Type 0
 ReportsFront text form old new = (report : List ℕ) × (status : Status) × IsReportOf text form report status × AppendsFront old new report
 
--- the first faulty line of the text, and not want of memory
+-- the first faulty line of the text, and not out of memory
 abbrev pub IsLineFaultOf : List ℕ → LineFault → Type 0
 IsLineFaultOf text fault = (cause : Cause) × (cause_of fault.cause ≡ Some cause) × IsFirstLineFault text fault.line cause
 
@@ -54,7 +54,7 @@ NamesFirstFault text run.Memory = Unit {0}
 NamesFirstFault text run.Thread = Unit {0}
 NamesFirstFault text run.Stalled = Unit {0}
 
--- no fault but the text's own and want of memory
+-- no fault but the text's own and out of memory
 abbrev pub IsOfText : RunFault → Type 0
 IsOfText (run.Trace fault) = Unit {0}
 IsOfText run.Memory = Unit {0}
@@ -74,7 +74,7 @@ IsOfRehearsal run.Workers = ⊥
 IsOfRehearsal run.Read = ⊥
 IsOfRehearsal run.Write = ⊥
 
--- no fault but that of reading and want of memory
+-- no fault but that of reading and out of memory
 abbrev pub IsOfReading : RunFault → Type 0
 IsOfReading run.Read = Unit {0}
 IsOfReading run.Memory = Unit {0}
@@ -94,7 +94,7 @@ IsOfRun run.Memory = Unit {0}
 IsOfRun run.Thread = ⊥
 IsOfRun run.Stalled = ⊥
 
--- no fault but those of reading and writing, and want of memory
+-- no fault but those of reading and writing, and out of memory
 abbrev pub IsOfVerifying : RunFault → Type 0
 IsOfVerifying run.Read = Unit {0}
 IsOfVerifying run.Memory = Unit {0}

@@ -16,7 +16,7 @@ use std::thread::Threads;
 
 /// Reads a trace to its end, and writes the certificate of its verdict. Four workers search.
 ///
-/// Nothing is written before the whole text is made. A trace line that is refused for want of memory is
+/// Nothing is written before the whole text is made. A trace line that is refused for out of memory is
 /// `Memory`.
 pub fn run_cert<H: Threads + Sync, R: Reader + Drop, W: Writer + Drop>(
     rt: &H,
@@ -24,14 +24,16 @@ pub fn run_cert<H: Threads + Sync, R: Reader + Drop, W: Writer + Drop>(
     source: &mut Source<R>,
     sink: &mut Sink<W>,
 ) -> Result<Status, RunFault>
-    ensures certificate { IfOk result (λ status. IfSome source.old.bytes (λ text. Certifies text sink.old.bytes sink.new.bytes status)) }
+    ensures certificate { IfOk result (λ status. IfSome source.old.bytes
+        (λ text. Certifies text sink.old.bytes sink.new.bytes status)) }
     ensures end { OnOk result (IsAtEnd source.new.bytes × (source.new.ended ≡ true)) }
     ensures workers { ¬ IsErrOf result RunFault.Workers }
     ensures faults { IfErr result IsOfRun }
     ensures read { IfErr result (λ fault. fault ≡ RunFault.Read → IsClosed source.new) }
     ensures memory { IfErr result (λ fault. fault ≡ RunFault.Memory → source.new.failed ≡ false) }
     ensures trace { IfErr result (λ fault. IfSome source.old.bytes (λ text. NamesFirstFault text fault)) }
-    ensures write { IfErr result (λ fault. fault ≡ RunFault.Write → (sink.new.failed ≡ true) × IfSome source.old.bytes (λ text. CertifiesFront text sink.old.bytes sink.new.bytes)) }
+    ensures write { IfErr result (λ fault. fault ≡ RunFault.Write → (sink.new.failed ≡ true)
+        × IfSome source.old.bytes (λ text. CertifiesFront text sink.old.bytes sink.new.bytes)) }
     ensures unwritten { IfErr result (λ fault. fault ≢ RunFault.Write → sink.new ≡ sink.old) }
 {
     let text = whole_text(alloc, source)?;

@@ -28,7 +28,7 @@ pub enum ProgramFault {
     /// Standard output can't be written.
     #[error("cannot write")]
     Write,
-    /// A growth was refused.
+    /// An allocation failed.
     #[error("memory")]
     Memory,
 }

@@ -5,7 +5,8 @@ ghost use Rattle.std.specs.Io.KnownBytes.{IsAtEnd};
 ghost use Rattle.byte_streams.specs.Streams.{IsClosed};
 ghost use Rattle.command_line.specs.declared.task.Form.TheVariants.{Text};
 ghost use Rattle.events.specs.History.{SameStreams};
-ghost use Rattle.finder_cli.specs.Runs.{IsReportOf, Reports, ReportsFront, NamesFirstFault, IsOfRehearsal, IsNoWorkers};
+ghost use Rattle.finder_cli.specs.Runs.{IsReportOf, Reports, ReportsFront, NamesFirstFault, IsOfRehearsal};
+ghost use Rattle.finder_cli.specs.Runs.{IsNoWorkers};
 
 use super::output::{Output, recording_on, status_of, verdict_on, whole_text, write_output};
 use super::status::{RunFault, Status};
@@ -20,13 +21,13 @@ use std::alloc::Global;
 use std::sync::Wait;
 use std::thread::Threads;
 
-/// Reads a trace to its end, has its streams replayed by recorder threads in one session, beside a watcher that judges
-/// four snapshots, and writes the report of the verdict on what the session has in the end.
+/// Reads a trace to its end, has its streams replayed by recorder threads in one session, beside a watcher
+/// that judges four snapshots, and writes the report of the verdict on what the session has in the end.
 ///
-/// The number of workers is tested before anything is read; so many search at each snapshot, and at the end. For each
-/// replica r the gate's `before(r, 0)` and `after(r, 0)` are called round its replay, and no search calls it. After all
-/// threads are joined, out of memory in any of them is answered before `Thread`, and `Thread` before `Stalled`. Nothing
-/// is written before the whole report is made.
+/// The number of workers is tested before anything is read; so many search at each snapshot, and at the end.
+/// For each replica r the gate's `before(r, 0)` and `after(r, 0)` are called round its replay, and no search
+/// calls it. After all threads are joined, out of memory in any of them is answered before `Thread`, and
+/// `Thread` before `Stalled`. Nothing is written before the whole report is made.
 pub fn live<H: Threads + Wait + Sync, R: Reader + Drop, W: Writer + Drop, G: Gate>(
     rt: &H,
     alloc: Global,
@@ -35,14 +36,16 @@ pub fn live<H: Threads + Wait + Sync, R: Reader + Drop, W: Writer + Drop, G: Gat
     workers: u32,
     gate: &G,
 ) -> Result<Status, RunFault>
-    ensures report { IfOk result (λ status. IfSome source.old.bytes (λ text. Reports text Text sink.old.bytes sink.new.bytes status)) }
+    ensures report { IfOk result (λ status. IfSome source.old.bytes
+        (λ text. Reports text Text sink.old.bytes sink.new.bytes status)) }
     ensures end { OnOk result (IsAtEnd source.new.bytes × (source.new.ended ≡ true)) }
     ensures workers { IsErrOf result RunFault.Workers ↔ IsNoWorkers workers }
     ensures unread { IsNoWorkers workers → source.new ≡ source.old }
     ensures read { IfErr result (λ fault. fault ≡ RunFault.Read → IsClosed source.new) }
     ensures memory { IfErr result (λ fault. fault ≡ RunFault.Memory → source.new.failed ≡ false) }
     ensures trace { IfErr result (λ fault. IfSome source.old.bytes (λ text. NamesFirstFault text fault)) }
-    ensures write { IfErr result (λ fault. fault ≡ RunFault.Write → (sink.new.failed ≡ true) × IfSome source.old.bytes (λ text. ReportsFront text Text sink.old.bytes sink.new.bytes)) }
+    ensures write { IfErr result (λ fault. fault ≡ RunFault.Write → (sink.new.failed ≡ true)
+        × IfSome source.old.bytes (λ text. ReportsFront text Text sink.old.bytes sink.new.bytes)) }
     ensures unwritten { IfErr result (λ fault. fault ≢ RunFault.Write → sink.new ≡ sink.old) }
 {
     if workers == 0 || workers > MOST_WORKERS {

@@ -1,8 +1,8 @@
 //! The program `finder`: reads a recording of collaborative editors, judges it, and writes the report or a
 //! certificate; or checks a certificate; or replays a recording by threads in one session.
 //!
-//! `run`, `run_cert`, `run_verify` and `live` are the engines, over any readers and writers; `program` joins them and
-//! the words of the command line in any world that opens streams, and `machine` is the real one.
+//! `run`, `run_cert`, `run_verify` and `live` are the engines, over any readers and writers; `program` joins
+//! them and the words of the command line in any world that opens streams, and `machine` is the real one.
 #![tactic(auto)]
 
 mod answer_line;

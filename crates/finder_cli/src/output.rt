@@ -48,8 +48,10 @@ pub fn write_output<W: Writer + Drop>(
     sink: &mut Sink<W>,
     output: &Output,
 ) -> Result<Status, RunFault>
-    ensures ok { IfOk result (λ status. (status ≡ output.now.status) × Appends sink.old.bytes sink.new.bytes output.now.bytes.items) }
-    ensures err { IfErr result (λ fault. (fault ≡ RunFault.Write) × (sink.new.failed ≡ true) × AppendsFront sink.old.bytes sink.new.bytes output.now.bytes.items) }
+    ensures ok { IfOk result (λ status. (status ≡ output.now.status)
+        × Appends sink.old.bytes sink.new.bytes output.now.bytes.items) }
+    ensures err { IfErr result (λ fault. (fault ≡ RunFault.Write) × (sink.new.failed ≡ true)
+        × AppendsFront sink.old.bytes sink.new.bytes output.now.bytes.items) }
 {
     match sink.write_whole(&output.bytes) {
         Ok(()) => Ok(output.status),
@@ -68,9 +70,10 @@ pub fn recording_on(alloc: Global, text: &[u8]) -> Result<Recording, RunFault>
     }
 }
 
-/// The run's fault for a text's: want of memory has no line.
+/// The run's fault for a text's: out of memory has no line.
 fn trace_fault(fault: LineFault) -> RunFault
-    ensures { MatchOption (cause_of fault.cause) (result ≡ RunFault.Memory) (λ _. result ≡ RunFault.Trace fault) }
+    ensures { MatchOption (cause_of fault.cause) (result ≡ RunFault.Memory)
+        (λ _. result ≡ RunFault.Trace fault) }
 {
     match fault.cause {
         Cause::Refused(Refusal::Memory) => RunFault::Memory,

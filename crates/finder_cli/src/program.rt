@@ -9,7 +9,8 @@ ghost use Rattle.command_line.specs.declared.words.WordsFault.{WordsFault};
 ghost use Rattle.finder_cli.specs.Deeds.{Deed};
 ghost use Rattle.finder_cli.specs.Endings.{fault_of_run};
 ghost use Rattle.finder_cli.specs.Engines.{Judges, JudgesAlone, Shows, Checks};
-ghost use Rattle.finder_cli.specs.Programs.{ChecksOn, Does, DoesTask, Helps, RunsOn, answer_on, complaints, number_of};
+ghost use Rattle.finder_cli.specs.Programs.{ChecksOn, Does, DoesTask, Helps, RunsOn, answer_on, complaints};
+ghost use Rattle.finder_cli.specs.Programs.{number_of};
 ghost use Rattle.finder_cli.specs.declared.fault.ProgramFault.{ProgramFault};
 ghost use Rattle.finder_cli.specs.declared.status.Status.{Status};
 

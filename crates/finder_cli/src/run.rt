@@ -4,7 +4,8 @@ ghost use Rattle.std.specs.Prelude.{◌≡◌, ◌≢◌, ◌↔◌, ◌≤◌, 
 ghost use Rattle.std.specs.Io.KnownBytes.{IsAtEnd};
 ghost use Rattle.certificate.specs.VerdictOf.{verdict_of};
 ghost use Rattle.byte_streams.specs.Streams.{IsClosed};
-ghost use Rattle.finder_cli.specs.Runs.{report_of, IsReportOf, Reports, ReportsFront, NamesFirstFault, IsOfRun, IsOfText, IsNoWorkers};
+ghost use Rattle.finder_cli.specs.Runs.{report_of, IsReportOf, Reports, ReportsFront, NamesFirstFault};
+ghost use Rattle.finder_cli.specs.Runs.{IsOfRun, IsOfText, IsNoWorkers};
 
 use super::output::{Output, recording_on, status_of, verdict_on, whole_text, write_output};
 use super::status::{RunFault, Status};
@@ -18,7 +19,7 @@ use std::thread::Threads;
 /// Reads a trace to its end, and writes the report of its verdict.
 ///
 /// The number of workers is tested before anything is read. Nothing is written before the whole report is
-/// made. A trace line that is refused for want of memory is `Memory`.
+/// made. A trace line that is refused for out of memory is `Memory`.
 pub fn run<H: Threads + Sync, R: Reader + Drop, W: Writer + Drop>(
     rt: &H,
     alloc: Global,
@@ -27,7 +28,8 @@ pub fn run<H: Threads + Sync, R: Reader + Drop, W: Writer + Drop>(
     workers: u32,
     form: Form,
 ) -> Result<Status, RunFault>
-    ensures report { IfOk result (λ status. IfSome source.old.bytes (λ text. Reports text form sink.old.bytes sink.new.bytes status)) }
+    ensures report { IfOk result (λ status. IfSome source.old.bytes
+        (λ text. Reports text form sink.old.bytes sink.new.bytes status)) }
     ensures end { OnOk result (IsAtEnd source.new.bytes × (source.new.ended ≡ true)) }
     ensures workers { IsErrOf result RunFault.Workers ↔ IsNoWorkers workers }
     ensures unread { IsNoWorkers workers → source.new ≡ source.old }
@@ -35,7 +37,8 @@ pub fn run<H: Threads + Sync, R: Reader + Drop, W: Writer + Drop>(
     ensures read { IfErr result (λ fault. fault ≡ RunFault.Read → IsClosed source.new) }
     ensures memory { IfErr result (λ fault. fault ≡ RunFault.Memory → source.new.failed ≡ false) }
     ensures trace { IfErr result (λ fault. IfSome source.old.bytes (λ text. NamesFirstFault text fault)) }
-    ensures write { IfErr result (λ fault. fault ≡ RunFault.Write → (sink.new.failed ≡ true) × IfSome source.old.bytes (λ text. ReportsFront text form sink.old.bytes sink.new.bytes)) }
+    ensures write { IfErr result (λ fault. fault ≡ RunFault.Write → (sink.new.failed ≡ true)
+        × IfSome source.old.bytes (λ text. ReportsFront text form sink.old.bytes sink.new.bytes)) }
     ensures unwritten { IfErr result (λ fault. fault ≢ RunFault.Write → sink.new ≡ sink.old) }
 {
     if workers == 0 || workers > MOST_WORKERS {

@@ -7,7 +7,8 @@ use trace_text::LineFault;
 /// How an engine ended that wrote its output.
 #[derive(Clone, Copy, Debug, PartialEq, Eq)]
 pub enum Status {
-    /// The recording is accepted: it has no fault, and some order follows every response. Of the checker: yes.
+    /// The recording is accepted: it has no fault, and some order follows every response. Of the checker:
+    /// yes.
     Good,
     /// It has a fault, or no order follows every response. Of the checker: no.
     Bad,
@@ -28,8 +29,8 @@ impl Status {
     }
 }
 
-/// Why an engine wrote no output, or not the whole of it. `Workers` is tested first; out of memory is answered
-/// where it is met. `Thread` and `Stalled` are of `live` alone.
+/// Why an engine wrote no output, or not the whole of it. `Workers` is tested first; out of memory is
+/// answered where it is met. `Thread` and `Stalled` are of `live` alone.
 #[derive(Clone, Copy, Debug, PartialEq, Eq, Error)]
 pub enum RunFault {
     /// The number of workers is not 1 to 64.
@@ -47,10 +48,10 @@ pub enum RunFault {
     /// A recorder gave up on a receipt of an operation that had not come.
     #[error("stalled")]
     Stalled,
-    /// A write failed or took no byte. A front of the output was written.
+    /// A write failed or took no byte. A prefix of the output was written.
     #[error("cannot write")]
     Write,
-    /// A growth was refused.
+    /// An allocation failed.
     #[error("memory")]
     Memory,
 }

@@ -27,15 +27,19 @@ pub fn run_verify<H: Threads + Sync, T: Reader + Drop, C: Reader + Drop, W: Writ
     cert: &mut Source<C>,
     sink: &mut Sink<W>,
 ) -> Result<Status, RunFault>
-    ensures answer { IfOk result (λ status. IfSome trace.old.bytes (λ t. IfSome cert.old.bytes (λ c. Verifies t c sink.old.bytes sink.new.bytes status))) }
+    ensures answer { IfOk result (λ status. IfSome trace.old.bytes
+        (λ t. IfSome cert.old.bytes (λ c. Verifies t c sink.old.bytes sink.new.bytes status))) }
     ensures end { OnOk result (IsAtEnd trace.new.bytes × (trace.new.ended ≡ true) × IsAtEnd cert.new.bytes
         × (cert.new.ended ≡ true)) }
     ensures faults { IfErr result IsOfVerifying }
     // The certificate is read only after the whole trace.
     ensures read { IfErr result (λ fault. fault ≡ RunFault.Read → (IsClosed trace.new × (cert.new ≡ cert.old))
         ⊎ ((trace.new.ended ≡ true) × IsClosed cert.new)) }
-    ensures memory { IfErr result (λ fault. fault ≡ RunFault.Memory → (trace.new.failed ≡ false) × ((cert.new ≡ cert.old) ⊎ (cert.new.failed ≡ false))) }
-    ensures write { IfErr result (λ fault. fault ≡ RunFault.Write → (sink.new.failed ≡ true) × IfSome trace.old.bytes (λ t. IfSome cert.old.bytes (λ c. VerifiesFront t c sink.old.bytes sink.new.bytes))) }
+    ensures memory { IfErr result (λ fault. fault ≡ RunFault.Memory → (trace.new.failed ≡ false)
+        × ((cert.new ≡ cert.old) ⊎ (cert.new.failed ≡ false))) }
+    ensures write { IfErr result (λ fault. fault ≡ RunFault.Write → (sink.new.failed ≡ true)
+        × IfSome trace.old.bytes (λ t. IfSome cert.old.bytes
+        (λ c. VerifiesFront t c sink.old.bytes sink.new.bytes))) }
     ensures unwritten { IfErr result (λ fault. fault ≢ RunFault.Write → sink.new ≡ sink.old) }
 {
     let trace_text = whole_text(alloc, trace)?;

@@ -17,14 +17,14 @@ line-before text end e (k, low, is) =
     let below : k < end = omega (arith, length-take end text) in
     both_ways (is_lf (get_or text k 10)) (found.2 k below) (eq-eqb (get_or text k 10) 10 (sym (get_or-take end text k 10 below) ∙ is))
 
--- what stands before the first of a byte, and what behind it
+-- what stands before the first of a byte, and what after it
 pub parts-at : (c : ℕ) (text : List ℕ) (end : ℕ) → position (λ b. b == c) text ≡ Some end → (end < length text) × (text ≡ take end text ++ c ∷ drop (end + 1) text)
 parts-at c text end e =
     let found = position-Some (λ b. b == c) text end c e in
     let there : get_or text end c ≡ c = eqb-true (get_or text end c) c found.1 in
     (found.0, sym (take-append-drop end text) ∙ ap (λ l. take end text ++ l) (drop_more text end c found.0 ∙ ap (λ b. b ∷ drop (end + 1) text) there))
 
--- and behind it stands the LF
+-- and after it stands the LF
 pub line-parts : (text : List ℕ) (end : ℕ) → position (λ b. b == 10) text ≡ Some end → (end < length text) × (text ≡ take end text ++ 10 ∷ drop (end + 1) text)
 line-parts text end e = parts-at 10 text end e
 

@@ -31,7 +31,7 @@ first-word text n e =
     let at : n ≡ end_of text = e ∙ place-is (end_of text) (length text) (prefix_len-le-length (λ b. not (is_space b)) text) in
     rw at (cut-word text)
 
--- behind a space there is a word
+-- after a space there is a word
 pub some-word : (rest : List ℕ) → 0 < length rest → no_more (words_behind rest) ≡ None
 some-word [] h = absurd (omega arith)
 some-word (b ∷ bs) h = rw (cut-word bs) refl

@@ -1,4 +1,4 @@
--- A line of words, each behind one space.
+-- A line of words, each after one space.
 use Rattle.std.proofs.Common.{◌≡◌, ℕ, ◌<◌, ◌^◌, ◌==◌, List, [], ◌∷◌, ◌++◌, refl, sym, ap, ◌∙◌, arith, decimal}
 use Rattle.std.specs.List.{All, join_with_byte}
 use Rattle.std.proofs.lemmas.List.{append-nil}
@@ -13,7 +13,7 @@ use Rattle.format_words.proofs.Bytes.{Lacks, lacks-name, lacks-number}
 abbrev pub LacksSpace : Word → Type 0
 LacksSpace w = Lacks 32 w
 
--- names behind a word, put together
+-- names after a word, put together
 pub join-names : (w : Word) (names : List NameBytes) → join_with_byte 32 (w ∷ names) ≡ w ++ names_text names
 join-names w [] = sym (append-nil w)
 join-names w (a ∷ names) = ap (λ l. w ++ 32 ∷ l) (join-names a names)

@@ -1,5 +1,5 @@
 -- A text has at most one first fault, in a format that says which lines are the first ones of a spelling, why a line
--- behind such lines is wrong, and why one is missing.
+-- after such lines is wrong, and why one is missing.
 use Rattle.std.proofs.Common.{◌≡◌, ℕ, ◌+◌, ◌<◌, ◌≤◌, List, [], ◌∷◌, ◌++◌, length, refl, sym, ap, ◌∙◌, subst, arith, inl, inr, append_assoc, length-append}
 use Rattle.std.specs.List.{All}
 use Rattle.std.proofs.lemmas.List.{append-nil}
@@ -8,7 +8,7 @@ use Rattle.specification.specs.Lines.{Line, text_of, IsOneLine}
 use Rattle.format_words.proofs.TwoCuts.{inner, same-cut}
 use Rattle.format_words.proofs.TextLines.{lines_of, LacksLf, lacks-lf, lines-then, one-line, line-then, some-line}
 
--- a fault as it shows in the text's lines: right ones, the one that is named, and those behind it; the last is what no LF ends
+-- a fault as it shows in the text's lines: right ones, the one that is named, and those after it; the last is what no LF ends
 pub record Shows (Begins : List Line → Type 0) (text : List ℕ) (number : ℕ) : Type 0 where
   pub good : List Line
   pub begins : Begins good

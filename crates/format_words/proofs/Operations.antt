@@ -21,7 +21,7 @@ use Rattle.format_words.proofs.WordsBack.{bind-some}
 abbrev is_dot : ℕ → Bool
 is_dot b = b == 46
 
--- the first dot stands behind what has none
+-- the first dot stands after what has none
 first-dot : (front back : List ℕ) → Lacks 46 front → position_or_len is_dot (front ++ 46 ∷ back) ≡ length front
 first-dot [] back h = refl
 first-dot (b ∷ front) back h =

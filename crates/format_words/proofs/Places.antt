@@ -1,4 +1,4 @@
--- A line that is there, with its LF, behind right lines.
+-- A line that is there, with its LF, after right lines.
 use Rattle.std.proofs.Common.{◌≡◌, ℕ, ◌+◌, List, ◌∷◌, ◌++◌, length, sym, ap, ◌∙◌, append_assoc}
 use Rattle.specification.specs.Lines.{Line, text_of, IsOneLine}
 use Rattle.format_words.specs.Place.{TakesMemoryAt}

@@ -1,4 +1,4 @@
--- Lines of words, each behind one space.
+-- Lines of words, each after one space.
 use Rattle.std.proofs.Common.{◌≡◌, ℕ, ◌<◌, ◌^◌, ◌==◌, true, false, not, List, [], ◌∷◌, ◌++◌, decimal, refl, sym, ap, ◌∙◌, arith}
 use Rattle.std.specs.List.{All, list_all, join_with_byte}
 use Rattle.std.proofs.lemmas.List.Splits.{join_with_byte-slice_split}
@@ -29,7 +29,7 @@ plain-operation o h = (lacks-operation 32 o (omega arith) h, lacks-operation 10 
 pub plain-literal : (w : Word) → list_all (λ b. not (b == 32)) w ≡ true → list_all (λ b. not (b == 10)) w ≡ true → IsPlain w
 plain-literal w h k = (lacks-literal 32 w h, lacks-literal 10 w k)
 
--- a word, and words behind it
+-- a word, and words after it
 abbrev pub spaced : Word → List Word → Line
 spaced w ws = w ++ names_text ws
 

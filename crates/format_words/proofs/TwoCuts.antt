@@ -1,7 +1,7 @@
 -- Two ways to take an item out of a list.
 use Rattle.std.proofs.Common.{◌≡◌, ◌<◌, List, [], ◌∷◌, ◌++◌, length, refl, sym, ap, ◌∙◌, arith}
 
--- the longer front has the item that stands behind the shorter
+-- the longer front has the item that stands after the shorter
 pub inner : {X : Type 0} (xs ys : List X) (x y : X) (ms ns : List X) → xs ++ x ∷ ms ≡ ys ++ y ∷ ns → length xs < length ys → (between : List X) × (ys ≡ xs ++ x ∷ between)
 inner xs [] x y ms ns is h = absurd (omega arith)
 inner [] (z ∷ ys) x y ms ns is h = (ys, cc)

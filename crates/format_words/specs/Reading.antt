@@ -63,7 +63,7 @@ operation_of w = do
   n ← number_of (drop (dot + 1) w)
   if nat_le 1 n then Some (record { replica = replica; n = n }) else None
 
--- a word, and the words behind it
+-- a word, and the words after it
 abbrev pub word_at : List Word → Option (Word × List Word)
 word_at [] = None
 word_at (w ∷ ws) = Some (w, ws)
@@ -86,7 +86,7 @@ operation_at ws = do
   operation ← operation_of word.0
   Some (operation, word.1)
 
--- the words behind one that must be there
+-- the words after one that must be there
 unfoldable pub after_word : List ℕ → List Word → Option (List Word)
 after_word wanted ws = do
   word ← word_at ws

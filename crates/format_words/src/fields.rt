@@ -2,7 +2,8 @@
 
 ghost use Rattle.std.specs.Prelude.{◌≡◌};
 ghost use Rattle.format_words.specs.Words.{words_behind};
-ghost use Rattle.format_words.specs.Reading.{Says, number_of, number_at, name_of, operation_of, after_word, no_more};
+ghost use Rattle.format_words.specs.Reading.{Says, number_of, number_at, name_of, operation_of, after_word};
+ghost use Rattle.format_words.specs.Reading.{no_more};
 
 use crate::stop::Shape;
 use crate::words::{next_word, place_of};
@@ -22,7 +23,7 @@ pub fn number_of(word: &[u8]) -> Option<u32>
     str::from_utf8(word).ok()?.parse().ok()
 }
 
-/// The next word as a number, and the rest behind it.
+/// The next word as a number, and the rest after it.
 #[tactic(auto, unfolding(crate::specs::Reading::number_at))]
 pub fn next_number(rest: &[u8]) -> Result<(u32, &[u8]), Shape>
     ensures { Says (λ x. (x.0, words_behind x.1.now)) result (number_at (words_behind rest.now)) }
@@ -66,7 +67,7 @@ pub fn operation_of(word: &[u8]) -> Result<OpName, Shape>
     }
 }
 
-/// The rest behind a word that must be there.
+/// The rest after a word that must be there.
 #[tactic(auto, unfolding(crate::specs::Reading::after_word))]
 pub fn skip_word<'a>(rest: &'a [u8], wanted: &[u8]) -> Result<&'a [u8], Shape>
     ensures { Says (λ x. words_behind x.now) result (after_word wanted.now (words_behind rest.now)) }

@@ -7,7 +7,8 @@ use crate::words::place_of;
 
 /// The first line of a text without its LF, and what follows that LF; none where the text has no LF.
 pub fn split_line(text: &[u8]) -> Option<(&[u8], &[u8])>
-    ensures { MatchOption result (IsOneLine text.now) (λ x. IsOneLine x.0.now × (text.now ≡ x.0.now ++ 10 ∷ x.1.now)) }
+    ensures { MatchOption result (IsOneLine text.now)
+        (λ x. IsOneLine x.0.now × (text.now ≡ x.0.now ++ 10 ∷ x.1.now)) }
 {
     let end = place_of(text, b'\n')?;
     Some((&text[..end], &text[end + 1..]))

@@ -1,3 +1,5 @@
+//! Why reading of a line stopped.
+
 use events::Memory;
 use std::alloc::{AllocError, AllocFailed};
 
@@ -10,7 +12,7 @@ pub struct Shape;
 pub enum Stop {
     /// The line says no such thing.
     Shape,
-    /// A growth was refused.
+    /// An allocation failed.
     Memory,
 }
 

@@ -10,7 +10,7 @@ use crate::{push_name, push_operation};
 use events::{Memory, Name, OpName};
 use std::alloc::Global;
 
-/// Adds the names of a list, each behind one space.
+/// Adds the names of a list, each after one space.
 pub fn push_list(text: &mut Vec<u8>, names: &[Name]) -> Result<(), Memory>
     ensures { OnOk result (text.new.items ≡ text.old.items ++ names_text names.now) }
 {
@@ -27,7 +27,8 @@ pub fn push_doubled(
     first: OpName,
     again: OpName,
 ) -> Result<(), Memory>
-    ensures { OnOk result (text.new.items ≡ text.old.items ++ text_of (fault_lines (spec.doubled first again))) }
+    ensures { OnOk result (text.new.items
+        ≡ text.old.items ++ text_of (fault_lines (spec.doubled first again))) }
 {
     text.extend_from_slice(b"doubled ")?;
     push_operation(alloc, text, first)?;
@@ -45,7 +46,8 @@ pub fn push_shown(
     to: &Name,
     shown: OpName,
 ) -> Result<(), Memory>
-    ensures { OnOk result (text.new.items ≡ text.old.items ++ step_line (record { from = from.now; to = to.now; shown = shown })) }
+    ensures { OnOk result (text.new.items
+        ≡ text.old.items ++ step_line (record { from = from.now; to = to.now; shown = shown })) }
 {
     text.extend_from_slice(b"step")?;
     push_name(text, from)?;

@@ -22,7 +22,7 @@ pub fn first_word(text: &[u8]) -> (&[u8], &[u8])
     text.split_at(end)
 }
 
-/// The next word of a rest that begins with the space before it, and the rest behind that word.
+/// The next word of a rest that begins with the space before it, and the rest after that word.
 pub fn next_word(rest: &[u8]) -> Result<(&[u8], &[u8]), Shape>
     ensures word { Says (λ x. (x.0.now, words_behind x.1.now)) result (word_at (words_behind rest.now)) }
     ensures shorter { IfOk result (λ x. length x.1.now < length rest.now) }

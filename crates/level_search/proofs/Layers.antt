@@ -12,7 +12,7 @@ pub record IsLayered (g : Graph) (s : ℕ) (st : State) (head level : ℕ) : Typ
   pub levelled : IsLevelled g s st head level
   pub unfound : st.found ≡ false
 
--- what stands behind an expanded element is not s
+-- what stands after an expanded element is not s
 pub source_not_after : (g : Graph) (s : ℕ) (st : State) → IsGood g s st → st.found ≡ false → (c : ℕ) → IsExpanded g.rows st.marks.items c → ¬ Before g.rows c s
 source_not_after g s st good unfound c expanded leads =
     good.unfound unfound leads.list leads.later (let h = expanded leads.list leads.place leads.first in let k = leads.in_order in omega arith) leads.second

@@ -18,7 +18,7 @@ pub record IsLevelled (g : Graph) (s : ℕ) (st : State) (head level : ℕ) : Ty
   pub walks : (k : ℕ) → head ≤ k → k < st.tail → Walk g.rows s level (slice_index st.queue.items k)
   pub near : (n x : ℕ) → n < level → Walk g.rows s n x → IsExpanded g.rows st.marks.items x
 
--- what stands behind an expanded element is reached
+-- what stands after an expanded element is reached
 pub after_expanded : (g : Graph) (s : ℕ) (st : State) → IsGood g s st → (c x : ℕ) → IsExpanded g.rows st.marks.items c → Before g.rows c x → IsReached st.queue.items st.tail x
 after_expanded g s st good c x expanded leads =
     good.covered leads.list leads.later x (let h = expanded leads.list leads.place leads.first in let k = leads.in_order in omega arith) leads.second

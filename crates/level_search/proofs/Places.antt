@@ -24,7 +24,7 @@ read_stands rows l j y inside read = record { within = inside; here = get_or_fro
 pub stands_read : (rows : List (List ℕ)) (l j x y : ℕ) → slice_get (row rows l) j ≡ Some y → Stands rows l j x → x ≡ y
 stands_read rows l j x y read stands = sym stands.here ∙ get_or_from_slice_get (row rows l) j y 0 read
 
--- a mark is set behind a place once everything from there to the mark was read
+-- a mark is set after a place once everything from there to the mark was read
 pub good_marked : (g : Graph) (s l p : ℕ) (st : State) → IsGood g s st → p < length (row g.rows l)
     → ((j x : ℕ) → p < j → j < slice_index st.marks.items l → Stands g.rows l j x → IsReached st.queue.items st.tail x)
     → (st.found ≡ false → (j : ℕ) → p < j → j < slice_index st.marks.items l → ¬ Stands g.rows l j s)

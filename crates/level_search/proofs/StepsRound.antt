@@ -1,4 +1,4 @@
--- Steps from each element of a ring to the one behind it: those of the least ring are the least steps.
+-- Steps from each element of a ring to the one after it: those of the least ring are the least steps.
 use Rattle.std.proofs.Common.{◌≡◌, ℕ, zero, suc, ◌<◌, Some, None, List, [], ◌∷◌, ◌++◌, length, map, get_or, refl, sym, ◌∙◌, ap, subst, arith, inl, inr}
 use Rattle.std.specs.Prelude.{All, slice_get}
 use Rattle.std.proofs.lemmas.List.Elements.{All-nil, All-cons}
@@ -15,7 +15,7 @@ use Rattle.level_search.specs.Rings.{IsFirstRing, IsRing, Leads}
 use Rattle.level_search.specs.Steps.{AreStepsOf, IsStepBetween, next_in}
 use Rattle.level_search.proofs.Joining.{name, before-shown, names-shown, numbers-shown, least_cycle_of_ring}
 
--- each element of a ring stands before the one behind it
+-- each element of a ring stands before the one after it
 leads-next : (rows : List (List ℕ)) (a : ℕ) (path : List ℕ) (z j : ℕ) → Leads rows a path z → j < suc (length path)
     → Before rows (get_or (a ∷ path) j 0) (get_or (path ++ z ∷ []) j 0)
 leads-next rows a [] z zero leads inside = leads

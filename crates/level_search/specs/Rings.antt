@@ -30,7 +30,7 @@ abbrev pub Reaches : List (List ℕ) → ℕ → ℕ → ℕ → Type 0
 Reaches rows z zero x = x ≡ z
 Reaches rows z (suc n) x = (y : ℕ) × Before rows x y × Reaches rows z n y
 
--- b is the least element behind a from which n steps lead to z
+-- b is the least element after a from which n steps lead to z
 pub record IsLeastNext (rows : List (List ℕ)) (z n a b : ℕ) : Type 0 where
   pub behind : Before rows a b
   pub reaches : Reaches rows z n b

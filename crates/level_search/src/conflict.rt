@@ -1,3 +1,5 @@
+//! The conflict number.
+
 ghost use Rattle.std.specs.Prelude.{◌≡◌, ◌⊎◌, ◌↔◌, ◌<◌, IfOk, IsErrOf};
 ghost use Rattle.specification.specs.Conflict.{IsConflictNumber};
 
@@ -16,10 +18,10 @@ use std::thread::Threads;
 /// It is the length of a shortest cycle. It is searched for by 1 to 64 workers in threads, which take the
 /// elements to search from one after the other and share the least length found. Where there are at most 64
 /// elements these are all. Where there are more they are those that had to be left out of an order that all
-/// lists follow: each cycle leads through one of these, since along a cycle no order rises all the way, and so
-/// a shortest cycle is found from there. The gate is called round each search. Where no thread can be
-/// started, another runs its worker. The answer is the same for any number of workers, any gate and any
-/// order in which the workers come to run.
+/// lists follow: each cycle leads through one of these, since along a cycle no order rises all the way, and
+/// so a shortest cycle is found from there. The gate is called round each search. Where no thread can be
+/// started, another runs its worker. The answer is the same for any number of workers, any gate and any order
+/// in which the workers come to run.
 ///
 /// The order takes time linear in the places for each element left out of it. A search sets back a mark for
 /// each list and element, and then looks at no more than all places and all elements; this is done for each

@@ -1,3 +1,5 @@
+//! The least cycle, and its steps.
+
 ghost use Rattle.std.specs.Prelude.{◌≡◌, ℕ, ◌<◌, IfOk, length, slice_index};
 ghost use Rattle.specification.specs.Conflict.{AreLeastSteps};
 ghost use Rattle.specification.specs.Responses.{AreProper};
@@ -19,7 +21,7 @@ use ring::least_ring;
 use std::alloc::Global;
 use witnesses::{Step, Steps};
 
-/// The element behind the one at a place of a ring; behind the last stands the first.
+/// The element after the one at a place of a ring; after the last stands the first.
 fn behind(ring: &[u32], i: usize) -> u32
     requires { i < length ring.now }
     ensures { result ≡ next_in ring.now i }

@@ -1,3 +1,5 @@
+//! What is called round each search.
+
 /// What is called round each search, as a test does that watches them or holds them up. It is shared by
 /// all workers.
 pub trait Gate: Sync {

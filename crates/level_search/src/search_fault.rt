@@ -1,3 +1,5 @@
+//! Why there is no conflict number.
+
 use events::Memory;
 use thiserror::Error;
 
@@ -7,7 +9,7 @@ pub enum SearchFault {
     /// The number of workers is not 1 to 64.
     #[error("workers")]
     Workers,
-    /// A growth was refused.
+    /// An allocation failed.
     #[error("memory")]
     Memory,
 }

@@ -1,3 +1,5 @@
+//! Searches by levels from one element: for a shortest cycle, and for distances.
+
 ghost use Rattle.std.specs.Prelude.{◌≡◌, ◌↔◌, ℕ, ◌<◌, ◌≤◌, IfOk, IfNone, IsTrue, List, None, length};
 ghost use Rattle.order_graph.specs.Lists.{lists_of};
 ghost use Rattle.events.specs.Names.{NameBytes};
@@ -41,7 +43,11 @@ impl Model for Scratch {
 
     ghost Value = { ScratchView };
 
-    ghost view = { λ a. record { elements = vec_len a.state.seen; lists = vec_len a.state.marks; looked = a.looked } };
+    ghost view = { λ a. record {
+      elements = vec_len a.state.seen;
+      lists = vec_len a.state.marks;
+      looked = a.looked;
+    } };
 
     ghost invariant = { λ a. vec_len a.state.queue ≡ vec_len a.state.seen };
 }
@@ -102,7 +108,8 @@ pub fn search_by_number<B: BoundSource>(
     ensures answer { by_number.IsSearchAnswer (lists_of graph.now) element (B.last source.new) result }
     ensures bound { B.last source.new ≤ B.last source.old }
     ensures reads { B.reads source.old source.new }
-    ensures none { IfNone result (length graph.now.elements < B.last source.new → (n : ℕ) → ¬ by_number.HasCycle (lists_of graph.now) element n) }
+    ensures none { IfNone result (length graph.now.elements < B.last source.new → (n : ℕ)
+        → ¬ by_number.HasCycle (lists_of graph.now) element n) }
     ensures fits { Fits scratch.new graph.now }
     ensures looked { LooksWithin graph.now scratch.new.looked result }
     ensures expanded { IfNone result (1 < B.last source.new → 0 < scratch.new.looked) }
@@ -135,7 +142,8 @@ pub fn search<B: BoundSource>(
     ensures answer { IsSearchAnswer graph.now element (B.last source.new) result }
     ensures bound { B.last source.new ≤ B.last source.old }
     ensures reads { B.reads source.old source.new }
-    ensures none { IfNone result (length graph.now.elements < B.last source.new → (cycle : List NameBytes) → ¬ IsCycleThrough graph.now element cycle) }
+    ensures none { IfNone result (length graph.now.elements < B.last source.new → (cycle : List NameBytes)
+        → ¬ IsCycleThrough graph.now element cycle) }
     ensures fits { Fits scratch.new graph.now }
     ensures looked { LooksWithin graph.now scratch.new.looked result }
     ensures expanded { IfNone result (1 < B.last source.new → 0 < scratch.new.looked) }
@@ -145,8 +153,8 @@ pub fn search<B: BoundSource>(
     search_by_number(graph, element, scratch, source)
 }
 
-/// Writes at each element's number how many steps lead to it from the element, at the least, each step from an
-/// element to one that some response shows after it; the limit, where so few steps don't lead to it.
+/// Writes at each element's number how many steps lead to it from the element, at the least, each step from
+/// an element to one that some response shows after it; the limit, where so few steps don't lead to it.
 ///
 /// It takes no memory. It sets back a mark for each list and element, and then looks at no more places and
 /// elements, together, than there are.

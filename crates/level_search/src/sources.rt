@@ -51,7 +51,8 @@ fn unranked(alloc: Global, ranks: &[u32]) -> Result<Vec<u32>, Memory>
     requires { length ranks.now < u32.MAX }
     ensures known { IfOk result (λ v. All (λ s. s < length ranks.now) v.items) }
     ensures count { IfOk result (λ v. length v.items ≤ length ranks.now) }
-    ensures all { IfOk result (λ v. (x : ℕ) → x < length ranks.now → slice_index ranks.now x ≡ u32.MAX → Contains v.items x) }
+    ensures all { IfOk result (λ v. (x : ℕ) → x < length ranks.now → slice_index ranks.now x ≡ u32.MAX
+        → Contains v.items x) }
 {
     let mut elements = Vec::new(alloc);
     for (x, rank) in ranks.iter().enumerate() {

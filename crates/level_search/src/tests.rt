@@ -1,3 +1,5 @@
+//! Tests of searches, conflict numbers and cycles.
+
 mod conflicts;
 mod gates;
 mod graphs;

@@ -1,3 +1,5 @@
+//! The workers of one search for the conflict number, in threads.
+
 ghost use Rattle.std.specs.Prelude.{◌≡◌, ℕ, ◌+◌, ◌-◌, ◌<◌, ◌≤◌, true, false, length, IfOk, All, vec_len};
 ghost use Rattle.order_graph.specs.Lists.{lists_of};
 ghost use Rattle.specification.specs.Responses.{AreProper};
@@ -74,10 +76,13 @@ fn gathered(
     mut first: Seat,
     mut others: Vec<Worker>,
 ) -> Seat
-    requires first { (first.bound ≡ bound.now) × (first.is_first ≡ true) × (first.out ≡ vec_len others) × (first.done ≡ true) }
+    requires first { (first.bound ≡ bound.now) × (first.is_first ≡ true) × (first.out ≡ vec_len others)
+        × (first.done ≡ true) }
     requires honest { Honest (lists_of graph.now) sources.now first }
-    requires others { All (λ w. (w.seat.bound ≡ bound.now) × (w.seat.is_first ≡ false) × Honest (lists_of graph.now) sources.now w.seat) others.items }
-    ensures first { (result.bound ≡ bound.now) × (result.is_first ≡ true) × (result.out ≡ 0) × (result.done ≡ true) }
+    requires others { All (λ w. (w.seat.bound ≡ bound.now) × (w.seat.is_first ≡ false)
+        × Honest (lists_of graph.now) sources.now w.seat) others.items }
+    ensures first { (result.bound ≡ bound.now) × (result.is_first ≡ true) × (result.out ≡ 0)
+        × (result.done ≡ true) }
     ensures honest { Honest (lists_of graph.now) sources.now result }
 {
     while let Some(other) = others.pop() {

@@ -16,7 +16,7 @@ use std::io::Write;
 use std::sync::Wait;
 use std::thread::{Threads, join};
 
-/// The insert of a name at the front of a list that was empty.
+/// The insert of a name at the beginning of a list that was empty.
 fn typed(alloc: Global, name: Name) -> Result<Body, Memory> {
     let mut response = Response::new(alloc);
     response.push(name)?;

@@ -1,4 +1,4 @@
--- Rows that are kept one behind the other in one list, with the place where each ends.
+-- Rows that are kept one after the other in one list, with the place where each ends.
 use Rattle.std.specs.Prelude.{◌≡◌, ℕ, zero, suc, slice_index, ◌-◌, ◌≤◌, List, [], ◌∷◌, length, take, drop}
 use Rattle.order_graph.specs.declared.rows.Rows.{Rows}
 

@@ -1,3 +1,5 @@
+//! The operations whose responses cover all others.
+
 ghost use Rattle.std.specs.Prelude.{◌≡◌, true, AllPairs, IfOk, Some, Contains, slice_get};
 ghost use Rattle.events.specs.Names.{NameBytes};
 ghost use Rattle.events.specs.Operation.{Operation, ComesBefore};
@@ -10,7 +12,8 @@ use std::alloc::Global;
 
 /// Whether the same name stands at these places of two responses.
 fn same_name(one: &Response, i: usize, other: &Response, j: usize) -> bool
-    ensures { result ≡ true → (a : NameBytes) × (slice_get one.now i ≡ Some a) × (slice_get other.now j ≡ Some a) }
+    ensures { result ≡ true → (a : NameBytes) × (slice_get one.now i ≡ Some a)
+        × (slice_get other.now j ≡ Some a) }
 {
     match (one.bytes_at(i), other.bytes_at(j)) {
         (Some(a), Some(b)) => a == b,
@@ -42,7 +45,8 @@ fn stands_in(response: &Response, other: &Response) -> bool
 
 /// Whether the response of an operation is found in that of another.
 fn is_covered(recording: &Recording, operation: OpName, other: OpName) -> bool
-    ensures { result ≡ true → IsSubsequence (response recording.now operation) (response recording.now other) }
+    ensures { result ≡ true → IsSubsequence (response recording.now operation)
+        (response recording.now other) }
 {
     match (recording.response(operation), recording.response(other)) {
         (Some(response), Some(other)) => stands_in(response, other),
@@ -52,7 +56,8 @@ fn is_covered(recording: &Recording, operation: OpName, other: OpName) -> bool
 
 /// Whether the response of an operation is found in that of the last of these.
 fn is_covered_by_last(recording: &Recording, operation: OpName, kept: &[OpName]) -> bool
-    ensures { result ≡ true → (p : Operation) × Contains kept.now p × IsSubsequence (response recording.now operation) (response recording.now p) }
+    ensures { result ≡ true → (p : Operation) × Contains kept.now p
+        × IsSubsequence (response recording.now operation) (response recording.now p) }
 {
     match kept.last() {
         None => false,

@@ -1,3 +1,5 @@
+//! The count of the places that are looked at and the elements that are expanded.
+
 ghost use Rattle.std.specs.Prelude.{◌≡◌, ◌≤◌, ℕ};
 ghost use Rattle.order_graph.specs.Lists.{ticked};
 

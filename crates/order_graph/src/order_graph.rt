@@ -1,4 +1,7 @@
-ghost use Rattle.std.specs.Prelude.{◌≡◌, ℕ, ◌<◌, ◌≤◌, ◌^◌, IfOk, IfSome, length, slice_get, is_some, option_map, if◌then◌else◌};
+//! The order graph: each response as a list of numbers of elements.
+
+ghost use Rattle.std.specs.Prelude.{◌≡◌, ℕ, ◌<◌, ◌≤◌, ◌^◌, IfOk, IfSome, length, slice_get, is_some};
+ghost use Rattle.std.specs.Prelude.{option_map, if◌then◌else◌};
 ghost use Rattle.events.specs.Operations.{operation_names};
 ghost use Rattle.specification.specs.Faults.{IsSound};
 ghost use Rattle.specification.specs.Elements.{elements, number_in};
@@ -46,7 +49,8 @@ impl Model for OrderGraph {
 
     ghost view = { λ g. responses_kept g.names.items g.shown.items (rows_of g.places) };
 
-    ghost invariant = { λ g. AreKept g.names.items (get (pointwise ◌==◌) g.numbers) g.shown.items g.places g.spots };
+    ghost invariant = { λ g. AreKept g.names.items
+        (get (pointwise ◌==◌) g.numbers) g.shown.items g.places g.spots };
 }
 
 impl OrderGraph {
@@ -180,7 +184,7 @@ impl OrderGraph {
     }
 
     /// The least operation whose response shows element a before element b; none where no response does.
-    /// It reads the places behind each spot of a, at most those of all responses together.
+    /// It reads the places after each spot of a, at most those of all responses together.
     pub fn before(&self, a: u32, b: u32) -> Option<OpName>
         ensures { IsLeastShowing self.now a b result }
     {

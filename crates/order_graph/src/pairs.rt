@@ -1,3 +1,5 @@
+//! Whether one element stands before another, and in which list first.
+
 ghost use Rattle.std.specs.Prelude.{◌≡◌, ℕ, MatchOption, true, false};
 ghost use Rattle.order_graph.specs.Cuts.{rows_of, IsCut};
 ghost use Rattle.order_graph.specs.Lists.{BeforeIn, IsLeastList, IsBehind};
@@ -6,7 +8,7 @@ ghost use Rattle.order_graph.specs.Spots.{spots_of};
 use super::rows::Rows;
 use super::spot::Spot;
 
-/// Whether an element stands in a row behind a place.
+/// Whether an element stands in a row after a place.
 fn stands_behind(row: &[u32], place: u32, b: u32) -> bool
     ensures found { result ≡ true → IsBehind row.now place b }
     ensures absent { result ≡ false → ¬ IsBehind row.now place b }
@@ -19,7 +21,8 @@ fn stands_behind(row: &[u32], place: u32, b: u32) -> bool
 pub fn first_list(places: &Rows<u32>, spots: &[Spot], a: u32, b: u32) -> Option<u32>
     requires whole { IsCut places.now }
     requires spots { spots.now ≡ spots_of (rows_of places.now) a }
-    ensures { MatchOption result ((l : ℕ) → ¬ BeforeIn (rows_of places.now) l a b) (λ l. IsLeastList (rows_of places.now) a b l) }
+    ensures { MatchOption result ((l : ℕ) → ¬ BeforeIn (rows_of places.now) l a b)
+        (λ l. IsLeastList (rows_of places.now) a b l) }
 {
     for spot in spots {
         if stands_behind(places.row(spot.list as usize), spot.place, b) {

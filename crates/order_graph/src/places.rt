@@ -1,4 +1,7 @@
-ghost use Rattle.std.specs.Prelude.{◌≡◌, ◌≢◌, ◌<◌, ◌^◌, ◌+◌, ◌==◌, AllPairs, IfOk, OnOk, ◌∷◌, ◌++◌, [], length, map, unwrap_or};
+//! Responses as lists of numbers.
+
+ghost use Rattle.std.specs.Prelude.{◌≡◌, ◌≢◌, ◌<◌, ◌^◌, ◌+◌, ◌==◌, AllPairs, IfOk, OnOk, ◌∷◌, ◌++◌, []};
+ghost use Rattle.std.specs.Prelude.{length, map, unwrap_or};
 ghost use Rattle.std.specs.Cmp.Lexicographic.{pointwise};
 ghost use Rattle.indexmap.specs.IndexMap.{get};
 ghost use Rattle.events.specs.Names.{NameBytes};
@@ -29,7 +32,7 @@ fn guessed_number(names: &[Name], numbers: &IndexMap<Name, u32>, guess: u32, nam
 /// Adds the numbers of a response's names. For a name that is not among these their count stands.
 ///
 /// A name is guessed to be the one that followed the same name last; `followers` has that one's number at the
-/// number of the name, and behind all names the number that began the last response.
+/// number of the name, and after all names the number that began the last response.
 fn add_numbers(
     items: &mut Vec<u32>,
     followers: &mut Vec<u32>,
@@ -71,7 +74,8 @@ fn add_list(
     requires room { length followers.old.items ≡ length names.now + 1 }
     requires whole { IsCut places.old }
     ensures cut { OnOk result (IsCut places.new) }
-    ensures rows { OnOk result (rows_of places.new ≡ rows_of places.old ++ (numbers_in names.now (response recording.now operation)) ∷ []) }
+    ensures rows { OnOk result (rows_of places.new
+        ≡ rows_of places.old ++ (numbers_in names.now (response recording.now operation)) ∷ []) }
     ensures room { length followers.new.items ≡ length names.now + 1 }
 {
     match recording.response(operation) {
@@ -95,7 +99,8 @@ pub fn places_of(
     requires numbered { (a : NameBytes) → get (pointwise ◌==◌) numbers.now a ≡ number_in names.now a }
     requires few { length names.now < 2 ^ 32 }
     ensures cut { IfOk result (λ t. IsCut t) }
-    ensures rows { IfOk result (λ t. rows_of t ≡ map (λ o. numbers_in names.now (response recording.now o)) operations.now) }
+    ensures rows { IfOk result (λ t. rows_of t ≡ map
+        (λ o. numbers_in names.now (response recording.now o)) operations.now) }
 {
     let mut followers = Vec::from_elem(alloc, 0, names.len() + 1)?;
     let mut places = Rows::new(alloc);

@@ -1,9 +1,12 @@
-ghost use Rattle.std.specs.Prelude.{◌≡◌, ◌<◌, ◌≤◌, ◌-◌, take, drop, [], ◌∷◌, ◌++◌, OnOk, length, slice_index_or, vec_len};
+//! Rows of different lengths in one flat list, with their ends.
+
+ghost use Rattle.std.specs.Prelude.{◌≡◌, ◌<◌, ◌≤◌, ◌-◌, take, drop, [], ◌∷◌, ◌++◌, OnOk, length};
+ghost use Rattle.std.specs.Prelude.{slice_index_or, vec_len};
 
 use events::Memory;
 use std::alloc::Global;
 
-/// Rows of values, one behind the other, and where each ends. What stands behind the last end is a row
+/// Rows of values, one after the other, and where each ends. What stands after the last end is a row
 /// that is begun.
 #[derive(Drop)]
 pub struct Rows<T: Copy + Drop> {
@@ -28,7 +31,8 @@ impl<T: Copy + Drop> Rows<T> {
     /// Ends the row that is begun.
     pub fn end_row(&mut self) -> Result<(), Memory>
         ensures items { self.new.items.items ≡ self.old.items.items }
-        ensures ends { OnOk result (self.new.ends.items ≡ self.old.ends.items ++ (length self.old.items.items) ∷ []) }
+        ensures ends { OnOk result (self.new.ends.items ≡ self.old.ends.items ++ (length self.old.items.items)
+            ∷ []) }
     {
         self.ends.push(self.items.len())?;
         Ok(())
@@ -48,7 +52,8 @@ impl<T: Copy + Drop> Rows<T> {
         requires { IsCut self.now }
         ensures rising { result.0 ≤ result.1 }
         ensures within { result.1 ≤ vec_len self.now.items }
-        ensures row { slice_index_or (rows_of self.now) number [] ≡ take (result.1 - result.0) (drop result.0 self.now.items.items) }
+        ensures row { slice_index_or (rows_of self.now) number []
+            ≡ take (result.1 - result.0) (drop result.0 self.now.items.items) }
     {
         match self.ends.get(number) {
             None => (0, 0),

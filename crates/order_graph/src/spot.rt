@@ -1,3 +1,5 @@
+//! A spot: a list, and a place in it.
+
 /// A place in a list: both are counted from 0.
 #[derive(Clone, Copy, Debug, PartialEq, Eq)]
 pub struct Spot {

@@ -1,4 +1,7 @@
-ghost use Rattle.std.specs.Prelude.{◌≡◌, ℕ, ◌<◌, ◌≤◌, ◌^◌, ◌++◌, [], All, IfOk, OnOk, length, map, slice_index_or, vec_len, replicate};
+//! The spots of each element.
+
+ghost use Rattle.std.specs.Prelude.{◌≡◌, ℕ, ◌<◌, ◌≤◌, ◌^◌, ◌++◌, [], All, IfOk, OnOk, length, map};
+ghost use Rattle.std.specs.Prelude.{slice_index_or, vec_len, replicate};
 ghost use Rattle.order_graph.specs.Cuts.{rows_of, IsCut};
 ghost use Rattle.order_graph.specs.Lists.{row};
 ghost use Rattle.order_graph.specs.Spots.{spots_in, spots_of};
@@ -25,7 +28,8 @@ fn row_spots(list: u32, row: &[u32], spots: &mut Vec<Vec<Spot>>) -> Result<(), M
     requires short { length row.now < 2 ^ 32 }
     ensures count { vec_len spots.new ≡ vec_len spots.old }
     ensures spots { OnOk result ((x : ℕ) → x < vec_len spots.old
-        → slice_index_or (map (λ s. s.items) spots.new.items) x [] ≡ slice_index_or (map (λ s. s.items) spots.old.items) x [] ++ spots_in list 0 row.now x) }
+        → slice_index_or (map (λ s. s.items) spots.new.items) x []
+        ≡ slice_index_or (map (λ s. s.items) spots.old.items) x [] ++ spots_in list 0 row.now x) }
 {
     for (j, x) in row.iter().enumerate() {
         spots[*x as usize].push(Spot {
@@ -43,7 +47,8 @@ fn all_spots(alloc: Global, elements: usize, places: &Rows<u32>) -> Result<Vec<V
     requires known { (l : ℕ) → All (λ x. x < elements) (row (rows_of places.now) l) }
     requires short { (l : ℕ) → length (row (rows_of places.now) l) < 2 ^ 32 }
     ensures count { IfOk result (λ v. vec_len v ≡ elements) }
-    ensures spots { IfOk result (λ v. (x : ℕ) → x < elements → slice_index_or (map (λ s. s.items) v.items) x [] ≡ spots_of (rows_of places.now) x) }
+    ensures spots { IfOk result (λ v. (x : ℕ) → x < elements
+        → slice_index_or (map (λ s. s.items) v.items) x [] ≡ spots_of (rows_of places.now) x) }
 {
     let mut spots = no_spots(alloc, elements)?;
     for list in 0..places.ends.len() {
@@ -52,7 +57,7 @@ fn all_spots(alloc: Global, elements: usize, places: &Rows<u32>) -> Result<Vec<V
     Ok(spots)
 }
 
-/// These lists one behind the other.
+/// These lists one after the other.
 fn joined(alloc: Global, lists: &[Vec<Spot>]) -> Result<Rows<Spot>, Memory>
     ensures cut { IfOk result (λ t. IsCut t) }
     ensures rows { IfOk result (λ t. rows_of t ≡ map (λ s. s.items) lists.now) }
@@ -76,7 +81,8 @@ pub fn spots_in_lists(
     requires known { (l : ℕ) → All (λ x. x < elements) (row (rows_of places.now) l) }
     requires short { (l : ℕ) → length (row (rows_of places.now) l) < 2 ^ 32 }
     ensures cut { IfOk result (λ t. IsCut t) }
-    ensures spots { IfOk result (λ t. (x : ℕ) → slice_index_or (rows_of t) x [] ≡ spots_of (rows_of places.now) x) }
+    ensures spots { IfOk result (λ t. (x : ℕ)
+        → slice_index_or (rows_of t) x [] ≡ spots_of (rows_of places.now) x) }
 {
     let spots = all_spots(alloc, elements, places)?;
     joined(alloc, spots.as_slice())

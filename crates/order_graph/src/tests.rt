@@ -1,3 +1,5 @@
+//! Tests of the order graph.
+
 mod generated;
 mod graphs;
 mod plain;

@@ -6,8 +6,8 @@ use events::{Memory, Refusal};
 use sessions::{ReplayFault, SearchFault};
 use thiserror::Error;
 
-/// Why a rehearsal ended without a recording. `Workers` is tested first; after all threads are joined, out of memory in
-/// any of them is answered before `Thread`, and `Thread` before `Stalled`.
+/// Why a rehearsal ended without a recording. `Workers` is tested first; after all threads are joined, out of
+/// memory in any of them is answered before `Thread`, and `Thread` before `Stalled`.
 #[derive(Clone, Copy, Debug, PartialEq, Eq, Error)]
 pub enum RehearsalFault {
     /// The number of workers is not 1 to 64.
@@ -72,7 +72,8 @@ pub fn foremost(
     ensures none { result ≡ None → (one ≡ None) × (other ≡ None) }
     ensures either { (result ≡ one) ⊎ (result ≡ other) }
     ensures memory { (one ≡ Some fault.Memory) ⊎ (other ≡ Some fault.Memory) → result ≡ Some fault.Memory }
-    ensures stalled { result ≡ Some fault.Stalled → (one ≡ Some fault.Thread → ⊥) × (other ≡ Some fault.Thread → ⊥) }
+    ensures stalled { result ≡ Some fault.Stalled → (one ≡ Some fault.Thread → ⊥)
+        × (other ≡ Some fault.Thread → ⊥) }
 {
     match (one, other) {
         (None, fault) => fault,

@@ -1,5 +1,6 @@
-//! A recording replayed: one recorder thread for each replica hands its stream in to one session, while a watcher judges
-//! snapshots of it. What the session has in the end has the recording's streams, in whatever order the threads came to run.
+//! A recording replayed: one recorder thread for each replica hands its stream in to one session, while a
+//! watcher judges snapshots of it. What the session has in the end has the recording's streams, in whatever
+//! order the threads came to run.
 #![tactic(auto)]
 
 mod fault;

@@ -32,12 +32,13 @@ struct Returns {
     observer: Observer,
 }
 
-/// Replays a recording in a session of its own, and answers what the session then has: a recording with the same streams.
+/// Replays a recording in a session of its own, and answers what the session then has: a recording with the
+/// same streams.
 ///
-/// For each replica a recorder thread replays its stream, with 1,000,000 tries for each receipt; a watcher judges four
-/// snapshots, each with so many workers, 1 to 64. The gate's `before(r, 0)` and `after(r, 0)` are called round the replay of
-/// replica r, by its thread, and by no search. All threads have ended when it returns. The recording is held twice at the end,
-/// and once more while the watcher judges a snapshot.
+/// For each replica a recorder thread replays its stream, with 1,000,000 tries for each receipt; a watcher
+/// judges four snapshots, each with so many workers, 1 to 64. The gate's `before(r, 0)` and `after(r, 0)` are
+/// called round the replay of replica r, by its thread, and by no search. All threads have ended when it
+/// returns. The recording is held twice at the end, and once more while the watcher judges a snapshot.
 pub fn rehearse<H: Threads + Wait + Sync, G: Gate>(
     rt: &H,
     alloc: Global,
@@ -169,7 +170,8 @@ fn close(
     requires legal { IsLegal recording.now }
     requires replicas { session.replicas ≡ recording.now.replicas }
     requires observer { observer.session ≡ session }
-    requires replayed { (before : List PassShown) × AreOpened session before × AreReplayed recording.now before passes.items }
+    requires replayed { (before : List PassShown) × AreOpened session before
+        × AreReplayed recording.now before passes.items }
     ensures { SameStreams recording.now result }
 {
     let mut passes = passes;

@@ -38,8 +38,10 @@ pub fn started<'s, E, R: Wait + Sync, G: Gate>(
     mut passes: Vec<Pass>,
 ) -> Result<Team, Memory>
     requires { All (λ p. p.session ≡ session.now) passes.items }
-    ensures whole { IfOk result (λ team. team.is_whole ≡ true → map (λ h. h.promise.pass.value) team.handles.items ≡ passes.items) }
-    ensures recording { IfOk result (λ team. All (λ h. h.promise.recording.value ≡ recording.now) team.handles.items) }
+    ensures whole { IfOk result (λ team. team.is_whole ≡ true
+        → map (λ h. h.promise.pass.value) team.handles.items ≡ passes.items) }
+    ensures recording { IfOk result (λ team. All
+        (λ h. h.promise.recording.value ≡ recording.now) team.handles.items) }
 {
     let mut handles = Vec::with_capacity(alloc, passes.len())?;
     'starts: while !passes.is_empty() {
@@ -72,7 +74,8 @@ pub fn started<'s, E, R: Wait + Sync, G: Gate>(
 
 /// Puts a pass that came back at the end, and notes the fault if its replay stopped.
 fn take_back(back: &mut Back, told: Told)
-    ensures none { back.new.fault ≡ None → (back.old.fault ≡ None) × IsOk told.answer × (back.new.passes.items ≡ back.old.passes.items ++ told.pass ∷ []) }
+    ensures none { back.new.fault ≡ None → (back.old.fault ≡ None) × IsOk told.answer
+        × (back.new.passes.items ≡ back.old.passes.items ++ told.pass ∷ []) }
     ensures workers { (back.old.fault ≡ Some fault.Workers → ⊥) → back.new.fault ≡ Some fault.Workers → ⊥ }
 {
     let Told { pass, answer } = told;
@@ -92,7 +95,8 @@ pub fn joined<R: Threads>(
 ) -> Back
     requires room { room.items ≡ [] }
     requires recording { All (λ h. h.promise.recording.value ≡ recording.now) handles.items }
-    ensures replayed { result.fault ≡ None → AreReplayed recording.now (map (λ h. h.promise.pass.value) handles.items) result.passes.items }
+    ensures replayed { result.fault ≡ None
+        → AreReplayed recording.now (map (λ h. h.promise.pass.value) handles.items) result.passes.items }
     ensures workers { result.fault ≡ Some fault.Workers → ⊥ }
 {
     let mut back = Back {

@@ -12,8 +12,8 @@ use std::thread::Threads;
 /// How many turns a gate waits at most.
 const TURNS: u32 = 50_000_000;
 
-/// Holds up the first replay until another has begun, or for `TURNS` turns, and notes whether one did; and how many
-/// replays have begun and ended, and calls that name another source than 0.
+/// Holds up the first replay until another has begun, or for `TURNS` turns, and notes whether one did; and
+/// how many replays have begun and ended, and calls that name another source than 0.
 #[derive(Drop)]
 struct Hold {
     begun: AtomicU64,

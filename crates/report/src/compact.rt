@@ -27,7 +27,8 @@ pub fn json(alloc: Global, recording: &Recording, verdict: &Verdict) -> Result<V
 
 /// The object's text.
 fn compact(alloc: Global, recording: &Recording, verdict: &Verdict) -> Result<String, Memory>
-    ensures { IfOk result (λ text. string_bytes text ≡ compact_text (report_data recording.now (verdict_of verdict.now))) }
+    ensures { IfOk result (λ text. string_bytes text
+        ≡ compact_text (report_data recording.now (verdict_of verdict.now))) }
 {
     let counts = counts_of(alloc, recording)?;
     let object = object_of(alloc, recording, counts, verdict)?;

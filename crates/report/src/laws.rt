@@ -2,8 +2,8 @@
 
 ghost use Rattle.report.specs.Laws.{ReportsAreOfStreams};
 
-/// Two recordings with as many replicas and with the same streams have the same reports of a verdict, as text and as
-/// JSON, however their entries were merged.
+/// Two recordings with as many replicas and with the same streams have the same reports of a verdict, as text
+/// and as JSON, however their entries were merged.
 pub fn reports_are_of_streams()
     ensures { ReportsAreOfStreams }
 {}

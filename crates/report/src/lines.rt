@@ -3,7 +3,8 @@
 ghost use Rattle.std.specs.Prelude.{◌≡◌, ◌++◌, ◌∷◌, [], IfOk, OnOk, map};
 ghost use Rattle.events.specs.Operations.{response};
 ghost use Rattle.specification.specs.Lines.{text_of, names_text};
-ghost use Rattle.specification.specs.ReportText.{fault_lines, report_step, report_text, verdict_lines, weak_line};
+ghost use Rattle.specification.specs.ReportText.{fault_lines, report_step, report_text, verdict_lines};
+ghost use Rattle.specification.specs.ReportText.{weak_line};
 ghost use Rattle.specification.specs.Faults as spec;
 ghost use Rattle.certificate.specs.VerdictOf.{verdict_of};
 ghost use Rattle.report.specs.Texts.{counts_text, faulty_text, accepted_text, refused_text};
@@ -49,7 +50,8 @@ fn push_verdict(
     recording: &Recording,
     verdict: &Verdict,
 ) -> Result<(), Memory>
-    ensures { OnOk result (text.new.items ≡ text.old.items ++ text_of (verdict_lines recording.now (verdict_of verdict.now))) }
+    ensures { OnOk result (text.new.items
+        ≡ text.old.items ++ text_of (verdict_lines recording.now (verdict_of verdict.now))) }
 {
     match verdict {
         Verdict::Doubled { first, again } => push_doubled(alloc, text, *first, *again),
@@ -60,7 +62,7 @@ fn push_verdict(
     }
 }
 
-/// Adds the lines of an operation that is wrong, behind this word.
+/// Adds the lines of an operation that is wrong, after this word.
 fn push_faulty(alloc: Global, text: &mut Vec<u8>, word: &[u8], at: OpName) -> Result<(), Memory>
     ensures { OnOk result (text.new.items ≡ text.old.items ++ faulty_text word.now at) }
 {
@@ -116,7 +118,8 @@ fn push_steps(
     recording: &Recording,
     steps: &Steps,
 ) -> Result<(), Memory>
-    ensures { OnOk result (text.new.items ≡ text.old.items ++ text_of (map (report_step recording.now) steps.now)) }
+    ensures { OnOk result (text.new.items
+        ≡ text.old.items ++ text_of (map (report_step recording.now) steps.now)) }
 {
     for i in 0..steps.len() {
         if let Some(step) = steps.get(i) {
@@ -133,7 +136,8 @@ fn push_step(
     recording: &Recording,
     step: &Step,
 ) -> Result<(), Memory>
-    ensures { OnOk result (text.new.items ≡ text.old.items ++ (report_step recording.now step.now ++ 10 ∷ [])) }
+    ensures { OnOk result (text.new.items
+        ≡ text.old.items ++ (report_step recording.now step.now ++ 10 ∷ [])) }
 {
     push_shown(alloc, text, &step.from, &step.to, step.shown)?;
     text.extend_from_slice(b" :")?;
@@ -142,7 +146,7 @@ fn push_step(
     Ok(())
 }
 
-/// Adds the names that an operation returned, each behind a space.
+/// Adds the names that an operation returned, each after a space.
 fn push_response(text: &mut Vec<u8>, recording: &Recording, name: OpName) -> Result<(), Memory>
     ensures { OnOk result (text.new.items ≡ text.old.items ++ names_text (response recording.now name)) }
 {

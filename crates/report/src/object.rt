@@ -5,7 +5,8 @@ ghost use Rattle.serde_json.specs.Data.{array};
 ghost use Rattle.serde_json.specs.View.{view};
 ghost use Rattle.certificate.specs.VerdictOf.{verdict_of};
 ghost use Rattle.report.specs.JsonReport.{step_json, steps_json};
-ghost use Rattle.report.specs.Objects.{doubled_object, faulty_object, accepted_object, refused_object, step_object, verdict_object};
+ghost use Rattle.report.specs.Objects.{doubled_object, faulty_object, accepted_object, refused_object};
+ghost use Rattle.report.specs.Objects.{step_object, verdict_object};
 
 use super::counts::Counts;
 use super::words::{name_value, operation_value, order_value, returned_value};
@@ -21,7 +22,9 @@ pub fn object_of(
     counts: Counts,
     verdict: &Verdict,
 ) -> Result<Value, Memory>
-    ensures { IfOk result (λ v. view v ≡ verdict_object recording.now.replicas counts.operations counts.inserts recording.now (verdict_of verdict.now)) }
+    ensures { IfOk result (λ v. view v
+        ≡ verdict_object recording.now.replicas counts.operations counts.inserts recording.now
+        (verdict_of verdict.now)) }
 {
     let replicas = recording.replicas();
     match verdict {
@@ -57,7 +60,8 @@ fn doubled(
     first: Value,
     again: Value,
 ) -> Result<Value, AllocError>
-    ensures { IfOk result (λ v. view v ≡ doubled_object replicas counts.operations counts.inserts (view first) (view again)) }
+    ensures { IfOk result (λ v. view v ≡ doubled_object replicas counts.operations counts.inserts (view first)
+        (view again)) }
 {
     json!(in alloc; {
         "again": again,
@@ -77,7 +81,8 @@ fn faulty(
     at: Value,
     verdict: &str,
 ) -> Result<Value, AllocError>
-    ensures { IfOk result (λ v. view v ≡ faulty_object replicas counts.operations counts.inserts (view at) verdict.now) }
+    ensures { IfOk result (λ v. view v ≡ faulty_object replicas counts.operations counts.inserts
+        (view at) verdict.now) }
 {
     json!(in alloc; {
         "at": at,
@@ -92,7 +97,8 @@ fn faulty(
 
 /// The object of an acceptance.
 fn accepted(alloc: Global, replicas: u32, counts: Counts, order: Value) -> Result<Value, AllocError>
-    ensures { IfOk result (λ v. view v ≡ accepted_object replicas counts.operations counts.inserts (view order)) }
+    ensures { IfOk result (λ v. view v ≡ accepted_object replicas counts.operations counts.inserts
+        (view order)) }
 {
     json!(in alloc; {
         "inserts": counts.inserts,
@@ -113,7 +119,8 @@ fn refused(
     k: u32,
     steps: Value,
 ) -> Result<Value, AllocError>
-    ensures { IfOk result (λ v. view v ≡ refused_object replicas counts.operations counts.inserts k (view steps)) }
+    ensures { IfOk result (λ v. view v ≡ refused_object replicas counts.operations counts.inserts k
+        (view steps)) }
 {
     json!(in alloc; {
         "inserts": counts.inserts,

@@ -1,3 +1,5 @@
+//! Entries put into a recording one by one.
+
 use events::{Body, Entry, Memory, Name, OpName, Recording, Refusal, Response};
 use std::alloc::Global;
 use std::test::Fail;

@@ -1,3 +1,5 @@
+//! Numbers that look random, the same in each run.
+
 ghost use Rattle.std.specs.Prelude.{◌<◌};
 
 /// Numbers that look drawn at random, from a seed.

@@ -1,3 +1,5 @@
+//! A recording read from its text.
+
 use events::Recording;
 use std::alloc::Global;
 use trace_text::{LineFault, read};

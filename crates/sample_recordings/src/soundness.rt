@@ -1,3 +1,5 @@
+//! Whether a recording is sound.
+
 ghost use Rattle.std.specs.Prelude.{IfOk, OnOk, MatchOption, ⊤};
 ghost use Rattle.specification.specs.Faults.{IsSound};
 ghost use Rattle.specification.specs.Visibility.{IsSightOf};

@@ -2,8 +2,8 @@
 
 ghost use Rattle.shared_bound.specs.Limits.{ConstantsAreTheNumbers};
 
-/// A bound has at most 64 seats, and where nothing was offered it answers 4294967295. The other definitions and
-/// contracts cite the constants, so that without this law another number would stay proved.
+/// A bound has at most 64 seats, and where nothing was offered it answers 4294967295. The other definitions
+/// and contracts cite the constants, so that without this law another number would stay proved.
 pub fn constants_are_the_numbers()
     ensures { ConstantsAreTheNumbers }
 {}

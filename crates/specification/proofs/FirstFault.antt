@@ -134,7 +134,7 @@ Decides-right_before h legal at =
     (Decides-each_of (λ f. not (operation_lt f at) || is_right h f) (λ f. ComesBefore f at → IsRight h f) (operation_names h)
     (λ f i. Decides-implies (operation_lt f at) (is_right h f) (Decides-IsTrue (operation_lt f at)) (λ before. Decides-right_listed h legal f i)))
 
--- no name is doubled, and the operation is one, behind right ones
+-- no name is doubled, and the operation is one, after right ones
 record Reached (h : History) (at : Operation) : Type 0 where
   distinct : HasDistinctInserts h
   operation : IsOperation h at

@@ -82,7 +82,7 @@ in_order-from replicas earlier e t seen is = go e.body is t
         let r : (not (seen.replica == e.replica) ≡ true) × (nat_le seen.n (count_of seen.replica earlier) ≡ true) = and_parts _ _ p.1 in
         (ltb-true seen.replica replicas p.0, (Decides-not (seen.replica == e.replica) (Decides-eqb seen.replica e.replica)).0 r.0, leb-true seen.n (count_of seen.replica earlier) r.1)
 
--- each entry behind those before it
+-- each entry after those before it
 abbrev are_in_order : ℕ → List Entry → List Entry → Bool
 are_in_order replicas before [] = true
 are_in_order replicas before (e ∷ es) = is_in_order_by replicas before e.replica e.body && are_in_order replicas (before ++ e ∷ []) es

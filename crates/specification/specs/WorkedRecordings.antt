@@ -154,7 +154,7 @@ RingOfFour =
     × (certificate_text (gives_cycle 4 four_steps four_rows) ≡ text_of (codes "cert 1" ∷ codes "refused 4" ∷ codes "step a b 2.1" ∷ codes "step b c 3.1"
     ∷ codes "step c d 4.2" ∷ codes "step d a 5.2" ∷ codes "layers a / b / c" ∷ codes "layers b / c / d" ∷ codes "layers c / d / a" ∷ codes "layers d / a / b" ∷ []))
 
--- wrong contents: a deleted element, a repeated name, an element hidden behind two receipts
+-- wrong contents: a deleted element, a repeated name, an element hidden after two receipts
 abbrev pub read_shows_deleted : History
 read_shows_deleted = recording 1 (ins 0 a 0 (a ∷ []) ∷ del 0 a [] ∷ read 0 (a ∷ []) ∷ [])
 

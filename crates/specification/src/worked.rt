@@ -1,11 +1,17 @@
 //! Worked recordings, as the contracts of a function with an empty body: what the definitions say of each.
 
-ghost use Rattle.specification.specs.WorkedRecordings.{EmptyRecording, InsertDeleteRead, ThreeWayCycle, OppositePair, RingOfFour, ReadShowsDeleted, RepeatedName, ChainOfReceipts, InsertPastTheEnd, DeletedBeforeInserted, DoubledName, Receipts, LeastOfSeveralOrders};
-ghost use Rattle.specification.specs.WorkedCertificates.{ValidCertificates, WrittenRows, WrongCertificates, ForgedLayers};
+ghost use Rattle.specification.specs.WorkedRecordings.{EmptyRecording, InsertDeleteRead, ThreeWayCycle};
+ghost use Rattle.specification.specs.WorkedRecordings.{OppositePair, RingOfFour, ReadShowsDeleted};
+ghost use Rattle.specification.specs.WorkedRecordings.{RepeatedName, ChainOfReceipts, InsertPastTheEnd};
+ghost use Rattle.specification.specs.WorkedRecordings.{DeletedBeforeInserted, DoubledName, Receipts};
+ghost use Rattle.specification.specs.WorkedRecordings.{LeastOfSeveralOrders};
+ghost use Rattle.specification.specs.WorkedCertificates.{ValidCertificates, WrittenRows, WrongCertificates};
+ghost use Rattle.specification.specs.WorkedCertificates.{ForgedLayers};
 ghost use Rattle.specification.specs.WorkedTexts.{MalformedLines};
 
-/// Small recordings with their verdicts, by the definitions themselves: each is legal, the verdict given is its verdict
-/// (so it is the only one), and its report has the lines given. They show that the definitions mean what their words say.
+/// Small recordings with their verdicts, by the definitions themselves: each is legal, the verdict given is
+/// its verdict (so it is the only one), and its report has the lines given. They show that the definitions
+/// mean what their words say.
 pub fn worked_recordings()
     ensures empty_recording { EmptyRecording }
     ensures insert_delete_read { InsertDeleteRead }
@@ -22,8 +28,8 @@ pub fn worked_recordings()
     ensures least_of_several_orders { LeastOfSeveralOrders }
 {}
 
-/// Certificates for these recordings: which are valid, the first reason against others, the rows that are written for a
-/// refusal, and forged layers that a checker must not believe.
+/// Certificates for these recordings: which are valid, the first reason against others, the rows that are
+/// written for a refusal, and forged layers that a checker must not believe.
 pub fn worked_certificates()
     ensures valid_certificates { ValidCertificates }
     ensures written_rows { WrittenRows }

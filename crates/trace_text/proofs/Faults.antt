@@ -19,7 +19,7 @@ first-of-whole text number lines line format.shape h whole = whole
 first-of-whole text number lines line format.cut h whole = absurd (never-cut lines line h)
 first-of-whole text number lines line (format.refused why) h whole = whole
 
--- a faulty line behind right ones
+-- a faulty line after right ones
 whole-fault : (text : List ℕ) (number : ℕ) (lines : List Line) (line rest behind : List ℕ) (cause : format.Cause) →
     text ≡ text_of lines ++ rest → rest ≡ line ++ 10 ∷ behind → IsOneLine line → number ≡ length lines + 1 → BeginsSpelling lines → IsFaultyLine lines line cause → IsFirstLineFault text number cause
 whole-fault text number lines line rest behind cause whole cut one_line is begins faulty =

@@ -1,4 +1,4 @@
--- Which lines are faulty behind right lines, and what begins a spelling.
+-- Which lines are faulty after right lines, and what begins a spelling.
 use Rattle.std.proofs.Common.{ℕ, ◌≡◌, ◌≢◌, ◌<◌, ◌≤◌, List, [], ◌∷◌, ◌++◌, length, map, refl, sym, ap, ◌∙◌, arith, Some, IfSome}
 use Rattle.std.proofs.lemmas.List.{append-nil, map_push}
 use Rattle.std.proofs.lemmas.List.Elements.{All-nil}

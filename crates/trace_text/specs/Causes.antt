@@ -1,4 +1,4 @@
--- The causes of a line's fault, as the format has them. Want of memory is no fault of the text.
+-- The causes of a line's fault, as the format has them. Out of memory is no fault of the text.
 use Rattle.std.specs.Prelude.{Option, Some, None}
 use Rattle.specification.specs.TraceText as format
 use Rattle.events.specs.declared.refusal.Refusal.{Refusal}

@@ -13,7 +13,7 @@ use Rattle.format_words.specs.Place as place
 abbrev pub IsBehindRightLines : List ℕ → ℕ → Type 0
 IsBehindRightLines text line = place.IsBehindRightLines BeginsSpelling text line
 
--- behind these right lines, reading this line takes memory: it begins a recording, or it is an entry that has names in
+-- after these right lines, reading this line takes memory: it begins a recording, or it is an entry that has names in
 -- its response, or one that is recorded
 abbrev pub TakesMemory : List Line → Line → Type 0
 TakesMemory [] line = ⊥

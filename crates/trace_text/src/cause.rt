@@ -1,3 +1,5 @@
+//! Why a line is no line of a trace.
+
 use events::Refusal;
 use thiserror::Error;
 

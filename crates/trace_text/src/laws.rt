@@ -1,7 +1,8 @@
 //! The laws, each as the contract of a function with an empty body.
 
 ghost use Rattle.specification.specs.TraceText.{EachTextSpellsOrHasFault};
-ghost use Rattle.trace_text.specs.Laws.{TextsSpellOneRecording, SpelledTextsHaveNoFault, TextsHaveOneFirstFault};
+ghost use Rattle.trace_text.specs.Laws.{TextsSpellOneRecording, SpelledTextsHaveNoFault};
+ghost use Rattle.trace_text.specs.Laws.{TextsHaveOneFirstFault};
 
 /// A text spells at most one recording.
 pub fn texts_spell_one_recording()

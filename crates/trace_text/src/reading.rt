@@ -2,7 +2,8 @@
 
 ghost use Rattle.std.specs.Prelude.{◌≡◌, ◌≢◌, ◌+◌, ◌≤◌, ℕ, [], ◌∷◌, ◌++◌, length, IfOk, IfErr, IfSome, OnOk};
 ghost use Rattle.events.specs.History.{IsLegal};
-ghost use Rattle.specification.specs.TraceText.{HEADER, replicas_line, trace_lines, IsFaultyLine, IsMissingLine, BeginsSpelling};
+ghost use Rattle.specification.specs.TraceText.{HEADER, replicas_line, trace_lines, IsFaultyLine};
+ghost use Rattle.specification.specs.TraceText.{IsMissingLine, BeginsSpelling};
 ghost use Rattle.format_words.specs.Words.{words_of};
 ghost use Rattle.format_words.specs.Reading.{Says};
 ghost use Rattle.trace_text.specs.Reading.{replicas_at};
@@ -26,7 +27,7 @@ pub enum Reading {
     Entries(Recording),
 }
 
-/// The number of the line behind a recording's lines.
+/// The number of the line after a recording's lines.
 fn number_behind(recording: &Recording) -> u32
     ensures number { result ≡ length (trace_lines recording.now) + 1 }
     ensures legal { IsLegal recording.now }
@@ -51,8 +52,10 @@ fn replicas_of(line: &[u8]) -> Result<u32, Shape>
 /// The recording without entries that the second line begins.
 fn recording_of(alloc: Global, line: &[u8]) -> Result<Recording, Stop>
     ensures ok { IfOk result (λ h. (h.entries ≡ []) × (line.now ≡ replicas_line h.replicas)) }
-    ensures shape { IfErr result (λ stop. stop ≡ Stop.Shape → (n : ℕ) → 1 ≤ n → n ≤ MOST_REPLICAS → line.now ≢ replicas_line n) }
-    ensures memory { IfErr result (λ stop. stop ≡ Stop.Memory → (n : ℕ) × (1 ≤ n) × (n ≤ MOST_REPLICAS) × (line.now ≡ replicas_line n)) }
+    ensures shape { IfErr result (λ stop. stop ≡ Stop.Shape → (n : ℕ) → 1 ≤ n → n ≤ MOST_REPLICAS
+        → line.now ≢ replicas_line n) }
+    ensures memory { IfErr result (λ stop. stop ≡ Stop.Memory → (n : ℕ) × (1 ≤ n) × (n ≤ MOST_REPLICAS)
+        × (line.now ≡ replicas_line n)) }
 {
     let replicas = replicas_of(line)?;
     match Recording::new(alloc, replicas) {
@@ -63,12 +66,14 @@ fn recording_of(alloc: Global, line: &[u8]) -> Result<Recording, Stop>
     }
 }
 
-/// Records the entry of a line behind the recording's lines.
+/// Records the entry of a line after the recording's lines.
 fn add_entry(alloc: Global, recording: &mut Recording, line: &[u8]) -> Result<(), Cause>
     requires { IsLegal recording.old }
     ensures ok { OnOk result (trace_lines recording.new ≡ trace_lines recording.old ++ line.now ∷ []) }
-    ensures fault { IfErr result (λ cause. IfSome (cause_of cause) (IsFaultyLine (trace_lines recording.old) line.now)) }
-    ensures memory { IfErr result (λ cause. cause ≡ Cause.Refused Refusal.Memory → TakesMemory (trace_lines recording.old) line.now) }
+    ensures fault { IfErr result (λ cause. IfSome (cause_of cause)
+        (IsFaultyLine (trace_lines recording.old) line.now)) }
+    ensures memory { IfErr result (λ cause. cause ≡ Cause.Refused Refusal.Memory
+        → TakesMemory (trace_lines recording.old) line.now) }
 {
     let entry = match entry_of(alloc, line) {
         Ok(entry) => entry,
@@ -102,8 +107,10 @@ impl Reading {
         ensures ok { OnOk result (good self.new ≡ good self.old ++ line.now ∷ []) }
         ensures number { IfErr result (λ fault. fault.line ≡ length (good self.old) + 1) }
         ensures begins { BeginsSpelling (good self.old) }
-        ensures fault { IfErr result (λ fault. IfSome (cause_of fault.cause) (IsFaultyLine (good self.old) line.now)) }
-        ensures memory { IfErr result (λ fault. fault.cause ≡ Cause.Refused Refusal.Memory → TakesMemory (good self.old) line.now) }
+        ensures fault { IfErr result (λ fault. IfSome (cause_of fault.cause)
+            (IsFaultyLine (good self.old) line.now)) }
+        ensures memory { IfErr result (λ fault. fault.cause ≡ Cause.Refused Refusal.Memory
+            → TakesMemory (good self.old) line.now) }
     {
         let number = self.next_line();
         match self.take(alloc, line) {
@@ -119,8 +126,10 @@ impl Reading {
     fn take(&mut self, alloc: Global, line: &[u8]) -> Result<(), Cause>
         requires { IsLegalSoFar self.old }
         ensures ok { OnOk result (good self.new ≡ good self.old ++ line.now ∷ []) }
-        ensures fault { IfErr result (λ cause. IfSome (cause_of cause) (IsFaultyLine (good self.old) line.now)) }
-        ensures memory { IfErr result (λ cause. cause ≡ Cause.Refused Refusal.Memory → TakesMemory (good self.old) line.now) }
+        ensures fault { IfErr result (λ cause. IfSome (cause_of cause)
+            (IsFaultyLine (good self.old) line.now)) }
+        ensures memory { IfErr result (λ cause. cause ≡ Cause.Refused Refusal.Memory
+            → TakesMemory (good self.old) line.now) }
     {
         match self {
             Reading::Start => {

@@ -1,3 +1,5 @@
+//! Tests of traces' texts, both ways.
+
 use super::{Cause, LineFault, read, write};
 use events::{Body, Entry, Memory, Name, Recording, Refusal, Response};
 use std::alloc::{AllocError, Global};
@@ -110,7 +112,8 @@ fn worked_texts_are_read_and_written_again(rt: HostRuntime) -> Result<(), Fail> 
     Ok(())
 }
 
-/// Whether an entry is replica 0's insert of `x` at 7, with a response of two names of which the second is `y`.
+/// Whether an entry is replica 0's insert of `x` at 7, with a response of two names of which the second is
+/// `y`.
 fn is_insert(entry: &Entry) -> bool {
     match &entry.body {
         Body::Ins { name, at, response } => {
@@ -197,7 +200,7 @@ fn fault_behind(alloc: Global, front: &[u8], entry: &str) -> Result<Option<LineF
     fault_in(alloc, &text)
 }
 
-/// The first of the rows whose text, behind a front, has not this fault at this line; none where all have.
+/// The first of the rows whose text, after a front, has not this fault at this line; none where all have.
 fn first_wrong(
     alloc: Global,
     front: &[u8],
@@ -324,7 +327,7 @@ fn a_byte_outside_of_names(rt: HostRuntime) {
     assert_eq!(rt; fault_of(rt.alloc(), bytes.as_slice()), Some(shape));
 }
 
-/// Lines behind three, with the line of the fault and what is wrong with it.
+/// Lines after three, with the line of the fault and what is wrong with it.
 const REFUSED: &[(&str, u32, Cause)] = &[
     ("0 read  : a\n0 read", 4, Cause::Shape),
     ("rubbish", 4, Cause::Cut),
@@ -359,7 +362,7 @@ fn refused_entries(rt: HostRuntime) -> Result<(), Fail> {
     Ok(())
 }
 
-/// A text of two replicas in which one has so many entries, with and without a line behind them.
+/// A text of two replicas in which one has so many entries, with and without a line after them.
 fn entries<'a>(piece: &'a [u8], count: u32, back: &'a [u8]) -> Pieces<'a> {
     Pieces {
         front: b"trace 1\nreplicas 2\n",
@@ -369,7 +372,7 @@ fn entries<'a>(piece: &'a [u8], count: u32, back: &'a [u8]) -> Pieces<'a> {
     }
 }
 
-/// Entries, how many of them there may be, the line behind them, and why one more is refused.
+/// Entries, how many of them there may be, the line after them, and why one more is refused.
 const LIMITS: [(&str, u32, u32, Refusal); 2] = [
     ("1 ins n 0 :\n", 256, 259, Refusal::InsertsFull),
     ("1 read :\n", 4096, 4099, Refusal::EntriesFull),

@@ -8,7 +8,7 @@ use events::{Body, Entry, Memory, Recording};
 use format_words::{push_name, push_names, push_number};
 use std::alloc::Global;
 
-/// Adds what stands behind an entry's replica.
+/// Adds what stands after an entry's replica.
 fn push_body(alloc: Global, text: &mut Vec<u8>, body: &Body) -> Result<(), Memory>
     ensures { OnOk result (text.new.items ≡ text.old.items ++ body_text body.now) }
 {

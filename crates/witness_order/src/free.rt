@@ -1,4 +1,8 @@
-ghost use Rattle.std.specs.Prelude.{◌≡◌, ℕ, ◌+◌, ◌-◌, ◌<◌, ◌≤◌, ◌==◌, ◌⊎◌, ◌↔◌, ◌^◌, ◌∷◌, [], All, Contains, IfNone, IfSome, if◌then◌else◌, length, OnOk, IfOk, slice_index, slice_set, vec_len};
+//! The elements that may come next in the order.
+
+ghost use Rattle.std.specs.Prelude.{◌≡◌, ℕ, ◌+◌, ◌-◌, ◌<◌, ◌≤◌, ◌==◌, ◌⊎◌, ◌↔◌, ◌^◌, ◌∷◌, [], All, Contains};
+ghost use Rattle.std.specs.Prelude.{IfNone, IfSome, if◌then◌else◌, length, OnOk, IfOk, slice_index};
+ghost use Rattle.std.specs.Prelude.{slice_set, vec_len};
 ghost use Rattle.std.specs.Ordering.{nat_cmp};
 ghost use Rattle.std.specs.BTreeSet.{insert_key};
 ghost use Rattle.order_graph.specs.Lists.{lists_of, AreFew};
@@ -10,10 +14,11 @@ use order_graph::{Looked, OrderGraph};
 use std::alloc::Global;
 use std::collections::BTreeSet;
 
-/// The elements that stand right behind no other: those with a count of 0.
+/// The elements that stand right after no other: those with a count of 0.
 pub fn free_elements(alloc: Global, indegrees: &[u64]) -> Result<BTreeSet<u32>, Memory>
     requires { length indegrees.now < 2 ^ 32 }
-    ensures { IfOk result (λ s. (x : ℕ) → Contains s.keys x ↔ ((x < length indegrees.now) × (slice_index indegrees.now x ≡ 0))) }
+    ensures { IfOk result (λ s. (x : ℕ) → Contains s.keys x
+        ↔ ((x < length indegrees.now) × (slice_index indegrees.now x ≡ 0))) }
 {
     let mut free = BTreeSet::new(alloc);
     for (x, indegree) in indegrees.iter().enumerate() {
@@ -38,8 +43,10 @@ fn lower(indegrees: &mut Vec<u64>, free: &mut BTreeSet<u32>, y: u32) -> Result<(
     requires known { y < vec_len indegrees.old }
     requires some { 0 < slice_index indegrees.old.items y }
     ensures size { vec_len indegrees.new ≡ vec_len indegrees.old }
-    ensures lowered { indegrees.new.items ≡ slice_set indegrees.old.items y (slice_index indegrees.old.items y - 1) }
-    ensures free { OnOk result (free.new.keys ≡ (if slice_index indegrees.old.items y == 1 then insert_key nat_cmp free.old.keys y else free.old.keys)) }
+    ensures lowered { indegrees.new.items
+        ≡ slice_set indegrees.old.items y (slice_index indegrees.old.items y - 1) }
+    ensures free { OnOk result (free.new.keys
+        ≡ (if slice_index indegrees.old.items y == 1 then insert_key nat_cmp free.old.keys y else free.old.keys)) }
 {
     let indegree = indegrees[y as usize] - 1;
     indegrees[y as usize] = indegree;
@@ -49,7 +56,7 @@ fn lower(indegrees: &mut Vec<u64>, free: &mut BTreeSet<u32>, y: u32) -> Result<(
     Ok(())
 }
 
-/// Lowers the count of what stands right behind an element, once for each place. What comes to 0 is free.
+/// Lowers the count of what stands right after an element, once for each place. What comes to 0 is free.
 pub fn remove_edges(
     graph: &OrderGraph,
     x: u32,
@@ -59,12 +66,15 @@ pub fn remove_edges(
 ) -> Result<(), Memory>
     requires few { AreFew graph.now }
     requires size { vec_len indegrees.old ≡ length graph.now.elements }
-    requires counted { (y : ℕ) → y < vec_len indegrees.old → edges (lists_of graph.now) x y ≤ slice_index indegrees.old.items y }
+    requires counted { (y : ℕ) → y < vec_len indegrees.old
+        → edges (lists_of graph.now) x y ≤ slice_index indegrees.old.items y }
     ensures size { vec_len indegrees.new ≡ vec_len indegrees.old }
     ensures lowered { OnOk result ((y : ℕ) → y < vec_len indegrees.old
-        → slice_index indegrees.new.items y + edges (lists_of graph.now) x y ≡ slice_index indegrees.old.items y) }
+        → slice_index indegrees.new.items y + edges (lists_of graph.now) x y
+        ≡ slice_index indegrees.old.items y) }
     ensures free { OnOk result ((y : ℕ) → Contains free.new.keys y ↔ (Contains free.old.keys y
-        ⊎ ((y < vec_len indegrees.old) × (0 < slice_index indegrees.old.items y) × (slice_index indegrees.new.items y ≡ 0)))) }
+        ⊎ ((y < vec_len indegrees.old) × (0 < slice_index indegrees.old.items y)
+        × (slice_index indegrees.new.items y ≡ 0)))) }
 {
     for i in 0..graph.spots(x) {
         if let Some(y) = right_behind(graph, x, i, looked) {

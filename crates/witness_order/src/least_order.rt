@@ -1,4 +1,7 @@
-ghost use Rattle.std.specs.Prelude.{◌≡◌, ◌≢◌, ℕ, ◌<◌, All, IfOk, IsTrue, MatchOption, length, vec_len, slice_index, Contains, ◌↔◌};
+//! The least order that every list follows.
+
+ghost use Rattle.std.specs.Prelude.{◌≡◌, ◌≢◌, ℕ, ◌<◌, All, IfOk, IsTrue, MatchOption, length, vec_len};
+ghost use Rattle.std.specs.Prelude.{slice_index, Contains, ◌↔◌};
 ghost use Rattle.std.specs.List.{range_with_len};
 ghost use Rattle.specification.specs.Orders.{IsLeastOrder, HasNoOrder};
 ghost use Rattle.order_graph.specs.Kept.{names_at};
@@ -13,7 +16,7 @@ use std::alloc::Global;
 use std::collections::BTreeSet;
 use witnesses::Order;
 
-/// Takes the least free element, and frees what stood right behind it, as long as one is free.
+/// Takes the least free element, and frees what stood right after it, as long as one is free.
 fn taken_in_turn(
     alloc: Global,
     graph: &OrderGraph,
@@ -24,10 +27,13 @@ fn taken_in_turn(
     requires few { AreFew graph.now }
     requires size { vec_len indegrees ≡ length graph.now.elements }
     requires counted { (y : ℕ) → y < length graph.now.elements
-        → slice_index indegrees.items y ≡ indegree (lists_of graph.now) (range_with_len 0 (length graph.now.elements)) y }
-    requires free { (x : ℕ) → Contains free.keys x ↔ ((x < length graph.now.elements) × (slice_index indegrees.items x ≡ 0)) }
+        → slice_index indegrees.items y ≡ indegree (lists_of graph.now)
+        (range_with_len 0 (length graph.now.elements)) y }
+    requires free { (x : ℕ) → Contains free.keys x
+        ↔ ((x < length graph.now.elements) × (slice_index indegrees.items x ≡ 0)) }
     ensures known { IfOk result (λ v. All (λ x. x < length graph.now.elements) v.items) }
-    ensures all { IfOk result (λ v. vec_len v ≡ length graph.now.elements → IsLeastOrder graph.now (names_at graph.now.elements v.items)) }
+    ensures all { IfOk result (λ v. vec_len v ≡ length graph.now.elements
+        → IsLeastOrder graph.now (names_at graph.now.elements v.items)) }
     ensures some { IfOk result (λ v. vec_len v ≢ length graph.now.elements → HasNoOrder graph.now) }
 {
     let mut taken = Vec::with_capacity(alloc, graph.elements() as usize)?;

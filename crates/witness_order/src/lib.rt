@@ -1,6 +1,6 @@
 //! The least order of a recording's elements that follows every response.
 //!
-//! Each time the least element is taken that stands right behind none that is left. What is taken is a front
+//! Each time the least element is taken that stands right after none that is left. What is taken is a front
 //! of every response, so neighbouring places tell what any two places do.
 #![tactic(auto)]
 

@@ -1,3 +1,5 @@
+//! Tests of least orders.
+
 mod generated;
 mod orders;
 mod plain;

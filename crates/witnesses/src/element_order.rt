@@ -1,3 +1,5 @@
+//! A total order of the elements.
+
 use events::Name;
 use std::marker::Model;
 

@@ -1,3 +1,5 @@
+//! Rows of layers: for an element, what is reached from it in so many steps.
+
 use events::Name;
 use std::marker::Model;
 

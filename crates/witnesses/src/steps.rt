@@ -1,3 +1,5 @@
+//! The steps of a cycle.
+
 use events::{Name, OpName};
 use std::marker::Model;
 
@@ -7,7 +9,7 @@ use std::marker::Model;
 pub struct Step {
     /// The element that is shown first.
     pub from: Name,
-    /// The element that is shown behind it.
+    /// The element that is shown after it.
     pub to: Name,
     /// An operation that shows them so.
     pub shown: OpName,

@@ -1,3 +1,5 @@
+//! Tests of orders, steps and layers.
+
 use super::{Layer, Layers, Order, Row, Step, Steps};
 use events::{Name, OpName};
 use std::alloc::Global;

@@ -1,3 +1,5 @@
+//! Tests of certificates of worked recordings.
+
 ghost use Rattle.std.specs.Prelude.{IfOk};
 ghost use Rattle.specification.specs.CertificateText.{IsSpellable};
 ghost use Rattle.specification.specs.Verdict.{IsVerdict};

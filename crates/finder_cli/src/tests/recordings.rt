@@ -1,3 +1,5 @@
+//! Worked recordings through each engine.
+
 use super::pages::{Page, Script};
 use crate::run::run;
 use crate::status::{RunFault, Status};
@@ -112,7 +114,7 @@ static ROWS: [(&str, &str, Status); 19] = [
         "replicas 1 operations 2 inserts 1\ncontents 0.2\nstrong no\nweak no\n",
         Status::Bad,
     ),
-    // A chain of receipts: the first insert is visible behind two of them.
+    // A chain of receipts: the first insert is visible after two of them.
     (
         "trace 1\nreplicas 3\n0 ins a 0 : a\n1 recv 0 1\n1 ins b 1 : a b\n2 recv 1 1\n2 read : b\n",
         "replicas 3 operations 3 inserts 2\ncontents 2.1\nstrong no\nweak no\n",

@@ -1,3 +1,5 @@
+//! Engines over readers and writers that fail.
+
 use super::pages::{Page, Script};
 use crate::run::run;
 use crate::status::{RunFault, Status};
@@ -63,7 +65,7 @@ fn fails_to_read(trial: &Trial<'_>, reads: u32) -> bool {
     trial.answer == Err(RunFault::Read) && trial.script.reads == reads && trial.page.writes == 0
 }
 
-/// Whether the run failed to write, at its last of so many writes, after the front of the report.
+/// Whether the run failed to write, at its last of so many writes, after the beginning of the report.
 fn fails_to_write(trial: &Trial<'_>, writes: u32, front: &[u8]) -> bool {
     trial.answer == Err(RunFault::Write)
         && trial.page.writes == writes

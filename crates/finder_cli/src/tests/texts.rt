@@ -1,3 +1,5 @@
+//! The texts of faults.
+
 use crate::fault::ProgramFault;
 use crate::status::{RunFault, Status};
 use byte_streams::{ReadFault, WriteFault};

@@ -1,4 +1,7 @@
-ghost use Rattle.std.specs.Prelude.{◌≡◌, ◌⊎◌, ℕ, ◌<◌, ◌≤◌, Some, true, false, length, slice_get, slice_index_or};
+//! The least element that comes next on a shortest way back.
+
+ghost use Rattle.std.specs.Prelude.{◌≡◌, ◌⊎◌, ℕ, ◌<◌, ◌≤◌, Some, true, false, length, slice_get};
+ghost use Rattle.std.specs.Prelude.{slice_index_or};
 ghost use Rattle.order_graph.specs.Lists.{lists_of, row, Stands};
 ghost use Rattle.order_graph.specs.Spots.{spots_of};
 ghost use Rattle.order_graph.specs.declared.spot.Spot.{Spot};
@@ -17,9 +20,11 @@ fn less_at(
     looked: &mut Looked,
 ) -> u32
     requires { length marked.now ≡ length graph.now.elements }
-    ensures least { (y : ℕ) → Stands (lists_of graph.now) list j y → slice_index_or marked.now y false ≡ true → result ≤ y }
+    ensures least { (y : ℕ) → Stands (lists_of graph.now) list j y → slice_index_or marked.now y false ≡ true
+        → result ≤ y }
     ensures falls { result ≤ best }
-    ensures first { (result ≡ best) ⊎ (Stands (lists_of graph.now) list j result × (slice_index_or marked.now result false ≡ true)) }
+    ensures first { (result ≡ best) ⊎ (Stands (lists_of graph.now) list j result
+        × (slice_index_or marked.now result false ≡ true)) }
 {
     match graph.place(list, j, looked) {
         Some(y) if marked[y as usize] && y < best => y,
@@ -27,7 +32,7 @@ fn less_at(
     }
 }
 
-/// The same behind a spot.
+/// The same after a spot.
 fn less_behind(
     graph: &OrderGraph,
     spot: Spot,
@@ -37,9 +42,11 @@ fn less_behind(
 ) -> u32
     requires marked { length marked.now ≡ length graph.now.elements }
     requires inside { spot.place < length (row (lists_of graph.now) spot.list) }
-    ensures least { (y : ℕ) → IsAfter (lists_of graph.now) spot.list spot.place y → slice_index_or marked.now y false ≡ true → result ≤ y }
+    ensures least { (y : ℕ) → IsAfter (lists_of graph.now) spot.list spot.place y
+        → slice_index_or marked.now y false ≡ true → result ≤ y }
     ensures falls { result ≤ best }
-    ensures first { (result ≡ best) ⊎ (IsAfter (lists_of graph.now) spot.list spot.place result × (slice_index_or marked.now result false ≡ true)) }
+    ensures first { (result ≡ best) ⊎ (IsAfter (lists_of graph.now) spot.list spot.place result
+        × (slice_index_or marked.now result false ≡ true)) }
 {
     let end = graph.length(spot.list);
     let mut least = best;
@@ -49,7 +56,7 @@ fn less_behind(
     least
 }
 
-/// The same behind one spot of an element.
+/// The same after one spot of an element.
 fn less_behind_spot(
     graph: &OrderGraph,
     a: u32,
@@ -59,10 +66,12 @@ fn less_behind_spot(
     looked: &mut Looked,
 ) -> u32
     requires { length marked.now ≡ length graph.now.elements }
-    ensures least { (q : Spot) (y : ℕ) → slice_get (spots_of (lists_of graph.now) a) i ≡ Some q → IsAfter (lists_of graph.now) q.list q.place y
+    ensures least { (q : Spot) (y : ℕ) → slice_get (spots_of (lists_of graph.now) a) i ≡ Some q
+        → IsAfter (lists_of graph.now) q.list q.place y
         → slice_index_or marked.now y false ≡ true → result ≤ y }
     ensures falls { result ≤ best }
-    ensures first { (result ≡ best) ⊎ (Before (lists_of graph.now) a result × (slice_index_or marked.now result false ≡ true)) }
+    ensures first { (result ≡ best) ⊎ (Before (lists_of graph.now) a result
+        × (slice_index_or marked.now result false ≡ true)) }
 {
     match graph.spot(a, i) {
         Some(spot) => less_behind(graph, spot, marked, best, looked),
@@ -73,8 +82,10 @@ fn less_behind_spot(
 /// The least marked element before which `a` stands; the number of elements where there is none.
 pub fn least_next(graph: &OrderGraph, a: u32, marked: &[bool], looked: &mut Looked) -> u32
     requires { length marked.now ≡ length graph.now.elements }
-    ensures least { (y : ℕ) → Before (lists_of graph.now) a y → slice_index_or marked.now y false ≡ true → result ≤ y }
-    ensures first { (result ≡ length graph.now.elements) ⊎ (Before (lists_of graph.now) a result × (slice_index_or marked.now result false ≡ true)) }
+    ensures least { (y : ℕ) → Before (lists_of graph.now) a y → slice_index_or marked.now y false ≡ true
+        → result ≤ y }
+    ensures first { (result ≡ length graph.now.elements)
+        ⊎ (Before (lists_of graph.now) a result × (slice_index_or marked.now result false ≡ true)) }
 {
     let mut least = graph.elements();
     for i in 0..graph.spots(a) {

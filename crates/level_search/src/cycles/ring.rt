@@ -1,3 +1,5 @@
+//! The first in dictionary order of the shortest rings.
+
 ghost use Rattle.std.specs.Prelude.{◌≡◌, ℕ, ◌+◌, ◌-◌, ◌<◌, ◌≤◌, IfOk, length, slice_index};
 ghost use Rattle.specification.specs.Responses.{AreProper};
 ghost use Rattle.specification.specs.Search.{IsShortestLength};
@@ -37,7 +39,8 @@ fn first_source(graph: &OrderGraph, k: u32, scratch: &mut Scratch) -> u32
     ensures known { result < length graph.now.elements }
     ensures cycle { HasCycle (lists_of graph.now) result k }
     ensures proper { AreProper graph.now }
-    ensures lowest { (t : ℕ) → t < length graph.now.elements → HasCycle (lists_of graph.now) t k → result ≤ t }
+    ensures lowest { (t : ℕ) → t < length graph.now.elements → HasCycle (lists_of graph.now) t k
+        → result ≤ t }
 {
     for element in 0..graph.elements() {
         let mut source = PlainBound { least: k + 1 };
@@ -54,7 +57,9 @@ fn ring_from(alloc: Global, graph: &OrderGraph, element: u32, k: u32) -> Result<
     requires cycle { HasCycle (lists_of graph.now) element k }
     ensures count { IfOk result (λ v. length v.items ≡ k) }
     ensures first { IfOk result (λ v. slice_index v.items 0 ≡ element) }
-    ensures chosen { IfOk result (λ v. (j : ℕ) → 0 < j → j < k → IsLeastNext (lists_of graph.now) element (k - j) (slice_index v.items (j - 1)) (slice_index v.items j)) }
+    ensures chosen { IfOk result (λ v. (j : ℕ) → 0 < j → j < k
+        → IsLeastNext (lists_of graph.now) element (k - j) (slice_index v.items (j - 1))
+        (slice_index v.items j)) }
 {
     let mut looked = Looked::new();
     let all = tables(alloc, graph, element, k, &mut looked)?;

@@ -1,3 +1,5 @@
+//! For each number of steps, the elements from which so many steps lead back to the start.
+
 ghost use Rattle.std.specs.Prelude.{◌≡◌, ℕ, ◌+◌, ◌<◌, [], IfOk, length, map, slice_index_or, vec_len};
 ghost use Rattle.order_graph.specs.Lists.{lists_of};
 ghost use Rattle.level_search.specs.Graph.{graph_of};
@@ -49,7 +51,8 @@ pub fn tables(
     requires known { z < length graph.now.elements }
     requires some { 0 < k }
     ensures count { IfOk result (λ v. vec_len v ≡ k) }
-    ensures tables { IfOk result (λ v. (n : ℕ) → n < k → IsTableOf (graph_of graph.now) z n (slice_index_or (map (λ t. t.items) v.items) n [])) }
+    ensures tables { IfOk result (λ v. (n : ℕ) → n < k
+        → IsTableOf (graph_of graph.now) z n (slice_index_or (map (λ t. t.items) v.items) n [])) }
 {
     let mut all = Vec::new(alloc);
     all.push(first_table(alloc, graph, z)?)?;

@@ -1,3 +1,5 @@
+//! Where a search reads the bound on what it looks for.
+
 ghost use Rattle.std.specs.Prelude.{◌≡◌, ◌≤◌, ℕ};
 
 /// Answers a bound on the length of cycles, which never rises: as the least length found so far.

@@ -1,3 +1,5 @@
+//! The search by levels for the distances of all elements.
+
 ghost use Rattle.std.specs.Prelude.{◌≡◌, ℕ, ◌<◌, ◌≤◌, ◌⊎◌, None, length, slice_index};
 ghost use Rattle.order_graph.specs.Lists.{lists_of};
 ghost use Rattle.level_search.specs.Distances.{AreDistances, IsAmong};
@@ -17,7 +19,8 @@ fn note_level(queue: &[u32], head: usize, tail: usize, level: u32, depths: &mut 
     requires known { (k : ℕ) → k < tail → slice_index queue.now k < length depths.old }
     ensures falls { (x : ℕ) → slice_index depths.new x ≤ slice_index depths.old x }
     ensures noted { (k : ℕ) → head ≤ k → k < tail → slice_index depths.new (slice_index queue.now k) ≤ level }
-    ensures others { (x : ℕ) → (slice_index depths.new x ≡ slice_index depths.old x) ⊎ ((slice_index depths.new x ≡ level) × IsAmong queue.now head tail x) }
+    ensures others { (x : ℕ) → (slice_index depths.new x ≡ slice_index depths.old x)
+        ⊎ ((slice_index depths.new x ≡ level) × IsAmong queue.now head tail x) }
 {
     for k in head..tail {
         let x = queue[k] as usize;

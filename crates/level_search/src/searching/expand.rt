@@ -1,3 +1,5 @@
+//! One element expanded: all that stands after it, as far as it was not read before.
+
 ghost use Rattle.std.specs.Prelude.{◌≡◌, ℕ, ◌+◌, ◌<◌, ◌≤◌, Some, slice_index, slice_get, sum};
 ghost use Rattle.order_graph.specs.Lists.{lists_of, ticked};
 ghost use Rattle.level_search.specs.Graph.{Before, graph_of};
@@ -21,7 +23,8 @@ pub fn expand_spot(
     requires { IsGood (graph_of graph.now) element state.old }
     ensures good { IsGood (graph_of graph.now) element state.new }
     ensures grows { Grows (Before (lists_of graph.now) x) element state.old state.new }
-    ensures mark { (q : Spot) → slice_get (spots_of (lists_of graph.now) x) i ≡ Some q → slice_index state.new.marks.items q.list ≤ q.place + 1 }
+    ensures mark { (q : Spot) → slice_get (spots_of (lists_of graph.now) x) i ≡ Some q
+        → slice_index state.new.marks.items q.list ≤ q.place + 1 }
     ensures works { Works state.old state.new looked.old looked.new }
     ensures cost { looked.new + sum state.new.marks.items ≤ looked.old + sum state.old.marks.items }
 {

@@ -1,3 +1,5 @@
+//! The search by levels for a shortest cycle.
+
 ghost use Rattle.std.specs.Prelude.{ℕ, ◌<◌, ◌≤◌, length, IfNone};
 ghost use Rattle.order_graph.specs.Lists.{lists_of};
 ghost use Rattle.level_search.specs.Graph.{graph_of};
@@ -25,7 +27,8 @@ pub fn search_in<B: BoundSource>(
     ensures bound { B.last source.new ≤ B.last source.old }
     ensures fits { FitsState (graph_of graph.now) state.new }
     ensures reads { B.reads source.old source.new }
-    ensures none { IfNone result (length graph.now.elements < B.last source.new → (n : ℕ) → ¬ HasCycle (lists_of graph.now) element n) }
+    ensures none { IfNone result (length graph.now.elements < B.last source.new → (n : ℕ)
+        → ¬ HasCycle (lists_of graph.now) element n) }
     ensures looked { LooksWithin graph.now looked.new result }
     ensures expanded { IfNone result (1 < B.last source.new → 0 < looked.new) }
 {

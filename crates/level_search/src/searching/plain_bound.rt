@@ -1,3 +1,5 @@
+//! The bound of a single thread.
+
 ghost use Rattle.std.specs.Prelude.{◌≡◌};
 
 use super::bound_source::BoundSource;

@@ -1,3 +1,5 @@
+//! The state in which a search begins.
+
 ghost use Rattle.std.specs.Prelude.{◌≡◌, ℕ, ◌<◌, false, length, map, replicate, slice_index, sum, vec_len};
 ghost use Rattle.order_graph.specs.Lists.{lists_of};
 ghost use Rattle.specification.specs.Responses.{place_count};

@@ -1,3 +1,5 @@
+//! What a search writes on: marks, what is reached, and the queue.
+
 ghost use Rattle.std.specs.Prelude.{◌≡◌, ℕ, ◌+◌, ◌<◌, ◌≤◌, true, vec_len};
 ghost use Rattle.level_search.specs.Progress.{Grows, IsQueued, IsReached};
 

@@ -1,3 +1,5 @@
+//! The places of one list, read from one place on to its mark.
+
 ghost use Rattle.std.specs.Prelude.{◌≡◌, ℕ, ◌+◌, ◌<◌, ◌≤◌, ◌^◌, false, length, slice_index, sum};
 ghost use Rattle.order_graph.specs.Lists.{lists_of, row, Stands};
 ghost use Rattle.level_search.specs.Graph.{graph_of};
@@ -19,7 +21,8 @@ pub fn read_one(
     requires inside { j < length (row (lists_of graph.now) list) }
     ensures good { IsGood (graph_of graph.now) element state.new }
     ensures grows { Grows (Stands (lists_of graph.now) list j) element state.old state.new }
-    ensures reached { (x : ℕ) → Stands (lists_of graph.now) list j x → IsReached state.new.queue.items state.new.tail x }
+    ensures reached { (x : ℕ) → Stands (lists_of graph.now) list j x
+        → IsReached state.new.queue.items state.new.tail x }
     ensures missed { state.new.found ≡ false → ¬ Stands (lists_of graph.now) list j element }
     ensures marks { state.new.marks ≡ state.old.marks }
     ensures works { Works state.old state.new looked.old looked.new }
@@ -30,7 +33,7 @@ pub fn read_one(
     }
 }
 
-/// Reads a list from behind a place up to its mark.
+/// Reads a list from after a place up to its mark.
 pub fn read(
     graph: &OrderGraph,
     element: u32,
@@ -44,8 +47,10 @@ pub fn read(
     requires below { spot.place < mark }
     ensures good { IsGood (graph_of graph.now) element state.new }
     ensures grows { Grows (IsAfter (lists_of graph.now) spot.list spot.place) element state.old state.new }
-    ensures reached { (j x : ℕ) → spot.place < j → j < mark → Stands (lists_of graph.now) spot.list j x → IsReached state.new.queue.items state.new.tail x }
-    ensures missed { state.new.found ≡ false → (j : ℕ) → spot.place < j → j < mark → ¬ Stands (lists_of graph.now) spot.list j element }
+    ensures reached { (j x : ℕ) → spot.place < j → j < mark → Stands (lists_of graph.now) spot.list j x
+        → IsReached state.new.queue.items state.new.tail x }
+    ensures missed { state.new.found ≡ false → (j : ℕ) → spot.place < j → j < mark
+        → ¬ Stands (lists_of graph.now) spot.list j element }
     ensures marks { state.new.marks ≡ state.old.marks }
     ensures works { Works state.old state.new looked.old looked.new }
     ensures cost { looked.new + (spot.place + 1) ≤ looked.old + mark }
@@ -55,7 +60,7 @@ pub fn read(
     }
 }
 
-/// Expands one spot: reads on to the list's mark, and sets the mark behind the spot.
+/// Expands one spot: reads on to the list's mark, and sets the mark after the spot.
 pub fn sweep(graph: &OrderGraph, element: u32, spot: Spot, state: &mut State, looked: &mut Looked)
     requires good { IsGood (graph_of graph.now) element state.old }
     requires inside { spot.place < length (row (lists_of graph.now) spot.list) }

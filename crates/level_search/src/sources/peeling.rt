@@ -28,9 +28,9 @@ struct Peeling {
     looked: Looked,
 }
 
-/// For each element its rank in an order, but for the elements that are `UNRANKED`. Each list should follow the
-/// order, and so each cycle lead through an element without a rank; no clause says so, and `sources` tests it.
-/// In time linear in the places for each element without a rank.
+/// For each element its rank in an order, but for the elements that are `UNRANKED`. Each list should follow
+/// the order, and so each cycle lead through an element without a rank; no clause says so, and `sources`
+/// tests it. In time linear in the places for each element without a rank.
 pub fn ranks_of(alloc: Global, graph: &OrderGraph) -> Result<Vec<u32>, Memory>
     ensures { IfOk result (λ ranks. length ranks.items ≡ length graph.now.elements) }
 {

@@ -34,7 +34,7 @@ fn numbered(n: u8) -> Result<Name, Fail>
     Ok(Name::new(&[b'e', b'0' + n / 10, b'0' + n % 10])?)
 }
 
-/// The elements that are seen and, behind them, those with the numbers below n.
+/// The elements that are seen and, after them, those with the numbers below n.
 fn shown(alloc: Global, seen: &[&str], n: u8) -> Result<Response, Fail>
     requires { n < 100 }
 {
@@ -48,7 +48,7 @@ fn shown(alloc: Global, seen: &[&str], n: u8) -> Result<Response, Fail>
     Ok(response)
 }
 
-/// Lets replica 0 put many elements behind those that it sees, one after the other.
+/// Lets replica 0 put many elements after those that it sees, one after the other.
 fn put_behind(alloc: Global, recording: &mut Recording, seen: &[&str]) -> Result<(), Fail> {
     for n in 0..MANY {
         let name = numbered(n)?;
@@ -60,7 +60,7 @@ fn put_behind(alloc: Global, recording: &mut Recording, seen: &[&str]) -> Result
     Ok(())
 }
 
-/// A recording with many elements behind those that replica 0 sees at its end.
+/// A recording with many elements after those that replica 0 sees at its end.
 fn recording_behind(alloc: Global, text: &str, seen: &[&str]) -> Result<Recording, Fail> {
     let mut recording = recording(alloc, text)?;
     put_behind(alloc, &mut recording, seen)?;

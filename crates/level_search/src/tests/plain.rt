@@ -80,7 +80,7 @@ pub fn ask_next<A, Q: FnOnce(&Table, &OrderGraph) -> Result<A, Fail>>(
     })
 }
 
-/// The elements behind one of these.
+/// The elements after one of these.
 fn behind(table: &Table, ends: &[bool; MOST_ELEMENTS]) -> [bool; MOST_ELEMENTS] {
     let mut all = [false; MOST_ELEMENTS];
     for (row, is_end) in table.iter().zip(ends) {

@@ -1,3 +1,5 @@
+//! Searches on worked and on random graphs.
+
 use super::graphs::ask_on;
 use super::plain::{Table, ask_next, shortest};
 use super::sources::FallingBound;

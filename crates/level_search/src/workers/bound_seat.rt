@@ -1,3 +1,5 @@
+//! A worker's seat at the shared bound.
+
 ghost use Rattle.std.specs.Prelude.{◌≡◌, ◌<◌, ◌≤◌, min, true, [], ◌∷◌, ◌++◌, IfSome, IfNone, All};
 
 use crate::searching::BoundSource;
@@ -52,7 +54,8 @@ impl<'a> BoundSeat<'a> {
 
     /// The next source that no worker was given, or `None` once all are given out.
     pub fn claim(&mut self) -> Option<u32>
-        ensures some { IfSome result (λ source. (source < self.old.bound.sources) × (self.new ≡ record self.old { claimed = self.old.claimed ++ source ∷ [] })) }
+        ensures some { IfSome result (λ source. (source < self.old.bound.sources)
+            × (self.new ≡ record self.old { claimed = self.old.claimed ++ source ∷ [] })) }
         ensures rising { IfSome result (λ source. All (λ x. x < source) self.old.claimed) }
         ensures none { IfNone result (self.new ≡ record self.old { done = true }) }
     {
@@ -63,7 +66,10 @@ impl<'a> BoundSeat<'a> {
     pub fn offer(&mut self, length: u32)
         requires { length < NO_OFFER }
         ensures low { self.new.low ≤ min self.old.low length }
-        ensures seat { self.new ≡ record self.old { offered = self.old.offered ++ length ∷ []; low = self.new.low } }
+        ensures seat { self.new ≡ record self.old {
+          offered = self.old.offered ++ length ∷ [];
+          low = self.new.low;
+        } }
     {
         self.bound.offer(&mut self.seat, length);
     }

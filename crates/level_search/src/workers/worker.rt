@@ -1,3 +1,5 @@
+//! One worker: it claims sources, searches from them, and offers what it finds.
+
 ghost use Rattle.std.specs.Prelude.{◌≡◌, ℕ, List, ◌<◌, ◌≤◌, true, [], length, IfOk, All};
 ghost use Rattle.order_graph.specs.Lists.{lists_of};
 ghost use Rattle.level_search.specs.ScratchView.{Fits};
@@ -66,8 +68,12 @@ fn search_from<G: Gate>(graph: &OrderGraph, source: u32, gate: &G, worker: &mut 
     ensures fits { Fits worker.new.scratch graph.now }
     ensures searched { NoneShorter (lists_of graph.now) source worker.new.seat.low }
     ensures falls { worker.new.seat.low ≤ worker.old.seat.low }
-    ensures seat { worker.new.seat ≡ record worker.old.seat { offered = worker.new.seat.offered; low = worker.new.seat.low } }
-    ensures offers { All (IsLength (lists_of graph.now)) worker.old.seat.offered → All (IsLength (lists_of graph.now)) worker.new.seat.offered }
+    ensures seat { worker.new.seat ≡ record worker.old.seat {
+      offered = worker.new.seat.offered;
+      low = worker.new.seat.low;
+    } }
+    ensures offers { All (IsLength (lists_of graph.now)) worker.old.seat.offered
+        → All (IsLength (lists_of graph.now)) worker.new.seat.offered }
 {
     gate.before(worker.number, source);
     if let Some(length) = search_by_number(graph, source, &mut worker.scratch, &mut worker.seat) {

@@ -1,3 +1,5 @@
+//! The order graph of random recordings, beside a plain reading of their responses.
+
 use super::graphs::{Kept, ask};
 use super::plain::{agrees, tells_the_same};
 use sample_recordings::{Random, generated};

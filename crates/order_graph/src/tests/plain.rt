@@ -87,7 +87,7 @@ fn has_at(graph: &OrderGraph, list: u32, place: u32, name: Option<Name>) -> bool
     }
 }
 
-/// Whether a list is a response, with nothing behind its end.
+/// Whether a list is a response, with nothing after its end.
 fn is_list(graph: &OrderGraph, list: u32, names: &Response) -> bool {
     let length = graph.length(list);
     for j in 0..=length {
@@ -190,8 +190,8 @@ pub fn agrees(recording: &Recording, graph: &OrderGraph) -> bool {
         && has_same_orders(recording, graph)
 }
 
-/// Whether a graph has the elements that the plain programs find, and shows them in the same orders by the same
-/// least operations.
+/// Whether a graph has the elements that the plain programs find, and shows them in the same orders by the
+/// same least operations.
 pub fn tells_the_same(recording: &Recording, graph: &OrderGraph) -> bool {
     for x in 0..graph.elements() {
         if !is_element(recording, graph, x) {

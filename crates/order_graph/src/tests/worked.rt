@@ -1,3 +1,5 @@
+//! The order graphs of worked recordings.
+
 use super::graphs::{Kept, ask};
 use super::plain::{agrees, tells_the_same};
 use crate::{Looked, OrderGraph, Spot};
@@ -185,8 +187,8 @@ fn an_element_that_no_response_shows(rt: HostRuntime) -> Result<(), Fail> {
     Ok(())
 }
 
-/// Whether six responses of the ring are kept: not that of c alone behind that of b and c, and not that of
-/// d alone behind that of c and d.
+/// Whether six responses of the ring are kept: not that of c alone after that of b and c, and not that of
+/// d alone after that of c and d.
 fn has_six_lists(ring: &OrderGraph) -> bool {
     ring.lists() == 6
         && is_operation(ring.shown_by(3), 3, 1)

@@ -70,8 +70,8 @@ fn is_order(order: &Order, names: [&str; 3]) -> bool {
     order.len() == 3
 }
 
-/// What the next turn finds: three steps where it refuses, and none where it accepts, with the order that both have
-/// seen. Nothing where it finds something else.
+/// What the next turn finds: three steps where it refuses, and none where it accepts, with the order that
+/// both have seen. Nothing where it finds something else.
 fn next_steps<H: Threads + Wait + Sync>(
     rt: &H,
     alloc: Global,

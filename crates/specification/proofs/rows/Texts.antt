@@ -57,7 +57,7 @@ cut_entry = record {
 some_byte : (e : Entry) → [] ≢ entry_line e
 some_byte e is = go e.body is
   where
-    -- behind a first part that has a byte
+    -- after a first part that has a byte
     behind : (xs ys : List ℕ) → 1 ≤ length ys → [] ≡ xs ++ ys → ⊥
     behind xs ys some e = omega (arith, ap length e, length-append xs ys)
 

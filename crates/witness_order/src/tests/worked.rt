@@ -1,3 +1,5 @@
+//! The least orders of worked recordings.
+
 use super::orders::least_order;
 use super::plain::first_order;
 use crate::Order;

@@ -6,16 +6,16 @@ use Rattle.cert_check.proofs.Implied.{implied_texts}
 use Rattle.cert_check.proofs.checking.check.Goals as goal
 use Rattle.cert_check.proofs.checking.check.Goals.{in-Memory, in_default}
 
-pub returns-else-is_want_of_memory-clause-answer : goal.returns-else-is_want_of_memory-clause-answer
-returns-else-is_want_of_memory-clause-answer g c = λ h spells. false≢true (c.if-is_want_of_memory.ensures.1 (c.in-Err.ensures.spelled h spells))
+pub returns-else-is_out_of_memory-clause-answer : goal.returns-else-is_out_of_memory-clause-answer
+returns-else-is_out_of_memory-clause-answer g c = λ h spells. false≢true (c.if-is_out_of_memory.ensures.1 (c.in-Err.ensures.spelled h spells))
 
 pub returns-clause-implies : goal.returns-clause-implies
 returns-clause-implies g c =
     implied_texts c.args.trace.now c.args.cert.now c.in-Ok.recording (certificate_of c.in-Ok-read.certificate) c.judge.result
     c.in-Ok.ensures.ok.0 c.in-Ok-read.ensures.ok.0 c.in-Ok.ensures.spelled c.in-Ok-read.ensures.spelled c.judge.ensures
 
-pub returns-then-is_want_of_memory-clause-memory : goal.returns-then-is_want_of_memory-clause-memory
-returns-then-is_want_of_memory-clause-memory g c = inl (c.in-Err.fault.line, c.in-Err.ensures.memory (c.if-is_want_of_memory.ensures.0 refl))
+pub returns-then-is_out_of_memory-clause-memory : goal.returns-then-is_out_of_memory-clause-memory
+returns-then-is_out_of_memory-clause-memory g c = inl (c.in-Err.fault.line, c.in-Err.ensures.memory (c.if-is_out_of_memory.ensures.0 refl))
 
 pub returns-in-Err-read-clause-memory : goal.returns-in-Err-read-clause-memory
 returns-in-Err-read-clause-memory g c = elim c.match-fault.branch [

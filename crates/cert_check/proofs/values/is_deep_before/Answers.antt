@@ -1,4 +1,4 @@
--- One place more: where it is the source, all before it is deep; where it is not deep, what follows is behind it.
+-- One place more: where it is the source, all before it is deep; where it is not deep, what follows is after it.
 use Rattle.std.proofs.Common.{◌≡◌, ◌≢◌, ◌⊎◌, inl, inr, ℕ, ◌<◌, ◌+◌, Bool, true, List, length, take, drop, suc, get_or, sym, subst, ap, ◌∙◌, ◌++◌, ◌∷◌, []}
 use Rattle.std.proofs.lemmas.List.{take_more}
 use Rattle.std.proofs.lemmas.Option.{slice_get-get_or}

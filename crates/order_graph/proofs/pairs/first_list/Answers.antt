@@ -1,4 +1,4 @@
--- The first spot of a behind which b stands is in the least list that has a before b, since spots stand in order of lists.
+-- The first spot of a after which b stands is in the least list that has a before b, since spots stand in order of lists.
 use Rattle.std.proofs.Common.{◌≡◌, ℕ, ◌<◌, inl, inr, Some, List, length, get_or, slice_get, subst, refl, sym, ap, ◌∙◌, arith}
 use Rattle.std.proofs.lemmas.Bool.{cases_eq, cases_lt}
 use Rattle.std.proofs.lemmas.Option.{same_Some, slice_get_within, slice_get-get_or}

@@ -1,4 +1,4 @@
--- What stands in the rest of the row stands in the row behind the place.
+-- What stands in the rest of the row stands in the row after the place.
 use Rattle.std.proofs.Common.{◌≡◌, ℕ, ◌+◌, ◌-◌, ◌<◌, Bool, true, false, eqb, List, get_or, drop, length, sym, ◌∙◌, ap, subst, arith, length-drop, true≢false}
 use Rattle.std.specs.List.{IsAnyAnswer}
 use Rattle.std.proofs.lemmas.Bool.{eqb-true, eq-eqb}

@@ -1,4 +1,4 @@
--- The word, the operation and the two lines behind it, joined to the right.
+-- The word, the operation and the two lines after it, joined to the right.
 use Rattle.std.proofs.Common.{List, ℕ, ◌++◌, ap, ◌∙◌, append_assoc}
 use Rattle.std.specs.Prelude.{codes}
 use Rattle.specification.specs.Lines.{operation_text}
