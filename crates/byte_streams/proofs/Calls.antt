@@ -1,7 +1,7 @@
 -- The calls that were made so far, one more at a time.
 use Rattle.std.proofs.Common.{◌≡◌, ℕ, ◌+◌, ◌++◌, ◌∷◌, ◌∙◌, [], List, Option, None, Some, unwrap_or, is_some, Bool, true≢false, IsSome, zero, suc, ◌<◌, ◌-◌, true, false, drop, length, take, refl, sym, ap, subst, arith, append_assoc, append-nil, length-append}
-use Rattle.byte_streams.specs.Streams.{SourceState, SinkState, ReadCall, WriteCall, Makes, HaveCome, HaveTaken, EndInFailure, all_that_came, all_that_was_taken, bytes_of_read, bytes_of_write, at_least_one}
-use Rattle.byte_streams.specs.Wholes.{TakenInPart}
+use Rattle.byte_streams.specs.Streams.{SourceState, SinkState, ReadCall, WriteCall, Makes, HaveCome, HaveTaken, EndInFailure, all_that_came, all_that_was_taken, bytes_of_read, bytes_of_write, at_least_one, some_bytes}
+use Rattle.byte_streams.specs.Wholes.{CameAs, TakenInPart}
 use Rattle.byte_streams.proofs.Fronts.{front-joined}
 
 -- the reads of a source that all gave something, and gave the text
@@ -37,10 +37,14 @@ came-more (first ∷ calls) call =
     ap (λ l. bytes_of_read first.came ++ l) (came-more calls call)
     ∙ sym (append_assoc (bytes_of_read first.came) (all_that_came calls) (bytes_of_read call.came))
 
-have-more : (calls : List ReadCall) (call : ReadCall) → HaveCome calls → IsSome call.came
+have-more : (calls : List ReadCall) (call : ReadCall) → HaveCome calls → IsSome (some_bytes call.came)
     → HaveCome (calls ++ (call ∷ []))
 have-more [] call all one = (one, tt)
 have-more (first ∷ calls) call all one = (all.0, have-more calls call all.1 one)
+
+some-came : (bytes : List ℕ) → 0 < length bytes → IsSome (some_bytes (Some bytes))
+some-came [] some = absurd (omega arith)
+some-came (byte ∷ bytes) some = refl
 
 taken-more : (calls : List WriteCall) (call : WriteCall)
     → all_that_was_taken (calls ++ (call ∷
@@ -67,19 +71,33 @@ nothing-read state = record {
 }
 
 -- one more
-pub read-more : (old now new : SourceState) (text bytes : List ℕ) (asked : ℕ) → ReadSoFar old now text
+pub read-more : (old now new : SourceState) (text bytes : List ℕ) (asked : ℕ) → ReadSoFar old now text → 0 < length bytes
     → (new.reads ≡ now.reads + 1)
     × Makes now.calls new.calls (record { asked = asked; came = Some bytes } ∷ [])
     → ReadSoFar old new (text ++ bytes)
-read-more old now new text bytes asked before one =
+read-more old now new text bytes asked before some one =
     let call : ReadCall = record { asked = asked; came = Some bytes } in
     record {
       calls = before.calls ++ (call ∷ []);
       made = Makes-trans _ _ _ before.calls (call ∷ []) before.made one.1;
       count = omega (arith, before.count, one.0, length-append before.calls (call ∷ []));
-      came = have-more before.calls call before.came refl;
+      came = have-more before.calls call before.came (some-came bytes some);
       gave = came-more before.calls call ∙ ap (λ l. l ++ bytes) before.gave;
     }
+
+-- one more, which came to the end
+pub read-ended : (old now new : SourceState) (text bytes : List ℕ) (asked : ℕ) → ReadSoFar old now text → bytes ≡ []
+    → (new.reads ≡ now.reads + 1)
+    × Makes now.calls new.calls (record { asked = asked; came = Some bytes } ∷ [])
+    → (calls : List ReadCall) × Makes old.calls new.calls calls × (new.reads ≡ old.reads + length calls)
+    × CameAs text calls
+read-ended old now new text bytes asked before none one =
+    let call : ReadCall = record { asked = asked; came = Some bytes } in (
+      before.calls ++ (call ∷ []),
+      Makes-trans _ _ _ before.calls (call ∷ []) before.made one.1,
+      omega (arith, before.count, one.0, length-append before.calls (call ∷ [])),
+      (before.calls, asked, ap (λ l. before.calls ++ (record { asked = asked; came = Some l } ∷ [])) none, before.came, before.gave),
+    )
 
 -- one more, which failed
 pub read-failed : (old now new : SourceState) (text : List ℕ) (asked : ℕ) → ReadSoFar old now text

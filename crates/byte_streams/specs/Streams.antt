@@ -45,12 +45,18 @@ abbrev pub all_that_came : List ReadCall → List ℕ
 all_that_came [] = []
 all_that_came (call ∷ calls) = bytes_of_read call.came ++ all_that_came calls
 
--- no read failed
+-- the bytes that are seen to come: a read that gives none is the end
+abbrev pub some_bytes : Option (List ℕ) → Option (List ℕ)
+some_bytes None = None
+some_bytes (Some []) = None
+some_bytes (Some (byte ∷ bytes)) = Some (byte ∷ bytes)
+
+-- each read gave a byte at least
 abbrev pub HaveCome : List ReadCall → Type 0
 HaveCome [] = Unit {0}
-HaveCome (call ∷ calls) = IsSome call.came × HaveCome calls
+HaveCome (call ∷ calls) = IsSome (some_bytes call.came) × HaveCome calls
 
--- the last read failed, and no other
+-- the last read failed, and each before it gave a byte at least
 abbrev pub EndInFailure : List ReadCall → Type 0
 EndInFailure calls = (before : List ReadCall) × (asked : ℕ)
     × (calls ≡ before ++ (record { asked = asked; came = None } ∷ [])) × HaveCome before

@@ -43,6 +43,8 @@ fn faults_of_a_run(rt: HostRuntime) {
         (RunFault::Workers, "workers"),
         (RunFault::Read, "cannot read"),
         (RunFault::Trace(NOT_YET), "line 4: not yet, have 1"),
+        (RunFault::Thread, "thread"),
+        (RunFault::Stalled, "stalled"),
         (RunFault::Write, "cannot write"),
         (RunFault::Memory, "memory"),
     ];
@@ -89,6 +91,13 @@ fn faults_of_the_program(rt: HostRuntime) {
     );
     assert!(rt; ends_with(alloc, ProgramFault::Write, "cannot write", 2));
     assert!(rt; ends_with(alloc, ProgramFault::Memory, "memory", 3));
+}
+
+#[test]
+fn faults_of_threads(rt: HostRuntime) {
+    let alloc = rt.alloc();
+    assert!(rt; ends_with(alloc, ProgramFault::Thread, "thread", 2));
+    assert!(rt; ends_with(alloc, ProgramFault::Stalled, "stalled", 2));
 }
 
 #[test]

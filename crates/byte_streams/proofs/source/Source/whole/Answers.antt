@@ -1,23 +1,18 @@
-use Rattle.std.proofs.Common.{◌≡◌, ◌∙◌, ◌<◌, ◌++◌, ℕ, ap, append-nil, arith, inl, inr, length, length-append, length-take, rules, subst, sym, take, unwrap_or}
+use Rattle.std.proofs.Common.{◌≡◌, ◌∙◌, ◌<◌, [], ◌++◌, ℕ, ap, arith, inl, inr, length, length-append, length-take, rules, subst, sym, take, unwrap_or}
 use Rattle.std.proofs.KnownBytes.{Consumes-trans}
 use Rattle.std.proofs.Math.Nat.{eq-or-lt_of_le}
 use Rattle.byte_streams.specs.Streams.{IsClosed}
 use Rattle.std.specs.Io.KnownBytes.{Consumes}
-use Rattle.byte_streams.proofs.Calls.{ReadSoFar, is-false, read-more, read-failed, some-is-none}
+use Rattle.byte_streams.proofs.Calls.{ReadSoFar, is-false, read-more, read-ended, read-failed, some-is-none}
 use Rattle.byte_streams.proofs.source.Source.whole.Goals as goal
 
 pub returns-then-n-eq0-clause-made : goal.returns-then-n-eq0-clause-made
 returns-then-n-eq0-clause-made g c = λ fresh.
     let read = c.in-Some.ensures in
     let some : 0 < length c.read.new.buffer = search rules in
-    let came = take c.in-Some.n c.read.new.buffer in
-    let none : c.loop-n.all.items ++ came ≡ c.loop-n.all.items =
-    ap (λ n. c.loop-n.all.items ++ take n c.read.new.buffer) c.if-n-eq0.true
-    ∙ append-nil c.loop-n.all.items in
-    let all : ReadSoFar c.args.self.now c.read.new.self (c.loop-n.all.items ++ came) =
-    read-more c.args.self.now c.loop-n.self c.read.new.self c.loop-n.all.items came _
-    (c.loop-n.invariant.reads fresh) (read.asked (read.went.3 (c.loop-n.invariant.still fresh).1) some) in
-    (all.calls, all.made, all.count, (all.came, all.gave ∙ none))
+    let none : take c.in-Some.n c.read.new.buffer ≡ [] = ap (λ n. take n c.read.new.buffer) c.if-n-eq0.true in
+    read-ended c.args.self.now c.loop-n.self c.read.new.self c.loop-n.all.items (take c.in-Some.n c.read.new.buffer) _
+    (c.loop-n.invariant.reads fresh) none (read.asked (read.went.3 (c.loop-n.invariant.still fresh).1) some)
 
 pub returns-then-is_err-clause-memory : goal.returns-then-is_err-clause-memory
 returns-then-is_err-clause-memory g c = λ _.
@@ -57,7 +52,7 @@ returns-then-is_err-clause-made g c = λ fresh.
     ) in
     let all : ReadSoFar c.args.self.now c.read.new.self (c.loop-n.all.items ++ came) =
     read-more c.args.self.now c.loop-n.self c.read.new.self c.loop-n.all.items came _
-    (c.loop-n.invariant.reads fresh) (read.asked (read.went.3 (c.loop-n.invariant.still fresh).1) some) in
+    (c.loop-n.invariant.reads fresh) (omega (arith, c.if-n-eq0.false, read.within, length-take {A = ℕ})) (read.asked (read.went.3 (c.loop-n.invariant.still fresh).1) some) in
     (all.calls, all.made, all.count, (all.came, subst (λ l. 0 < length l) (sym all.gave) more))
 
 pub loop-n-preserved : goal.loop-n-preserved
@@ -84,8 +79,8 @@ loop-n-preserved g c =
       );
       reads = λ fresh. subst (ReadSoFar c.args.self.now c.read.new.self) (sym grown)
           (read-more c.args.self.now c.loop-n.self c.read.new.self c.loop-n.all.items came _
-          (c.loop-n.invariant.reads fresh) (read.asked (read.went.3
-          (c.loop-n.invariant.still fresh).1) some));
+          (c.loop-n.invariant.reads fresh) (omega (arith, c.if-n-eq0.false, read.within, length-take {A = ℕ}))
+          (read.asked (read.went.3 (c.loop-n.invariant.still fresh).1) some));
     }
 
 pub returns-clause-made : goal.returns-clause-made
