@@ -1,5 +1,5 @@
 //! Passes replay a recording, and stop where an entry is refused.
-ghost use Rattle.std.specs.Prelude.{◌≡◌, ◌<◌, IfSome};
+ghost use Rattle.std.specs.Prelude.{◌≡◌, ◌<◌, ◌≤◌, IfSome};
 
 use super::{copied, opened, recorded, three_way};
 use crate::{Pass, ReplayFault, Session};
@@ -79,7 +79,8 @@ fn replayed<R: Wait>(
     recording: &Recording,
     tries: u32,
 ) -> Result<u32, ReplayFault>
-    requires { pass.old.session ≡ session.now }
+    requires session { pass.old.session ≡ session.now }
+    requires tries { 1 ≤ tries }
     ensures { pass.new.session ≡ session.now }
 {
     match session.replay(rt, alloc, pass, recording, tries) {
@@ -112,7 +113,7 @@ fn stalled_and_resumed(rt: HostRuntime) {
     let stalled = replayed(&rt, alloc, &session, &mut first, &recording, 3);
     assert!(rt; stalled == Err(ReplayFault::Stalled { at: 2 }) && session.count(&mut first) == 2);
     assert!(rt; replayed(&rt, alloc, &session, &mut second, &recording, 3) == Ok(2));
-    assert!(rt; replayed(&rt, alloc, &session, &mut third, &recording, 0) == Ok(2));
+    assert!(rt; replayed(&rt, alloc, &session, &mut third, &recording, 1) == Ok(2));
     assert!(rt; record_at(&rt, alloc, &session, &mut first, &recording, 2) == Ok(3));
     assert!(rt; resumed(&rt, alloc, &session, &mut first, &recording, 3) == Ok(5));
     assert!(rt; session.count(&mut second) == 9);
