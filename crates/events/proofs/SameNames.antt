@@ -2,27 +2,12 @@
 use Rattle.std.proofs.Common.{◌≡◌, ℕ, zero, suc, ◌+◌, ◌-◌, ◌<◌, ◌≤◌, List, [], ◌∷◌, length, take, drop, slice_get, slice_index, slice_range, Some, None, Option, refl, sym, ap, ◌∙◌, subst, arith, length-drop, length-take, min}
 use Rattle.std.proofs.Math.Seq.{take-add}
 use native.Mathlib.Decide.{ℕ_discrete}
-use Rattle.std.proofs.lemmas.List.{drop-take}
+use Rattle.std.proofs.lemmas.List.{drop-take, drop-drop, take-take}
 use Rattle.std.proofs.lemmas.Option.{slice_get_within, slice_get-get_or, get_or_from_slice_get}
 use Rattle.std.specs.Prelude.{get_or}
 use Rattle.events.specs.Names.{NameBytes}
 use Rattle.events.specs.Packed.{pieces, start_at, Rise}
 use Rattle.events.specs.SameNames.{HaveSameEnds}
-
-take-less : (n c : ℕ) (xs : List ℕ) → n ≤ c → take n (take c xs) ≡ take n xs
-take-less zero c xs h = refl
-take-less (suc n) zero xs h = absurd (omega (arith, h))
-take-less (suc n) (suc c) [] h = refl
-take-less (suc n) (suc c) (x ∷ xs) h = ap (λ l. x ∷ l) (take-less n c xs (omega (arith, h)))
-
-drop-none : {X : Type 0} (n : ℕ) → drop {A = X} n [] ≡ []
-drop-none zero = refl
-drop-none (suc n) = refl
-
-drop-more : {X : Type 0} (s d : ℕ) (xs : List X) → drop d (drop s xs) ≡ drop (s + d) xs
-drop-more zero d xs = let same : d ≡ 0 + d = omega arith in ap (λ n. drop n xs) same
-drop-more (suc s) d [] = drop-none d ∙ sym (drop-none (suc s + d))
-drop-more (suc s) d (x ∷ xs) = let same : suc (s + d) ≡ suc s + d = omega arith in drop-more s d xs ∙ ap (λ n. drop n (x ∷ xs)) same
 
 take-get : {X : Type 0} (n k : ℕ) (xs : List X) → k < n → slice_get (take n xs) k ≡ slice_get xs k
 take-get zero k xs h = absurd (omega (arith, h))
@@ -67,7 +52,7 @@ have-more ends from other other_from last n h a b same low = record {
 module _ (a b : List ℕ) (from other_from c : ℕ) (bytes : take c (drop from a) ≡ take c (drop other_from b)) where
   same-part : (d m : ℕ) → d + m ≤ c → take m (drop d (drop from a)) ≡ take m (drop d (drop other_from b))
   same-part d m h =
-      sym (drop-take d m (drop from a)) ∙ ap (drop d) (sym (take-less (d + m) c (drop from a) h) ∙ ap (take (d + m)) bytes ∙ take-less (d + m) c (drop other_from b) h)
+      sym (drop-take d m (drop from a)) ∙ ap (drop d) (sym (take-take (d + m) c (drop from a) h) ∙ ap (take (d + m)) bytes ∙ take-take (d + m) c (drop other_from b) h)
       ∙ drop-take d m (drop other_from b)
 
   same-range : (x y e f : ℕ) → from ≤ x → x + other_from ≡ y + from → x ≤ e → e + other_from ≡ f + from → e ≤ from + c → slice_range a x e ≡ slice_range b y f
@@ -77,8 +62,8 @@ module _ (a b : List ℕ) (from other_from c : ℕ) (bytes : take c (drop from a
       let begin : from + d ≡ x = omega (arith, low) in
       let other_begin : other_from + d ≡ y = omega (arith, low, begins) in
       let size : f - y ≡ m = omega (arith, begins, ends, rises) in
-      let there : take m (drop x a) ≡ take m (drop d (drop from a)) = ap (take m) (sym (drop-more from d a ∙ ap (λ n. drop n a) begin)) in
-      let other_there : take m (drop d (drop other_from b)) ≡ take m (drop y b) = ap (take m) (drop-more other_from d b ∙ ap (λ n. drop n b) other_begin) in
+      let there : take m (drop x a) ≡ take m (drop d (drop from a)) = ap (take m) (sym (drop-drop d from a ∙ ap (λ n. drop n a) begin)) in
+      let other_there : take m (drop d (drop other_from b)) ≡ take m (drop y b) = ap (take m) (drop-drop d other_from b ∙ ap (λ n. drop n b) other_begin) in
       there ∙ same-part d m (omega (arith, low, rises, within)) ∙ other_there ∙ sym (ap (λ n. take n (drop y b)) size)
 
   pub same-pieces : (n x y : ℕ) (ends other : List ℕ) (total : ℕ) → from ≤ x → x + other_from ≡ y + from → Rise x ends total

@@ -1,7 +1,7 @@
 -- One operation more, kept or covered by one that is kept; and one place more of a response that is looked for in another.
-use Rattle.std.proofs.Common.{◌≡◌, ℕ, zero, suc, ◌+◌, ◌<◌, ◌≤◌, ◌⊎◌, inl, inr, Some, List, [], ◌∷◌, ◌++◌, length, drop, refl, sym, ap, ◌∙◌, subst, arith}
+use Rattle.std.proofs.Common.{◌≡◌, ℕ, zero, suc, ◌+◌, ◌<◌, ◌≤◌, ◌⊎◌, inl, inr, Some, List, [], ◌∷◌, ◌++◌, length, take, drop, refl, sym, ap, ◌∙◌, subst, arith}
 use Rattle.std.specs.Prelude.{slice_get, AllPairs, Contains}
-use Rattle.std.proofs.lemmas.List.{drop_all}
+use Rattle.std.proofs.lemmas.List.{drop_all, drop-drop}
 use Rattle.std.proofs.lemmas.Option.{same_Some, none-some}
 use Rattle.events.specs.Names.{NameBytes}
 use Rattle.events.specs.Operation.{Operation, ComesBefore}
@@ -21,29 +21,31 @@ subsequence-later : (b : NameBytes) (w order : List NameBytes) → IsSubsequence
 subsequence-later b [] order s = tt
 subsequence-later b (a ∷ w) order s = inr s
 
-pub drop-place : (w : List NameBytes) (i : ℕ) (a : NameBytes) → slice_get w i ≡ Some a → drop i w ≡ a ∷ drop (suc i) w
-drop-place [] i a e = absurd (none-some a e)
-drop-place (b ∷ w) zero a e = ap (λ z. z ∷ w) (same_Some b a e)
-drop-place (b ∷ w) (suc i) a e = drop-place w i a e
+drop-later : (w : List NameBytes) (i : ℕ) (s : List NameBytes) → IsSubsequence s (drop (suc i) w) → IsSubsequence s (drop i w)
+drop-later [] zero s h = h
+drop-later [] (suc i) s h = h
+drop-later (b ∷ w) zero s h = subsequence-later b s w h
+drop-later (b ∷ w) (suc i) s h = drop-later w i s h
 
-drop-later : (w : List NameBytes) (i : ℕ) (s : List NameBytes) → i < length w → IsSubsequence s (drop (suc i) w) → IsSubsequence s (drop i w)
-drop-later [] i s lt h = absurd (omega arith)
-drop-later (b ∷ w) zero s lt h = subsequence-later b s w h
-drop-later (b ∷ w) (suc i) s lt h = drop-later w i s (omega arith) h
+-- what is left of one response is in what is left of the other where both go on alike
+alike-first : (n : ℕ) (w order : List NameBytes) → take n w ≡ take n order → IsSubsequence (drop n w) (drop n order) → IsSubsequence w order
+alike-first zero w order e h = h
+alike-first (suc n) [] order e h = tt
+alike-first (suc n) (a ∷ w) [] e h = absurd cc
+alike-first (suc n) (a ∷ w) (b ∷ order) e h =
+    let first : a ≡ b = cc in
+    let rest : take n w ≡ take n order = cc in
+    inl (first, alike-first n w order rest h)
 
--- what is left of one response is in what is left of the other: one place on, or at the same name
-pub passes : (w order : List NameBytes) (i j : ℕ) → j < length order → IsSubsequence (drop i w) (drop (j + 1) order) → IsSubsequence (drop i w) (drop j order)
-passes w order i j lt h = drop-later order j (drop i w) lt (subst (λ n. IsSubsequence (drop i w) (drop n order)) (let e : j + 1 ≡ suc j = omega arith in e) h)
+pub goes_on_alike : (w order : List NameBytes) (i j n : ℕ) → take n (drop i w) ≡ take n (drop j order) → IsSubsequence (drop (i + n) w) (drop (j + n) order) → IsSubsequence (drop i w) (drop j order)
+goes_on_alike w order i j n e h =
+    alike-first n (drop i w) (drop j order) e (subst (λ l. IsSubsequence l (drop n (drop j order))) (sym (drop-drop n i w)) (subst (λ l. IsSubsequence (drop (i + n) w) l) (sym (drop-drop n j order)) h))
 
-pub meets : (w order : List NameBytes) (i j : ℕ) (a : NameBytes) → slice_get w i ≡ Some a → slice_get order j ≡ Some a
-    → IsSubsequence (drop (i + 1) w) (drop (j + 1) order) → IsSubsequence (drop i w) (drop j order)
-meets w order i j a e f h =
-    let one : i + 1 ≡ suc i = omega arith in
-    let two : j + 1 ≡ suc j = omega arith in
-    let rest : IsSubsequence (drop (suc i) w) (drop (suc j) order) =
-    subst (λ n. IsSubsequence (drop n w) (drop (suc j) order)) one (subst (λ n. IsSubsequence (drop (i + 1) w) (drop n order)) two h) in
-    subst (λ l. IsSubsequence l (drop j order)) (sym (drop-place w i a e))
-    (subst (λ l. IsSubsequence (a ∷ drop (suc i) w) l) (sym (drop-place order j a f)) (inl (refl, rest)))
+-- and where one place of the other is passed after that
+pub passes : (w order : List NameBytes) (i j n : ℕ) → take n (drop i w) ≡ take n (drop j order) → IsSubsequence (drop (i + n) w) (drop (j + n + 1) order) → IsSubsequence (drop i w) (drop j order)
+passes w order i j n e h =
+    let next : j + n + 1 ≡ suc (j + n) = omega arith in
+    goes_on_alike w order i j n e (drop-later order (j + n) (drop (i + n) w) (subst (λ m. IsSubsequence (drop (i + n) w) (drop m order)) next h))
 
 pub all_found : (w order : List NameBytes) (i : ℕ) → length w ≤ i → IsSubsequence (drop i w) order
 all_found w order i le = subst (λ l. IsSubsequence l order) (sym (drop_all i w le)) tt

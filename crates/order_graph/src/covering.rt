@@ -1,7 +1,6 @@
 //! The operations whose responses cover all others.
 
-ghost use Rattle.std.specs.Prelude.{◌≡◌, true, AllPairs, IfOk, Some, Contains, slice_get};
-ghost use Rattle.events.specs.Names.{NameBytes};
+ghost use Rattle.std.specs.Prelude.{◌≡◌, true, AllPairs, IfOk, Contains};
 ghost use Rattle.events.specs.Operation.{Operation, ComesBefore};
 ghost use Rattle.events.specs.Operations.{response};
 ghost use Rattle.specification.specs.Orders.{IsSubsequence};
@@ -10,20 +9,10 @@ ghost use Rattle.order_graph.specs.Covers.{AreCovering};
 use events::{Memory, OpName, Recording, Response};
 use std::alloc::Global;
 
-/// Whether the same name stands at these places of two responses.
-fn same_name(one: &Response, i: usize, other: &Response, j: usize) -> bool
-    ensures { result ≡ true → (a : NameBytes) × (slice_get one.now i ≡ Some a)
-        × (slice_get other.now j ≡ Some a) }
-{
-    match (one.bytes_at(i), other.bytes_at(j)) {
-        (Some(a), Some(b)) => a == b,
-        _ => false,
-    }
-}
-
 /// Whether the names of a response are found in another in the same order; it may miss this where the
-/// response has not half as many. So its time is linear in the response, and it stops where fewer places
-/// are left than names.
+/// response has not half as many. Names are compared in runs, as far as both go on alike; after each run one
+/// of the other is passed. So its time is linear in the responses, and it stops where fewer places are left
+/// than names.
 fn stands_in(response: &Response, other: &Response) -> bool
     ensures { result ≡ true → IsSubsequence response.now other.now }
 {
@@ -31,16 +20,19 @@ fn stands_in(response: &Response, other: &Response) -> bool
         return response.len() == 0;
     }
     let mut found = 0;
-    for j in 0..other.len() {
-        let left = response.len() - found;
-        if left == 0 || left > other.len() - j {
-            break;
+    let mut j = 0;
+    'runs: while found < response.len() {
+        if response.len() - found > other.len() - j {
+            return false;
         }
-        if same_name(response, found, other, j) {
-            found += 1;
+        let run = response.same_names(found, other, j);
+        found += run;
+        j += run;
+        if j < other.len() {
+            j += 1;
         }
     }
-    found == response.len()
+    true
 }
 
 /// Whether the response of an operation is found in that of another.

@@ -1,30 +1,26 @@
--- One place on in the other response, and one in this one too where the names are the same.
-use Rattle.std.proofs.Common.{ℕ, ◌+◌, ◌<◌, List, drop, length, subst, arith}
+-- Both go on alike for a run, and one place of the other is passed, if one is left.
+use Rattle.std.proofs.Common.{◌≡◌, ◌+◌, ◌<◌, ◌≤◌, ℕ, List, drop, length, arith, length-drop}
 use Rattle.events.specs.Names.{NameBytes}
-use Rattle.std.proofs.lemmas.Option.{slice_get_within}
 use Rattle.specification.specs.Orders.{IsSubsequence}
-use Rattle.order_graph.proofs.CoverSteps.{passes, meets}
+use Rattle.order_graph.proofs.CoverSteps.{goes_on_alike, passes}
 use Rattle.order_graph.proofs.covering.stands_in.Goals as goal
-use Rattle.order_graph.proofs.covering.stands_in.Goals.{then-same_name, else-same_name}
 
-pub loop-j-preserved : goal.loop-j-preserved
-loop-j-preserved c =
+pub runs-preserved-then-j-len : goal.runs-preserved-then-j-len
+runs-preserved-then-j-len c =
     let w : List NameBytes = c.args.response.now in
     let order : List NameBytes = c.args.other.now in
-    let i : ℕ = c.loop-j.found in
-    let j : ℕ = c.loop-j.j in
-    elim c.if-same_name.branch [
-      | then-same_name t ↦
-          let both = c.same_name.ensures t.if-same_name.true in
-          let low : i < length w = slice_get_within w i both.0 both.1 in
-          record {
-            within = omega (arith, t.found-is);
-            rest = λ h. c.loop-j.invariant.rest (meets w order i j both.0 both.1 both.2 (subst (λ n. IsSubsequence (drop n w) (drop (j + 1) order)) t.found-is h));
-          }
-      | else-same_name t ↦
-          let low : j < length order = omega arith in
-          record {
-            within = omega (arith, t.found-is);
-            rest = λ h. c.loop-j.invariant.rest (passes w order i j low (subst (λ n. IsSubsequence (drop n w) (drop (j + 1) order)) t.found-is h));
-          }
-    ]
+    record {
+      within = omega (arith, c.runs.invariant.within, c.same_names-run.ensures.within.0, length-drop c.runs.found w);
+      other_within = omega (arith, c.if-j-len.true, c.len-in-runs-4.ensures.value);
+      rest = λ h. c.runs.invariant.rest (passes w order c.runs.found c.runs.j c.same_names-run.result c.same_names-run.ensures.same h);
+    }
+
+pub runs-preserved : goal.runs-preserved
+runs-preserved c =
+    let w : List NameBytes = c.args.response.now in
+    let order : List NameBytes = c.args.other.now in
+    record {
+      within = omega (arith, c.runs.invariant.within, c.same_names-run.ensures.within.0, length-drop c.runs.found w);
+      other_within = omega (arith, c.runs.invariant.other_within, c.same_names-run.ensures.within.1, length-drop c.runs.j order);
+      rest = λ h. c.runs.invariant.rest (goes_on_alike w order c.runs.found c.runs.j c.same_names-run.result c.same_names-run.ensures.same h);
+    }
