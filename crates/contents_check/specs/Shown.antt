@@ -1,0 +1,51 @@
+-- Which elements a response shows: those whose standings say so.
+use Rattle.std.specs.Prelude.{◌≡◌, ◌↔◌, ℕ, ◌+◌, ◌<◌, ◌≤◌, true, Some, List, ◌++◌, count_by, drop, length, slice_get, take}
+use Rattle.events.specs.Names.{NameBytes}
+use Rattle.specification.specs.Members.{In, Once}
+use Rattle.contents_check.specs.declared.element.Element.{Element}
+use Rattle.contents_check.specs.declared.elements.Elements.{Elements}
+use Rattle.contents_check.specs.declared.shown.Step.{Step}
+use Rattle.contents_check.specs.declared.shown.Step.TheVariants.{End, New, Gone, Wrong}
+use Rattle.contents_check.specs.declared.standings.Standing.{Standing}
+use Rattle.contents_check.specs.declared.standings.Standings.{Standings}
+use Rattle.contents_check.specs.Known.{number_of}
+use Rattle.contents_check.specs.Standings.{is_apart, is_live}
+
+-- the name has a live element
+pub record IsShown (elements : Elements) (standings : List Standing) (a : NameBytes) : Type 0 where
+  pub number : ℕ
+  pub standing : Standing
+  pub numbered : number_of elements a ≡ Some number
+  pub stands : slice_get standings number ≡ Some standing
+  pub live : is_live standing ≡ true
+
+-- no name stands twice, and the names are just those of live elements
+abbrev pub ShowsLive : Elements → List Standing → List NameBytes → Type 0
+ShowsLive elements standings w = Once w × ((a : NameBytes) → In a w ↔ IsShown elements standings a)
+
+-- the names differ and are elements' names, and just these elements are noted as shown
+pub record ShowJust (elements : Elements) (standings : List Standing) (w : List NameBytes) : Type 0 where
+  pub once : Once w
+  pub known : (a : NameBytes) → In a w → (i : ℕ) × (number_of elements a ≡ Some i)
+  pub shown : (i : ℕ) (x : Element) (s : Standing) → slice_get elements.list.items i ≡ Some x → slice_get standings i ≡ Some s → (s.shown ≡ true) ↔ In x.name w
+
+-- there is a standing for each element, and those apart are counted
+pub record Fits (elements : Elements) (standings : Standings) : Type 0 where
+  pub size : length standings.list.items ≡ length elements.list.items
+  pub apart : standings.apart ≡ count_by is_apart standings.list.items
+
+-- the names differ and are elements' names
+abbrev pub AreOfElements : Elements → List NameBytes → Type 0
+AreOfElements elements w = Once w × ((a : NameBytes) → In a w → (i : ℕ) × (number_of elements a ≡ Some i))
+
+-- what one response has up to a place, and then another from a place on
+abbrev pub joined : List NameBytes → ℕ → List NameBytes → ℕ → List NameBytes
+joined w i last j = take i w ++ drop j last
+
+-- at these places the one response is at its end, or its name is shown now as well, or the other's is not any more; or the
+-- one repeats a name or has one that is no element's
+abbrev pub IsStep : Elements → List NameBytes → ℕ → List NameBytes → ℕ → Standings → Step → Type 0
+IsStep elements last j w i new End = (length w ≤ i) × ShowJust elements new.list.items (joined w i last j)
+IsStep elements last j w i new New = (i < length w) × ShowJust elements new.list.items (joined w (i + 1) last j)
+IsStep elements last j w i new Gone = (j < length last) × ShowJust elements new.list.items (joined w i last (j + 1))
+IsStep elements last j w i new Wrong = ¬ AreOfElements elements w
