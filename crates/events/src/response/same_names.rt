@@ -4,8 +4,9 @@ ghost use Rattle.std.specs.Prelude.{◌≡◌, ℕ, ◌+◌, ◌-◌, ◌<◌, �
 
 use super::Response;
 
-/// How many bytes are compared at once.
-const CHUNK: usize = 32;
+/// How many bytes are compared at once: first many, and where these differ few.
+const LONG: usize = 128;
+const SHORT: usize = 16;
 
 impl Response {
     /// How many names follow one another alike in this response from place `i` and in the other from place
@@ -76,7 +77,9 @@ fn same_bytes(a: &[u8], b: &[u8]) -> usize
     ensures most { (x : ℕ) → slice_get a.now result ≡ Some x → slice_get b.now result ≡ Some x → ⊥ }
 {
     let most = a.len().min(b.len());
-    for n in same_chunks(a, b)..most {
+    let long = same_chunks(a, b, LONG);
+    let begin = long + same_chunks(after(a, long), after(b, long), SHORT);
+    for n in begin..most {
         if a[n] != b[n] {
             return n;
         }
@@ -84,19 +87,21 @@ fn same_bytes(a: &[u8], b: &[u8]) -> usize
     most
 }
 
-/// How many bytes are the same from the beginning on, counted in whole chunks.
-fn same_chunks(a: &[u8], b: &[u8]) -> usize
+/// How many bytes are the same from the beginning on, counted in whole chunks of this size.
+fn same_chunks(a: &[u8], b: &[u8], size: usize) -> usize
+    requires { 0 < size }
     ensures within { (result ≤ length a.now) × (result ≤ length b.now) }
     ensures same { take result a.now ≡ take result b.now }
 {
-    let chunks = a.len().min(b.len()) / CHUNK;
-    for k in 0..chunks {
-        let n = k * CHUNK;
-        if a[n..n + CHUNK] != b[n..n + CHUNK] {
-            return n;
+    let most = a.len().min(b.len());
+    let mut same = 0;
+    'chunks: while size <= most - same {
+        if a[same..same + size] != b[same..same + size] {
+            return same;
         }
+        same += size;
     }
-    chunks * CHUNK
+    same
 }
 
 /// How many ends are as far from where the first piece begins as those of the other, and not after `last`.
