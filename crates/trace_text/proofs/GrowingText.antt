@@ -1,12 +1,12 @@
 -- A text that grows by pieces.
-use Rattle.std.proofs.Common.{◌≡◌, ℕ, ◌+◌, ◌≤◌, List, [], ◌∷◌, ◌++◌, length, Option, Some, None, IfSome, refl, sym, ap, ◌∙◌, subst, arith, inl, inr, append_assoc, length-append}
+use Rattle.std.proofs.Common.{◌≡◌, ℕ, ◌+◌, List, [], ◌∷◌, ◌++◌, length, Option, Some, None, IfSome, refl, sym, ap, ◌∙◌, subst, arith, inl, inr, append_assoc, length-append}
 use Rattle.std.proofs.lemmas.List.{append-nil}
 use Rattle.std.proofs.lemmas.List.Elements.{Contains-append_cases}
 use Rattle.specification.specs.Lines.{Line, text_of, IsOneLine}
 use Rattle.specification.specs.TraceText.{BeginsSpelling, IsFaultyLine, IsCutAt}
 use Rattle.format_words.proofs.Places as places
 use Rattle.trace_text.specs.Causes.{cause_of}
-use Rattle.trace_text.specs.Fed.{EndsIn, HasLineAt, HoldsFault, IsAdded}
+use Rattle.trace_text.specs.Fed.{EndsIn, HoldsFault, IsAdded}
 use Rattle.trace_text.specs.declared.cause.LineFault.{LineFault}
 use Rattle.trace_text.proofs.Faults.{line-holds}
 

@@ -17,5 +17,5 @@ returns-in_err-line-clause-fault c =
     let line = c.in-Some.line.now in
     let added : IsAdded c.args.begun.now c.args.back.now (Some line) = subst (IsAdded c.args.begun.now c.args.back.now) c.in-Some.ensures c.add.ensures in
     rw (p.1, p.2) (λ text behind ends.
-      let ended = line-ended (good c.args.reading.now) c.args.begun.now line text c.args.back.now behind ends c.requires added in
-      holds _ fault (good c.args.reading.now) line (line ++ 10 ∷ behind) behind ended.1 refl ended.0 c.in_err-line.ensures.number c.in_err-line.ensures.begins c.in_err-line.ensures.fault)
+    let ended = line-ended (good c.args.reading.now) c.args.begun.now line text c.args.back.now behind ends c.requires added in
+    holds _ fault (good c.args.reading.now) line (line ++ 10 ∷ behind) behind ended.1 refl ended.0 c.in_err-line.ensures.number c.in_err-line.ensures.begins c.in_err-line.ensures.fault)

@@ -1,4 +1,4 @@
-use Rattle.std.proofs.Common.{◌++◌, [], ap, subst, IfSome, inl, inr}
+use Rattle.std.proofs.Common.{[], ap, subst, IfSome, inl, inr}
 use Rattle.std.proofs.lemmas.List.{append-nil}
 use Rattle.std.proofs.lemmas.Result.{err_from_is_err_and, IfErr-weaker, IfOk-weaker}
 use Rattle.specification.specs.TraceText.{IsFirstLineFault}
