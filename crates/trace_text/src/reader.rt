@@ -10,8 +10,9 @@ use std::marker::Model;
 
 /// A reader of a trace text that comes in pieces, cut anywhere.
 ///
-/// It keeps the recording so far and the line that is begun. A line that is whole within a piece is read
-/// where it lies. Once a fault was answered, out of memory included, each later call answers the same.
+/// It keeps the recording so far and the line that is begun, as far as it has come. A line that is whole
+/// within a piece is read where it lies. Once a fault was answered, out of memory included, each later call
+/// answers the same.
 #[derive(Drop)]
 pub struct Reader {
     alloc: Global,
