@@ -64,7 +64,7 @@ def main() -> None:
     told = {}
     with tempfile.TemporaryDirectory() as folder:
         library = shim(folder)
-        for path in sorted(HERE.glob("vectors/*.trace")):
+        for path in sorted((ROOT / "tests" / "vectors").glob("*.trace")):
             for words in commands(path):
                 name = " ".join(words)
                 told[name] = refuse_each(tally, library, [program, *words])

@@ -1,5 +1,6 @@
 -- From the fault of a text to the fault of a run.
-use Rattle.std.proofs.Common.{◌≡◌, ℕ, List, Option, Some, None, IfSome, MatchOption, sym, subst}
+use Rattle.std.proofs.Common.{◌≡◌, ◌++◌, ℕ, List, Option, Some, None, IfSome, MatchOption, sym, subst}
+use Rattle.std.specs.Io.KnownBytes.{Consumes}
 use Rattle.specification.specs.TraceText.{Cause, IsFirstLineFault}
 use Rattle.trace_text.specs.Causes.{cause_of}
 use Rattle.trace_text.specs.declared.cause.LineFault.{LineFault}
@@ -15,3 +16,9 @@ trace_fault-names text fault answer None same first is =
     subst (λ a. NamesFirstFault text a × IsOfText a) (sym is) (tt, tt)
 trace_fault-names text fault answer (Some c) same first is =
     subst (λ a. NamesFirstFault text a × IsOfText a) (sym is) ((c, same, first), tt)
+
+-- the fault of every text that begins with what was read is that of the reader's text
+pub names-of-front : (before after : Option (List ℕ)) (text : List ℕ) (fault : RunFault) → Consumes before after text → ((more : List ℕ) → NamesFirstFault (text ++ more) fault) → IfSome before (λ t. NamesFirstFault t fault)
+names-of-front None after text fault came names = tt
+names-of-front (Some x) None text fault came names = absurd came
+names-of-front (Some x) (Some y) text fault came names = subst (λ t. NamesFirstFault t fault) (sym came) (names y)

@@ -1,11 +1,16 @@
--- What was written, as an output on the whole text that was read.
-use Rattle.std.proofs.Common.{◌≡◌, ℕ, Bool, true, List, Option, Result, Ok, Err, IfSome, IfOk, IfErr, subst, sym}
+-- What was written, as an output on the text that was read.
+use Rattle.std.proofs.Common.{◌≡◌, ℕ, Bool, true, List, Option, Some, None, Result, Ok, Err, IfSome, IfOk, IfErr, subst, sym}
 use Rattle.std.specs.Io.KnownBytes.{Appends, Consumes, IsAtEnd}
 use Rattle.std.proofs.KnownBytes.{Consumes-whole}
 use Rattle.byte_streams.specs.Streams.{AppendsFront}
 use Rattle.finder_cli.specs.declared.status.Status.{Status}
 use Rattle.finder_cli.specs.declared.status.RunFault.{RunFault}
-use Rattle.finder_cli.specs.declared.status.RunFault.TheVariants.{Write}
+use Rattle.finder_cli.specs.declared.status.RunFault.TheVariants.{Memory, Read, Stalled, Thread, Trace, Workers, Write}
+use Rattle.command_line.specs.declared.task.Form.{Form}
+use Rattle.events.specs.History.{History}
+use Rattle.specification.specs.TraceText.{Spells}
+use Rattle.finder_cli.specs.Certified.{IsCertificateFor, IsCertificateOn}
+use Rattle.finder_cli.specs.Runs.{IsOfSession, IsReportOf, IsReportOn, NamesFirstFault}
 
 -- the bytes of the text, as they were read and as they were handed on
 pub record WasRead (before after : Option (List ℕ)) (text read : List ℕ) : Type 0 where
@@ -13,25 +18,42 @@ pub record WasRead (before after : Option (List ℕ)) (text read : List ℕ) : T
   pub ended : IsAtEnd after
   pub same : text ≡ read
 
--- an output on the text was written
-pub written-of-read : (Q : List ℕ → List ℕ → Status → Type 0) (before after old new : Option (List ℕ)) (text read bytes : List ℕ) (status : Status) (answer : Result Status RunFault)
-    → WasRead before after text read → Q text bytes status → IfOk answer (λ s. (s ≡ status) × Appends old new bytes)
+-- an output on the text was written, where the text is known
+pub written-on : (Q : List ℕ → List ℕ → Status → Type 0) (before old new : Option (List ℕ)) (bytes : List ℕ) (status : Status) (answer : Result Status RunFault)
+    → IfSome before (λ t. Q t bytes status) → IfOk answer (λ s. (s ≡ status) × Appends old new bytes)
     → IfOk answer (λ s. IfSome before (λ t. (output : List ℕ) × Q t output s × Appends old new output))
-written-of-read Q before after old new text read bytes status (Ok s) was of_text wrote =
-    let of_read : Q read bytes s = subst (λ x. Q read bytes x) (sym wrote.0) (subst (λ t. Q t bytes status) was.same of_text) in
-    Consumes-whole before after read (λ t. (output : List ℕ) × Q t output s × Appends old new output) was.consumed was.ended (bytes, of_read, wrote.1)
-written-of-read Q before after old new text read bytes status (Err fault) was of_text wrote = tt
+written-on Q None old new bytes status (Ok s) of_text wrote = tt
+written-on Q (Some t) old new bytes status (Ok s) of_text wrote = (bytes, subst (λ x. Q t bytes x) (sym wrote.0) of_text, wrote.1)
+written-on Q before old new bytes status (Err fault) of_text wrote = tt
 
 -- a prefix of one was written
-pub front-of-read : (Q : List ℕ → List ℕ → Status → Type 0) (failed : Bool) (before after old new : Option (List ℕ)) (text read bytes : List ℕ) (status : Status) (answer : Result Status RunFault)
-    → WasRead before after text read → Q text bytes status → IfErr answer (λ f. (f ≡ Write) × (failed ≡ true) × AppendsFront old new bytes)
+pub front-on : (Q : List ℕ → List ℕ → Status → Type 0) (failed : Bool) (before old new : Option (List ℕ)) (bytes : List ℕ) (status : Status) (answer : Result Status RunFault)
+    → IfSome before (λ t. Q t bytes status) → IfErr answer (λ f. (f ≡ Write) × (failed ≡ true) × AppendsFront old new bytes)
     → IfErr answer (λ f. f ≡ Write → (failed ≡ true) × IfSome before (λ t. (output : List ℕ) × (s : Status) × Q t output s × AppendsFront old new output))
-front-of-read Q failed before after old new text read bytes status (Err fault) was of_text wrote = λ _. (
-  wrote.1,
-  Consumes-whole before after read (λ t. (output : List ℕ) × (s : Status) × Q t output s × AppendsFront old new output) was.consumed was.ended
-      (bytes, status, subst (λ t. Q t bytes status) was.same of_text, wrote.2),
-)
-front-of-read Q failed before after old new text read bytes status (Ok s) was of_text wrote = tt
+front-on Q failed None old new bytes status (Err fault) of_text wrote = λ _. (wrote.1, tt)
+front-on Q failed (Some t) old new bytes status (Err fault) of_text wrote = λ _. (wrote.1, (bytes, status, of_text, wrote.2))
+front-on Q failed before old new bytes status (Ok s) of_text wrote = tt
+
+-- the report on the recording that a text spells is that on the text
+pub report-on : (before : Option (List ℕ)) (h : History) (form : Form) (bytes : List ℕ) (status : Status) → IfSome before (λ t. Spells t h) → IsReportOn h form bytes status → IfSome before (λ t. IsReportOf t form bytes status)
+report-on None h form bytes status spells made = tt
+report-on (Some t) h form bytes status spells made = (h, made.0, spells, made.1, made.2, made.3)
+
+-- and so is its certificate
+pub certificate-on : (before : Option (List ℕ)) (h : History) (bytes : List ℕ) (status : Status) → IfSome before (λ t. Spells t h) → IsCertificateFor h bytes status → IfSome before (λ t. IsCertificateOn t bytes status)
+certificate-on None h bytes status spells made = tt
+certificate-on (Some t) h bytes status spells made = (h, made.0, made.1, spells, made.2, made.3, made.4, made.5)
+
+-- no fault of threads or of memory is one of a text
+pub names-none : (before : Option (List ℕ)) (fault : RunFault) → IsOfSession fault → IfSome before (λ t. NamesFirstFault t fault)
+names-none None fault h = tt
+names-none (Some t) Thread h = tt
+names-none (Some t) Stalled h = tt
+names-none (Some t) Memory h = tt
+names-none (Some t) (Trace fault) h = absurd h
+names-none (Some t) Workers h = absurd h
+names-none (Some t) Read h = absurd h
+names-none (Some t) Write h = absurd h
 
 -- an output on two texts was written
 pub written-of-both : (Q : List ℕ → List ℕ → List ℕ → Status → Type 0) (before after before_2 after_2 old new : Option (List ℕ)) (text read text_2 read_2 bytes : List ℕ) (status : Status) (answer : Result Status RunFault)

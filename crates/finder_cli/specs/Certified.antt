@@ -15,6 +15,11 @@ use Rattle.finder_cli.specs.Runs.{status_of}
 use Rattle.finder_cli.specs.declared.status.Status.{Status}
 use Rattle.finder_cli.specs.declared.status.Status.TheVariants.{Good, Bad}
 
+-- the text of the certificate of the verdict on the recording, and the status of that verdict
+abbrev pub IsCertificateFor : History → List ℕ → Status → Type 0
+IsCertificateFor h output status =
+    (v : Verdict) × (c : Certificate) × IsVerdict h v × IsCertificateOf h v c × (output ≡ certificate_text c) × (status ≡ status_of v)
+
 -- the text of the certificate of the verdict on the recording that the text spells, and the status of that verdict
 abbrev pub IsCertificateOn : List ℕ → List ℕ → Status → Type 0
 IsCertificateOn text output status =

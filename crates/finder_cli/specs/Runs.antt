@@ -27,6 +27,10 @@ status_of (faulty fault) = Bad
 status_of (accepted order) = Good
 status_of (refused k steps) = Bad
 
+-- this is the report of the recording, and the status that of its verdict
+abbrev pub IsReportOn : History → Form → List ℕ → Status → Type 0
+IsReportOn h form report status = (v : Verdict) × IsVerdict h v × (report ≡ report_of form h v) × (status ≡ status_of v)
+
 -- this is the report of the recording that the text spells, and the status that of its verdict
 abbrev pub IsReportOf : List ℕ → Form → List ℕ → Status → Type 0
 IsReportOf text form report status =
@@ -64,15 +68,25 @@ IsOfText run.Write = ⊥
 IsOfText run.Thread = ⊥
 IsOfText run.Stalled = ⊥
 
--- no fault but the text's own, those of threads, and out of memory
-abbrev pub IsOfRehearsal : RunFault → Type 0
-IsOfRehearsal (run.Trace fault) = Unit {0}
-IsOfRehearsal run.Thread = Unit {0}
-IsOfRehearsal run.Stalled = Unit {0}
-IsOfRehearsal run.Memory = Unit {0}
-IsOfRehearsal run.Workers = ⊥
-IsOfRehearsal run.Read = ⊥
-IsOfRehearsal run.Write = ⊥
+-- no fault but those of threads, and out of memory
+abbrev pub IsOfSession : RunFault → Type 0
+IsOfSession run.Thread = Unit {0}
+IsOfSession run.Stalled = Unit {0}
+IsOfSession run.Memory = Unit {0}
+IsOfSession (run.Trace fault) = ⊥
+IsOfSession run.Workers = ⊥
+IsOfSession run.Read = ⊥
+IsOfSession run.Write = ⊥
+
+-- no fault but that of reading, the text's own, and out of memory
+abbrev pub IsOfTrace : RunFault → Type 0
+IsOfTrace run.Read = Unit {0}
+IsOfTrace (run.Trace fault) = Unit {0}
+IsOfTrace run.Memory = Unit {0}
+IsOfTrace run.Workers = ⊥
+IsOfTrace run.Write = ⊥
+IsOfTrace run.Thread = ⊥
+IsOfTrace run.Stalled = ⊥
 
 -- no fault but that of reading and out of memory
 abbrev pub IsOfReading : RunFault → Type 0

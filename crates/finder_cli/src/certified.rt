@@ -3,14 +3,16 @@
 ghost use Rattle.std.specs.Prelude.{◌≡◌, ◌≢◌, true, false, IfOk, IfErr, IfSome, OnOk, IsErrOf};
 ghost use Rattle.std.specs.Io.KnownBytes.{IsAtEnd};
 ghost use Rattle.byte_streams.specs.Streams.{IsClosed};
-ghost use Rattle.finder_cli.specs.Runs.{NamesFirstFault, IsOfRun, IsOfText};
-ghost use Rattle.finder_cli.specs.Certified.{IsCertificateOn, Certifies, CertifiesFront};
+ghost use Rattle.finder_cli.specs.Runs.{NamesFirstFault, IsOfRun};
+ghost use Rattle.finder_cli.specs.Certified.{IsCertificateFor, Certifies, CertifiesFront};
 
-use super::output::{Output, recording_on, status_of, verdict_on, whole_text, write_output};
+use super::output::{Output, status_of, verdict_on, write_output};
 use super::status::{RunFault, Status};
+use super::trace_source::recording_from;
 use byte_streams::{Reader, Sink, Source, Writer};
 use certificate::certify;
 use command_line::WORKERS;
+use events::{Memory, Recording};
 use std::alloc::Global;
 use std::thread::Threads;
 
@@ -36,19 +38,21 @@ pub fn run_cert<H: Threads + Sync, R: Reader + Drop, W: Writer + Drop>(
         × IfSome source.old.bytes (λ text. CertifiesFront text sink.old.bytes sink.new.bytes)) }
     ensures unwritten { IfErr result (λ fault. fault ≢ RunFault.Write → sink.new ≡ sink.old) }
 {
-    let text = whole_text(alloc, source)?;
-    let output = certificate_on(rt, alloc, &text)?;
+    let recording = recording_from(alloc, source)?;
+    let output = certificate_on(rt, alloc, &recording)?;
     write_output(sink, &output)
 }
 
-/// The text of the certificate of the recording that the text spells.
-fn certificate_on<H: Threads + Sync>(rt: &H, alloc: Global, text: &[u8]) -> Result<Output, RunFault>
-    ensures ok { IfOk result (λ output. IsCertificateOn text.now output.bytes.items output.status) }
-    ensures trace { IfErr result (λ fault. NamesFirstFault text.now fault × IsOfText fault) }
+/// The text of the certificate of the recording.
+fn certificate_on<H: Threads + Sync>(
+    rt: &H,
+    alloc: Global,
+    recording: &Recording,
+) -> Result<Output, Memory>
+    ensures { IfOk result (λ output. IsCertificateFor recording.now output.bytes.items output.status) }
 {
-    let recording = recording_on(alloc, text)?;
-    let verdict = verdict_on(rt, alloc, &recording, WORKERS)?;
-    let certificate = certify(alloc, &recording, &verdict)?;
+    let verdict = verdict_on(rt, alloc, recording, WORKERS)?;
+    let certificate = certify(alloc, recording, &verdict)?;
     let bytes = certificate.write(alloc)?;
     Ok(Output {
         bytes,

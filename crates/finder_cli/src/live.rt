@@ -5,11 +5,12 @@ ghost use Rattle.std.specs.Io.KnownBytes.{IsAtEnd};
 ghost use Rattle.byte_streams.specs.Streams.{IsClosed};
 ghost use Rattle.command_line.specs.declared.task.Form.TheVariants.{Text};
 ghost use Rattle.events.specs.History.{SameStreams};
-ghost use Rattle.finder_cli.specs.Runs.{IsReportOf, Reports, ReportsFront, NamesFirstFault, IsOfRehearsal};
+ghost use Rattle.finder_cli.specs.Runs.{IsReportOn, Reports, ReportsFront, NamesFirstFault, IsOfSession};
 ghost use Rattle.finder_cli.specs.Runs.{IsNoWorkers};
 
-use super::output::{Output, recording_on, status_of, verdict_on, whole_text, write_output};
+use super::output::{Output, status_of, verdict_on, write_output};
 use super::status::{RunFault, Status};
+use super::trace_source::recording_from;
 use byte_streams::{Reader, Sink, Source, Writer};
 use certificate::Gate;
 use command_line::MOST_WORKERS;
@@ -51,25 +52,24 @@ pub fn live<H: Threads + Wait + Sync, R: Reader + Drop, W: Writer + Drop, G: Gat
     if workers == 0 || workers > MOST_WORKERS {
         return Err(RunFault::Workers);
     }
-    let text = whole_text(alloc, source)?;
-    let report = rehearsed_report(rt, alloc, &text, workers, gate)?;
+    let recording = recording_from(alloc, source)?;
+    let report = rehearsed_report(rt, alloc, &recording, workers, gate)?;
     write_output(sink, &report)
 }
 
-/// The report on the recording that the text spells, by way of a session.
+/// The report on the recording, by way of a session.
 fn rehearsed_report<H: Threads + Wait + Sync, G: Gate>(
     rt: &H,
     alloc: Global,
-    text: &[u8],
+    recording: &Recording,
     workers: u32,
     gate: &G,
 ) -> Result<Output, RunFault>
     requires workers { (1 ≤ workers) × (workers ≤ MOST_WORKERS) }
-    ensures ok { IfOk result (λ report. IsReportOf text.now Text report.bytes.items report.status) }
-    ensures trace { IfErr result (λ fault. NamesFirstFault text.now fault × IsOfRehearsal fault) }
+    ensures ok { IfOk result (λ report. IsReportOn recording.now Text report.bytes.items report.status) }
+    ensures fault { IfErr result IsOfSession }
 {
-    let recording = recording_on(alloc, text)?;
-    let closed = rehearsed(rt, alloc, &recording, workers, gate)?;
+    let closed = rehearsed(rt, alloc, recording, workers, gate)?;
     let verdict = verdict_on(rt, alloc, &closed, workers)?;
     let bytes = report::text(alloc, &closed, &verdict)?;
     // The verdict and the report are those of the recording too, since it has the same streams.
@@ -91,8 +91,7 @@ fn rehearsed<H: Threads + Wait + Sync, G: Gate>(
 ) -> Result<Recording, RunFault>
     requires workers { (1 ≤ workers) × (workers ≤ MOST_WORKERS) }
     ensures ok { IfOk result (λ closed. SameStreams recording.now closed) }
-    ensures fault { IfErr result IsOfRehearsal }
-    ensures no_line { IfErr result (λ fault. (line : _) → fault ≢ RunFault.Trace line) }
+    ensures fault { IfErr result IsOfSession }
 {
     match rehearse(rt, alloc, recording, workers, gate) {
         Ok(closed) => Ok(closed),

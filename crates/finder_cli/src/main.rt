@@ -16,6 +16,7 @@ mod run;
 mod status;
 #[cfg(test)]
 mod tests;
+mod trace_source;
 mod verified;
 mod world;
 

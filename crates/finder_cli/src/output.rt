@@ -1,22 +1,19 @@
 //! What the engines share: a whole text in, an output out.
 
-ghost use Rattle.std.specs.Prelude.{◌≡◌, ◌≤◌, true, false, IfOk, IfErr, MatchOption};
+ghost use Rattle.std.specs.Prelude.{◌≡◌, ◌≤◌, true, false, IfOk, IfErr};
 ghost use Rattle.std.specs.Io.KnownBytes.{Appends, Consumes, IsAtEnd};
-ghost use Rattle.specification.specs.TraceText.{Spells};
 ghost use Rattle.specification.specs.Verdict.{IsVerdict};
-ghost use Rattle.trace_text.specs.Causes.{cause_of};
 ghost use Rattle.certificate.specs.VerdictOf.{verdict_of};
 ghost use Rattle.byte_streams.specs.Streams.{AppendsFront, IsClosed};
-ghost use Rattle.finder_cli.specs.Runs.{NamesFirstFault, IsOfText, IsOfReading, status_of};
+ghost use Rattle.finder_cli.specs.Runs.{IsOfReading, status_of};
 
 use super::status::{RunFault, Status};
 use byte_streams::{ReadFault, Reader, Sink, Source, Writer};
 use certificate::{NoGate, SearchFault, Verdict, judge};
 use command_line::MOST_WORKERS;
-use events::{Memory, Recording, Refusal};
+use events::{Memory, Recording};
 use std::alloc::Global;
 use std::thread::Threads;
-use trace_text::{Cause, LineFault};
 
 /// What an engine writes, and the status that goes with it.
 #[derive(Drop)]
@@ -56,28 +53,6 @@ pub fn write_output<W: Writer + Drop>(
     match sink.write_whole(&output.bytes) {
         Ok(()) => Ok(output.status),
         Err(_) => Err(RunFault::Write),
-    }
-}
-
-/// The recording that the text spells.
-pub fn recording_on(alloc: Global, text: &[u8]) -> Result<Recording, RunFault>
-    ensures ok { IfOk result (λ h. Spells text.now h) }
-    ensures trace { IfErr result (λ fault. NamesFirstFault text.now fault × IsOfText fault) }
-{
-    match trace_text::read(alloc, text) {
-        Ok(recording) => Ok(recording),
-        Err(fault) => Err(trace_fault(fault)),
-    }
-}
-
-/// The run's fault for a text's: out of memory has no line.
-fn trace_fault(fault: LineFault) -> RunFault
-    ensures { MatchOption (cause_of fault.cause) (result ≡ RunFault.Memory)
-        (λ _. result ≡ RunFault.Trace fault) }
-{
-    match fault.cause {
-        Cause::Refused(Refusal::Memory) => RunFault::Memory,
-        _ => RunFault::Trace(fault),
     }
 }
 

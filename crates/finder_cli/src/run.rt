@@ -4,11 +4,12 @@ ghost use Rattle.std.specs.Prelude.{◌≡◌, ◌≢◌, ◌↔◌, ◌≤◌, 
 ghost use Rattle.std.specs.Io.KnownBytes.{IsAtEnd};
 ghost use Rattle.certificate.specs.VerdictOf.{verdict_of};
 ghost use Rattle.byte_streams.specs.Streams.{IsClosed};
-ghost use Rattle.finder_cli.specs.Runs.{report_of, IsReportOf, Reports, ReportsFront, NamesFirstFault};
-ghost use Rattle.finder_cli.specs.Runs.{IsOfRun, IsOfText, IsNoWorkers};
+ghost use Rattle.finder_cli.specs.Runs.{report_of, IsReportOn, Reports, ReportsFront, NamesFirstFault};
+ghost use Rattle.finder_cli.specs.Runs.{IsOfRun, IsNoWorkers};
 
-use super::output::{Output, recording_on, status_of, verdict_on, whole_text, write_output};
+use super::output::{Output, status_of, verdict_on, write_output};
 use super::status::{RunFault, Status};
+use super::trace_source::recording_from;
 use byte_streams::{Reader, Sink, Source, Writer};
 use certificate::Verdict;
 use command_line::{Form, MOST_WORKERS};
@@ -44,26 +45,24 @@ pub fn run<H: Threads + Sync, R: Reader + Drop, W: Writer + Drop>(
     if workers == 0 || workers > MOST_WORKERS {
         return Err(RunFault::Workers);
     }
-    let text = whole_text(alloc, source)?;
-    let report = report_on(rt, alloc, &text, workers, form)?;
+    let recording = recording_from(alloc, source)?;
+    let report = report_on(rt, alloc, &recording, workers, form)?;
     write_output(sink, &report)
 }
 
-/// The report on the recording that the text spells.
+/// The report on the recording.
 fn report_on<H: Threads + Sync>(
     rt: &H,
     alloc: Global,
-    text: &[u8],
+    recording: &Recording,
     workers: u32,
     form: Form,
-) -> Result<Output, RunFault>
+) -> Result<Output, Memory>
     requires workers { (1 ≤ workers) × (workers ≤ MOST_WORKERS) }
-    ensures ok { IfOk result (λ report. IsReportOf text.now form report.bytes.items report.status) }
-    ensures trace { IfErr result (λ fault. NamesFirstFault text.now fault × IsOfText fault) }
+    ensures { IfOk result (λ report. IsReportOn recording.now form report.bytes.items report.status) }
 {
-    let recording = recording_on(alloc, text)?;
-    let verdict = verdict_on(rt, alloc, &recording, workers)?;
-    let bytes = bytes_of(alloc, &recording, &verdict, form)?;
+    let verdict = verdict_on(rt, alloc, recording, workers)?;
+    let bytes = bytes_of(alloc, recording, &verdict, form)?;
     Ok(Output {
         bytes,
         status: status_of(&verdict),

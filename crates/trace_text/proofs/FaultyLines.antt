@@ -1,9 +1,9 @@
 -- Which lines are faulty after right lines, and what begins a spelling.
-use Rattle.std.proofs.Common.{ℕ, ◌≡◌, ◌≢◌, ◌<◌, ◌≤◌, List, [], ◌∷◌, ◌++◌, length, map, refl, sym, ap, ◌∙◌, arith, Some, IfSome}
+use Rattle.std.proofs.Common.{ℕ, ◌≡◌, ◌≢◌, ◌<◌, ◌≤◌, List, [], ◌∷◌, ◌++◌, length, map, refl, sym, ap, ◌∙◌, arith, Option, Some, None, Ok, IfSome}
 use Rattle.std.proofs.lemmas.List.{append-nil, map_push}
 use Rattle.std.proofs.lemmas.List.Elements.{All-nil}
 use Rattle.events.specs.History.{History, IsLegal, IsWellFormed, with_entry, response_of}
-use Rattle.events.specs.Session.{first_refusal}
+use Rattle.events.specs.Session.{first_refusal, reply_by}
 use Rattle.events.specs.declared.TheConstants.{MOST_REPLICAS, MOST_NAMES}
 use Rattle.events.specs.declared.recording.Entry.{Entry}
 use Rattle.events.specs.declared.recording.Body.{Body}
@@ -12,6 +12,9 @@ use Rattle.events.specs.declared.refusal.Refusal.TheVariants.{NoReplica, OwnRece
 use Rattle.specification.specs.Lines.{Line}
 use Rattle.specification.specs.TraceText.{HEADER, entry_line, replicas_line, trace_lines, IsEntry, IsFaultyLine, BeginsSpelling}
 use Rattle.trace_text.specs.Causes.{refusal_cause}
+use Rattle.trace_text.specs.Progress.{good, IsLegalSoFar}
+use Rattle.trace_text.specs.declared.reading.Reading.{Reading}
+use Rattle.trace_text.specs.declared.reading.Reading.TheVariants.{Start, Headed, Entries}
 
 -- one entry more is one line more
 pub one-line-more : (h : History) (e : Entry) (line : Line) → line ≡ entry_line e → trace_lines (with_entry h e) ≡ trace_lines h ++ line ∷ []
@@ -59,3 +62,13 @@ header-begins = (smallest, smallest-legal, replicas_line 1 ∷ [], refl)
 
 pub lines-begin : (h : History) → IsLegal h → BeginsSpelling (trace_lines h)
 lines-begin h legal = (h, legal, [], append-nil (trace_lines h))
+
+pub so-far-begins : (r : Reading) → IsLegalSoFar r → BeginsSpelling (good r)
+so-far-begins Start legal = nothing-begins
+so-far-begins Headed legal = header-begins
+so-far-begins (Entries h) legal = lines-begin h legal
+
+-- what is recorded is not refused
+pub none-refused : (why : Option Refusal) (n m : ℕ) → reply_by why n ≡ Ok m → why ≡ None
+none-refused None n m is = refl
+none-refused (Some why) n m is = absurd (cc)

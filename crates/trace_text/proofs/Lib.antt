@@ -4,6 +4,7 @@ pub mod SecondLine
 pub mod FaultyLines
 pub mod TakingLines
 pub mod Faults
+pub mod GrowingText
 pub mod Written
 pub mod TextLines
 pub mod Accepted
@@ -11,3 +12,4 @@ pub mod OneReading
 pub mod ReadBack
 pub mod OneFault
 pub mod EachText
+pub mod FedText

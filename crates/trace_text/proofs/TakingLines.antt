@@ -1,5 +1,5 @@
 -- Lines whose reading takes memory.
-use Rattle.std.proofs.Common.{◌≡◌, List, ℕ, refl, ap, Option, Some, None, Result, Err, inl, inr}
+use Rattle.std.proofs.Common.{◌≡◌, refl, ap, Option, Some, None, Result, Err, inl, inr}
 use Rattle.events.specs.History.{History, IsLegal}
 use Rattle.events.specs.Session.{first_refusal}
 use Rattle.events.specs.declared.recording.Entry.{Entry}

@@ -6,9 +6,12 @@
 //! Each recording has one spelling.
 #![tactic(auto)]
 
+mod begun;
 mod cause;
 mod entry;
 mod laws;
+mod pieces;
+mod reader;
 mod reading;
 mod whole;
 mod writing;
@@ -18,6 +21,7 @@ pub use laws::{
     each_text_spells_or_has_a_fault, spelled_texts_have_no_fault, texts_have_one_first_fault,
     texts_spell_one_recording,
 };
+pub use reader::Reader;
 pub use whole::read;
 pub use writing::write;
 

@@ -52,6 +52,7 @@ fn replicas_of(line: &[u8]) -> Result<u32, Shape>
 /// The recording without entries that the second line begins.
 fn recording_of(alloc: Global, line: &[u8]) -> Result<Recording, Stop>
     ensures ok { IfOk result (λ h. (h.entries ≡ []) × (line.now ≡ replicas_line h.replicas)) }
+    ensures legal { IfOk result IsLegal }
     ensures shape { IfErr result (λ stop. stop ≡ Stop.Shape → (n : ℕ) → 1 ≤ n → n ≤ MOST_REPLICAS
         → line.now ≢ replicas_line n) }
     ensures memory { IfErr result (λ stop. stop ≡ Stop.Memory → (n : ℕ) × (1 ≤ n) × (n ≤ MOST_REPLICAS)
@@ -70,6 +71,7 @@ fn recording_of(alloc: Global, line: &[u8]) -> Result<Recording, Stop>
 fn add_entry(alloc: Global, recording: &mut Recording, line: &[u8]) -> Result<(), Cause>
     requires { IsLegal recording.old }
     ensures ok { OnOk result (trace_lines recording.new ≡ trace_lines recording.old ++ line.now ∷ []) }
+    ensures legal { OnOk result (IsLegal recording.new) }
     ensures fault { IfErr result (λ cause. IfSome (cause_of cause)
         (IsFaultyLine (trace_lines recording.old) line.now)) }
     ensures memory { IfErr result (λ cause. cause ≡ Cause.Refused Refusal.Memory
@@ -105,6 +107,7 @@ impl Reading {
     /// Takes the next line, without its LF.
     pub fn line(&mut self, alloc: Global, line: &[u8]) -> Result<(), LineFault>
         ensures ok { OnOk result (good self.new ≡ good self.old ++ line.now ∷ []) }
+        ensures right { OnOk result (BeginsSpelling (good self.new)) }
         ensures number { IfErr result (λ fault. fault.line ≡ length (good self.old) + 1) }
         ensures begins { BeginsSpelling (good self.old) }
         ensures fault { IfErr result (λ fault. IfSome (cause_of fault.cause)
@@ -126,6 +129,7 @@ impl Reading {
     fn take(&mut self, alloc: Global, line: &[u8]) -> Result<(), Cause>
         requires { IsLegalSoFar self.old }
         ensures ok { OnOk result (good self.new ≡ good self.old ++ line.now ∷ []) }
+        ensures legal { OnOk result (IsLegalSoFar self.new) }
         ensures fault { IfErr result (λ cause. IfSome (cause_of cause)
             (IsFaultyLine (good self.old) line.now)) }
         ensures memory { IfErr result (λ cause. cause ≡ Cause.Refused Refusal.Memory

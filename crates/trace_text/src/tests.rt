@@ -1,6 +1,8 @@
 //! Tests of traces' texts, both ways.
 
-use super::{Cause, LineFault, read, write};
+ghost use Rattle.std.specs.Prelude.{◌<◌};
+
+use super::{Cause, LineFault, Reader, read, write};
 use events::{Body, Entry, Memory, Name, Recording, Refusal, Response};
 use std::alloc::{AllocError, Global};
 use std::test::Fail;
@@ -485,5 +487,211 @@ fn words_of_a_line_with_its_fault(rt: HostRuntime) -> Result<(), Fail> {
         text_of(rt.alloc(), &fault)?.as_str(),
         "line 4: not yet, have 1"
     );
+    Ok(())
+}
+
+/// What a reader says of the text, fed in pieces of so many bytes.
+fn fed_once(alloc: Global, text: &[u8], size: usize) -> Result<Recording, LineFault>
+    requires { 0 < size }
+{
+    let mut reader = Reader::new(alloc);
+    for piece in text.chunks(size) {
+        reader.feed(piece)?;
+    }
+    reader.end()
+}
+
+/// The same; where the first reader finds no memory, what the second says.
+fn fed(alloc: Global, text: &[u8], size: usize) -> Result<Recording, LineFault>
+    requires { 0 < size }
+{
+    match fed_once(alloc, text, size) {
+        Err(
+            LineFault {
+                cause: Cause::Refused(Refusal::Memory),
+                line: _,
+            },
+        ) => fed_once(alloc, text, size),
+        answer => answer,
+    }
+}
+
+/// What a reader says of the text, fed in two pieces that are cut at this place.
+fn fed_in_two_once(alloc: Global, text: &[u8], at: usize) -> Result<Recording, LineFault> {
+    let (front, back) = text.split_at(at.min(text.len()));
+    let mut reader = Reader::new(alloc);
+    reader.feed(front)?;
+    reader.feed(back)?;
+    reader.end()
+}
+
+/// The same; where the first reader finds no memory, what the second says.
+fn fed_in_two(alloc: Global, text: &[u8], at: usize) -> Result<Recording, LineFault> {
+    match fed_in_two_once(alloc, text, at) {
+        Err(
+            LineFault {
+                cause: Cause::Refused(Refusal::Memory),
+                line: _,
+            },
+        ) => fed_in_two_once(alloc, text, at),
+        answer => answer,
+    }
+}
+
+/// Whether what a reader says is the recording that this text spells.
+fn is_recording(
+    alloc: Global,
+    said: Result<Recording, LineFault>,
+    text: &[u8],
+) -> Result<bool, Fail> {
+    let again = writing(alloc, &said?)?;
+    Ok(again.as_slice() == text)
+}
+
+const THREE_WAY_CYCLE: &str =
+    "trace 1\nreplicas 3\n0 ins x 0 : x\n1 recv 0 1\n2 recv 0 1\n1 ins a 0 : a x\n2 ins b 1 : x b\n0 del x :\n0 recv 1 1\n0 recv 2 1\n0 read : b a\n";
+
+const RING_OF_FOUR: &str =
+    "trace 1\nreplicas 6\n0 ins a 0 : a\n1 ins b 0 : b\n2 recv 0 1\n2 recv 1 1\n2 read : a b\n3 recv 1 1\n3 ins c 1 : b c\n4 recv 3 1\n4 del b : c\n4 ins d 1 : c d\n5 recv 4 2\n5 del c : d\n5 recv 0 1\n5 read : d a\n";
+
+#[test]
+fn a_text_in_two_pieces(rt: HostRuntime) -> Result<(), Fail> {
+    let text = THREE_WAY_CYCLE.as_bytes();
+    assert_eq!(rt; text.len(), 132);
+    for at in 0..133 {
+        let said = fed_in_two(rt.alloc(), text, at);
+        assert!(rt; is_recording(rt.alloc(), said, text)?, "cut at {at}");
+    }
+    Ok(())
+}
+
+#[test]
+fn a_text_byte_by_byte(rt: HostRuntime) -> Result<(), Fail> {
+    let text = RING_OF_FOUR.as_bytes();
+    let said = fed(rt.alloc(), text, 1);
+    assert!(rt; is_recording(rt.alloc(), said, text)?);
+    Ok(())
+}
+
+/// What a reader says of one piece, of another after it, and at the end.
+fn say(
+    alloc: Global,
+    piece: &[u8],
+    later: &[u8],
+) -> (Option<LineFault>, Option<LineFault>, Option<LineFault>) {
+    let mut reader = Reader::new(alloc);
+    let first = reader.feed(piece).err();
+    let second = reader.feed(later).err();
+    (first, second, reader.end().err())
+}
+
+#[test]
+fn a_fault_stays(rt: HostRuntime) {
+    let text = b"trace 1\nreplicas 1\n01 read :\n";
+    let shape = Some(LineFault {
+        line: 3,
+        cause: Cause::Shape,
+    });
+    let lost = Some(LineFault {
+        line: 2,
+        cause: Cause::Refused(Refusal::Memory),
+    });
+    for later in [b"0 read :\n".as_slice(), b"", b"\n", b"trace 1\n"] {
+        let said = say(rt.alloc(), text, later);
+        assert!(rt; said == (shape, shape, shape) || said == (lost, lost, lost));
+    }
+}
+
+#[test]
+fn a_line_without_its_end_has_no_fault_yet(rt: HostRuntime) {
+    let cut = Some(LineFault {
+        line: 1,
+        cause: Cause::Cut,
+    });
+    let header = Some(LineFault {
+        line: 1,
+        cause: Cause::Header,
+    });
+    assert_eq!(rt; say(rt.alloc(), b"rubb", b"ish"), (None, None, cut));
+    let lost = Some(LineFault {
+        line: 1,
+        cause: Cause::Refused(Refusal::Memory),
+    });
+    let said = say(rt.alloc(), b"rubbish", b"\n");
+    assert!(rt; said == (None, header, header) || said == (None, lost, lost));
+}
+
+/// 4,096 lines `r read :` of each of 16 replicas, one replica after the other.
+fn many_reads_once(alloc: Global) -> Result<Vec<u8>, Memory> {
+    let mut text = Vec::from_slice(alloc, b"trace 1\nreplicas 16\n")?;
+    for replica in [
+        "0", "1", "2", "3", "4", "5", "6", "7", "8", "9", "10", "11", "12", "13", "14", "15",
+    ] {
+        for _ in 0..4096 {
+            text.extend_from_slice(replica.as_bytes())?;
+            text.extend_from_slice(b" read :\n")?;
+        }
+    }
+    Ok(text)
+}
+
+/// The same; where the first try finds no memory, by a second.
+fn many_reads(alloc: Global) -> Result<Vec<u8>, Memory> {
+    match many_reads_once(alloc) {
+        Err(Memory) => many_reads_once(alloc),
+        text => text,
+    }
+}
+
+#[test]
+fn as_many_entries_as_there_can_be(rt: HostRuntime) -> Result<(), Fail> {
+    let text = many_reads(rt.alloc())?;
+    let recording = fed(rt.alloc(), &text, 7)?;
+    assert_eq!(rt; (recording.replicas(), recording.len()), (16, 65536));
+    assert_eq!(rt;
+        (recording.stream_len(0), recording.stream_len(15)),
+        (4096, 4096)
+    );
+    Ok(())
+}
+
+/// The first of the rows whose text, after a front and in pieces of so many bytes, has not this fault at this
+/// line; none where all have.
+fn first_wrong_in_pieces(
+    alloc: Global,
+    front: &[u8],
+    rows: &[(&'static str, u32, Cause)],
+    size: usize,
+) -> Result<Option<&'static str>, Memory>
+    requires { 0 < size }
+{
+    for (text, line, cause) in rows {
+        let whole = Pieces {
+            front,
+            piece: text.as_bytes(),
+            count: 1,
+            back: b"",
+        };
+        let bytes = whole.join(alloc)?;
+        let fault = LineFault {
+            line: *line,
+            cause: *cause,
+        };
+        if fed(alloc, &bytes, size).err() != Some(fault) {
+            return Ok(Some(*text));
+        }
+    }
+    Ok(None)
+}
+
+#[test]
+fn faults_of_texts_in_pieces(rt: HostRuntime) -> Result<(), Fail> {
+    let front = b"trace 1\nreplicas 2\n0 ins a 0 : a\n";
+    for size in 1..9 {
+        let wrong = first_wrong_in_pieces(rt.alloc(), b"", FIRST_TWO_LINES, size)?;
+        assert_eq!(rt; wrong, None);
+        let wrong = first_wrong_in_pieces(rt.alloc(), front, REFUSED, size)?;
+        assert_eq!(rt; wrong, None);
+    }
     Ok(())
 }

@@ -1,4 +1,4 @@
-//! A whole text, line by line.
+//! A whole text.
 
 ghost use Rattle.std.specs.Prelude.{◌≡◌, ◌+◌, ◌<◌, ◌∷◌, ◌++◌, length, IfOk, IfErr, IfSome, MatchOption};
 ghost use Rattle.std.specs.Prelude.{MatchResult};
@@ -9,13 +9,12 @@ ghost use Rattle.trace_text.specs.Causes.{cause_of};
 ghost use Rattle.trace_text.specs.Place.{IsBehindRightLines, TakesMemoryAt};
 
 use crate::cause::{Cause, LineFault};
-use crate::reading::Reading;
+use crate::reader::Reader;
 use events::{Recording, Refusal};
-use format_words::split_line;
 use std::alloc::Global;
 
 /// The recording that the text spells, or the first faulty line.
-fn read_lines(alloc: Global, bytes: &[u8]) -> Result<Recording, LineFault>
+fn read_at_once(alloc: Global, bytes: &[u8]) -> Result<Recording, LineFault>
     ensures ok { IfOk result (λ h. Spells bytes.now h) }
     ensures fault { IfErr result (λ fault. IfSome (cause_of fault.cause)
         (λ cause. IsFirstLineFault bytes.now fault.line cause)) }
@@ -23,19 +22,9 @@ fn read_lines(alloc: Global, bytes: &[u8]) -> Result<Recording, LineFault>
     ensures memory { IfErr result (λ fault. fault.cause ≡ Cause.Refused Refusal.Memory
         → TakesMemoryAt bytes.now fault.line) }
 {
-    let mut reading = Reading::Start;
-    let mut rest = bytes;
-    while !rest.is_empty() {
-        let Some((line, behind)) = split_line(rest) else {
-            return Err(LineFault {
-                line: reading.next_line(),
-                cause: Cause::Cut,
-            });
-        };
-        reading.line(alloc, line)?;
-        rest = behind;
-    }
-    reading.end()
+    let mut reader = Reader::new(alloc);
+    reader.feed(bytes)?;
+    reader.end()
 }
 
 /// The recording that the text spells, or the text's first faulty line with its cause.
@@ -43,8 +32,8 @@ fn read_lines(alloc: Global, bytes: &[u8]) -> Result<Recording, LineFault>
 /// Out of memory is `Refused(Memory)`, and only at a line after right lines whose reading takes memory: the
 /// second line of a recording, or an entry that has names in its response or is recorded. So it is never
 /// answered for another fault of the text, but for an entry with names that the recording refuses. That
-/// memory did run out, no contract can say. It takes time in proportion to the text, and keeps nothing but
-/// what the recording holds.
+/// memory did run out, no contract can say. It takes time in proportion to the text, and keeps what
+/// the recording holds and the last line, where that has no LF.
 pub fn read(alloc: Global, bytes: &[u8]) -> Result<Recording, LineFault>
     ensures ok { IfOk result (λ h. Spells bytes.now h) }
     ensures fault { IfErr result (λ fault. IfSome (cause_of fault.cause)
@@ -59,5 +48,5 @@ pub fn read(alloc: Global, bytes: &[u8]) -> Result<Recording, LineFault>
     ensures spelled { (h : History) → Spells bytes.now h
         → MatchResult result (λ g. g ≡ h) (λ fault. fault.cause ≡ Cause.Refused Refusal.Memory) }
 {
-    read_lines(alloc, bytes)
+    read_at_once(alloc, bytes)
 }

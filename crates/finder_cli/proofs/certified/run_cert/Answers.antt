@@ -1,17 +1,15 @@
-use Rattle.finder_cli.proofs.Reported.{written-of-read, front-of-read}
+use Rattle.finder_cli.proofs.Reported.{written-on, front-on, certificate-on}
 use Rattle.finder_cli.specs.Certified.{IsCertificateOn}
 use Rattle.finder_cli.proofs.certified.run_cert.Goals as goal
 
 pub returns-clause-certificate : goal.returns-clause-certificate
 returns-clause-certificate g c =
-    let read = c.in_ok-text.ensures.ok in
-    written-of-read IsCertificateOn _ _ _ _ c.deref.result.now c.in_ok-text.text.items c.in_ok-output.output.bytes.items c.in_ok-output.output.status c.write_output.result
-    record { consumed = read.0; ended = read.1; same = c.deref.ensures.value }
-    c.in_ok-output.ensures.ok c.write_output.ensures.ok
+    written-on IsCertificateOn c.args.source.now.bytes _ _ _ _ c.write_output.result
+    (certificate-on c.args.source.now.bytes c.in_ok-recording.recording c.in_ok-output.output.bytes.items c.in_ok-output.output.status c.in_ok-recording.ensures.ok c.in_ok-output.ensures)
+    c.write_output.ensures.ok
 
 pub returns-clause-write : goal.returns-clause-write
 returns-clause-write g c =
-    let read = c.in_ok-text.ensures.ok in
-    front-of-read IsCertificateOn _ _ _ _ _ c.deref.result.now c.in_ok-text.text.items c.in_ok-output.output.bytes.items c.in_ok-output.output.status c.write_output.result
-    record { consumed = read.0; ended = read.1; same = c.deref.ensures.value }
-    c.in_ok-output.ensures.ok c.write_output.ensures.err
+    front-on IsCertificateOn _ c.args.source.now.bytes _ _ _ _ c.write_output.result
+    (certificate-on c.args.source.now.bytes c.in_ok-recording.recording c.in_ok-output.output.bytes.items c.in_ok-output.output.status c.in_ok-recording.ensures.ok c.in_ok-output.ensures)
+    c.write_output.ensures.err

@@ -1,11 +1,13 @@
-use Rattle.std.proofs.Common.{ap, ◌∙◌, subst}
+use Rattle.std.proofs.Common.{ap, ◌∙◌, subst, sym}
+use Rattle.events.specs.History.{IsLegal}
+use Rattle.events.proofs.Legal.{legal_more}
 use Rattle.specification.specs.TraceText.{trace_lines}
 use Rattle.format_words.specs.Reading.{Fails}
 use Rattle.trace_text.specs.Reading.{entry_at, HasEntryNames}
 use Rattle.format_words.specs.Words.{words_of}
 use Rattle.format_words.specs.declared.stop.Stop.{Stop}
 use Rattle.trace_text.proofs.Spelled.{line-spells, line-spells-none}
-use Rattle.trace_text.proofs.FaultyLines.{one-line-more, refused-line}
+use Rattle.trace_text.proofs.FaultyLines.{one-line-more, refused-line, none-refused}
 use Rattle.trace_text.proofs.TakingLines.{takes-by-names, takes-by-record, refused-for}
 use Rattle.trace_text.proofs.reading.add_entry.Goals as goal
 
@@ -32,3 +34,9 @@ pub returns-in-Err-clause-memory : goal.returns-in-Err-clause-memory
 returns-in-Err-clause-memory c =
     let spelled = line-spells c.args.line.now c.in-Ok.entry c.in-Ok.ensures in
     λ is. takes-by-record c.args.recording.now c.args.line.now c.in-Ok.entry c.requires spelled.0 spelled.1 (c.in-Err.ensures.memory (refused-for c.in-Err.refused.why is))
+
+pub returns-in-Ok-record-clause-legal : goal.returns-in-Ok-record-clause-legal
+returns-in-Ok-record-clause-legal c =
+    let spelled = line-spells c.args.line.now c.in-Ok.entry c.in-Ok.ensures in
+    let taken = c.in-Ok-record.ensures.ok in
+    subst IsLegal (sym taken.1) (legal_more c.args.recording.now c.in-Ok.entry c.requires spelled.0.1 (none-refused _ _ _ taken.0))

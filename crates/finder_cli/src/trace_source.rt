@@ -1,0 +1,80 @@
+//! The recording that a source spells, read as it comes.
+
+ghost use Rattle.std.specs.Prelude.{◌≡◌, ◌++◌, true, false, IfOk, IfErr, IfSome, List, MatchOption, OnOk, ℕ};
+ghost use Rattle.std.specs.Io.KnownBytes.{IsAtEnd};
+ghost use Rattle.specification.specs.TraceText.{Spells};
+ghost use Rattle.trace_text.specs.Causes.{cause_of};
+ghost use Rattle.trace_text.specs.Fed.{WasFed};
+ghost use Rattle.byte_streams.specs.Streams.{IsClosed};
+ghost use Rattle.finder_cli.specs.Runs.{IsOfText, IsOfTrace, NamesFirstFault};
+
+use super::status::RunFault;
+use byte_streams::{Reader, Source};
+use events::{Recording, Refusal};
+use std::alloc::Global;
+use trace_text::{Cause, LineFault};
+
+/// How many bytes are asked for at once.
+const PIECE: usize = 65_536;
+
+/// The recording that the source's text spells, to its end. Each piece that a read gives is handed on before
+/// the next is asked for, and none is asked for behind the text's first fault.
+pub fn recording_from<R: Reader + Drop>(
+    alloc: Global,
+    source: &mut Source<R>,
+) -> Result<Recording, RunFault>
+    ensures ok { IfOk result (λ h. IfSome source.old.bytes (λ text. Spells text h)) }
+    ensures end { OnOk result (IsAtEnd source.new.bytes × (source.new.failed ≡ false)
+        × (source.new.ended ≡ true)) }
+    ensures trace { IfErr result (λ fault. IfSome source.old.bytes (λ text. NamesFirstFault text fault)) }
+    ensures faults { IfErr result IsOfTrace }
+    ensures read { IfErr result (λ fault. fault ≡ RunFault.Read → IsClosed source.new) }
+    ensures memory { IfErr result (λ fault. fault ≡ RunFault.Memory → source.new.failed ≡ false) }
+{
+    let mut reader = trace_text::Reader::new(alloc);
+    let mut buffer = [0; PIECE];
+    while let Some(n) = source.read(&mut buffer) {
+        if n == 0 {
+            return end(reader);
+        }
+        feed(&mut reader, &buffer[..n])?;
+    }
+    Err(RunFault::Read)
+}
+
+/// Hands on a piece.
+fn feed(reader: &mut trace_text::Reader, piece: &[u8]) -> Result<(), RunFault>
+    ensures fed { (text : List ℕ) → WasFed reader.old text → WasFed reader.new (text ++ piece.now) }
+    ensures faults { IfErr result IsOfText }
+    ensures trace { IfErr result (λ fault. (text more : List ℕ) → WasFed reader.old text
+        → NamesFirstFault ((text ++ piece.now) ++ more) fault) }
+{
+    match reader.feed(piece) {
+        Ok(()) => Ok(()),
+        Err(fault) => Err(trace_fault(fault)),
+    }
+}
+
+/// The recording that was handed on.
+fn end(reader: trace_text::Reader) -> Result<Recording, RunFault>
+    ensures ok { IfOk result (λ h. (text : List ℕ) → WasFed reader text → Spells text h) }
+    ensures faults { IfErr result IsOfText }
+    ensures trace { IfErr result (λ fault. (text : List ℕ) → WasFed reader text
+        → NamesFirstFault text fault) }
+{
+    match reader.end() {
+        Ok(recording) => Ok(recording),
+        Err(fault) => Err(trace_fault(fault)),
+    }
+}
+
+/// The run's fault for a text's: out of memory has no line.
+fn trace_fault(fault: LineFault) -> RunFault
+    ensures { MatchOption (cause_of fault.cause) (result ≡ RunFault.Memory)
+        (λ _. result ≡ RunFault.Trace fault) }
+{
+    match fault.cause {
+        Cause::Refused(Refusal::Memory) => RunFault::Memory,
+        _ => RunFault::Trace(fault),
+    }
+}

@@ -1,0 +1,99 @@
+#!/usr/bin/env python3
+"""pieces.py PROGRAM: traces that come through a pipe in pieces: vectors cut anywhere, endless streams, a line without end."""
+import os
+import random
+import resource
+import subprocess
+import sys
+import threading
+import time
+from pathlib import Path
+
+ROOT = Path(__file__).resolve().parents[2]
+sys.path.insert(0, str(ROOT / "tests"))
+from shared.program import Ended, Tally, fault, program_of, run  # noqa: E402
+
+VECTORS = ROOT / "tests" / "vectors"
+SEED = 11
+SIZES = (1, 2, 7, 4096)
+MANY = [f"{r} read :" for r in range(16) for _ in range(4096)]
+MANY_REPORT = b"replicas 16 operations 65536 inserts 0\naccepted\nstrong yes\nweak yes\norder :\n"
+
+
+def cuts(text: bytes, size: int) -> list[bytes]:
+    """The text in pieces of so many bytes."""
+    return [text[at:at + size] for at in range(0, len(text), size)]
+
+
+def random_cuts(text: bytes, rng: random.Random) -> list[bytes]:
+    """The text cut at some random places."""
+    places = sorted(rng.sample(range(len(text) + 1), min(len(text), 9)))
+    ends = [0, *places, len(text)]
+    return [text[a:b] for a, b in zip(ends, ends[1:]) if a < b]
+
+
+def piped(program: str, words: list, pieces) -> Ended:
+    """A run that is given each piece by a write of its own, as far as it reads."""
+    with subprocess.Popen([program, *words], stdin=subprocess.PIPE, stdout=subprocess.PIPE,
+                          stderr=subprocess.PIPE, bufsize=0) as started:
+        def give() -> None:
+            try:
+                for piece in pieces:
+                    started.stdin.write(piece)
+                started.stdin.close()
+            except BrokenPipeError:
+                pass
+        giver = threading.Thread(target=give)
+        giver.start()
+        out, err = started.stdout.read(), started.stderr.read()
+        status = started.wait(timeout=120)
+        giver.join()
+    return Ended(status, out, err)
+
+
+def try_vectors(program: str, tally: Tally) -> None:
+    """Each vector in pieces gives what it gives from a file."""
+    rng = random.Random(SEED)
+    for trace in sorted(VECTORS.glob("*.trace")):
+        text = trace.read_bytes()
+        for command in ("verdict", "cert", "live"):
+            wanted = run(program, [command, trace])
+            for size in SIZES:
+                tally.same(f"{command} {trace.name} by {size}", piped(program, [command, "-"], cuts(text, size)), wanted)
+            tally.same(f"{command} {trace.name} cut at random",
+                       piped(program, [command, "-"], random_cuts(text, rng)), wanted)
+
+
+def try_many_entries(program: str, tally: Tally) -> None:
+    """As many entries as there can be, in pieces that cut lines."""
+    text = ("trace 1\nreplicas 16\n" + "\n".join(MANY) + "\n").encode()
+    tally.same("65,536 reads", piped(program, ["verdict", "-"], cuts(text, 1000)), Ended(0, MANY_REPORT, b""))
+
+
+def endless(front: bytes):
+    """A text that goes on with right lines and never ends."""
+    yield front
+    while True:
+        yield b"0 read :\n" * 1000
+
+
+def try_endless(program: str, tally: Tally) -> None:
+    """A faulty line ends the program, though the stream goes on."""
+    for line, cause in ((b"01 read :\n", "shape"), (b"7 read :\n", "no such replica")):
+        started = time.monotonic()
+        ended = piped(program, ["verdict", "-"], endless(b"trace 1\nreplicas 1\n" + line))
+        tally.same(f"endless after {line!r}", ended, fault(f"line 3: {cause}"))
+        tally.check(f"endless after {line!r} in time", time.monotonic() - started < 5)
+
+
+def main() -> None:
+    program = program_of(sys.argv)
+    tally = Tally()
+    try_vectors(program, tally)
+    try_many_entries(program, tally)
+    try_endless(program, tally)
+    tally.close()
+
+
+if __name__ == "__main__":
+    main()
