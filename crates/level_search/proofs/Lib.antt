@@ -13,6 +13,8 @@ pub mod TableRows
 pub mod StepsRound
 pub mod ShortestFew
 pub mod Rising
+-- Lemmas on the search over a table.
+pub mod BallLemmas
 -- Lemmas on the workers.
 pub mod Teams
 pub mod LeastOffer

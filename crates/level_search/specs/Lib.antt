@@ -3,6 +3,7 @@ pub mod Walks
 pub mod Distances
 pub mod Rings
 pub mod Progress
+pub mod Balls
 pub mod ScratchView
 pub mod Steps
 pub mod Sources

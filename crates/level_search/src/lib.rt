@@ -8,6 +8,7 @@ mod laws;
 mod search_fault;
 mod searching;
 mod sources;
+mod tabled;
 mod workers;
 
 pub use conflict::conflict_number;
