@@ -4,7 +4,7 @@ use Rattle.std.specs.Prelude.{◌↔◌}
 use Rattle.std.proofs.lemmas.Bool.{cases_lt}
 use Rattle.shown_table.specs.Sets.{Has}
 use Rattle.shown_table.proofs.SetLemmas.{Has-either}
-use Rattle.shown_table.specs.Tables.{IsShown, IsTableOf, row_of}
+use Rattle.shown_table.specs.Tables.{IsShown, IsShownTable, row_of}
 use Rattle.level_search.specs.Balls.{IsAtLevel, IsBall, IsInLayer}
 use Rattle.level_search.specs.Graph.{Before}
 use Rattle.level_search.specs.Rings.{Reaches}
@@ -25,7 +25,7 @@ layer_more n sets x layer = record { known = (let k = layer.known in omega arith
 pub layer_last : (n : ℕ) (sets : Sets) (x : ℕ) → IsInLayer (n + 1) sets x → ¬ (x ≡ n) → IsInLayer n sets x
 layer_last n sets x layer apart = record { known = (let k = layer.known in omega arith); reached = layer.reached; not_near = layer.not_near }
 
-module _ (n : ℕ) (rows table : List (List ℕ)) (is : IsTableOf n rows table) (known : (a b : ℕ) → Before rows a b → (a < n) × (b < n)) (s : ℕ) where
+module _ (n : ℕ) (rows table : List (List ℕ)) (is : IsShownTable n rows table) (known : (a b : ℕ) → Before rows a b → (a < n) × (b < n)) (s : ℕ) where
   -- from an element of the layer exactly as many steps as the level lead to s
   pub layer_reaches : (level : ℕ) (sets : Sets) → IsAtLevel rows s level sets → (x : ℕ) → IsInLayer n sets x → Reaches rows s level x
   layer_reaches level sets at x layer =

@@ -6,6 +6,7 @@ pub mod Progress
 pub mod Balls
 pub mod ScratchView
 pub mod Steps
+pub mod Conflicts
 pub mod Sources
 pub mod Team
 pub mod BoundLaw

@@ -3,7 +3,7 @@
 ghost use Rattle.std.specs.Prelude.{◌≡◌, ℕ, ◌<◌, ◌≤◌, ◌⊎◌, ◌↔◌, true, false, length};
 ghost use Rattle.order_graph.specs.Lists.{lists_of};
 ghost use Rattle.shown_table.specs.Sets.{Has};
-ghost use Rattle.shown_table.specs.Tables.{IsTableOf, row_of};
+ghost use Rattle.shown_table.specs.Tables.{IsShownTable, row_of};
 ghost use Rattle.level_search.specs.Balls.{FitsSets, IsBall, IsInLayer};
 ghost use Rattle.level_search.specs.Walks.{IsSearchAnswer};
 
@@ -16,7 +16,7 @@ use shown_table::ShownTable;
 
 /// Whether the element stands before one of the layer.
 fn closes(graph: &OrderGraph, table: &ShownTable, element: u32, sets: &Sets) -> bool
-    requires { IsTableOf (length graph.now.elements) (lists_of graph.now) table.now }
+    requires { IsShownTable (length graph.now.elements) (lists_of graph.now) table.now }
     ensures found { result ≡ true → (x : ℕ) × IsInLayer (length graph.now.elements) sets.now x
         × Has (row_of table.now x) element }
     ensures missed { result ≡ false → (x : ℕ) → IsInLayer (length graph.now.elements) sets.now x
@@ -40,7 +40,7 @@ pub fn search_by_table<B: BoundSource>(
     source: &mut B,
 ) -> Option<u32>
     requires element { element < length graph.now.elements }
-    requires table { IsTableOf (length graph.now.elements) (lists_of graph.now) table.now }
+    requires table { IsShownTable (length graph.now.elements) (lists_of graph.now) table.now }
     requires fits { FitsSets (length graph.now.elements) sets.old }
     ensures answer { IsSearchAnswer (lists_of graph.now) element (B.last source.new) result }
     ensures bound { B.last source.new ≤ B.last source.old }

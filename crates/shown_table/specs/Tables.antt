@@ -16,7 +16,7 @@ abbrev pub HaveWidth : ℕ → List (List ℕ) → Type 0
 HaveWidth width rows = (a : ℕ) → a < length rows → length (row_of rows a) ≡ width
 
 -- the table has a row for each number below n, of those that stand before it in some list
-pub record IsTableOf (n : ℕ) (lists rows : List (List ℕ)) : Type 0 where
+pub record IsShownTable (n : ℕ) (lists rows : List (List ℕ)) : Type 0 where
   pub len : length rows ≡ n
   pub width : HaveWidth (n / 64 + 1) rows
   pub shown : (a b : ℕ) → b < n → Has (row_of rows b) a ↔ IsShown lists a b

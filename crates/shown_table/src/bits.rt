@@ -1,6 +1,7 @@
 //! Sets of numbers, a bit each.
 
-ghost use Rattle.std.specs.Prelude.{◌≡◌, ◌<◌, ◌+◌, ◌/◌, ◌⊎◌, ◌↔◌, ℕ, IfOk, IsTrue, List, length};
+ghost use Rattle.std.specs.Prelude.{◌≡◌, ◌<◌, ◌+◌, ◌/◌, ◌⊎◌, ◌↔◌, ℕ, IfOk, IfSome, IfNone, IsTrue, true};
+ghost use Rattle.std.specs.Prelude.{List, length, slice_index};
 ghost use Rattle.shown_table.specs.Sets.{Has, room};
 
 use super::words::{empty, is_within, join};
@@ -74,5 +75,63 @@ impl BitSet {
         ensures empty { (x : ℕ) → ¬ Has self.new x }
     {
         empty(&mut self.words);
+    }
+
+    /// Whether there is room for a number.
+    pub fn has_room(&self, n: usize) -> bool
+        ensures { IsTrue result ↔ n < room self.now }
+    {
+        n / 64 < self.words.len()
+    }
+
+    /// The greatest number below `n` that this set has and the other has not.
+    pub fn last_outside(&self, other: &BitSet, n: u32) -> Option<u32>
+        ensures some { IfSome result (λ x. (x < n) × Has self.now x × (¬ Has other.now x)) }
+        ensures last { IfSome result (λ x. (y : ℕ) → x < y → y < n → Has self.now y → Has other.now y) }
+        ensures none { IfNone result ((y : ℕ) → y < n → Has self.now y → Has other.now y) }
+    {
+        for word in (0..n / 64 + 1).rev() {
+            if !self.is_word_within(other, word) {
+                let found = self.last_in_word(other, word, n);
+                if found.is_some() {
+                    return found;
+                }
+            }
+        }
+        None
+    }
+
+    /// The bits of the 64 numbers of a word; 0 past the last word.
+    fn word(&self, word: u32) -> u64
+        ensures { result ≡ slice_index self.now word }
+    {
+        match self.words.get(word as usize) {
+            Some(bits) => *bits,
+            None => 0,
+        }
+    }
+
+    /// Whether the other set has what this one has of the numbers of a word.
+    fn is_word_within(&self, other: &BitSet, word: u32) -> bool
+        ensures { result ≡ true → (y : ℕ) → y / 64 ≡ word → Has self.now y → Has other.now y }
+    {
+        let bits = self.word(word);
+        bits & other.word(word) == bits
+    }
+
+    /// The greatest number of a word, below `n`, that this set has and the other has not.
+    fn last_in_word(&self, other: &BitSet, word: u32, n: u32) -> Option<u32>
+        ensures some { IfSome result (λ x. (x < n) × (x / 64 ≡ word) × Has self.now x × (¬ Has other.now x)) }
+        ensures last { IfSome result (λ x. (y : ℕ) → x < y → y < n → y / 64 ≡ word → Has self.now y
+            → Has other.now y) }
+        ensures none { IfNone result ((y : ℕ) → y < n → y / 64 ≡ word → Has self.now y → Has other.now y) }
+    {
+        for i in (0..64u64).rev() {
+            let x = word as u64 * 64 + i;
+            if x < n as u64 && self.contains(x as usize) && !other.contains(x as usize) {
+                return Some(x as u32);
+            }
+        }
+        None
     }
 }

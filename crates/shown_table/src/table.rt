@@ -3,7 +3,7 @@
 ghost use Rattle.std.specs.Prelude.{◌≡◌, ◌<◌, ◌≤◌, ◌+◌, ◌/◌, ◌⊎◌, ◌↔◌, ℕ, IfOk, OnOk, List, [], length};
 ghost use Rattle.order_graph.specs.Lists.{lists_of, row};
 ghost use Rattle.shown_table.specs.Sets.{Has};
-ghost use Rattle.shown_table.specs.Tables.{HaveWidth, IsTableOf, row_of};
+ghost use Rattle.shown_table.specs.Tables.{HaveWidth, IsShownTable, row_of};
 ghost use Rattle.shown_table.specs.Fronts.{IsBetween, IsFront};
 
 use super::bits::BitSet;
@@ -103,7 +103,7 @@ impl ShownTable {
     /// The table of a graph. It takes time linear in the places of all lists, at most 64 steps each, and
     /// `n * n / 8` bytes for n elements.
     pub fn of(alloc: Global, graph: &OrderGraph) -> Result<ShownTable, Memory>
-        ensures { IfOk result (λ t. IsTableOf (length graph.now.elements) (lists_of graph.now) t) }
+        ensures { IfOk result (λ t. IsShownTable (length graph.now.elements) (lists_of graph.now) t) }
     {
         let n = graph.elements() as usize;
         let mut rows = empty_rows(alloc, n)?;

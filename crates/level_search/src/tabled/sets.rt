@@ -3,7 +3,7 @@
 ghost use Rattle.std.specs.Prelude.{◌≡◌, ℕ, ◌*◌, ◌<◌, ◌⊎◌, ◌↔◌, IfOk, IsTrue, false, length};
 ghost use Rattle.order_graph.specs.Lists.{lists_of};
 ghost use Rattle.shown_table.specs.Sets.{Has};
-ghost use Rattle.shown_table.specs.Tables.{IsTableOf, row_of};
+ghost use Rattle.shown_table.specs.Tables.{IsShownTable, row_of};
 ghost use Rattle.level_search.specs.Balls.{FitsSets, IsInLayer};
 
 use events::Memory;
@@ -57,7 +57,7 @@ impl Sets {
 
     /// Puts together what stands before an element of the layer.
     fn gather(&mut self, graph: &OrderGraph, table: &ShownTable)
-        requires table { IsTableOf (length graph.now.elements) (lists_of graph.now) table.now }
+        requires table { IsShownTable (length graph.now.elements) (lists_of graph.now) table.now }
         requires fits { FitsSets (length graph.now.elements) self.old }
         ensures fits { FitsSets (length graph.now.elements) self.new }
         ensures near { self.new.near ≡ self.old.near }
@@ -75,7 +75,7 @@ impl Sets {
 
     /// Goes on to the next layer; whether there is one.
     pub fn next_layer(&mut self, graph: &OrderGraph, table: &ShownTable) -> bool
-        requires table { IsTableOf (length graph.now.elements) (lists_of graph.now) table.now }
+        requires table { IsShownTable (length graph.now.elements) (lists_of graph.now) table.now }
         requires fits { FitsSets (length graph.now.elements) self.old }
         ensures fits { FitsSets (length graph.now.elements) self.new }
         ensures near { (x : ℕ) → Has self.new.near x ↔ (Has self.old.near x ⊎ Has self.old.reached x) }
