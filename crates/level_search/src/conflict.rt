@@ -74,7 +74,7 @@ pub fn least_conflict<H: Threads + Sync, G: Gate>(
     ensures conflict { IfOk result (IsLeastConflict graph.now) }
     ensures workers { IsErrOf result SearchFault.Workers ↔ ((workers < 1) ⊎ (MOST_WORKERS < workers)) }
 {
-    if workers == 0 || workers > MOST_WORKERS {
+    if workers < 1 || workers > MOST_WORKERS {
         return Err(SearchFault::Workers);
     }
     // Its contract has that the responses are proper.
