@@ -36,11 +36,11 @@ module _ (lists : List (List ℕ)) (l j x : ℕ) (here : Stands lists l j x) whe
       let others : (b : ℕ) → ¬ (b ≡ x) → row_of (set rows x new) b ≡ row_of rows b = λ b apart. get_or-set_other rows x b new [] apart in
       let long : length (set rows x new) ≡ length rows = length-set rows x new in
       let to_x : (a b : ℕ) → b ≡ x → Has new a → Has (row_of (set rows x new) b) a =
-          λ a b e h. subst (λ (r : List ℕ). Has r a) (sym (ap (row_of (set rows x new)) e ∙ same)) h in
+      λ a b e h. subst (λ (r : List ℕ). Has r a) (sym (ap (row_of (set rows x new)) e ∙ same)) h in
       let from_x : (a b : ℕ) → b ≡ x → Has (row_of (set rows x new) b) a → Has new a =
-          λ a b e h. subst (λ (r : List ℕ). Has r a) (ap (row_of (set rows x new)) e ∙ same) h in
+      λ a b e h. subst (λ (r : List ℕ). Has r a) (ap (row_of (set rows x new)) e ∙ same) h in
       let old_x : (a b : ℕ) → b ≡ x → Has (row_of rows b) a → Has (row_of rows x) a =
-          λ a b e h. subst (λ i. Has (row_of rows i) a) e h in
+      λ a b e h. subst (λ i. Has (row_of rows i) a) e h in
       record {
         sound = λ a b low has. elim (cases_eq b x) [
           | inl e ↦ elim (only a (from_x a b e has)) [
@@ -134,10 +134,14 @@ noted_shown lists l rows past noted a b low = (
     | inl s ↦ (s.0, s.2)
     | inr s ↦ absurd (let w = s.within in omega arith)
   ],
-  λ s. noted.below a b low (s.0, elim (cases_lt s.0 (length lists)) [
-    | inl within ↦ omega arith
-    | inr over ↦ absurd (let none : length (row lists s.0) ≡ 0 = ap length (get_or_past lists s.0 [] over) in let w = s.1.second.within in omega arith)
-  ], s.1),
+  λ s. noted.below a b low (
+    s.0,
+    elim (cases_lt s.0 (length lists)) [
+      | inl within ↦ omega arith
+      | inr over ↦ absurd (let none : length (row lists s.0) ≡ 0 = ap length (get_or_past lists s.0 [] over) in let w = s.1.second.within in omega arith)
+    ],
+    s.1,
+  ),
 )
 
 -- where elements stood last, with one element more
@@ -196,10 +200,14 @@ pub back_noted : (lists : List (List ℕ)) (l j x : ℕ) (rows : List (List ℕ)
     → last.list + 1 ≡ l → f.next ≤ last.place → Stands lists last.list last.place x → (y : ℕ) → StandsBack lists l f.next y → Has (row_of rows x) y
 back_noted lists l j x rows f last within front before late stands y back =
     let same : back.list ≡ last.list = let b = back.is_before in omega arith in
-    front.noted.below y x within (last.list, (omega arith), record {
-      place = back.place;
-      later = last.place;
-      in_order = (let e = back.early in omega arith);
-      first = subst (λ m. Stands lists m back.place y) same back.stands;
-      second = stands;
-    })
+    front.noted.below y x within (
+      last.list,
+      (omega arith),
+      record {
+        place = back.place;
+        later = last.place;
+        in_order = (let e = back.early in omega arith);
+        first = subst (λ m. Stands lists m back.place y) same back.stands;
+        second = stands;
+      },
+    )

@@ -8,3 +8,6 @@ mod words;
 
 pub use bits::BitSet;
 pub use table::ShownTable;
+
+#[cfg(test)]
+mod tests;

@@ -49,11 +49,7 @@ fn note_place(
     };
     let last = front.last[x as usize];
     if goes_on(last, at.list, front.next) {
-        add_few(
-            &mut rows[x as usize],
-            front.fresh.as_slice(),
-            &front.before,
-        );
+        add_few(&mut rows[x as usize], front.fresh.as_slice(), &front.before);
         front.next = last.place as usize + 1;
     } else {
         rows[x as usize].union_with(&front.before);
@@ -110,7 +106,14 @@ impl ShownTable {
         let mut front = Front {
             before: BitSet::new(alloc, n)?,
             fresh: Vec::with_capacity(alloc, n)?,
-            last: Vec::from_elem(alloc, Spot { list: NO_LIST, place: 0 }, n)?,
+            last: Vec::from_elem(
+                alloc,
+                Spot {
+                    list: NO_LIST,
+                    place: 0,
+                },
+                n,
+            )?,
             next: 0,
         };
         for list in 0..graph.lists() {

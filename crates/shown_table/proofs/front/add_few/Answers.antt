@@ -9,7 +9,7 @@ pub insert-requires : goal.insert-requires
 insert-requires c =
     let few = c.args.few.now in
     let room : get_or few c.loop-y.y-index 0 < 64 * length c.args.all.now =
-        Has-room c.args.all.now (get_or few c.loop-y.y-index 0) (c.requires.within (get_or few c.loop-y.y-index 0) (Contains-get_or few c.loop-y.y-index 0 c.loop-y-test.true)) in
+    Has-room c.args.all.now (get_or few c.loop-y.y-index 0) (c.requires.within (get_or few c.loop-y.y-index 0) (Contains-get_or few c.loop-y.y-index 0 c.loop-y-test.true)) in
     let len = c.loop-y.invariant.len in
     let width = c.requires.width in
     omega arith
