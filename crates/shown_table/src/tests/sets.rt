@@ -1,10 +1,14 @@
 //! Sets of numbers.
+ghost use Rattle.std.specs.Prelude.{◌≡◌, IfOk, length};
+
 use crate::BitSet;
 use std::alloc::Global;
 use std::test::Fail;
 
 /// The set of some numbers, with room for 300. A call that finds no memory is made again.
-fn set_of(alloc: Global, numbers: &[usize]) -> Result<BitSet, Fail> {
+fn set_of(alloc: Global, numbers: &[usize]) -> Result<BitSet, Fail>
+    ensures { IfOk result (λ set. length set ≡ 5) }
+{
     let mut set = match BitSet::new(alloc, 300) {
         Ok(set) => set,
         Err(_) => BitSet::new(alloc, 300)?,
