@@ -9,7 +9,7 @@ ghost use Rattle.certificate.specs.VerdictOf.{verdict_of, IsRefusalOf};
 use super::verdict::Verdict;
 use contents_check::first_fault;
 use events::Recording;
-use level_search::{Gate, MOST_WORKERS, SearchFault, conflict_number, least_cycle};
+use level_search::{Conflict, Gate, MOST_WORKERS, SearchFault, least_conflict};
 use order_graph::OrderGraph;
 use std::alloc::Global;
 use std::thread::Threads;
@@ -24,8 +24,8 @@ use witness_order::order;
 /// the caller's thread.
 ///
 /// Without conflicts its cost is that of `first_fault` and linear in the places of all responses; where there
-/// are, `conflict_number` has the cost of the search. Memory is linear in the places, and for each
-/// worker in the elements and operations.
+/// are, `least_conflict` has the cost of the search. Memory is linear in the places, and where there are
+/// conflicts n * n / 8 bytes more for n elements, and linear in the elements for each worker.
 pub fn judge<H: Threads + Sync, G: Gate>(
     rt: &H,
     alloc: Global,
@@ -88,11 +88,8 @@ fn refuse<H: Threads + Sync, G: Gate>(
 {
     // Its contract has that the responses are proper.
     let _ = graph.elements();
-    match conflict_number(rt, alloc, graph, workers, gate)? {
-        Some(k) => {
-            let steps = least_cycle(alloc, graph, k)?;
-            Ok(Verdict::Refused { k, steps })
-        }
+    match least_conflict(rt, alloc, graph, workers, gate)? {
+        Some(Conflict { k, steps }) => Ok(Verdict::Refused { k, steps }),
         None => unreachable!(),
     }
 }

@@ -12,7 +12,10 @@ pub mod Joining
 pub mod TableRows
 pub mod StepsRound
 pub mod ShortestFew
+pub mod Lengths
 pub mod Rising
+-- Lemmas on the search over a table.
+pub mod BallLemmas
 -- Lemmas on the workers.
 pub mod Teams
 pub mod LeastOffer

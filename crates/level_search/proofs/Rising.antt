@@ -1,56 +1,84 @@
 -- An order of elements that each list follows: each cycle leads through an element that it leaves out.
-use Rattle.std.proofs.Common.{◌≡◌, ℕ, suc, ◌+◌, ◌<◌, ◌≤◌, ◌⊎◌, inl, inr, List, [], ◌∷◌, ◌++◌, length, get_or, slice_index, sym, ap, ◌∙◌, subst, arith}
-use Rattle.std.specs.Prelude.{Contains}
+use Rattle.std.proofs.Common.{◌≡◌, ◌≢◌, ℕ, suc, ◌+◌, ◌<◌, ◌≤◌, ◌⊎◌, inl, inr, List, [], ◌∷◌, ◌++◌, length, get_or, set, get_or-set_same, get_or-set_other, length-set, slice_index, sym, ap, ◌∙◌, subst, arith}
+use Rattle.std.specs.Prelude.{◌↔◌, Contains}
 use Rattle.std.proofs.lemmas.Bool.{cases_lt, cases_eq}
 use Rattle.std.proofs.lemmas.List.Elements.{Contains-append_left, Contains-append_right}
 use Rattle.specification.proofs.Members.{Contains-from_In}
-use Rattle.order_graph.specs.Lists.{row, Stands}
 use Rattle.level_search.specs.Graph.{Before}
 use Rattle.level_search.specs.Walks.{HasCycle}
 use Rattle.level_search.specs.Rings.{IsRing, Leads}
-use Rattle.level_search.specs.Sources.{UNRANKED, IsRanked, RisesTo, Rises}
+use Rattle.level_search.specs.Sources.{UNRANKED, IsRanked, AreRanked, Rises}
+use Rattle.shown_table.specs.Sets.{Has}
+use Rattle.shown_table.specs.Tables.{IsShownTable, row_of}
+use Rattle.level_search.proofs.BallLemmas.{before_shown}
 use Rattle.level_search.proofs.RingWalks.{ring_through, cycle_ring}
 
-module _ (rows : List (List ℕ)) (l : ℕ) where
-  same_place : (p j x y : ℕ) → p < j + 1 → j ≤ p → Stands rows l p y → Stands rows l j x → y ≡ x
-  same_place p j x y under over there here = let e : p ≡ j = omega arith in sym there.here ∙ ap (λ i. slice_index (row rows l) i) e ∙ here.here
+-- nothing is ranked where all have no rank
+pub ranked-none : (table : List (List ℕ)) (taken ranks : List ℕ) → ((x : ℕ) → x < length ranks → slice_index ranks x ≡ UNRANKED) → AreRanked table 0 taken ranks
+ranked-none table taken ranks none = record {
+  below = λ x low ranked. absurd (ranked (none x low));
+  are_taken = λ x low ranked. absurd (ranked (none x low));
+  closed = λ a b low ranked has. absurd (ranked (none b low));
+  rises = λ a b low high ranked later has. absurd (ranked (none a low));
+}
 
-module _ (rows : List (List ℕ)) (ranks : List ℕ) (l : ℕ) where
-  pub rises-none : (next : ℕ) → RisesTo rows ranks l 0 next
-  rises-none next = record { below = λ p x lt. absurd (omega arith); rises = λ p q x y lt inside. absurd (omega arith) }
+-- more is taken, and nothing more ranked
+pub ranked-more : (table : List (List ℕ)) (next : ℕ) (taken new ranks : List ℕ) → ((x : ℕ) → Has taken x → Has new x) → AreRanked table next taken ranks → AreRanked table (next + 1) new ranks
+ranked-more table next taken new ranks more are = record {
+  below = λ x low ranked. let lt = are.below x low ranked in omega arith;
+  are_taken = λ x low ranked. more x (are.are_taken x low ranked);
+  closed = λ a b low ranked has. more a (are.closed a b low ranked has);
+  rises = are.rises;
+}
 
-  -- one place more, whose element is left out of the order
-  pub rises-unranked : (j next x : ℕ) → RisesTo rows ranks l j next → Stands rows l j x → slice_index ranks x ≡ UNRANKED → RisesTo rows ranks l (j + 1) next
-  rises-unranked j next x so here out = record {
-    below = λ p y under there in_order. elim (cases_lt p j) [
-      | inl lt ↦ so.below p y lt there in_order
-      | inr over ↦ absurd (in_order (ap (slice_index ranks) (same_place rows l p j x y under over there here) ∙ out))
-    ];
-    rises = λ p q y z lt under first second ranked later. elim (cases_lt q j) [
-      | inl inside ↦ so.rises p q y z lt inside first second ranked later
-      | inr over ↦ absurd (later (ap (slice_index ranks) (same_place rows l q j x z under over second here) ∙ out))
-    ];
-  }
+-- one element more is ranked, before which only those stand that are taken
+pub ranked-one : (table : List (List ℕ)) (next x : ℕ) (taken new ranks : List ℕ) → x < length ranks → next < UNRANKED → ¬ Has taken x
+    → ((a : ℕ) → Has (row_of table x) a → Has taken a) → ((a : ℕ) → Has new a ↔ (Has taken a ⊎ (a ≡ x)))
+    → AreRanked table next taken ranks → AreRanked table (next + 1) new (set ranks x next)
+ranked-one table next x taken new ranks low small fresh behind grown are =
+    let long : length (set ranks x next) ≡ length ranks = length-set ranks x next in
+    let here : (a : ℕ) → a ≡ x → get_or (set ranks x next) a 0 ≡ next = λ a e. ap (λ i. get_or (set ranks x next) i 0) e ∙ get_or-set_same ranks x next 0 low in
+    let there : (a : ℕ) → a ≢ x → get_or (set ranks x next) a 0 ≡ get_or ranks a 0 = λ a apart. get_or-set_other ranks x a next 0 apart in
+    let was : (a : ℕ) → a ≢ x → IsRanked (set ranks x next) a → IsRanked ranks a = λ a apart ranked e. ranked (there a apart ∙ e) in
+    record {
+      below = λ a within ranked. elim (cases_eq a x) [
+        | inl e ↦ omega (arith, here a e)
+        | inr apart ↦ let lt = are.below a (omega (arith, long)) (was a apart ranked) in omega (arith, there a apart)
+      ];
+      are_taken = λ a within ranked. elim (cases_eq a x) [
+        | inl e ↦ (grown a).1 (inr e)
+        | inr apart ↦ (grown a).1 (inl (are.are_taken a (omega (arith, long)) (was a apart ranked)))
+      ];
+      closed = λ a b within ranked has. elim (cases_eq b x) [
+        | inl e ↦ (grown a).1 (inl (behind a (subst (λ i. Has (row_of table i) a) e has)))
+        | inr apart ↦ (grown a).1 (inl (are.closed a b (omega (arith, long)) (was b apart ranked) has))
+      ];
+      rises = λ a b low_a low_b first second has. elim (cases_eq b x) [
+        | inl e ↦
+            let gone = behind a (subst (λ i. Has (row_of table i) a) e has) in
+            elim (cases_eq a x) [
+              | inl same ↦ absurd (fresh (subst (Has taken) same gone))
+              | inr apart ↦ let lt = are.below a (omega (arith, long)) (was a apart first) in omega (arith, there a apart, here b e)
+            ]
+        | inr apart_b ↦
+            elim (cases_eq a x) [
+              | inl same ↦ absurd (fresh (subst (Has taken) same (are.closed a b (omega (arith, long)) (was b apart_b second) has)))
+              | inr apart ↦
+                  let lt = are.rises a b (omega (arith, long)) (omega (arith, long)) (was a apart first) (was b apart_b second) has in
+                  omega (arith, there a apart, there b apart_b)
+            ]
+      ];
+    }
 
-  -- one place more, whose element's rank is none of those before
-  pub rises-ranked : (j next x : ℕ) → RisesTo rows ranks l j next → Stands rows l j x → next ≤ slice_index ranks x → RisesTo rows ranks l (j + 1) (slice_index ranks x + 1)
-  rises-ranked j next x so here high = record {
-    below = λ p y under there in_order. elim (cases_lt p j) [
-      | inl lt ↦ let low = so.below p y lt there in_order in omega arith
-      | inr over ↦ let e : slice_index ranks y ≡ slice_index ranks x = ap (slice_index ranks) (same_place rows l p j x y under over there here) in omega arith
-    ];
-    rises = λ p q y z lt under first second ranked later. elim (cases_lt q j) [
-      | inl inside ↦ so.rises p q y z lt inside first second ranked later
-      | inr over ↦
-          let e : slice_index ranks z ≡ slice_index ranks x = ap (slice_index ranks) (same_place rows l q j x z under over second here) in
-          let low = so.below p y (omega arith) first ranked in
-          omega arith
-    ];
-  }
-
-  -- all places of the list
-  pub rises-whole : (j next : ℕ) → RisesTo rows ranks l j next → length (row rows l) ≤ j → Rises rows ranks l
-  rises-whole j next so past = record { rises = λ p q x y lt first second. so.rises p q x y lt (let within = second.within in omega arith) first second }
+-- along each list the ranked elements rise
+pub ranked-rise : (rows table : List (List ℕ)) (n next : ℕ) (taken ranks : List ℕ) → IsShownTable n rows table → length ranks ≡ n
+    → ((a b : ℕ) → Before rows a b → (a < n) × (b < n)) → AreRanked table next taken ranks → (l : ℕ) → Rises rows ranks l
+ranked-rise rows table n next taken ranks is long known are l = record {
+  rises = λ p q x y lt first second ranked later.
+      let before : Before rows x y = record { list = l; place = p; later = q; in_order = lt; first = first; second = second } in
+      let low = known x y before in
+      are.rises x y (omega (arith, long, low.0)) (omega (arith, long, low.1)) ranked later ((is.shown x y low.1).1 (before_shown rows x y before));
+}
 
 module _ (rows : List (List ℕ)) (ranks : List ℕ) (rise : (l : ℕ) → Rises rows ranks l) where
   before-rises : (a b : ℕ) → Before rows a b → IsRanked ranks a → IsRanked ranks b → slice_index ranks a < slice_index ranks b

@@ -3,8 +3,10 @@ pub mod Walks
 pub mod Distances
 pub mod Rings
 pub mod Progress
+pub mod Balls
 pub mod ScratchView
 pub mod Steps
+pub mod Conflicts
 pub mod Sources
 pub mod Team
 pub mod BoundLaw

@@ -1,5 +1,7 @@
 -- Elements to search from, and an order of the other elements that each list follows.
-use Rattle.std.specs.Prelude.{◌≢◌, ℕ, ◌<◌, List, slice_index, Contains}
+use Rattle.std.specs.Prelude.{◌≢◌, ℕ, ◌<◌, List, length, slice_index, Contains}
+use Rattle.shown_table.specs.Sets.{Has}
+use Rattle.shown_table.specs.Tables.{row_of}
 use Rattle.order_graph.specs.Lists.{Stands}
 use Rattle.level_search.specs.Walks.{HasCycle}
 
@@ -11,10 +13,12 @@ UNRANKED = 4294967295
 abbrev pub IsRanked : List ℕ → ℕ → Type 0
 IsRanked ranks x = slice_index ranks x ≢ UNRANKED
 
--- along the first j places of a list the ranked elements rise, and are below `next`
-pub record RisesTo (rows : List (List ℕ)) (ranks : List ℕ) (l j next : ℕ) : Type 0 where
-  pub below : (p x : ℕ) → p < j → Stands rows l p x → IsRanked ranks x → slice_index ranks x < next
-  pub rises : (p q x y : ℕ) → p < q → q < j → Stands rows l p x → Stands rows l q y → IsRanked ranks x → IsRanked ranks y → slice_index ranks x < slice_index ranks y
+-- the ranks are below `next`, and what stands before a ranked element by the table is taken, and has a lesser rank or none
+pub record AreRanked (table : List (List ℕ)) (next : ℕ) (taken ranks : List ℕ) : Type 0 where
+  pub below : (x : ℕ) → x < length ranks → IsRanked ranks x → slice_index ranks x < next
+  pub are_taken : (x : ℕ) → x < length ranks → IsRanked ranks x → Has taken x
+  pub closed : (a b : ℕ) → b < length ranks → IsRanked ranks b → Has (row_of table b) a → Has taken a
+  pub rises : (a b : ℕ) → a < length ranks → b < length ranks → IsRanked ranks a → IsRanked ranks b → Has (row_of table b) a → slice_index ranks a < slice_index ranks b
 
 -- along a list the ranked elements rise
 pub record Rises (rows : List (List ℕ)) (ranks : List ℕ) (l : ℕ) : Type 0 where

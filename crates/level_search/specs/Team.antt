@@ -5,7 +5,7 @@ use Rattle.shared_bound.specs.declared.TheConstants.{NO_OFFER}
 use Rattle.specification.specs.Responses.{Responses}
 use Rattle.specification.specs.Search.{IsShortestLength, HasNoCycle}
 use Rattle.order_graph.specs.Lists.{lists_of}
-use Rattle.level_search.specs.ScratchView.{Fits}
+use Rattle.level_search.specs.Balls.{FitsSets}
 use Rattle.level_search.specs.Walks.{HasCycle, NoneShorter}
 use Rattle.level_search.specs.declared.workers.worker.Worker.{Worker}
 
@@ -26,7 +26,7 @@ pub record Honest (rows : List (List ℕ)) (sources : List ℕ) (s : SeatView) :
 -- a worker may search this graph from these sources
 pub record IsReady (v : Responses) (sources : List ℕ) (w : Worker) : Type 0 where
   pub honest : Honest (lists_of v) sources w.seat
-  pub fits : Fits w.scratch v
+  pub fits : FitsSets (length v.elements) w.sets
 
 -- what no worker changes
 abbrev pub SameSeat : SeatView → SeatView → Type 0

@@ -1,16 +1,20 @@
-//! The conflict number.
+//! The conflict number, and the least conflict.
 
 ghost use Rattle.std.specs.Prelude.{◌≡◌, ◌⊎◌, ◌↔◌, ◌<◌, IfOk, IsErrOf};
 ghost use Rattle.specification.specs.Conflict.{IsConflictNumber};
+ghost use Rattle.level_search.specs.Conflicts.{IsLeastConflict};
 
 use super::MOST_WORKERS;
+use super::cycles::least_cycle_by_table;
 use super::gate::Gate;
 use super::search_fault::SearchFault;
 use super::workers::least_length;
 use order_graph::OrderGraph;
 use shared_bound::NO_OFFER;
+use shown_table::ShownTable;
 use std::alloc::Global;
 use std::thread::Threads;
+use witnesses::Steps;
 
 /// The conflict number: the least number of operations whose responses no order of the elements has all
 /// as subsequences; none where some order has the responses of all operations.
@@ -23,10 +27,10 @@ use std::thread::Threads;
 /// started, another runs its worker. The answer is the same for any number of workers, any gate and any order
 /// in which the workers come to run.
 ///
-/// The order takes time linear in the places for each element left out of it. A search sets back a mark for
-/// each list and element, and then looks at no more than all places and all elements; this is done for each
-/// element searched from. It takes memory linear in the elements and lists for each worker and for the order,
-/// all of it before the first search.
+/// All searches read one table, which has for each element the set of those that some list shows before it, a
+/// bit each: n * n / 8 bytes for n elements, made in time linear in the places. A search takes n / 64 steps
+/// for each element that it reaches, and n for each of its levels. Each worker takes memory linear in the
+/// elements. All memory is taken before the first search.
 pub fn conflict_number<H: Threads + Sync, G: Gate>(
     rt: &H,
     alloc: Global,
@@ -42,10 +46,44 @@ pub fn conflict_number<H: Threads + Sync, G: Gate>(
     }
     // Its contract has that the responses are proper.
     let _ = graph.elements();
-    let least = least_length(rt, alloc, graph, workers, gate)?;
+    let table = ShownTable::of(alloc, graph)?;
+    let least = least_length(rt, alloc, graph, &table, workers, gate)?;
     if least == NO_OFFER {
         Ok(None)
     } else {
         Ok(Some(least))
     }
+}
+
+/// A conflict: its number, and the steps of the least cycle, as many.
+#[derive(Drop)]
+pub struct Conflict {
+    pub k: u32,
+    pub steps: Steps,
+}
+
+/// The conflict number and the least cycle, as `conflict_number` and `least_cycle` find them; none where
+/// some order has the responses of all operations. The table that the searches read is made once for both.
+pub fn least_conflict<H: Threads + Sync, G: Gate>(
+    rt: &H,
+    alloc: Global,
+    graph: &OrderGraph,
+    workers: u32,
+    gate: &G,
+) -> Result<Option<Conflict>, SearchFault>
+    ensures conflict { IfOk result (IsLeastConflict graph.now) }
+    ensures workers { IsErrOf result SearchFault.Workers ↔ ((workers < 1) ⊎ (MOST_WORKERS < workers)) }
+{
+    if workers < 1 || workers > MOST_WORKERS {
+        return Err(SearchFault::Workers);
+    }
+    // Its contract has that the responses are proper.
+    let _ = graph.elements();
+    let table = ShownTable::of(alloc, graph)?;
+    let least = least_length(rt, alloc, graph, &table, workers, gate)?;
+    if least == NO_OFFER {
+        return Ok(None);
+    }
+    let steps = least_cycle_by_table(alloc, graph, &table, least)?;
+    Ok(Some(Conflict { k: least, steps }))
 }

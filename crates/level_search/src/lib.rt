@@ -8,9 +8,10 @@ mod laws;
 mod search_fault;
 mod searching;
 mod sources;
+mod tabled;
 mod workers;
 
-pub use conflict::conflict_number;
+pub use conflict::{Conflict, conflict_number, least_conflict};
 pub use cycles::least_cycle;
 pub use gate::{Gate, NoGate};
 pub use laws::{least_offer_is_shortest, most_workers_is_the_number};

@@ -1,36 +1,94 @@
 //! The elements from which it is enough to search.
 
-ghost use Rattle.std.specs.Prelude.{◌≡◌, ◌<◌, ◌≤◌, ℕ, All, Contains, IfOk, IsTrue, length, slice_index};
+ghost use Rattle.std.specs.Prelude.{◌≡◌, ◌+◌, ◌/◌, ◌<◌, ◌≤◌, ℕ, All, Contains, IfOk, length, slice_index};
 ghost use Rattle.order_graph.specs.Lists.{lists_of};
-ghost use Rattle.level_search.specs.Sources.{MeetsCycles, Rises};
+ghost use Rattle.shown_table.specs.Tables.{IsShownTable};
+ghost use Rattle.level_search.specs.Sources.{AreRanked, MeetsCycles, Rises};
 
 mod peeling;
 
 use events::Memory;
-use order_graph::{Looked, OrderGraph};
-use peeling::{UNRANKED, ranks_of};
+use order_graph::OrderGraph;
+use peeling::order_taken;
+use shown_table::{BitSet, ShownTable};
 use std::alloc::Global;
 
+/// The rank of an element that is out of place.
+const UNRANKED: u32 = u32::MAX;
 /// Where there are no more elements than this, each is searched from.
 const FEW: u32 = 64;
 
 /// Elements through one of which each cycle leads: a feedback vertex set of the graph whose edges lead from
 /// each element to those that some list shows after it.
 ///
-/// Where the elements are many, those are taken that had to be left out of an order which all lists
-/// follow. The order is a guess, and tested here: where it fails the test, each element is taken.
-pub fn feedback_vertex_set(alloc: Global, graph: &OrderGraph) -> Result<Vec<u32>, Memory>
+/// Where the elements are many, those are taken that stand out of place in some order of all. The order is a
+/// guess: an element is in its place where all that stands before it in some list comes earlier.
+pub fn feedback_vertex_set(
+    alloc: Global,
+    graph: &OrderGraph,
+    table: &ShownTable,
+) -> Result<Vec<u32>, Memory>
+    requires table { IsShownTable (length graph.now.elements) (lists_of graph.now) table.now }
     ensures known { IfOk result (λ v. All (λ s. s < length graph.now.elements) v.items) }
     ensures count { IfOk result (λ v. length v.items ≤ length graph.now.elements) }
     ensures met { IfOk result (λ v. MeetsCycles (lists_of graph.now) (length graph.now.elements) v.items) }
 {
-    if graph.elements() > FEW {
-        let ranks = ranks_of(alloc, graph)?;
-        if all_rise(graph, &ranks) {
-            return unranked(alloc, &ranks);
+    if graph.elements() <= FEW {
+        return all_elements(alloc, graph);
+    }
+    let order = order_taken(alloc, graph, table)?;
+    let ranks = ranks_along(alloc, graph, table, &order)?;
+    unranked(alloc, &ranks)
+}
+
+/// The places of the elements in an order, but for those that are out of place, and those that the order
+/// lacks.
+fn ranks_along(
+    alloc: Global,
+    graph: &OrderGraph,
+    table: &ShownTable,
+    order: &[u32],
+) -> Result<Vec<u32>, Memory>
+    requires table { IsShownTable (length graph.now.elements) (lists_of graph.now) table.now }
+    ensures count { IfOk result (λ ranks. length ranks.items ≡ length graph.now.elements) }
+    ensures rise { IfOk result (λ ranks. (l : ℕ) → Rises (lists_of graph.now) ranks.items l) }
+{
+    let elements = graph.elements();
+    let mut ranks = Vec::from_elem(alloc, UNRANKED, elements as usize)?;
+    let mut taken = BitSet::new(alloc, elements as usize)?;
+    for rank in 0..elements {
+        if let Some(x) = order.get(rank as usize) {
+            take(graph, table, *x, rank, &mut taken, ranks.as_mut_slice());
         }
     }
-    all_elements(alloc, graph)
+    Ok(ranks)
+}
+
+/// Takes an element: it has this rank where all that stands before it was taken.
+fn take(
+    graph: &OrderGraph,
+    table: &ShownTable,
+    x: u32,
+    rank: u32,
+    taken: &mut BitSet,
+    ranks: &mut [u32],
+)
+    requires table { IsShownTable (length graph.now.elements) (lists_of graph.now) table.now }
+    requires width { length taken.old ≡ length graph.now.elements / 64 + 1 }
+    requires count { length ranks.old ≡ length graph.now.elements }
+    requires rank { rank < UNRANKED }
+    requires ranked { AreRanked table.now rank taken.old ranks.old }
+    ensures width { length taken.new ≡ length taken.old }
+    ensures count { length ranks.new ≡ length ranks.old }
+    ensures ranked { AreRanked table.now (rank + 1) taken.new ranks.new }
+{
+    if x >= graph.elements() || taken.contains(x as usize) {
+        return;
+    }
+    if table.before(x).is_subset(taken) {
+        ranks[x as usize] = rank;
+    }
+    taken.insert(x as usize);
 }
 
 /// Each element.
@@ -61,38 +119,4 @@ fn unranked(alloc: Global, ranks: &[u32]) -> Result<Vec<u32>, Memory>
         }
     }
     Ok(elements)
-}
-
-/// Whether along each list the ranked elements rise.
-fn all_rise(graph: &OrderGraph, ranks: &[u32]) -> bool
-    requires { length ranks.now ≡ length graph.now.elements }
-    ensures { IsTrue result → (l : ℕ) → Rises (lists_of graph.now) ranks.now l }
-{
-    let mut looked = Looked::new();
-    for list in 0..graph.lists() {
-        if !rises(graph, list, ranks, &mut looked) {
-            return false;
-        }
-    }
-    true
-}
-
-/// Whether along a list the ranked elements rise.
-fn rises(graph: &OrderGraph, list: u32, ranks: &[u32], looked: &mut Looked) -> bool
-    requires { length ranks.now ≡ length graph.now.elements }
-    ensures { IsTrue result → Rises (lists_of graph.now) ranks.now list }
-{
-    let mut next = 0;
-    for j in 0..graph.length(list) {
-        if let Some(x) = graph.place(list, j, looked) {
-            let rank = ranks[x as usize];
-            if rank != UNRANKED {
-                if rank < next {
-                    return false;
-                }
-                next = rank + 1;
-            }
-        }
-    }
-    true
 }

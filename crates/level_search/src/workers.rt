@@ -4,6 +4,7 @@ ghost use Rattle.std.specs.Prelude.{◌≡◌, ℕ, ◌+◌, ◌-◌, ◌<◌, �
 ghost use Rattle.order_graph.specs.Lists.{lists_of};
 ghost use Rattle.specification.specs.Responses.{AreProper};
 ghost use Rattle.shared_bound.specs.Seats.{fresh_seat};
+ghost use Rattle.shown_table.specs.Tables.{IsShownTable};
 ghost use Rattle.level_search.specs.Sources.{MeetsCycles};
 ghost use Rattle.level_search.specs.Team.{CanWork, HasWorked, HaveWorked, Honest, IsLeastLength, IsTeam};
 
@@ -16,6 +17,7 @@ use super::sources::feedback_vertex_set;
 use events::Memory;
 use order_graph::OrderGraph;
 use shared_bound::{Bound, NO_OFFER, Seat};
+use shown_table::ShownTable;
 use std::alloc::Global;
 use std::thread;
 use std::thread::Threads;
@@ -47,10 +49,12 @@ fn team<'a>(
 fn work_all<H: Threads + Sync, G: Gate>(
     rt: &H,
     graph: &OrderGraph,
+    table: &ShownTable,
     sources: &[u32],
     gate: &G,
     team: &mut [Worker],
 )
+    requires table { IsShownTable (length graph.now.elements) (lists_of graph.now) table.now }
     requires known { All (λ s. s < length graph.now.elements) sources.now }
     requires team { All (CanWork graph.now sources.now) team.old }
     ensures { HaveWorked graph.now sources.now team.old team.new }
@@ -61,10 +65,11 @@ fn work_all<H: Threads + Sync, G: Gate>(
         team,
         threads,
         &|_: usize, worker: &mut Worker|
+            requires table { IsShownTable (length graph.now.elements) (lists_of graph.now) table.now }
             requires known { All (λ s. s < length graph.now.elements) sources.now }
             requires ready { CanWork graph.now sources.now worker.old }
             ensures { HasWorked graph.entry.now sources.entry.now worker.old worker.new }
-        { work(graph, sources, gate, worker) },
+        { work(graph, table, sources, gate, worker) },
     );
 }
 
@@ -109,10 +114,12 @@ fn least_from<H: Threads + Sync, G: Gate>(
     rt: &H,
     alloc: Global,
     graph: &OrderGraph,
+    table: &ShownTable,
     sources: &[u32],
     workers: u32,
     gate: &G,
 ) -> Result<u32, Memory>
+    requires table { IsShownTable (length graph.now.elements) (lists_of graph.now) table.now }
     requires workers { (1 ≤ workers) × (workers ≤ MOST_WORKERS) }
     requires proper { AreProper graph.now }
     requires known { All (λ s. s < length graph.now.elements) sources.now }
@@ -122,7 +129,7 @@ fn least_from<H: Threads + Sync, G: Gate>(
 {
     let (bound, first) = Bound::new(alloc, sources.len() as u32, workers)?;
     let mut team = team(alloc, graph, sources, &bound, first, workers)?;
-    work_all(rt, graph, sources, gate, team.as_mut_slice());
+    work_all(rt, graph, table, sources, gate, team.as_mut_slice());
     let Some(last) = team.pop() else {
         unreachable!()
     };
@@ -136,13 +143,15 @@ pub fn least_length<H: Threads + Sync, G: Gate>(
     rt: &H,
     alloc: Global,
     graph: &OrderGraph,
+    table: &ShownTable,
     workers: u32,
     gate: &G,
 ) -> Result<u32, Memory>
+    requires table { IsShownTable (length graph.now.elements) (lists_of graph.now) table.now }
     requires workers { (1 ≤ workers) × (workers ≤ MOST_WORKERS) }
     requires proper { AreProper graph.now }
     ensures { IfOk result (IsLeastLength graph.now) }
 {
-    let sources = feedback_vertex_set(alloc, graph)?;
-    least_from(rt, alloc, graph, &sources, workers, gate)
+    let sources = feedback_vertex_set(alloc, graph, table)?;
+    least_from(rt, alloc, graph, table, &sources, workers, gate)
 }

@@ -6,14 +6,17 @@ ghost use Rattle.specification.specs.Search.{IsShortestLength};
 ghost use Rattle.order_graph.specs.Lists.{lists_of};
 ghost use Rattle.level_search.specs.Graph.{graph_of};
 ghost use Rattle.level_search.specs.Rings.{IsFirstRing, IsLeastNext, IsTableOf, Reaches};
-ghost use Rattle.level_search.specs.ScratchView.{Fits};
+ghost use Rattle.shown_table.specs.Tables.{IsShownTable};
+ghost use Rattle.level_search.specs.Balls.{FitsSets};
 ghost use Rattle.level_search.specs.Walks.{HasCycle};
 
 use super::choose::least_next;
 use super::tables::tables;
-use crate::searching::{PlainBound, Scratch, search_by_number};
+use crate::searching::PlainBound;
+use crate::tabled::{Sets, search_by_table};
 use events::Memory;
 use order_graph::{Looked, OrderGraph};
+use shown_table::ShownTable;
 use std::alloc::Global;
 
 /// The next element of the least ring: n steps lead on from it.
@@ -33,8 +36,9 @@ fn next_of_ring(
 }
 
 /// The least element through which a shortest cycle leads.
-fn first_source(graph: &OrderGraph, k: u32, scratch: &mut Scratch) -> u32
-    requires fits { Fits scratch.old graph.now }
+fn first_source(graph: &OrderGraph, table: &ShownTable, k: u32, sets: &mut Sets) -> u32
+    requires table { IsShownTable (length graph.now.elements) (lists_of graph.now) table.now }
+    requires fits { FitsSets (length graph.now.elements) sets.old }
     requires least { IsShortestLength graph.now k }
     ensures known { result < length graph.now.elements }
     ensures cycle { HasCycle (lists_of graph.now) result k }
@@ -44,7 +48,7 @@ fn first_source(graph: &OrderGraph, k: u32, scratch: &mut Scratch) -> u32
 {
     for element in 0..graph.elements() {
         let mut source = PlainBound { least: k + 1 };
-        if search_by_number(graph, element, scratch, &mut source).is_some() {
+        if search_by_table(graph, table, element, sets, &mut source).is_some() {
             return element;
         }
     }
@@ -84,15 +88,18 @@ fn ring_from(alloc: Global, graph: &OrderGraph, element: u32, k: u32) -> Result<
 pub fn least_ring(
     alloc: Global,
     graph: &OrderGraph,
+    table: &ShownTable,
     k: u32,
-    scratch: &mut Scratch,
 ) -> Result<Vec<u32>, Memory>
-    requires fits { Fits scratch.old graph.now }
+    requires table { IsShownTable (length graph.now.elements) (lists_of graph.now) table.now }
     requires least { IsShortestLength graph.now k }
     ensures proper { AreProper graph.now }
     ensures first { IfOk result (λ v. IsFirstRing (lists_of graph.now) k v.items) }
 {
-    let element = first_source(graph, k, scratch);
+    // Its contract has that the responses are proper.
+    let _ = graph.elements();
+    let mut sets = Sets::new(alloc, graph)?;
+    let element = first_source(graph, table, k, &mut sets);
     let ring = ring_from(alloc, graph, element, k)?;
     Ok(ring)
 }

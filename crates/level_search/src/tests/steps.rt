@@ -4,7 +4,7 @@ ghost use Rattle.specification.specs.Search.{IsShortestLength};
 
 use super::conflicts::{PAIR_APART, number_of};
 use super::graphs::ask_on;
-use crate::{NoGate, SearchFault, Step, Steps, least_cycle};
+use crate::{Conflict, NoGate, SearchFault, Step, Steps, least_conflict, least_cycle};
 use events::{Memory, Name, OpName};
 use order_graph::OrderGraph;
 use sample_recordings::{OPPOSITE_PAIR, RING_OF_FOUR, THREE_WAY_CYCLE};
@@ -34,6 +34,18 @@ fn steps_of(
     match number_of(rt, alloc, graph, 1, &NoGate)? {
         Some(k) => Ok(Some(least(alloc, graph, k)?)),
         None => Ok(None),
+    }
+}
+
+/// The least conflict of a graph. A call that finds no memory is made again.
+fn conflict_of(
+    rt: &(impl Threads + Sync),
+    alloc: Global,
+    graph: &OrderGraph,
+) -> Result<Option<Conflict>, SearchFault> {
+    match least_conflict(rt, alloc, graph, 2, &NoGate) {
+        Err(SearchFault::Memory) => least_conflict(rt, alloc, graph, 2, &NoGate),
+        found => found,
     }
 }
 
@@ -75,6 +87,20 @@ fn leads_round(
     }
 }
 
+/// Whether the least conflict of the recording that a text spells has exactly these steps, and their number.
+fn has_conflict(
+    rt: &(impl Threads + Sync),
+    alloc: Global,
+    text: &str,
+    expected: &[Shown],
+) -> Result<bool, Fail> {
+    let found = ask_on(rt, alloc, text, |graph| Ok(conflict_of(rt, alloc, graph)?))?;
+    match found {
+        Some(Conflict { k, steps }) => Ok(k as usize == expected.len() && are(&steps, expected)?),
+        None => Ok(false),
+    }
+}
+
 const RING_STEPS: [Shown; 4] = [
     Shown("a", "b", 2, 1),
     Shown("b", "c", 3, 1),
@@ -102,6 +128,20 @@ fn steps_of_worked_recordings(rt: HostRuntime) -> Result<(), Fail> {
     ];
     for (text, expected) in rows {
         assert!(rt; leads_round(&rt, rt.alloc(), text, expected)?, "at {text}");
+    }
+    Ok(())
+}
+
+#[test]
+fn conflicts_of_worked_recordings(rt: HostRuntime) -> Result<(), Fail> {
+    let rows = [
+        (RING_OF_FOUR, RING_STEPS.as_slice()),
+        (THREE_WAY_CYCLE, CYCLE_STEPS.as_slice()),
+        (OPPOSITE_PAIR, PAIR_STEPS.as_slice()),
+        (PAIR_APART, APART_STEPS.as_slice()),
+    ];
+    for (text, expected) in rows {
+        assert!(rt; has_conflict(&rt, rt.alloc(), text, expected)?, "at {text}");
     }
     Ok(())
 }

@@ -2,16 +2,18 @@
 
 ghost use Rattle.std.specs.Prelude.{◌≡◌, ℕ, List, ◌<◌, ◌≤◌, true, [], length, IfOk, All};
 ghost use Rattle.order_graph.specs.Lists.{lists_of};
-ghost use Rattle.level_search.specs.ScratchView.{Fits};
+ghost use Rattle.shown_table.specs.Tables.{IsShownTable};
+ghost use Rattle.level_search.specs.Balls.{FitsSets};
 ghost use Rattle.level_search.specs.Team.{IsLength, IsReady, SameSeat};
 ghost use Rattle.level_search.specs.Walks.{NoneShorter};
 
 use super::bound_seat::BoundSeat;
 use crate::gate::Gate;
-use crate::searching::{Scratch, search_by_number};
+use crate::tabled::{Sets, search_by_table};
 use events::Memory;
 use order_graph::OrderGraph;
 use shared_bound::{Bound, NO_OFFER, Seat};
+use shown_table::ShownTable;
 use std::alloc::Global;
 
 /// One of those who search for the conflict number: its number, its seat at the shared bound, and what its
@@ -20,7 +22,7 @@ use std::alloc::Global;
 pub struct Worker<'a> {
     pub number: u32,
     pub seat: BoundSeat<'a>,
-    pub scratch: Scratch,
+    pub sets: Sets,
 }
 
 impl<'a> Worker<'a> {
@@ -38,11 +40,11 @@ impl<'a> Worker<'a> {
         ensures seat { IfOk result (λ w. w.seat ≡ seat) }
         ensures ready { IfOk result (λ w. (sources : List ℕ) → IsReady graph.now sources w) }
     {
-        let scratch = Scratch::new(alloc, graph)?;
+        let sets = Sets::new(alloc, graph)?;
         Ok(Worker {
             number,
             seat: BoundSeat::new(bound, seat),
-            scratch,
+            sets,
         })
     }
 
@@ -53,19 +55,26 @@ impl<'a> Worker<'a> {
         let Worker {
             number: _,
             seat,
-            scratch: _,
+            sets: _,
         } = self;
         seat.into_seat()
     }
 }
 
 /// Searches from one element, between the gate's calls, and offers the length that it finds.
-fn search_from<G: Gate>(graph: &OrderGraph, source: u32, gate: &G, worker: &mut Worker)
+fn search_from<G: Gate>(
+    graph: &OrderGraph,
+    table: &ShownTable,
+    source: u32,
+    gate: &G,
+    worker: &mut Worker,
+)
     requires element { source < length graph.now.elements }
-    requires fits { Fits worker.old.scratch graph.now }
+    requires table { IsShownTable (length graph.now.elements) (lists_of graph.now) table.now }
+    requires fits { FitsSets (length graph.now.elements) worker.old.sets }
     requires known { worker.old.seat.low ≤ NO_OFFER }
     ensures number { worker.new.number ≡ worker.old.number }
-    ensures fits { Fits worker.new.scratch graph.now }
+    ensures fits { FitsSets (length graph.now.elements) worker.new.sets }
     ensures searched { NoneShorter (lists_of graph.now) source worker.new.seat.low }
     ensures falls { worker.new.seat.low ≤ worker.old.seat.low }
     ensures seat { worker.new.seat ≡ record worker.old.seat {
@@ -76,14 +85,23 @@ fn search_from<G: Gate>(graph: &OrderGraph, source: u32, gate: &G, worker: &mut 
         → All (IsLength (lists_of graph.now)) worker.new.seat.offered }
 {
     gate.before(worker.number, source);
-    if let Some(length) = search_by_number(graph, source, &mut worker.scratch, &mut worker.seat) {
+    if let Some(length) =
+        search_by_table(graph, table, source, &mut worker.sets, &mut worker.seat)
+    {
         worker.seat.offer(length);
     }
     gate.after(worker.number, source);
 }
 
 /// Claims places of the sources until none is left, and searches from the element at each.
-pub fn work<G: Gate>(graph: &OrderGraph, sources: &[u32], gate: &G, worker: &mut Worker)
+pub fn work<G: Gate>(
+    graph: &OrderGraph,
+    table: &ShownTable,
+    sources: &[u32],
+    gate: &G,
+    worker: &mut Worker,
+)
+    requires table { IsShownTable (length graph.now.elements) (lists_of graph.now) table.now }
     requires known { All (λ s. s < length graph.now.elements) sources.now }
     requires count { worker.old.seat.bound.sources ≡ length sources.now }
     requires ready { IsReady graph.now sources.now worker.old }
@@ -93,6 +111,6 @@ pub fn work<G: Gate>(graph: &OrderGraph, sources: &[u32], gate: &G, worker: &mut
     ensures same { SameSeat worker.old.seat worker.new.seat }
 {
     while let Some(place) = worker.seat.claim() {
-        search_from(graph, sources[place as usize], gate, worker);
+        search_from(graph, table, sources[place as usize], gate, worker);
     }
 }

@@ -1,5 +1,5 @@
--- Each cycle leads through an element that the order leaves out; and through an element.
-use Rattle.std.proofs.Common.{◌≡◌, refl, ℕ, ◌<◌, inl, inr, List, length, slice_index, sym, ◌∙◌, subst, arith}
+-- Each cycle leads through an element that the order leaves out.
+use Rattle.std.proofs.Common.{◌≡◌, ℕ, ◌<◌, inl, inr, List, length, slice_index, sym, ◌∙◌, subst, arith}
 use Rattle.std.specs.Prelude.{Contains}
 use Rattle.std.proofs.lemmas.Bool.{cases_lt}
 use Rattle.std.proofs.lemmas.List.{get_or_past}
@@ -17,16 +17,16 @@ ranks-within ranks t out = elim (cases_lt t (length ranks)) [
   | inr past ↦ absurd (let none : slice_index ranks t ≡ 0 = get_or_past ranks t 0 past in omega arith)
 ]
 
-left-out_meet : (rows : List (List ℕ)) (tested ranks sources : List ℕ) (elements : ℕ) → tested ≡ ranks → ((l : ℕ) → Rises rows tested l)
+left-out_meet : (rows : List (List ℕ)) (made ranks sources : List ℕ) (elements : ℕ) → ranks ≡ made → ((l : ℕ) → Rises rows made l)
     → ((x : ℕ) → x < length ranks → slice_index ranks x ≡ UNRANKED → Contains sources x) → MeetsCycles rows elements sources
-left-out_meet rows tested ranks sources elements same rise all = λ s n known cycle.
-    let found = cycle-leaves_out rows ranks (λ l. subst (λ (r : List ℕ). Rises rows r l) same (rise l)) s n cycle in
+left-out_meet rows made ranks sources elements same rise all = λ s n known cycle.
+    let found = cycle-leaves_out rows ranks (λ l. subst (λ (r : List ℕ). Rises rows r l) (sym same) (rise l)) s n cycle in
     (found.0, all found.0 (ranks-within ranks found.0 found.1) found.1, found.2)
 
-pub returns-then-all_rise-clause-met : goal.returns-then-all_rise-clause-met
-returns-then-all_rise-clause-met c =
+pub returns-clause-met : goal.returns-clause-met
+returns-clause-met c =
     let v : Responses = c.args.graph.now in
     IfOk-weaker c.unranked.result _ _
-    (λ sources all. left-out_meet (lists_of v) c.deref.result.now c.deref-then-all_rise.result.now sources.items (length v.elements)
-    (c.deref.ensures.value ∙ sym c.deref-then-all_rise.ensures.value) (c.if-all_rise.ensures refl) all)
+    (λ sources all. left-out_meet (lists_of v) c.in_ok-ranks.ranks.items c.deref-2.result.now sources.items (length v.elements)
+    c.deref-2.ensures.value c.in_ok-ranks.ensures.rise all)
     c.unranked.ensures.all

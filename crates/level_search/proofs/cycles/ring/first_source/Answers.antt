@@ -11,8 +11,8 @@ returns-then-is_some-clause-cycle c =
     let v = c.args.graph.now in
     let count = c.elements-element-end.ensures.value in
     let below : c.loop-element.element < length v.elements = let low = c.loop-element-test.true in omega arith in
-    found-here v c.elements-element-end.ensures.proper c.args.k c.loop-element.element c.search_by_number.new.source.least c.search_by_number.result c.requires.least below
-    c.search_by_number.ensures.reads c.search_by_number.ensures.answer c.if-is_some.ensures
+    found-here v c.elements-element-end.ensures.proper c.args.k c.loop-element.element c.search_by_table.new.source.least c.search_by_table.result c.requires.least below
+    c.search_by_table.ensures.reads c.search_by_table.ensures.answer c.if-is_some.ensures
 
 pub unreachable-requires : goal.unreachable-requires
 unreachable-requires c =

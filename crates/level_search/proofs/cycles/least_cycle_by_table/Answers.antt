@@ -2,7 +2,7 @@ use Rattle.std.proofs.Common.{◌≡◌, ◌∙◌, ℕ, List, length, subst, sy
 use Rattle.specification.specs.Conflict.{AreLeastSteps, Step}
 use Rattle.level_search.specs.Steps.{AreStepsOf}
 use Rattle.level_search.proofs.StepsRound.{least_steps_of_ring}
-use Rattle.level_search.proofs.cycles.least_cycle.Goals as goal
+use Rattle.level_search.proofs.cycles.least_cycle_by_table.Goals as goal
 
 pub returns : goal.returns
 returns c =
@@ -14,5 +14,5 @@ returns c =
     let first = c.in_ok-ring.ensures.first in
     let count : length steps ≡ length numbers = made.count ∙ ap length same in
     let each : AreStepsOf v numbers steps = subst (λ (l : List ℕ). AreStepsOf v l steps) same made.steps in
-    let least : AreLeastSteps v steps = least_steps_of_ring v c.in_ok-ring.ensures.proper c.args.k numbers steps c.requires first count each in
+    let least : AreLeastSteps v steps = least_steps_of_ring v c.in_ok-ring.ensures.proper c.args.k numbers steps c.requires.shortest first count each in
     subst (λ (l : List Step). AreLeastSteps v l × (length l ≡ c.args.k)) (sym c.from_steps.ensures) (least, count ∙ first.count)

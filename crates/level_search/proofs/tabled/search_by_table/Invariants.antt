@@ -1,0 +1,13 @@
+use Rattle.std.proofs.Common.{◌<◌, ◌≤◌, ◌^◌, length}
+use Rattle.order_graph.specs.Lists.{lists_of}
+use Rattle.level_search.specs.Balls.{FitsSets, IsAtLevel}
+use Rattle.level_search.proofs.tabled.search_by_table.Given as goal
+
+abbrev pub invariant-loop-level : goal.invariant-loop-level
+invariant-loop-level g l = record {
+  at : IsAtLevel (lists_of l.graph) l.element l.level l.sets;
+  fits : FitsSets (length l.graph.elements) l.sets;
+  bound : g.B.BoundSource.last l.source ≤ g.B.BoundSource.last l.fn.source;
+  reads : g.B.BoundSource.reads l.fn.source l.source;
+  read : 0 < l.level → g.B.BoundSource.last l.source < 2 ^ 32;
+}

@@ -1,0 +1,14 @@
+use Rattle.std.proofs.Common.{◌≡◌, ℕ, ◌<◌, length}
+use Rattle.std.specs.Prelude.{◌↔◌}
+use Rattle.shown_table.specs.Sets.{Has}
+use Rattle.shown_table.specs.Tables.{row_of}
+use Rattle.level_search.specs.Balls.{FitsSets, IsInLayer}
+use Rattle.level_search.proofs.tabled.sets.Sets.gather.Given as goal
+
+abbrev pub invariant-loop-x : goal.invariant-loop-x
+invariant-loop-x l = record {
+  fits : FitsSets (length l.graph.elements) l.self;
+  near : l.self.near ≡ l.fn.self.near;
+  reached : l.self.reached ≡ l.fn.self.reached;
+  next : (y : ℕ) → Has l.self.next y ↔ ((x : ℕ) × IsInLayer l.x l.fn.self x × Has (row_of l.table x) y);
+}

@@ -1,0 +1,91 @@
+//! The sets of elements on which a search over a table writes.
+
+ghost use Rattle.std.specs.Prelude.{◌≡◌, ℕ, ◌*◌, ◌<◌, ◌⊎◌, ◌↔◌, IfOk, IsTrue, false, length};
+ghost use Rattle.order_graph.specs.Lists.{lists_of};
+ghost use Rattle.shown_table.specs.Sets.{Has};
+ghost use Rattle.shown_table.specs.Tables.{IsShownTable, row_of};
+ghost use Rattle.level_search.specs.Balls.{FitsSets, IsInLayer};
+
+use events::Memory;
+use order_graph::OrderGraph;
+use shown_table::{BitSet, ShownTable};
+use std::alloc::Global;
+
+/// Where a search over a table is: `reached` has the elements from which no more steps than the level lead
+/// to the source, and `near` those from which fewer do. The layer is what `near` lacks. `next` is for the
+/// layer after it.
+#[derive(Drop)]
+pub struct Sets {
+    pub near: BitSet,
+    pub reached: BitSet,
+    pub next: BitSet,
+}
+
+impl Sets {
+    /// Sets for this many elements, a bit each.
+    pub fn new(alloc: Global, graph: &OrderGraph) -> Result<Sets, Memory>
+        ensures { IfOk result (FitsSets (length graph.now.elements)) }
+    {
+        let elements = graph.elements() as usize;
+        Ok(Sets {
+            near: BitSet::new(alloc, elements)?,
+            reached: BitSet::new(alloc, elements)?,
+            next: BitSet::new(alloc, elements)?,
+        })
+    }
+
+    /// Whether an element is in the layer.
+    pub fn has_in_layer(&self, x: u32) -> bool
+        ensures { IsTrue result ↔ (Has self.now.reached x × (¬ Has self.now.near x)) }
+    {
+        self.reached.contains(x as usize) && !self.near.contains(x as usize)
+    }
+
+    /// Only the source is reached.
+    pub fn begin(&mut self, element: u32)
+        requires known { element < 64 * length self.old.reached }
+        ensures near { (x : ℕ) → ¬ Has self.new.near x }
+        ensures reached { (x : ℕ) → Has self.new.reached x ↔ (x ≡ element) }
+        ensures near_width { length self.new.near ≡ length self.old.near }
+        ensures reached_width { length self.new.reached ≡ length self.old.reached }
+        ensures next_width { length self.new.next ≡ length self.old.next }
+    {
+        self.near.clear();
+        self.reached.clear();
+        self.reached.insert(element as usize);
+    }
+
+    /// Puts together what stands before an element of the layer.
+    fn gather(&mut self, graph: &OrderGraph, table: &ShownTable)
+        requires table { IsShownTable (length graph.now.elements) (lists_of graph.now) table.now }
+        requires fits { FitsSets (length graph.now.elements) self.old }
+        ensures fits { FitsSets (length graph.now.elements) self.new }
+        ensures near { self.new.near ≡ self.old.near }
+        ensures reached { self.new.reached ≡ self.old.reached }
+        ensures next { (y : ℕ) → Has self.new.next y ↔ ((x : ℕ)
+            × IsInLayer (length graph.now.elements) self.old x × Has (row_of table.now x) y) }
+    {
+        self.next.clear();
+        for x in 0..graph.elements() {
+            if self.has_in_layer(x) {
+                self.next.union_with(table.before(x));
+            }
+        }
+    }
+
+    /// Goes on to the next layer; whether there is one.
+    pub fn next_layer(&mut self, graph: &OrderGraph, table: &ShownTable) -> bool
+        requires table { IsShownTable (length graph.now.elements) (lists_of graph.now) table.now }
+        requires fits { FitsSets (length graph.now.elements) self.old }
+        ensures fits { FitsSets (length graph.now.elements) self.new }
+        ensures near { (x : ℕ) → Has self.new.near x ↔ (Has self.old.near x ⊎ Has self.old.reached x) }
+        ensures reached { (y : ℕ) → Has self.new.reached y ↔ (Has self.old.reached y ⊎ ((x : ℕ)
+            × IsInLayer (length graph.now.elements) self.old x × Has (row_of table.now x) y)) }
+        ensures last { result ≡ false → (x : ℕ) → Has self.new.reached x → Has self.new.near x }
+    {
+        self.gather(graph, table);
+        self.near.union_with(&self.reached);
+        self.reached.union_with(&self.next);
+        !self.reached.is_subset(&self.near)
+    }
+}

@@ -1,0 +1,3 @@
+-- Lemmas on sets of bits, and on the places of lists that are noted.
+pub mod SetLemmas
+pub mod Noting

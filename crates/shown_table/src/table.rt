@@ -1,0 +1,132 @@
+//! Which elements stand before which in some list.
+
+ghost use Rattle.std.specs.Prelude.{◌≡◌, ◌<◌, ◌≤◌, ◌+◌, ◌/◌, ◌⊎◌, ◌↔◌, ℕ, IfOk, OnOk, List, [], length};
+ghost use Rattle.order_graph.specs.Lists.{lists_of, row};
+ghost use Rattle.shown_table.specs.Sets.{Has};
+ghost use Rattle.shown_table.specs.Tables.{HaveWidth, IsShownTable, row_of};
+ghost use Rattle.shown_table.specs.Fronts.{IsBetween, IsFront};
+
+use super::bits::BitSet;
+use super::front::{Front, add_few, goes_on};
+use events::Memory;
+use order_graph::{Looked, OrderGraph, Spot};
+use std::alloc::Global;
+use std::marker::Model;
+
+/// The list of an element that has stood in none.
+const NO_LIST: u32 = u32::MAX;
+
+/// For each element the set of those that some list shows before it.
+#[derive(Drop)]
+pub struct ShownTable {
+    rows: Vec<BitSet>,
+}
+
+/// Its rows.
+impl Model for ShownTable {
+    ghost Value = { List (List ℕ) };
+
+    ghost view = { λ t. t.rows.items };
+}
+
+/// Takes note of what stands before the element at a place of a list.
+fn note_place(
+    graph: &OrderGraph,
+    at: Spot,
+    rows: &mut [BitSet],
+    front: &mut Front,
+    looked: &mut Looked,
+) -> Result<(), Memory>
+    requires inside { at.place < length (row (lists_of graph.now) at.list) }
+    requires elements { length rows.old ≡ length graph.now.elements }
+    requires front { IsFront (lists_of graph.now) at.list at.place rows.old front.old }
+    ensures len { length rows.new ≡ length rows.old }
+    ensures width { length front.new.before ≡ length front.old.before }
+    ensures front { OnOk result (IsFront (lists_of graph.now) at.list (at.place + 1) rows.new front.new) }
+{
+    let Some(x) = graph.place(at.list, at.place, looked) else {
+        return Ok(());
+    };
+    let last = front.last[x as usize];
+    if goes_on(last, at.list, front.next) {
+        add_few(&mut rows[x as usize], front.fresh.as_slice(), &front.before);
+        front.next = last.place as usize + 1;
+    } else {
+        rows[x as usize].union_with(&front.before);
+        front.fresh.push(x)?;
+    }
+    front.before.insert(x as usize);
+    front.last[x as usize] = at;
+    Ok(())
+}
+
+/// Takes note of what stands before each element of a list.
+fn note_list(
+    graph: &OrderGraph,
+    list: u32,
+    rows: &mut [BitSet],
+    front: &mut Front,
+) -> Result<(), Memory>
+    requires elements { length rows.old ≡ length graph.now.elements }
+    requires between { IsBetween (lists_of graph.now) list rows.old front.old }
+    ensures len { length rows.new ≡ length rows.old }
+    ensures width { length front.new.before ≡ length front.old.before }
+    ensures between { OnOk result (IsBetween (lists_of graph.now) (list + 1) rows.new front.new) }
+{
+    let mut looked = Looked::new();
+    front.begin();
+    for place in 0..graph.length(list) {
+        note_place(graph, Spot { list, place }, rows, front, &mut looked)?;
+    }
+    Ok(())
+}
+
+/// This many empty rows.
+fn empty_rows(alloc: Global, n: usize) -> Result<Vec<BitSet>, Memory>
+    ensures len { IfOk result (λ rows. length rows.items ≡ n) }
+    ensures width { IfOk result (λ rows. HaveWidth (n / 64 + 1) rows.items) }
+    ensures empty { IfOk result (λ rows. (a b : ℕ) → a < n → ¬ Has (row_of rows.items a) b) }
+{
+    let mut rows = Vec::with_capacity(alloc, n)?;
+    'rows: for _i in 0..n {
+        let row = BitSet::new(alloc, n)?;
+        rows.push(row)?;
+    }
+    Ok(rows)
+}
+
+impl ShownTable {
+    /// The table of a graph. It takes time linear in the places of all lists, at most 64 steps each, and
+    /// `n * n / 8` bytes for n elements.
+    pub fn of(alloc: Global, graph: &OrderGraph) -> Result<ShownTable, Memory>
+        ensures { IfOk result (λ t. IsShownTable (length graph.now.elements) (lists_of graph.now) t) }
+    {
+        let n = graph.elements() as usize;
+        let mut rows = empty_rows(alloc, n)?;
+        let mut front = Front {
+            before: BitSet::new(alloc, n)?,
+            fresh: Vec::with_capacity(alloc, n)?,
+            last: Vec::from_elem(
+                alloc,
+                Spot {
+                    list: NO_LIST,
+                    place: 0,
+                },
+                n,
+            )?,
+            next: 0,
+        };
+        for list in 0..graph.lists() {
+            note_list(graph, list, &mut rows, &mut front)?;
+        }
+        Ok(ShownTable { rows })
+    }
+
+    /// Those that stand before this element in some list.
+    pub fn before(&self, a: u32) -> &BitSet
+        requires { a < length self.now }
+        ensures { result.now ≡ row_of self.now a }
+    {
+        &self.rows[a as usize]
+    }
+}

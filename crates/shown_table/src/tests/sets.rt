@@ -1,0 +1,73 @@
+//! Sets of numbers.
+ghost use Rattle.std.specs.Prelude.{◌≡◌, IfOk, length};
+
+use crate::BitSet;
+use std::alloc::Global;
+use std::test::Fail;
+
+/// The set of some numbers, with room for 300. A call that finds no memory is made again.
+fn set_of(alloc: Global, numbers: &[usize]) -> Result<BitSet, Fail>
+    ensures { IfOk result (λ set. length set ≡ 5) }
+{
+    let mut set = match BitSet::new(alloc, 300) {
+        Ok(set) => set,
+        Err(_) => BitSet::new(alloc, 300)?,
+    };
+    for n in numbers {
+        if set.has_room(*n) {
+            set.insert(*n);
+        }
+    }
+    Ok(set)
+}
+
+/// Whether the set has of the numbers below 400 exactly these.
+fn has_exactly(set: &BitSet, numbers: &[usize]) -> bool {
+    for n in 0..400 {
+        if set.contains(n) != numbers.contains(&n) {
+            return false;
+        }
+    }
+    true
+}
+
+#[test]
+fn numbers_at_the_ends_of_words(rt: HostRuntime) -> Result<(), Fail> {
+    let numbers = [0, 1, 63, 64, 127, 128, 255, 300];
+    let set = set_of(rt.alloc(), numbers.as_slice())?;
+    assert!(rt; has_exactly(&set, numbers.as_slice()));
+    assert!(rt; set.has_room(300));
+    assert!(rt; !set.has_room(320));
+    Ok(())
+}
+
+#[test]
+fn the_last_number_that_another_set_lacks(rt: HostRuntime) -> Result<(), Fail> {
+    let set = set_of(rt.alloc(), [3, 64, 65, 200].as_slice())?;
+    let rows = [
+        ([200, 65].as_slice(), 300, Some(64)),
+        ([].as_slice(), 300, Some(200)),
+        ([].as_slice(), 200, Some(65)),
+        ([3, 64, 65, 200].as_slice(), 300, None),
+        ([].as_slice(), 3, None),
+    ];
+    for (lacking, below, expected) in rows {
+        let other = set_of(rt.alloc(), lacking)?;
+        assert_eq!(rt; set.last_outside(&other, below), expected);
+    }
+    Ok(())
+}
+
+#[test]
+fn unions_and_subsets(rt: HostRuntime) -> Result<(), Fail> {
+    let mut set = set_of(rt.alloc(), [5, 70].as_slice())?;
+    let other = set_of(rt.alloc(), [6, 70, 299].as_slice())?;
+    assert!(rt; !set.is_subset(&other));
+    set.union_with(&other);
+    assert!(rt; has_exactly(&set, [5, 6, 70, 299].as_slice()));
+    assert!(rt; other.is_subset(&set));
+    set.clear();
+    assert!(rt; has_exactly(&set, [].as_slice()));
+    assert!(rt; set.is_subset(&other));
+    Ok(())
+}
