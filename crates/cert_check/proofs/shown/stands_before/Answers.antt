@@ -1,6 +1,6 @@
 -- One name more.
 use Rattle.std.proofs.Common.{◌≡◌, ◌≢◌, ◌⊎◌, inl, inr, ℕ, ◌<◌, ◌+◌, Bool, true, false, Some, List, length, take, drop, suc, get_or, sym, subst, ap, ◌∙◌, arith, refl, ◌++◌, ◌∷◌, []}
-use Rattle.std.specs.Prelude.{slice_get, ◌↔◌, IsTrue}
+use Rattle.std.specs.Prelude.{slice_get, bytes_eq, ◌↔◌, IsTrue}
 use Rattle.std.specs.Cmp.Lexicographic.{bytes_decides}
 use Rattle.std.proofs.lemmas.Bool.{false≢true}
 use Rattle.std.proofs.lemmas.Option.{slice_get-get_or}
@@ -8,8 +8,8 @@ use Rattle.visibility.proofs.Entries.{split_at, take_next}
 use Rattle.events.specs.Names.{NameBytes}
 use Rattle.specification.proofs.Members.{In, Before, In-append_left, In-append_right}
 use Rattle.cert_check.proofs.ValueTests.{Before-push, Before-front, In-push}
-use Rattle.cert_check.proofs.steps.stands_before.Goals as goal
-use Rattle.cert_check.proofs.steps.stands_before.Goals.{in-Some+else-has_from+then-eq-2, else-has_from-via-then-has_from+else-eq, else-has_from-via-else-has_from, in-Some+else-has_from+else-eq-2, in_default}
+use Rattle.cert_check.proofs.shown.stands_before.Goals as goal
+use Rattle.cert_check.proofs.shown.stands_before.Goals.{in-Some+else-has_from+then-eq-2, else-has_from-via-then-has_from+else-eq, else-has_from-via-else-has_from, in-Some+else-has_from+else-eq-2, in_default}
 
 -- what is known of a front, with one name more
 abbrev IsFront : NameBytes → NameBytes → List NameBytes → Bool → Type 0
@@ -38,6 +38,16 @@ more from to x front has new is apart which = (has_more, none_more)
     none_more : Before from to (front ++ x ∷ []) → ⊥
     none_more b = elim (Before-push from to x front b) [ inl k ↦ is.1 k | inr k ↦ last apart k.0 k.1 ]
 
+-- one place further
+further : (from to x : NameBytes) (xs : List NameBytes) (i : ℕ) (has new : Bool) → slice_get xs i ≡ Some x → IsFront from to (take i xs) has →
+    ((has ≡ true) × (x ≢ to)) ⊎ (has ≡ false) → ((x ≡ from) × (new ≡ true)) ⊎ ((x ≢ from) × (new ≡ has)) → IsFront from to (take (i + 1) xs) new
+further from to x xs i has new at is apart which =
+    subst (λ (front : List NameBytes). IsFront from to front new) (sym (take_next xs i x at)) (more from to x (take i xs) has new is apart which)
+
+-- a name that the test told from another is not that
+other : (x to : NameBytes) → false ≡ bytes_eq x to → x ≢ to
+other x to is e = false≢true (is ∙ (bytes_decides x to).1 e)
+
 pub returns-then-eq : goal.returns-then-eq
 returns-then-eq c =
     let xs : List NameBytes = c.args.response.now in
@@ -62,23 +72,19 @@ loop-i-preserved c =
     elim c.match-get.branch [
       | in-Some+else-has_from+then-eq-2 w ↦
           (let x : NameBytes = w.in-Some.name in
-          let next : take (i + 1) xs ≡ take i xs ++ x ∷ [] = take_next xs i x (sym w.in-Some.ensures) in
           let apart : ((has ≡ true) × (x ≢ to)) ⊎ (has ≡ false) = elim w.else-has_from.branch [
-            | else-has_from-via-then-has_from+else-eq v ↦ inl (v.if-has_from.true, (λ e. false≢true (v.if-eq.ensures ∙ (bytes_decides x to).1 e)))
+            | else-has_from-via-then-has_from+else-eq v ↦ inl (v.if-has_from.true, other x to v.if-eq.ensures)
             | else-has_from-via-else-has_from v ↦ inr v.if-has_from.false
           ] in
           let same : x ≡ from = (bytes_decides x from).0 (sym w.if-eq-2.ensures) in
-          let all = subst (λ (front : List NameBytes). IsFront from to front new) (sym next) (more from to x (take i xs) has new so_far apart (inl (same, w.has_from-is))) in
+          let all = further from to x xs i has new (sym w.in-Some.ensures) so_far apart (inl (same, w.has_from-is)) in
           record { has = all.0; none = all.1 })
       | in-Some+else-has_from+else-eq-2 w ↦
-          (let x : NameBytes = w.in-Some.name in
-          let next : take (i + 1) xs ≡ take i xs ++ x ∷ [] = take_next xs i x (sym w.in-Some.ensures) in
-          let apart : ((has ≡ true) × (x ≢ to)) ⊎ (has ≡ false) = elim w.else-has_from.branch [
-            | else-has_from-via-then-has_from+else-eq v ↦ inl (v.if-has_from.true, (λ e. false≢true (v.if-eq.ensures ∙ (bytes_decides x to).1 e)))
+          (let apart : ((has ≡ true) × (w.in-Some.name ≢ to)) ⊎ (has ≡ false) = elim w.else-has_from.branch [
+            | else-has_from-via-then-has_from+else-eq v ↦ inl (v.if-has_from.true, other w.in-Some.name to v.if-eq.ensures)
             | else-has_from-via-else-has_from v ↦ inr v.if-has_from.false
           ] in
-          let other : x ≢ from = λ e. false≢true (w.if-eq-2.ensures ∙ (bytes_decides x from).1 e) in
-          let all = subst (λ (front : List NameBytes). IsFront from to front new) (sym next) (more from to x (take i xs) has new so_far apart (inr (other, w.has_from-is))) in
+          let all = further from to w.in-Some.name xs i has new (sym w.in-Some.ensures) so_far apart (inr (other w.in-Some.name from w.if-eq-2.ensures, w.has_from-is)) in
           record { has = all.0; none = all.1 })
       | in_default w ↦ absurd (w.in_default.not-Some (get_or xs i []) (c.get.ensures ∙ slice_get-get_or xs i [] lt))
     ]

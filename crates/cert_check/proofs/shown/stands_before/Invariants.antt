@@ -1,7 +1,7 @@
 use Rattle.std.proofs.Common.{take}
 use Rattle.std.specs.Prelude.{◌↔◌, IsTrue}
 use Rattle.specification.proofs.Members.{In, Before}
-use Rattle.cert_check.proofs.steps.stands_before.Given as goal
+use Rattle.cert_check.proofs.shown.stands_before.Given as goal
 
 abbrev pub invariant-loop-i : goal.invariant-loop-i
 invariant-loop-i l = record {
