@@ -1,6 +1,6 @@
 use Rattle.std.proofs.Common.{◌≡◌, length}
 use Rattle.level_search.specs.Steps.{AreStepsOf}
-use Rattle.level_search.proofs.cycles.steps_of.Given as goal
+use Rattle.level_search.proofs.cycles.steps.steps_of.Given as goal
 
 abbrev pub invariant-loop-i : goal.invariant-loop-i
 invariant-loop-i l = record {

@@ -2,7 +2,7 @@ use Rattle.std.proofs.Common.{ℕ, ◌+◌, ◌<◌, ◌≤◌, slice_index, sum
 use Rattle.order_graph.specs.Lists.{lists_of, ticked}
 use Rattle.level_search.specs.Graph.{graph_of}
 use Rattle.level_search.specs.Progress.{IsGood, Grows, Works, IsExpanded, FollowsLayer}
-use Rattle.level_search.proofs.searching.layer.layer.Given as goal
+use Rattle.level_search.proofs.searching.expand.layer.Given as goal
 
 abbrev pub invariant-loop-k : goal.invariant-loop-k
 invariant-loop-k l = record {

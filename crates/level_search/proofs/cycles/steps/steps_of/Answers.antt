@@ -6,7 +6,7 @@ use Rattle.order_graph.specs.Lists.{lists_of}
 use Rattle.level_search.specs.Graph.{Before}
 use Rattle.level_search.specs.Steps.{AreStepsOf, IsStepBetween, next_in}
 use Rattle.level_search.proofs.StepsRound.{ring-next, steps-push}
-use Rattle.level_search.proofs.cycles.steps_of.Goals as goal
+use Rattle.level_search.proofs.cycles.steps.steps_of.Goals as goal
 
 pub step_between-step-requires-clause-before : goal.step_between-step-requires-clause-before
 step_between-step-requires-clause-before c =

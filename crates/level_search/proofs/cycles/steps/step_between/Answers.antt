@@ -2,7 +2,7 @@ use Rattle.std.proofs.Common.{sym, ◌∙◌}
 use Rattle.specification.specs.Conflict.{Step}
 use Rattle.level_search.proofs.Joining.{before-shown}
 use Rattle.level_search.proofs.StepsRound.{no_name, step_is_between}
-use Rattle.level_search.proofs.cycles.step_between.Goals as goal
+use Rattle.level_search.proofs.cycles.steps.step_between.Goals as goal
 
 pub unreachable-requires : goal.unreachable-requires
 unreachable-requires c = (no_name c.args.graph.now c.requires.proper c.args.a c.args.b c.requires.before).0 (sym c.name.ensures ∙ c.in_default.is)

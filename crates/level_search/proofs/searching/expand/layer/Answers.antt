@@ -5,7 +5,7 @@ use Rattle.order_graph.specs.Lists.{lists_of}
 use Rattle.level_search.specs.Graph.{Before}
 use Rattle.level_search.specs.Progress.{FollowsLayer, Grows, IsExpanded}
 use Rattle.level_search.proofs.Growth.{grows_both, grows_weaker, still_expanded, works_next, works_step}
-use Rattle.level_search.proofs.searching.layer.layer.Goals as goal
+use Rattle.level_search.proofs.searching.expand.layer.Goals as goal
 
 pub loop-k-preserved : goal.loop-k-preserved
 loop-k-preserved c =
