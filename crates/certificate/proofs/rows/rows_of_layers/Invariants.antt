@@ -1,7 +1,7 @@
 use Rattle.std.proofs.Common.{◌≡◌, length, take, vec_len}
 use Rattle.specification.specs.ExactRows.{AreExactRows}
 use Rattle.level_search.specs.ScratchView.{Fits}
-use Rattle.certificate.proofs.certifying.rows_of_layers.Given as goal
+use Rattle.certificate.proofs.rows.rows_of_layers.Given as goal
 
 abbrev pub invariant-loop-source : goal.invariant-loop-source
 invariant-loop-source l = record {

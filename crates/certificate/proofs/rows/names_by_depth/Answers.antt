@@ -5,7 +5,7 @@ use Rattle.events.specs.Names.{NameBytes}
 use Rattle.certificate.specs.Depths.{names_deep}
 use Rattle.certificate.proofs.Copies.{some_within}
 use Rattle.certificate.proofs.DeepNames.{deep_more}
-use Rattle.certificate.proofs.certifying.names_by_depth.Goals as goal
+use Rattle.certificate.proofs.rows.names_by_depth.Goals as goal
 
 pub unreachable-requires : goal.unreachable-requires
 unreachable-requires c = some_within c.args.graph.now.elements c.loop-x.x (omega arith) (sym c.name.ensures ∙ c.in_default.is)

@@ -4,7 +4,7 @@ use Rattle.events.specs.Names.{NameBytes}
 use Rattle.specification.specs.LayerRule.{Row}
 use Rattle.certificate.proofs.DeepNames.{items_of}
 use Rattle.certificate.proofs.DistanceRows.{deep_row}
-use Rattle.certificate.proofs.certifying.row_of_layers.Goals as goal
+use Rattle.certificate.proofs.rows.row_of_layers.Goals as goal
 
 pub returns-clause-row : goal.returns-clause-row
 returns-clause-row c =

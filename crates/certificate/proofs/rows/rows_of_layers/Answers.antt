@@ -4,7 +4,7 @@ use Rattle.events.specs.Names.{NameBytes}
 use Rattle.specification.specs.LayerRule.{Row}
 use Rattle.specification.specs.ExactRows.{AreExactRows}
 use Rattle.certificate.proofs.DistanceRows.{exact_rows_push}
-use Rattle.certificate.proofs.certifying.rows_of_layers.Goals as goal
+use Rattle.certificate.proofs.rows.rows_of_layers.Goals as goal
 
 pub loop-source-preserved : goal.loop-source-preserved
 loop-source-preserved c =

@@ -1,6 +1,6 @@
 use Rattle.std.proofs.Common.{◌≡◌, ℕ, ◌<◌, [], map, take, slice_index_or, vec_len}
 use Rattle.certificate.specs.Depths.{names_deep}
-use Rattle.certificate.proofs.certifying.names_by_depth.Given as goal
+use Rattle.certificate.proofs.rows.names_by_depth.Given as goal
 
 abbrev pub invariant-loop-x : goal.invariant-loop-x
 invariant-loop-x l = record {

@@ -1,7 +1,7 @@
 use Rattle.std.proofs.Common.{◌≡◌, ◌<◌, [], ◌∷◌, ◌++◌, length, arith}
 use Rattle.std.proofs.lemmas.Grind.{common_steps}
 use Rattle.certificate.proofs.DeepNames.{pushed_at}
-use Rattle.certificate.proofs.certifying.add_at_depth.Goals as goal
+use Rattle.certificate.proofs.rows.add_at_depth.Goals as goal
 
 pub returns-in_ok-push-clause-names : goal.returns-in_ok-push-clause-names
 returns-in_ok-push-clause-names c =
