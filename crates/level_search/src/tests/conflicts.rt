@@ -2,10 +2,10 @@
 ghost use Rattle.std.specs.Prelude.{IfOk};
 ghost use Rattle.specification.specs.Conflict.{IsConflictNumber};
 
-use super::graphs::ask_of;
+use super::graphs::ask_on;
 use crate::{Gate, NoGate, SearchFault, conflict_number};
 use order_graph::OrderGraph;
-use sample_recordings::{EMPTY, OPPOSITE_PAIR, RING_OF_FOUR, THREE_WAY_CYCLE, recording};
+use sample_recordings::{EMPTY, OPPOSITE_PAIR, RING_OF_FOUR, THREE_WAY_CYCLE};
 use std::alloc::Global;
 use std::test::Fail;
 use std::thread::Threads;
@@ -68,7 +68,7 @@ fn is_found(
     text: &str,
     number: Option<u32>,
 ) -> Result<bool, Fail> {
-    ask_of(rt, alloc, &recording(alloc, text)?, |graph| {
+    ask_on(rt, alloc, text, |graph| {
         Ok(all_find(rt, alloc, graph, number)? && all_refuse(rt, alloc, graph))
     })
 }
@@ -81,7 +81,7 @@ pub fn number_on<H: Threads + Sync, G: Gate>(
     workers: u32,
     gate: &G,
 ) -> Result<Option<u32>, Fail> {
-    ask_of(rt, alloc, &recording(alloc, text)?, |graph| {
+    ask_on(rt, alloc, text, |graph| {
         Ok(number_of(rt, alloc, graph, workers, gate)?)
     })
 }
