@@ -206,7 +206,6 @@ taken_of_team b v sources m n old lent new front first team whole same worked ta
     last_of_team b v sources m old front first team
     (subst (HaveWorked v sources old) (sym (written n old new done.0 whole) ∙ taken) done)
 
-
 -- one more worker with the next number
 pub numbered-push : (front : List Worker) (w : Worker) → AreNumbered front → w.number ≡ length front + 1 → AreNumbered (front ++ w ∷ [])
 numbered-push front w numbered next k d within = go (cases_lt k (length front))

@@ -98,10 +98,7 @@ const WORKED: &[(&str, &[Shown])] = &[
         OPPOSITE_PAIR,
         &[Shown("a", "b", 0, 2), Shown("b", "a", 1, 2)],
     ),
-    (
-        PAIR_APART,
-        &[Shown("a", "c", 0, 3), Shown("c", "a", 1, 1)],
-    ),
+    (PAIR_APART, &[Shown("a", "c", 0, 3), Shown("c", "a", 1, 1)]),
 ];
 
 #[test]
