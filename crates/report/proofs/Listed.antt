@@ -1,5 +1,5 @@
 -- Lists of names and of steps as JSON arrays, element by element. No report has a number that is a float.
-use Rattle.std.proofs.Common.{◌≡◌, ℕ, ◌+◌, Bool, false, ◌||◌, Some, List, [], ◌∷◌, ◌++◌, map, take, slice_get, refl, sym, ap, ◌∙◌}
+use Rattle.std.proofs.Common.{◌≡◌, ℕ, ◌+◌, ◌≤◌, Vec, Global, length, Bool, false, ◌||◌, Some, List, [], ◌∷◌, ◌++◌, map, take, slice_get, refl, sym, ap, ◌∙◌}
 use Rattle.std.proofs.lemmas.List.{map_push, take_all}
 use Rattle.serde_json.specs.Data.{Data, string, item, array}
 use Rattle.serde_json.specs.View.{view, items_of}
