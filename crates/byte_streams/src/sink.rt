@@ -1,5 +1,7 @@
 //! Writers that are never asked after a write that failed or took no byte.
 
+ghost use Rattle.byte_streams.specs.Streams.{SinkState};
+
 use super::writer::Writer;
 use std::marker::Model;
 use thiserror::Error;
@@ -17,8 +19,6 @@ pub struct Sink<W: Writer + Drop> {
 }
 
 impl<W: Writer + Drop> Model for Sink<W> {
-    ghost use Rattle.byte_streams.specs.Streams.{SinkState};
-
     ghost Value = { SinkState };
 
     ghost view = { λ s. record {

@@ -13,7 +13,7 @@ use Rattle.specification.specs.Elements.{elements, numbers_in}
 use Rattle.specification.specs.Responses.{Returned, responses_of, HasInOrder}
 use Rattle.specification.specs.LayerRule.{Row, row_names, depth_in, MeetsLayerRule}
 use Rattle.specification.proofs.Members.{In, Before, Once, In-map, In-append_cases, In-append_left, In-append_right, All-from_members, All-member, In-from_Contains, Contains-from_In, Once-from_AllPairs, AllPairs-from_Once, Before-from_places, places_of_Before, Before-first, Before-second, decide_In}
-use Rattle.specification.proofs.Numbers.{number}
+use Rattle.specification.proofs.Numbers.{number, least-or-limit}
 use Rattle.specification.proofs.Shown.{same_name}
 use Rattle.specification.proofs.OperationNames.{listed-operation}
 use Rattle.specification.proofs.Strong.{returned_of}
@@ -109,17 +109,10 @@ layer-le (layer ∷ row) a = go (decide_In same_name a layer) (layer-le row a)
     go (yes i) le = let e : layer_of (layer ∷ row) a ≡ 0 = layer-here a layer row i in omega arith
     go (no n) le = let e : layer_of (layer ∷ row) a ≡ suc (layer_of row a) = layer-later a layer row n in omega arith
 
-within : (n m : ℕ) → n ≤ m → unwrap_or (cond (nat_lt n m) (Some n) None) m ≡ n
-within n m le = go (cases_lt n m)
-  where
-    go : (n < m) ⊎ (m ≤ n) → unwrap_or (cond (nat_lt n m) (Some n) None) m ≡ n
-    go (inl lt) = rw (lt-ltb n m lt) refl
-    go (inr ge) = rw (le-ltb n m ge) (omega arith)
-
 depth_is : (k : ℕ) (row : Row) (a : NameBytes) → k - 1 ≡ length row → depth_in k row a ≡ layer_of row a
 depth_is k row a e =
     ap (λ m. unwrap_or (cond (nat_lt (layer_of row a) (length row)) (Some (layer_of row a)) None) m) e
-    ∙ within (layer_of row a) (length row) (layer-le row a)
+    ∙ least-or-limit (layer_of row a) (length row) (layer-le row a)
 
 -- the depth that is noted for an element is its depth in the row
 pub noted_depth : (names : List NameBytes) (k : ℕ) (row : Row) (depths : List ℕ) (a : NameBytes) (i : ℕ) → length row + 1 ≡ k → Holds names (k - 1) (pairs_from 0 row) depths →

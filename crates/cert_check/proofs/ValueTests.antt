@@ -41,6 +41,11 @@ In-push a x xs i = go (In-append_cases a xs (x ∷ []) i)
 pub map-more : {Y : Type 0} (f : ℕ → Y) (xs : List ℕ) (i : ℕ) → i < length xs → map f (take (i + 1) xs) ≡ map f (take i xs) ++ f (get_or xs i 0) ∷ []
 map-more f xs i lt = ap (map f) (take_more xs i 0 lt) ∙ map_push f (take i xs) (get_or xs i 0)
 
+-- what holds of the values so far and of one more holds of the values up to its place
+pub one-further : (P : List ℕ → Type 0) (f : ℕ → ℕ) (xs : List ℕ) (i v : ℕ) → i < length xs → v ≡ f (get_or xs i 0) → P (map f (take i xs) ++ v ∷ []) → P (map f (take (i + 1) xs))
+one-further P f xs i v lt value more =
+    subst P (sym (map-more f xs i lt)) (subst (λ (d : ℕ). P (map f (take i xs) ++ d ∷ [])) value more)
+
 pub map-split : {Y : Type 0} (f : ℕ → Y) (xs : List ℕ) (i : ℕ) → i < length xs →
     map f xs ≡ map f (take i xs) ++ f (get_or xs i 0) ∷ map f (drop (suc i) xs)
 map-split f xs i lt =

@@ -1,13 +1,11 @@
 //! Whether a certificate names the first fault.
 
 ghost use Rattle.std.specs.Prelude.{◌≡◌, ◌↔◌, IsTrue};
-ghost use Rattle.events.specs.History.{History};
-ghost use Rattle.specification.specs.Faults.{IsFirstFault};
 ghost use Rattle.specification.specs.CertificateText.{names_fault};
 ghost use Rattle.contents_check.specs.FaultOf.{fault_of};
 ghost use Rattle.certificate_text.specs.CertificateOf.{certificate_of};
 ghost use Rattle.cert_check.specs.AnswerOf.{kind_of};
-ghost use Rattle.cert_check.specs.Judged.{IsJudged};
+ghost use Rattle.cert_check.specs.Judged.{IsJudgedByFault};
 
 use super::answer::{Answer, Kind, Reason};
 use certificate_text::Certificate;
@@ -40,8 +38,7 @@ fn kind(fault: &Fault) -> Kind
 
 /// Whether a certificate names the first fault of a recording.
 pub fn judge_fault(certificate: &Certificate, fault: &Fault) -> Answer
-    ensures { (h : History) → IsFirstFault h (fault_of fault.now)
-        → IsJudged h (certificate_of certificate.now) result }
+    ensures { IsJudgedByFault (certificate_of certificate.now) (fault_of fault.now) result }
 {
     if names(certificate, fault) {
         Answer::Yes(kind(fault))

@@ -13,6 +13,7 @@ mod numbered;
 mod order;
 mod places;
 mod rows;
+mod shown;
 mod steps;
 mod values;
 

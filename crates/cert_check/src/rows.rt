@@ -1,16 +1,11 @@
 //! Rows of layers.
 
-ghost use Rattle.std.specs.Prelude.{◌≡◌, ◌↔◌, ◌+◌, ◌<◌, ◌^◌, ℕ, All, IfOk, IsTrue, MatchOption, Some, length};
-ghost use Rattle.std.specs.Prelude.{slice_get};
+ghost use Rattle.std.specs.Prelude.{◌≡◌, ◌↔◌, ◌+◌, ◌<◌, All, IfOk, IsTrue, MatchOption, length};
 ghost use Rattle.events.specs.Names.{NameBytes};
-ghost use Rattle.events.specs.History.{History};
-ghost use Rattle.specification.specs.Elements.{elements};
-ghost use Rattle.specification.specs.Responses.{responses_of};
 ghost use Rattle.specification.specs.CertificateText.{IsRow};
-ghost use Rattle.specification.specs.LayerRule.{MeetsLayerRule};
-ghost use Rattle.specification.specs.ValidCertificate.{HasSource, RowsMeetRule};
-ghost use Rattle.cert_check.specs.Numbering.{IsNumbering, IsOf, AreWithin};
-ghost use Rattle.cert_check.specs.Judged.{IsRowJudged, AreRowsJudged};
+ghost use Rattle.specification.specs.ValidCertificate.{HasSource};
+ghost use Rattle.cert_check.specs.Numbering.{IsNumbering, AreWithin};
+ghost use Rattle.cert_check.specs.Judged.{TellsLayerRule, TellsRow, TellsRows};
 
 use super::answer::Reason;
 use super::numbered::Numbered;
@@ -51,9 +46,7 @@ fn meets_rule(
     requires numbering { IsNumbering numbered.now }
     requires within { AreWithin (length numbered.now.names.items) numbered.now }
     requires layers { length row.now + 1 ≡ k }
-    ensures { IfOk result (λ meets. (h : History) (a : NameBytes) → IsOf h numbered.now
-        → slice_get (elements h) source ≡ Some a →
-        IsTrue meets ↔ MeetsLayerRule (responses_of h) k a row.now) }
+    ensures { IfOk result (TellsLayerRule numbered.now k source row.now) }
 {
     let found = numbered.depths_of(alloc, k, row)?;
     match found {
@@ -74,8 +67,7 @@ fn row_fault(
     requires within { AreWithin (length numbered.now.names.items) numbered.now }
     requires rows { All (IsRow k) rows.now }
     requires element { i < length numbered.now.names.items }
-    ensures { IfOk result (λ found. (h : History) → IsOf h numbered.now
-        → IsRowJudged (responses_of h) k rows.now i found) }
+    ensures { IfOk result (TellsRow numbered.now k rows.now i) }
 {
     let source = numbered.names[i as usize];
     match rows.get(i as usize) {
@@ -103,8 +95,7 @@ pub fn rows_fault(
     requires numbering { IsNumbering numbered.now }
     requires within { AreWithin (length numbered.now.names.items) numbered.now }
     requires rows { All (IsRow k) rows.now }
-    ensures { IfOk result (λ found. (h : History) → IsOf h numbered.now
-        → AreRowsJudged (responses_of h) k rows.now found) }
+    ensures { IfOk result (TellsRows numbered.now k rows.now) }
 {
     let count = numbered.names.len() as u32;
     for i in 0..count {

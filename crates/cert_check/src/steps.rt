@@ -3,42 +3,13 @@
 ghost use Rattle.std.specs.Prelude.{◌≡◌, ◌↔◌, ◌<◌, ◌^◌, ℕ, IsTrue, MatchOption, length, option_copied};
 ghost use Rattle.std.specs.Prelude.{slice_get};
 ghost use Rattle.events.specs.History.{IsLegal};
-ghost use Rattle.events.specs.Operations.{response};
 ghost use Rattle.specification.specs.Responses.{responses_of};
 ghost use Rattle.specification.specs.ValidCertificate.{StepIsRight, IsFirstWrongStep};
-ghost use Rattle.specification.specs.Members.{Before};
 ghost use Rattle.cert_check.specs.Ring.{next_place};
 
-use events::{Name, OpName, Recording, Response};
+use super::shown::shows;
+use events::Recording;
 use witnesses::{Step, Steps};
-
-/// Whether a response has one name at a lesser place than the other.
-fn stands_before(response: &Response, from: &Name, to: &Name) -> bool
-    ensures { IsTrue result ↔ Before from.now to.now response.now }
-{
-    let mut has_from = false;
-    for i in 0..response.len() {
-        if let Some(name) = response.get(i) {
-            if has_from && name == *to {
-                return true;
-            }
-            if name == *from {
-                has_from = true;
-            }
-        }
-    }
-    false
-}
-
-/// Whether an operation shows one name before the other.
-fn shows(recording: &Recording, by: OpName, from: &Name, to: &Name) -> bool
-    ensures { IsTrue result ↔ Before from.now to.now (response recording.now by) }
-{
-    match recording.response(by) {
-        None => false,
-        Some(response) => stands_before(response, from, to),
-    }
-}
 
 /// The step after the one at a place: after the last the first.
 fn next_step(steps: &Steps, i: usize) -> Option<&Step>

@@ -6,6 +6,7 @@
 
 mod certifying;
 mod judging;
+mod rows;
 mod verdict;
 
 pub use certificate_text::{CertCause, CertFault, Certificate, Layer, Layers, Row};

@@ -1,7 +1,7 @@
 -- A text that spells a certificate spells no other, and has no fault.
 use Rattle.std.proofs.Common.{◌≡◌, ℕ, List, [], ◌∷◌, ◌++◌, length, map, codes, refl, sym, ap, ◌∙◌, subst, arith, inl, inr, append_assoc, Result, Ok, Err, MatchResult, IfOk, IfErr, IfSome}
 use Rattle.std.specs.List.{All}
-use Rattle.std.proofs.lemmas.List.{append-nil, append_cancel_right, same_from_push}
+use Rattle.std.proofs.lemmas.List.{append-nil, append_cancel_right, length-map, same_from_push}
 use Rattle.std.proofs.lemmas.List.Elements.{All-head, All-tail, All-cons, All-nil, All-append, All-map, All-weaker}
 use Rattle.specification.specs.Conflict.{Step}
 use Rattle.specification.specs.Faults.{doubled, contents, position}
@@ -71,15 +71,9 @@ module _ {X : Type 0} (f : X → Line) (P : X → Type 0) (one : (x y : X) → P
       (ap (λ z. z ∷ xs) first ∙ ap (λ l. y ∷ l) others.0, others.1)
 
   same-all : (xs ys : List X) → All P xs → All P ys → map f xs ≡ map f ys → xs ≡ ys
-  same-all [] [] h k is = refl
-  same-all [] (y ∷ ys) h k is = absurd (cc)
-  same-all (x ∷ xs) [] h k is = absurd (cc)
-  same-all (x ∷ xs) (y ∷ ys) h k is =
-      let head : f x ≡ f y = cc in
-      let tail : map f xs ≡ map f ys = cc in
-      let first = one x y (All-head P x xs h) (All-head P y ys k) head in
-      let others = same-all xs ys (All-tail P x xs h) (All-tail P y ys k) tail in
-      ap (λ z. z ∷ xs) first ∙ ap (λ l. y ∷ l) others
+  same-all xs ys h k is =
+      let many : length xs ≡ length ys = sym (length-map xs f) ∙ ap length is ∙ length-map ys f in
+      (same-list xs ys [] [] many h k (ap (λ l. l ++ []) is)).0
 
 of-kind : (c d : Certificate) → IsSpellable c → IsSpellable d → kind_of c ≡ kind_of d → rest_lines c ≡ rest_lines d → c ≡ d
 of-kind (names_fault (doubled a b)) (names_fault (doubled f g)) h k e is = cc

@@ -1,8 +1,8 @@
 -- A text has at most one first fault.
-use Rattle.std.proofs.Common.{◌≡◌, ℕ, List, [], ◌∷◌, ◌++◌, sym, ◌∙◌, inl, inr, append_assoc}
+use Rattle.std.proofs.Common.{◌≡◌, ℕ, List, [], ◌∷◌, ◌++◌, sym, ◌∙◌, ⊎_elim, append_assoc}
 use Rattle.specification.specs.Lines.{Line}
 use Rattle.specification.specs.CertificateText as format
-use Rattle.specification.specs.CertificateText.{BeginsCertificate, HasWrongLine, LacksCertificateLine, IsCertificateCut, IsFirstCertFault, cause_behind}
+use Rattle.specification.specs.CertificateText.{BeginsCertificate, HasWrongLine, LacksCertificateLine, IsFirstCertFault, cause_behind}
 use Rattle.format_words.proofs.OneFault as shared
 use Rattle.certificate_text.proofs.OneCertificate.{beginning-lacks}
 
@@ -24,18 +24,12 @@ shows-lack : (text : List ℕ) (number : ℕ) (cause : format.CertCause) → Lac
 shows-lack text number cause f =
     shared.shows-lack BeginsCertificate IsWrong IsMissing format.cut text number cause f.good f.begins (beginning-lacks f.good f.begins) f.text_is f.number f.cause_is
 
-shows-cut : (text : List ℕ) (number : ℕ) → IsCertificateCut text number → Fault text number format.cut
-shows-cut text number f =
-    shared.shows-cut BeginsCertificate IsWrong IsMissing format.cut text number f.good f.begins (beginning-lacks f.good f.begins) f.rest f.some_byte f.one_line f.text_is f.number
-
 shows-fault : (text : List ℕ) (number : ℕ) (cause : format.CertCause) → IsFirstCertFault text number cause → Fault text number cause
-shows-fault text number format.header (inl f) = shows-wrong text number format.header f
-shows-fault text number format.header (inr f) = shows-lack text number format.header f
-shows-fault text number format.kind (inl f) = shows-wrong text number format.kind f
-shows-fault text number format.kind (inr f) = shows-lack text number format.kind f
-shows-fault text number format.shape (inl f) = shows-wrong text number format.shape f
-shows-fault text number format.shape (inr f) = shows-lack text number format.shape f
-shows-fault text number format.cut f = shows-cut text number f
+shows-fault text number format.header f = ⊎_elim (shows-wrong text number format.header) (shows-lack text number format.header) f
+shows-fault text number format.kind f = ⊎_elim (shows-wrong text number format.kind) (shows-lack text number format.kind) f
+shows-fault text number format.shape f = ⊎_elim (shows-wrong text number format.shape) (shows-lack text number format.shape) f
+shows-fault text number format.cut f =
+    shared.shows-cut BeginsCertificate IsWrong IsMissing format.cut text number f.good f.begins (beginning-lacks f.good f.begins) f.rest f.some_byte f.one_line f.text_is f.number
 
 -- a line of a spelling is right
 never-wrong : (good : List Line) (line : Line) (between : List Line) (cause : format.CertCause) → BeginsCertificate (good ++ line ∷ between) → IsWrong good line cause → ⊥

@@ -1,5 +1,4 @@
 pub mod CertificateOf
-pub mod Texts
 pub mod Reading
 pub mod Progress
 pub mod Place

@@ -6,7 +6,7 @@ ghost use Rattle.certificate_text.specs.CertificateOf.{certificate_of};
 
 use super::{CertCause, CertFault, Certificate, Layer, Row, Step};
 use events::Memory;
-use std::alloc::{AllocError, Global};
+use std::alloc::Global;
 use std::test::Fail;
 
 /// What reading says; where the first call finds no memory, what the second says.
@@ -30,14 +30,6 @@ fn writing(alloc: Global, certificate: &Certificate) -> Result<Vec<u8>, Memory>
 {
     match certificate.write(alloc) {
         Err(Memory) => certificate.write(alloc),
-        text => text,
-    }
-}
-
-/// The fault's text; where the first call finds no memory, what the second gives.
-fn text_of(alloc: Global, fault: &CertFault) -> Result<String, AllocError> {
-    match fault.to_string(alloc) {
-        Err(_) => fault.to_string(alloc),
         text => text,
     }
 }
@@ -239,12 +231,14 @@ fn faults_of_later_lines(rt: HostRuntime) {
     }
 }
 
-/// Whether the fault has this text.
+/// Whether the fault has this text. Where the first call finds no memory, the second is asked.
 fn says(alloc: Global, fault: &CertFault, text: &str) -> bool {
-    match text_of(alloc, fault) {
-        Ok(said) => said.as_str() == text,
-        Err(_) => false,
+    for _ in 0..2 {
+        if let Ok(said) = fault.to_string(alloc) {
+            return said.as_str() == text;
+        }
     }
+    false
 }
 
 // A last line without LF is cut, whatever it holds.

@@ -1,17 +1,15 @@
 //! The text of a certificate, line by line.
 
 ghost use Rattle.std.specs.Prelude.{◌≡◌, ◌==◌, ◌++◌, ◌∷◌, [], if◌then◌else◌, codes, map, IfOk, OnOk};
-ghost use Rattle.specification.specs.Lines.{text_of, names_text, operation_text, order_line};
-ghost use Rattle.specification.specs.Faults as spec;
+ghost use Rattle.specification.specs.Lines.{text_of, names_text};
 ghost use Rattle.specification.specs.CertificateText.{IsSpellable, certificate_text, kind_lines, layers_text};
 ghost use Rattle.specification.specs.CertificateText.{row_line, step_line};
 ghost use Rattle.specification.specs.CertificateText as format;
 ghost use Rattle.certificate_text.specs.CertificateOf.{certificate_of};
-ghost use Rattle.certificate_text.specs.Texts.{accepted_text, fault_text};
 
 use super::certificate::Certificate;
-use events::{Memory, OpName};
-use format_words::{push_doubled, push_list, push_number, push_operation, push_shown};
+use events::Memory;
+use format_words::{push_doubled, push_faulty, push_list, push_number, push_order, push_shown};
 use std::alloc::Global;
 use witnesses::{Layer, Layers, Order, Row, Step, Steps};
 
@@ -36,31 +34,11 @@ fn push_kind(alloc: Global, text: &mut Vec<u8>, certificate: &Certificate) -> Re
 {
     match certificate {
         Certificate::Doubled { first, again } => push_doubled(alloc, text, *first, *again),
-        Certificate::Contents { at } => push_fault(alloc, text, b"contents ", *at),
-        Certificate::Position { at } => push_fault(alloc, text, b"position ", *at),
-        Certificate::Accepted(order) => push_accepted(text, order),
+        Certificate::Contents { at } => push_faulty(alloc, text, b"contents ", *at, b"\n"),
+        Certificate::Position { at } => push_faulty(alloc, text, b"position ", *at, b"\n"),
+        Certificate::Accepted(order) => push_order(text, b"accepted\norder :", order.names()),
         Certificate::Refused { k, steps, layers } => push_refused(alloc, text, *k, steps, layers),
     }
-}
-
-/// Adds the line of an operation that is wrong, after this word.
-fn push_fault(alloc: Global, text: &mut Vec<u8>, word: &[u8], at: OpName) -> Result<(), Memory>
-    ensures { OnOk result (text.new.items ≡ text.old.items ++ fault_text word.now at) }
-{
-    text.extend_from_slice(word)?;
-    push_operation(alloc, text, at)?;
-    text.push(b'\n')?;
-    Ok(())
-}
-
-/// Adds the lines of an acceptance.
-fn push_accepted(text: &mut Vec<u8>, order: &Order) -> Result<(), Memory>
-    ensures { OnOk result (text.new.items ≡ text.old.items ++ accepted_text order.now) }
-{
-    text.extend_from_slice(b"accepted\norder :")?;
-    push_list(text, order.names())?;
-    text.push(b'\n')?;
-    Ok(())
 }
 
 /// Adds the lines of a refusal.

@@ -49,21 +49,19 @@ flag-keeps again a is some values rows e f =
     full [] = some
     full (v ∷ vs) = tt
 
-help-keeps : (again : Bool) (a : Rule) → action_of a ≡ Help → KeepsFilled again a
-help-keeps again a is values rows e f =
+-- an action that is itself a fault keeps nothing
+fault-keeps : (x : ArgAction) → ((again : Bool) (a : Rule) (values : List Text) (rows : List Row) → action_fault x again a values rows ≡ [] → ⊥)
+    → (again : Bool) (a : Rule) → action_of a ≡ x → KeepsFilled again a
+fault-keeps x asks again a is values rows e f =
     let last : action_fault (action_of a) again a (values_or_missing a values) rows ≡ [] =
     (none-wrong (range_kinds (unwrap_or_range a.range).start_inclusive (most_values a) (length values)) _ e).1 in
-    let asked : action_fault Help again a (values_or_missing a values) rows ≡ [] =
-    subst (λ (x : ArgAction). action_fault x again a (values_or_missing a values) rows ≡ []) is last in
-    absurd (let wrong : 1 ≡ 0 = ap length asked in omega arith)
+    absurd (asks again a (values_or_missing a values) rows (subst (λ (y : ArgAction). action_fault y again a (values_or_missing a values) rows ≡ []) is last))
+
+help-keeps : (again : Bool) (a : Rule) → action_of a ≡ Help → KeepsFilled again a
+help-keeps = fault-keeps Help (λ again a values rows asked. let wrong : 1 ≡ 0 = ap length asked in omega arith)
 
 version-keeps : (again : Bool) (a : Rule) → action_of a ≡ Version → KeepsFilled again a
-version-keeps again a is values rows e f =
-    let last : action_fault (action_of a) again a (values_or_missing a values) rows ≡ [] =
-    (none-wrong (range_kinds (unwrap_or_range a.range).start_inclusive (most_values a) (length values)) _ e).1 in
-    let asked : action_fault Version again a (values_or_missing a values) rows ≡ [] =
-    subst (λ (x : ArgAction). action_fault x again a (values_or_missing a values) rows ≡ []) is last in
-    absurd (let wrong : 1 ≡ 0 = ap length asked in omega arith)
+version-keeps = fault-keeps Version (λ again a values rows asked. let wrong : 1 ≡ 0 = ap length asked in omega arith)
 
 -- ---- what was given has a first value
 

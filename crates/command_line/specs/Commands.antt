@@ -1,9 +1,14 @@
 -- What the commands of the program take, in the words of `clap`.
 use Rattle.std.specs.Prelude.{◌≡◌, Some, true, false, codes}
-use Rattle.clap.specs.Words.{App, Rule, app_of, new_app, new_rule, with_rule, with_subcommand}
+use Rattle.clap.specs.Words.{App, Rule, Text, app_of, new_app, new_rule, with_rule, with_subcommand, rule_of}
+use Rattle.clap.specs.declared.builder.arg.Arg.{Arg}
 use Rattle.clap.specs.declared.builder.ArgAction.TheVariants.{Set, SetTrue}
 use Rattle.clap.specs.declared.builder.command.Command.{Command}
 use Rattle.clap.specs.declared.builder.command.Command.TheViews.{out-Command}
+
+-- the argument has this rule, and is not global
+abbrev pub IsArgOf : Rule → Arg → Type 0
+IsArgOf rule arg = (rule_of arg ≡ rule) × (arg.global ≡ false)
 
 -- `--workers N`
 abbrev pub workers_rule : Rule
@@ -17,13 +22,17 @@ workers_rule = record (new_rule (codes "workers")) {
 abbrev pub json_rule : Rule
 json_rule = record (new_rule (codes "json")) { long = Some (codes "json"); action = Some SetTrue }
 
--- FILE, which is to be given
-abbrev pub file_rule : Rule
-file_rule = record (new_rule (codes "FILE")) { action = Some Set; required = true }
+-- a file of this name, which is to be given
+abbrev pub required_rule : Text → Rule
+required_rule name = record (new_rule name) { action = Some Set; required = true }
 
--- CERT, which is to be given
+-- FILE
+abbrev pub file_rule : Rule
+file_rule = required_rule (codes "FILE")
+
+-- CERT
 abbrev pub certificate_rule : Rule
-certificate_rule = record (new_rule (codes "CERT")) { action = Some Set; required = true }
+certificate_rule = required_rule (codes "CERT")
 
 -- `verdict [--workers N] [--json] FILE`
 abbrev pub verdict_app : App

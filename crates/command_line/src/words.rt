@@ -2,11 +2,12 @@
 
 ghost use Rattle.std.specs.Prelude.{◌≡◌, ◌≢◌, [], Some, IfOk, MatchResult, codes, false, map, string_bytes};
 ghost use Rattle.std.specs.Prelude.{true};
-ghost use Rattle.clap.specs.Words.{first_value, found_of, kind_of, one_text, rows_of, rule_of};
+ghost use Rattle.clap.specs.Words.{first_value, found_of, kind_of, one_text, rows_of};
 ghost use Rattle.clap.specs.Words.{subcommand_rows_of, takes};
 ghost use Rattle.command_line.specs.Answers.{IsAnswerToWords, IsFaultOf, given_by};
-ghost use Rattle.command_line.specs.Commands.{IsCommandOf, cert_app, certificate_rule, file_rule, finder_app};
-ghost use Rattle.command_line.specs.Commands.{json_rule, live_app, verdict_app, verify_app, workers_rule};
+ghost use Rattle.command_line.specs.Commands.{IsArgOf, IsCommandOf, cert_app, certificate_rule};
+ghost use Rattle.command_line.specs.Commands.{file_rule, finder_app, json_rule, live_app, required_rule};
+ghost use Rattle.command_line.specs.Commands.{verdict_app, verify_app, workers_rule};
 ghost use Rattle.command_line.specs.Tasks.{HasWorkers, IsAnswerToSubcommand, IsDefault, IsFormOf};
 ghost use Rattle.command_line.specs.Tasks.{IsAnswerWhereTaken, IsWordOf};
 ghost use Rattle.command_line.specs.Workers.{IsPositiveOf, IsWorkersOf};
@@ -105,6 +106,14 @@ fn default_task(alloc: Global) -> Result<Task, WordsFault>
     })
 }
 
+/// What `verdict` does.
+const VERDICT: &str =
+    "Judges a recording: its first fault, the order that all responses follow, or the least conflict";
+
+/// What `live` does.
+const LIVE: &str =
+    "Replays a recording by threads in one session beside a watcher, and judges what the session has";
+
 fn finder_command<'a>(alloc: Global) -> Result<Command<'a>, AllocError>
     ensures { IfOk result (IsCommandOf finder_app) }
 {
@@ -122,9 +131,7 @@ fn verdict_command<'a>(alloc: Global) -> Result<Command<'a>, AllocError>
     ensures { IfOk result (IsCommandOf verdict_app) }
 {
     Command::new(alloc, "verdict")
-        .about(
-            "Judges a recording: its first fault, the order that all responses follow, or the least conflict",
-        )
+        .about(VERDICT)
         .arg(workers_word(alloc))?
         .arg(json_word(alloc))?
         .arg(trace_word(alloc))
@@ -151,16 +158,13 @@ fn live_command<'a>(alloc: Global) -> Result<Command<'a>, AllocError>
     ensures { IfOk result (IsCommandOf live_app) }
 {
     Command::new(alloc, "live")
-        .about(
-            "Replays a recording by threads in one session beside a watcher, and judges what the session has",
-        )
+        .about(LIVE)
         .arg(workers_word(alloc))?
         .arg(trace_word(alloc))
 }
 
 fn workers_word<'a>(alloc: Global) -> Arg<'a>
-    ensures rule { rule_of result ≡ workers_rule }
-    ensures local { result.global ≡ false }
+    ensures { IsArgOf workers_rule result }
 {
     Arg::new(alloc, "workers")
         .long("workers")
@@ -170,8 +174,7 @@ fn workers_word<'a>(alloc: Global) -> Arg<'a>
 }
 
 fn json_word<'a>(alloc: Global) -> Arg<'a>
-    ensures rule { rule_of result ≡ json_rule }
-    ensures local { result.global ≡ false }
+    ensures { IsArgOf json_rule result }
 {
     Arg::new(alloc, "json")
         .long("json")
@@ -179,24 +182,26 @@ fn json_word<'a>(alloc: Global) -> Arg<'a>
         .action(ArgAction::SetTrue)
 }
 
-fn trace_word<'a>(alloc: Global) -> Arg<'a>
-    ensures rule { rule_of result ≡ file_rule }
-    ensures local { result.global ≡ false }
+/// A file that is to be given, by the name that usage calls it.
+fn file_word<'a>(alloc: Global, name: &'a str, help: &'a str) -> Arg<'a>
+    ensures { IsArgOf (required_rule name.now) result }
 {
-    Arg::new(alloc, "FILE")
-        .help("The trace; - is standard input")
+    Arg::new(alloc, name)
+        .help(help)
         .required(true)
         .action(ArgAction::Set)
 }
 
-fn certificate_word<'a>(alloc: Global) -> Arg<'a>
-    ensures rule { rule_of result ≡ certificate_rule }
-    ensures local { result.global ≡ false }
+fn trace_word<'a>(alloc: Global) -> Arg<'a>
+    ensures { IsArgOf file_rule result }
 {
-    Arg::new(alloc, "CERT")
-        .help("The certificate; - is standard input")
-        .required(true)
-        .action(ArgAction::Set)
+    file_word(alloc, "FILE", "The trace; - is standard input")
+}
+
+fn certificate_word<'a>(alloc: Global) -> Arg<'a>
+    ensures { IsArgOf certificate_rule result }
+{
+    file_word(alloc, "CERT", "The certificate; - is standard input")
 }
 
 /// The task of words that `clap` has read.

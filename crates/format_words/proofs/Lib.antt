@@ -14,3 +14,4 @@ pub mod CutText
 pub mod TwoCuts
 pub mod Places
 pub mod OneFault
+pub mod Joined

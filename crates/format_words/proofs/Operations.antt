@@ -2,7 +2,7 @@
 use Rattle.std.proofs.Common.{◌≡◌, ℕ, suc, ◌+◌, ◌<◌, ◌==◌, Bool, true, false, ltb, cond, nat_le, List, [], ◌∷◌, ◌++◌, length, take, drop, position, decimal, Some, None, refl, ap, ◌∙◌, subst, arith, add-one, length-append}
 use Rattle.std.specs.List.{position_or_len}
 use Rattle.std.proofs.Math.Numerals.{one-add}
-use Rattle.std.proofs.lemmas.Option.{cond_some, some_pair_parts}
+use Rattle.std.proofs.lemmas.Option.{cond_some}
 use Rattle.std.proofs.lemmas.List.Elements.{All-head, All-tail, All-cons}
 use Rattle.std.proofs.lemmas.Bool.{leb-true, le-leb}
 use Rattle.std.proofs.lemmas.Bool.Decides.{Decides-ltb, nat_tests}
@@ -16,7 +16,7 @@ use Rattle.format_words.proofs.Bytes.{Lacks, lacks-number, lacks-both}
 use Rattle.format_words.proofs.FirstLine.{parts-at}
 use Rattle.format_words.proofs.NameWords.{name-is, name_of-name}
 use Rattle.format_words.proofs.Numbers.{number_of-is, number_of-decimal}
-use Rattle.format_words.proofs.WordsBack.{bind-some}
+use Rattle.format_words.proofs.WordsBack.{bind-some, read-first}
 
 abbrev is_dot : ℕ → Bool
 is_dot b = b == 46
@@ -69,10 +69,9 @@ pub operation-at-is : (ws : List Word) (o : Operation) (more : List Word) → op
 unfolding operation_at
 operation-at-is [] o more e = absurd (cc)
 operation-at-is (w ∷ ws) o more e =
-    let p = bind-some (operation_of w) (λ operation. Some (operation, ws)) (o, more) e in
-    let parts = some_pair_parts p.0 o ws more p.2 in
-    let is = operation-is w p.0 p.1 in
-    (subst IsOperationName parts.0 is.0, ap (λ v. v ∷ ws) (is.1 ∙ ap operation_text parts.0) ∙ ap (λ l. operation_text o ∷ l) parts.1)
+    let p = read-first operation_of w ws o more e in
+    let is = operation-is w o p.0 in
+    (is.0, ap (λ v. v ∷ ws) is.1 ∙ ap (λ l. operation_text o ∷ l) p.1)
 
 pub operation-at-again : (o : Operation) (ws : List Word) → IsOperationName o → operation_at (operation_text o ∷ ws) ≡ Some (o, ws)
 unfolding operation_at
@@ -82,10 +81,9 @@ pub name-at-is : (ws : List Word) (a : NameBytes) (more : List Word) → name_at
 unfolding name_at
 name-at-is [] a more e = absurd (cc)
 name-at-is (w ∷ ws) a more e =
-    let p = bind-some (name_of w) (λ name. Some (name, ws)) (a, more) e in
-    let parts = some_pair_parts p.0 a ws more p.2 in
-    let is = name-is w p.0 p.1 in
-    (subst IsName parts.0 is.1, ap (λ v. v ∷ ws) (is.0 ∙ parts.0) ∙ ap (λ l. a ∷ l) parts.1)
+    let p = read-first name_of w ws a more e in
+    let is = name-is w a p.0 in
+    (is.1, ap (λ v. v ∷ ws) is.0 ∙ ap (λ l. a ∷ l) p.1)
 
 pub name-at-again : (a : NameBytes) (ws : List Word) → IsName a → name_at (a ∷ ws) ≡ Some (a, ws)
 unfolding name_at

@@ -1,5 +1,5 @@
 -- Words that are read are the words of what is read, and are read as that.
-use Rattle.std.proofs.Common.{◌≡◌, ℕ, ◌<◌, ◌^◌, List, [], ◌∷◌, refl, subst, decimal, Option, Some, None}
+use Rattle.std.proofs.Common.{◌≡◌, ℕ, ◌<◌, ◌^◌, List, [], ◌∷◌, refl, ap, ◌∙◌, subst, decimal, Option, Some, None}
 use Rattle.std.specs.Str.{bytes_eq}
 use Rattle.std.specs.List.{All}
 use Rattle.std.proofs.lemmas.Slice.Eq.{bytes_eq-Decides}
@@ -15,14 +15,21 @@ pub bind-some : {A B : Type 0} (o : Option A) (f : A → Option B) (y : B) → (
 bind-some None f y e = absurd (cc)
 bind-some (Some x) f y e = (x, refl, e)
 
+-- what is read of the first word, and the words behind it
+pub read-first : {A : Type 0} (read : Word → Option A) (w : Word) (ws : List Word) (x : A) (more : List Word) → ◌>>=◌ {B = A × List Word} (read w) (λ y. Some (y, ws)) ≡ Some (x, more)
+    → (read w ≡ Some x) × (ws ≡ more)
+read-first {A} read w ws x more e =
+    let p = bind-some {B = A × List Word} (read w) (λ y. Some (y, ws)) (x, more) e in
+    let parts = some_pair_parts p.0 x ws more p.2 in
+    (p.1 ∙ ap Some parts.0, parts.1)
+
 pub number-at-is : (ws : List Word) (n : ℕ) (more : List Word) → number_at ws ≡ Some (n, more) → (ws ≡ decimal n ∷ more) × (n < 2 ^ 32)
 unfolding number_at
 number-at-is [] n more e = absurd (cc)
 number-at-is (w ∷ ws) n more e =
-    let p = bind-some (number_of w) (λ m. Some (m, ws)) (n, more) e in
-    let parts = some_pair_parts p.0 n ws more p.2 in
-    let is = number_of-is w p.0 p.1 in
-    (cc, rw (← parts.0) is.1)
+    let p = read-first number_of w ws n more e in
+    let is = number_of-is w n p.0 in
+    (cc, is.1)
 
 pub after-word-is : (wanted : Word) (ws more : List Word) → after_word wanted ws ≡ Some more → ws ≡ wanted ∷ more
 unfolding after_word

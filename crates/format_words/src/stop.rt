@@ -1,5 +1,8 @@
 //! Why reading of a line stopped.
 
+ghost use Rattle.std.specs.Prelude.{◌≡◌};
+ghost use Rattle.format_words.specs.declared.stop.Stop.{Stop};
+
 use events::Memory;
 use std::alloc::{AllocError, AllocFailed};
 
@@ -17,9 +20,6 @@ pub enum Stop {
 }
 
 impl From<Shape> for Stop {
-    ghost use Rattle.std.specs.Prelude.{◌≡◌};
-    ghost use Rattle.format_words.specs.declared.stop.Stop.{Stop};
-
     ghost from_gives = { λ _ stop. stop ≡ Stop.Shape };
 
     fn from(_unsaid: Shape) -> Stop {
@@ -28,9 +28,6 @@ impl From<Shape> for Stop {
 }
 
 impl From<AllocError> for Stop {
-    ghost use Rattle.std.specs.Prelude.{◌≡◌};
-    ghost use Rattle.format_words.specs.declared.stop.Stop.{Stop};
-
     ghost from_gives = { λ _ stop. stop ≡ Stop.Memory };
 
     fn from(_error: AllocError) -> Stop {
@@ -39,9 +36,6 @@ impl From<AllocError> for Stop {
 }
 
 impl<T: Drop> From<AllocFailed<T>> for Stop {
-    ghost use Rattle.std.specs.Prelude.{◌≡◌};
-    ghost use Rattle.format_words.specs.declared.stop.Stop.{Stop};
-
     ghost from_gives = { λ _ stop. stop ≡ Stop.Memory };
 
     fn from(_error: AllocFailed<T>) -> Stop {
@@ -50,9 +44,6 @@ impl<T: Drop> From<AllocFailed<T>> for Stop {
 }
 
 impl From<Memory> for Stop {
-    ghost use Rattle.std.specs.Prelude.{◌≡◌};
-    ghost use Rattle.format_words.specs.declared.stop.Stop.{Stop};
-
     ghost from_gives = { λ _ stop. stop ≡ Stop.Memory };
 
     fn from(_error: Memory) -> Stop {

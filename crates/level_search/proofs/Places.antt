@@ -24,6 +24,21 @@ read_stands rows l j y inside read = record { within = inside; here = get_or_fro
 pub stands_read : (rows : List (List ℕ)) (l j x y : ℕ) → slice_get (row rows l) j ≡ Some y → Stands rows l j x → x ≡ y
 stands_read rows l j x y read stands = sym stands.here ∙ get_or_from_slice_get (row rows l) j y 0 read
 
+-- a place past a mark that is set further was read, or is past the mark that was
+past_marked : (rows : List (List ℕ)) (marks : List ℕ) (l p x : ℕ) (Q : Type 0) → l < length marks → ((j : ℕ) → p < j → j < slice_index marks l → Stands rows l j x → Q)
+    → ((k j : ℕ) → slice_index marks k ≤ j → Stands rows k j x → Q) → (k j : ℕ) → get_or (set marks l (p + 1)) k 0 ≤ j → Stands rows k j x → Q
+past_marked rows marks l p x Q within read before k j past stands = elim (cases_eq k l) [
+  | inl same ↦
+      let here : get_or (set marks l (p + 1)) l 0 ≡ p + 1 = get_or-set_same marks l (p + 1) 0 within in
+      let behind : p + 1 ≤ j = let h = ap (λ i. get_or (set marks l (p + 1)) i 0) same in omega arith in
+      let stands_here : Stands rows l j x = subst (λ i. Stands rows i j x) same stands in
+      elim (cases_lt j (slice_index marks l)) [
+        | inl early ↦ read j (omega arith) early stands_here
+        | inr late ↦ before l j late stands_here
+      ]
+  | inr other ↦ before k j (subst (λ n. n ≤ j) (get_or-set_other marks l k (p + 1) 0 other) past) stands
+]
+
 -- a mark is set after a place once everything from there to the mark was read
 pub good_marked : (g : Graph) (s l p : ℕ) (st : State) → IsGood g s st → p < length (row g.rows l)
     → ((j x : ℕ) → p < j → j < slice_index st.marks.items l → Stands g.rows l j x → IsReached st.queue.items st.tail x)
@@ -41,24 +56,6 @@ good_marked g s l p st good inside reached missed =
         | inl same ↦ subst (λ i. get_or (set st.marks.items l (p + 1)) i 0 ≤ length (row g.rows i)) (sym same) (omega arith)
         | inr other ↦ subst (λ n. n ≤ length (row g.rows k)) (sym (get_or-set_other st.marks.items l k (p + 1) 0 other)) (good.marks_in k)
       ];
-      covered = λ k j x past stands. elim (cases_eq k l) [
-        | inl same ↦
-            let behind : p + 1 ≤ j = let h = ap (λ i. get_or (set st.marks.items l (p + 1)) i 0) same in omega arith in
-            let stands_here : Stands g.rows l j x = subst (λ i. Stands g.rows i j x) same stands in
-            elim (cases_lt j (slice_index st.marks.items l)) [
-              | inl early ↦ reached j x (omega arith) early stands_here
-              | inr late ↦ good.covered l j x late stands_here
-            ]
-        | inr other ↦ good.covered k j x (subst (λ n. n ≤ j) (get_or-set_other st.marks.items l k (p + 1) 0 other) past) stands
-      ];
-      unfound = λ e k j past stands. elim (cases_eq k l) [
-        | inl same ↦
-            let behind : p + 1 ≤ j = let h = ap (λ i. get_or (set st.marks.items l (p + 1)) i 0) same in omega arith in
-            let stands_here : Stands g.rows l j s = subst (λ i. Stands g.rows i j s) same stands in
-            elim (cases_lt j (slice_index st.marks.items l)) [
-              | inl early ↦ missed e j (omega arith) early stands_here
-              | inr late ↦ good.unfound e l j late stands_here
-            ]
-        | inr other ↦ good.unfound e k j (subst (λ n. n ≤ j) (get_or-set_other st.marks.items l k (p + 1) 0 other) past) stands
-      ];
+      covered = λ k j x. past_marked g.rows st.marks.items l p x (IsReached st.queue.items st.tail x) within (λ i. reached i x) (λ h i. good.covered h i x) k j;
+      unfound = λ e k j. past_marked g.rows st.marks.items l p s ⊥ within (missed e) (good.unfound e) k j;
     }

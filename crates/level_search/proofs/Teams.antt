@@ -197,6 +197,15 @@ last_of_team b v sources m old front first t worked =
           ),
     )
 
+-- a team that was lent and has worked, and of which the last was taken out
+pub taken_of_team : (b : BoundView) (v : Responses) (sources : List ℕ) (m n : ℕ) (old lent new front : List Worker) (first : Worker) → IsTeam b v sources m old → n ≡ length old → lent ≡ old
+    → HaveWorked v sources lent new → take n (new ++ drop (length new) old) ≡ front ++ first ∷ []
+    → IsFirst b v sources (length front) first.seat × All (IsOther b v sources) front
+taken_of_team b v sources m n old lent new front first team whole same worked taken =
+    let done : HaveWorked v sources old new = subst (λ (l : List Worker). HaveWorked v sources l new) same worked in
+    last_of_team b v sources m old front first team
+    (subst (HaveWorked v sources old) (sym (written n old new done.0 whole) ∙ taken) done)
+
 -- one more worker with the next number
 pub numbered-push : (front : List Worker) (w : Worker) → AreNumbered front → w.number ≡ length front + 1 → AreNumbered (front ++ w ∷ [])
 numbered-push front w numbered next k d within = go (cases_lt k (length front))

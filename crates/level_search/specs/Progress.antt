@@ -16,6 +16,10 @@ pub record IsQueued (st : State) : Type 0 where
   pub room : st.tail + count_by not st.seen.items ≡ vec_len st.queue
   pub seen : (x : ℕ) → slice_index_or st.seen.items x false ≡ true → IsReached st.queue.items st.tail x
 
+-- the queue still holds what is seen, of as many elements
+abbrev pub StaysQueued : State → State → Type 0
+StaysQueued old new = IsQueued new × (vec_len new.seen ≡ vec_len old.seen)
+
 -- the state has a mark for each list, and place for each element
 pub record FitsState (g : Graph) (st : State) : Type 0 where
   pub marks_len : vec_len st.marks ≡ length g.rows

@@ -10,7 +10,6 @@ ghost use Rattle.level_search.specs.Walks as by_number;
 mod bound_source;
 mod distance;
 mod expand;
-mod layer;
 mod levels;
 mod plain_bound;
 mod start;

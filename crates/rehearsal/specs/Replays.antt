@@ -1,8 +1,9 @@
 -- Replays of a recording by the passes of a session.
 use Rattle.std.specs.Prelude.{◌≡◌, ℕ, List, [], ◌∷◌, ◌++◌, IfOk}
 use Rattle.events.specs.History.{History, stream}
-use Rattle.sessions.specs.Shown.{PassShown, mine}
+use Rattle.sessions.specs.Shown.{Which, PassShown, mine}
 use Rattle.rehearsal.specs.declared.recorder.Told.{Told}
+use Rattle.rehearsal.specs.declared.rehearsing.Returns.{Returns}
 
 -- the pass is as it was but for what it has seen, and to what it had recorded it added just the stream of its replica
 pub record IsReplayed (h : History) (old new : PassShown) : Type 0 where
@@ -20,3 +21,7 @@ AreReplayed h [] [] = Unit {0}
 AreReplayed h [] (q ∷ qs) = ⊥
 AreReplayed h (p ∷ ps) [] = ⊥
 AreReplayed h (p ∷ ps) (q ∷ qs) = IsReplayed h p q × AreReplayed h ps qs
+
+-- what comes back after these passes acted beside an observer of this session
+abbrev pub HaveActed : History → Which → List PassShown → Returns → Type 0
+HaveActed h session passes back = AreReplayed h passes back.passes.items × (back.observer.session ≡ session)

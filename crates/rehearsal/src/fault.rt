@@ -25,9 +25,6 @@ pub enum RehearsalFault {
 }
 
 impl From<Memory> for RehearsalFault {
-    ghost use Rattle.std.specs.Prelude.{◌≡◌};
-    ghost use Rattle.rehearsal.specs.declared.fault.RehearsalFault.TheVariants as fault;
-
     ghost from_gives = { λ _ given. given ≡ fault.Memory };
 
     fn from(_error: Memory) -> RehearsalFault {

@@ -3,7 +3,7 @@ ghost use Rattle.std.specs.Prelude.{◌≡◌, ◌≤◌, ◌<◌, ◌⊎◌, �
 ghost use Rattle.events.specs.History.{SameStreams, IsLegal};
 ghost use Rattle.sessions.specs.Shown.{PassShown};
 ghost use Rattle.rehearsal.specs.Opened.{AreOpened};
-ghost use Rattle.rehearsal.specs.Replays.{AreReplayed};
+ghost use Rattle.rehearsal.specs.Replays.{AreReplayed, HaveActed};
 
 use super::fault::{RehearsalFault, foremost, of_watch};
 use super::team::{Back, Team, joined, started};
@@ -94,8 +94,7 @@ fn act<H: Threads + Wait + Sync, G: Gate>(
 ) -> Result<Returns, RehearsalFault>
     requires passes { All (λ p. p.session ≡ session.now) passes.items }
     requires observer { observer.session ≡ session.now }
-    ensures replayed { IfOk result (λ r. AreReplayed recording.now passes.items r.passes.items) }
-    ensures observer { IfOk result (λ r. r.observer.session ≡ session.now) }
+    ensures acted { IfOk result (HaveActed recording.now session.now passes.items) }
     ensures workers { ¬ IsErrOf result RehearsalFault.Workers }
 {
     thread::scope(
@@ -104,8 +103,7 @@ fn act<H: Threads + Wait + Sync, G: Gate>(
         move |scope| -> Result<Returns, RehearsalFault>
             requires passes { All (λ p. p.session ≡ session.now) passes.items }
             requires observer { observer.session ≡ session.now }
-            ensures replayed { IfOk result (λ r. AreReplayed recording.entry.now passes.items r.passes.items) }
-            ensures observer { IfOk result (λ r. r.observer.session ≡ session.entry.now) }
+            ensures acted { IfOk result (HaveActed recording.entry.now session.entry.now passes.items) }
             ensures workers { ¬ IsErrOf result RehearsalFault.Workers }
         {
             act_in(
@@ -129,8 +127,7 @@ fn act_in<'s, E, H: Threads + Wait + Sync, G: Gate>(
 ) -> Result<Returns, RehearsalFault>
     requires passes { All (λ p. p.session ≡ session.now) passes.items }
     requires observer { observer.session ≡ session.now }
-    ensures replayed { IfOk result (λ r. AreReplayed recording.now passes.items r.passes.items) }
-    ensures observer { IfOk result (λ r. r.observer.session ≡ session.now) }
+    ensures acted { IfOk result (HaveActed recording.now session.now passes.items) }
     ensures workers { ¬ IsErrOf result RehearsalFault.Workers }
 {
     let room = Vec::with_capacity(alloc, passes.len()).map_err(|_| RehearsalFault::Memory)?;

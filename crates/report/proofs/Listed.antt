@@ -1,10 +1,12 @@
 -- Lists of names and of steps as JSON arrays, element by element. No report has a number that is a float.
-use Rattle.std.proofs.Common.{◌≡◌, ℕ, ◌+◌, Bool, false, ◌||◌, Some, List, [], ◌∷◌, ◌++◌, map, take, slice_get, refl, sym, ap, ◌∙◌}
-use Rattle.std.proofs.lemmas.List.{map_push}
-use Rattle.serde_json.specs.Data.{Data, string, item}
+use Rattle.std.proofs.Common.{◌≡◌, ℕ, ◌+◌, ◌≤◌, Vec, Global, length, Bool, false, ◌||◌, Some, List, [], ◌∷◌, ◌++◌, map, take, slice_get, refl, sym, ap, ◌∙◌}
+use Rattle.std.proofs.lemmas.List.{map_push, take_all}
+use Rattle.serde_json.specs.Data.{Data, string, item, array}
 use Rattle.serde_json.specs.View.{view, items_of}
 use Rattle.serde_json.specs.Written.{has_float, items_have_float}
 use Rattle.serde_json.specs.declared.value.Value.{Value}
+use Rattle.serde_json.specs.declared.value.Value.TheVariants.{Array}
+use Rattle.serde_json.proofs.Views.{view-Array}
 use Rattle.events.specs.Names.{NameBytes}
 use Rattle.events.specs.History.{History}
 use Rattle.events.specs.Operations.{response}
@@ -29,6 +31,13 @@ values-more f values xs i value x is one at =
 pub names-listed : (names : List NameBytes) → items_of (map (λ name. string name) names) ≡ names_json names
 names-listed [] = refl
 names-listed (a ∷ names) = ap (item (string a)) (names-listed names)
+
+-- the views of all names are the array of them
+pub all-listed : (values : Vec Value Global) (names : List NameBytes) (i : ℕ) → map view values.items ≡ map (λ (name : NameBytes). string name) (take i names) → length names ≤ i
+    → view (Array values) ≡ array (names_json names)
+all-listed values names i is past =
+    view-Array values
+    ∙ ap array (ap items_of (is ∙ ap (map (λ (name : NameBytes). string name)) (take_all i names past)) ∙ names-listed names)
 
 pub steps-listed : (h : History) (steps : List Step) → items_of (map (step_json h) steps) ≡ steps_json h steps
 steps-listed h [] = refl

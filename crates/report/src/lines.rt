@@ -12,7 +12,7 @@ ghost use Rattle.report.specs.Texts.{counts_text, faulty_text, accepted_text, re
 use super::counts::{Counts, counts_of};
 use certificate::{Order, Step, Steps, Verdict};
 use events::{Memory, OpName, Recording};
-use format_words::{push_doubled, push_list, push_names, push_number, push_operation, push_shown};
+use format_words::{push_doubled, push_faulty, push_names, push_number, push_order, push_shown};
 use std::alloc::Global;
 
 /// The report of a recording's verdict, as lines that each end with one LF: the counts, and then what the
@@ -55,31 +55,26 @@ fn push_verdict(
 {
     match verdict {
         Verdict::Doubled { first, again } => push_doubled(alloc, text, *first, *again),
-        Verdict::Contents { at } => push_faulty(alloc, text, b"contents ", *at),
-        Verdict::Position { at } => push_faulty(alloc, text, b"position ", *at),
+        Verdict::Contents { at } => push_neither(alloc, text, b"contents ", *at),
+        Verdict::Position { at } => push_neither(alloc, text, b"position ", *at),
         Verdict::Accepted(order) => push_accepted(text, order),
         Verdict::Refused { k, steps } => push_refused(alloc, text, recording, *k, steps),
     }
 }
 
 /// Adds the lines of an operation that is wrong, after this word.
-fn push_faulty(alloc: Global, text: &mut Vec<u8>, word: &[u8], at: OpName) -> Result<(), Memory>
+fn push_neither(alloc: Global, text: &mut Vec<u8>, word: &[u8], at: OpName) -> Result<(), Memory>
     ensures { OnOk result (text.new.items ≡ text.old.items ++ faulty_text word.now at) }
 {
-    text.extend_from_slice(word)?;
-    push_operation(alloc, text, at)?;
-    text.extend_from_slice(b"\nstrong no\nweak no\n")?;
-    Ok(())
+    push_faulty(alloc, text, word, at, b"\nstrong no\nweak no\n")
 }
 
 /// Adds the lines of an acceptance.
 fn push_accepted(text: &mut Vec<u8>, order: &Order) -> Result<(), Memory>
     ensures { OnOk result (text.new.items ≡ text.old.items ++ accepted_text order.now) }
 {
-    text.extend_from_slice(b"accepted\nstrong yes\nweak yes\norder :")?;
-    push_list(text, order.names())?;
-    text.push(b'\n')?;
-    Ok(())
+    let head = b"accepted\nstrong yes\nweak yes\norder :";
+    push_order(text, head, order.names())
 }
 
 /// Adds the lines of a refusal.

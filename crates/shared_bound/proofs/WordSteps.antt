@@ -9,7 +9,7 @@ use Rattle.atomic_table.specs.Table.{State, Me, step, keeps, stepped, Allows}
 use Rattle.shared_bound.specs.declared.TheConstants.{MOST_SEATS, NO_OFFER}
 use Rattle.shared_bound.specs.declared.rule.Knowledge.{Knowledge}
 use Rattle.shared_bound.specs.Bound.{BoundCall, claim, look, offer, fresh, bound_after_all, offers}
-use Rattle.shared_bound.specs.Rule.{times, Knows, Kept, Holds}
+use Rattle.shared_bound.specs.Rule.{total, times, Knows, Kept, Holds}
 use Rattle.shared_bound.specs.Steps.{finished, passed, claimer, reader, offerer, Looked, Claimed, ReadBest, Offered, Counted}
 use Rattle.shared_bound.proofs.Totals.{total_le, one_le_total, times-append}
 use Rattle.shared_bound.proofs.Permuted.{all_below, times_next}
@@ -48,6 +48,24 @@ same_lists n c m seats id k l h later at leads told parts past claimed offered k
       within = omega arith;
       given = λ x. ap (λ (xs : List ℕ). times x xs + times x (range_with_len 0 (min c n))) claimed;
       told = λ x. let a = told x in let b = ap (times x) offered in omega arith;
+      knows = knows;
+    }
+
+-- one claim more, and no offer
+one_claim : (n c m : ℕ) (seats : List Knowledge) (id : ℕ) (k l : Knowledge) (h : Kept n c m seats) → get_elem? seats id ≡ some k → l.parts ≡ k.parts → l.offered ≡ k.offered
+    → c + 1 + k.past ≤ n + total (λ (u : Knowledge). u.past) seats + l.past
+    → ((x : ℕ) → times x l.claimed + times x (range_with_len 0 (min c n)) ≡ times x k.claimed + times x (range_with_len 0 (min (c + 1) n)))
+    → Knows n (c + 1) m l → Kept n (c + 1) m (set seats id l)
+one_claim n c m seats id k l h at parts offered within given knows = changed n c m (c + 1) m seats id k l h at
+    record {
+      later = h.history ++ claim ∷ [];
+      leads = leads_claim n h.history c m h.leads;
+      grows = omega arith;
+      falls = le_refl m;
+      parts = parts;
+      within = within;
+      given = given;
+      told = λ x. let a = times-offers x h.history (claim ∷ []) in let b = ap (times x) offered in omega arith;
       knows = knows;
     }
 
@@ -95,10 +113,7 @@ module _ {S : Type 0} (n : ℕ) where
       let c : ℕ = claims n s in
       let m : ℕ = best n s in
       let h = holds.2 in
-      let within = h.within in
       let mine : Knows n c m k = h.each id k at in
-      let later : List BoundCall = h.history ++ claim ∷ [] in
-      let leads = leads_claim n h.history c m h.leads in
       let then_holds : (l : Knowledge) → Kept n (c + 1) m (set s.views id l) → Holds n (stepped s 0 ((c + 1) % 2 ^ 64) id me.1 l keeps) =
       λ l kept. subst (λ (z : ℕ). Holds n (stepped s 0 z id me.1 l keeps)) (sym (no_wrap s holds)) (counted n s holds id me.1 l (c + 1) kept) in
       dite (dec_le n c)
@@ -109,18 +124,9 @@ module _ {S : Type 0} (n : ℕ) where
         keeps,
         tt,
         then_holds l
-            (changed n c m (c + 1) m s.views id k l h at
-            record {
-              later = later;
-              leads = leads;
-              grows = omega arith;
-              falls = le_refl m;
-              parts = refl;
-              within = omega arith;
-              given = λ x. ap (λ (z : ℕ). times x k.claimed + times x (range_with_len 0 z)) still;
-              told = λ x. let e = times-offers x h.history (claim ∷ []) in omega arith;
-              knows = record { bounded = omega arith; ended = λ _. omega arith; finished = λ _. omega arith; lowered = mine.lowered; nothing = mine.nothing };
-            }),
+            (one_claim n c m s.views id k l h at refl refl (omega (arith, h.within))
+            (λ x. ap (λ (z : ℕ). times x k.claimed + times x (range_with_len 0 z)) still)
+            record { bounded = omega arith; ended = λ _. omega arith; finished = λ _. omega arith; lowered = mine.lowered; nothing = mine.nothing }),
         (refl, (λ less. absurd (omega arith)), λ _. refl),
       ))
       (λ (left : ¬ (n ≤ c)).
@@ -136,23 +142,14 @@ module _ {S : Type 0} (n : ℕ) where
         keeps,
         tt,
         then_holds l
-            (changed n c m (c + 1) m s.views id k l h at
-            record {
-              later = later;
-              leads = leads;
-              grows = omega arith;
-              falls = le_refl m;
-              parts = refl;
-              within = omega arith;
-              given = λ x.
-                  let a = ap (λ (z : ℕ). times x (range_with_len 0 z)) low in
-                  let b = ap (λ (z : ℕ). times x (range_with_len 0 z)) next in
-                  let d = times_next x c in
-                  let e = times-append x k.claimed (c ∷ []) in
-                  omega arith;
-              told = λ x. let e = times-offers x h.history (claim ∷ []) in omega arith;
-              knows = record { bounded = mine.bounded; ended = λ p. absurd (omega arith); finished = λ f. absurd (left (mine.finished f)); lowered = mine.lowered; nothing = λ z. absurd (omega arith) };
-            }),
+            (one_claim n c m s.views id k l h at refl refl (omega (arith, h.within))
+            (λ x.
+            let a = ap (λ (z : ℕ). times x (range_with_len 0 z)) low in
+            let b = ap (λ (z : ℕ). times x (range_with_len 0 z)) next in
+            let d = times_next x c in
+            let e = times-append x k.claimed (c ∷ []) in
+            omega arith)
+            record { bounded = mine.bounded; ended = λ p. absurd (omega arith); finished = λ f. absurd (left (mine.finished f)); lowered = mine.lowered; nothing = λ z. absurd (omega arith) }),
         (refl, (λ _. (refl, lower)), λ full. absurd (omega arith)),
       ))
 
@@ -181,7 +178,6 @@ module _ {S : Type 0} (n : ℕ) where
       let c : ℕ = claims n s in
       let m : ℕ = best n s in
       let h = holds.2 in
-      let within = h.within in
       let mine : Knows n c m k = h.each id k at in
       let low = mine.lowered in
       let l : Knowledge = offerer k m x in (
@@ -196,7 +192,7 @@ module _ {S : Type 0} (n : ℕ) where
               grows = le_refl c;
               falls = omega arith;
               parts = refl;
-              within = omega arith;
+              within = omega (arith, h.within);
               given = λ y. refl;
               told = λ y. let e = times-append y k.offered (x ∷ []) in let d = times-offers y h.history (offer x ∷ []) in omega arith;
               knows = record { bounded = mine.bounded; ended = mine.ended; finished = mine.finished; lowered = omega arith; nothing = λ z. absurd (omega arith) };
@@ -207,14 +203,12 @@ module _ {S : Type 0} (n : ℕ) where
   pub counts : (slots id : ℕ) (me : Me S Knowledge) → Allows (Holds n) slots id me 0 (λ x. x) (Counted (step slots 0 0 0 none) me)
   counts slots id me s holds _ at _ =
       let k : Knowledge = me.0 in
-      let c : ℕ = claims n s in
-      let m : ℕ = best n s in
       let h = holds.2 in
       let whole = h.whole in
       let a = one_le_total (λ (u : Knowledge). u.parts) s.views id k at in (
         k,
         keeps,
         tt,
-        counted n s holds id me.1 k c (same_lists n c m s.views id k k h h.history at h.leads (λ x. refl) refl refl refl refl (h.each id k at)),
+        counted n s holds id me.1 k (claims n s) (same_lists n (claims n s) (best n s) s.views id k k h h.history at h.leads (λ x. refl) refl refl refl refl (h.each id k at)),
         (refl, omega arith),
       )

@@ -1,12 +1,13 @@
 //! The least element that comes next on a shortest way back.
 
-ghost use Rattle.std.specs.Prelude.{◌≡◌, ◌⊎◌, ℕ, ◌<◌, ◌≤◌, Some, true, false, length, slice_get};
+ghost use Rattle.std.specs.Prelude.{◌≡◌, ◌⊎◌, ℕ, ◌+◌, ◌<◌, ◌≤◌, Some, true, false, length, slice_get};
 ghost use Rattle.std.specs.Prelude.{slice_index_or};
 ghost use Rattle.order_graph.specs.Lists.{lists_of, row, Stands};
 ghost use Rattle.order_graph.specs.Spots.{spots_of};
 ghost use Rattle.order_graph.specs.declared.spot.Spot.{Spot};
-ghost use Rattle.level_search.specs.Graph.{Before};
+ghost use Rattle.level_search.specs.Graph.{Before, graph_of};
 ghost use Rattle.level_search.specs.Progress.{IsAfter};
+ghost use Rattle.level_search.specs.Rings.{IsLeastNext, IsTableOf, Reaches};
 
 use order_graph::{Looked, OrderGraph, Spot};
 
@@ -80,7 +81,7 @@ fn less_behind_spot(
 }
 
 /// The least marked element before which `a` stands; the number of elements where there is none.
-pub fn least_next(graph: &OrderGraph, a: u32, marked: &[bool], looked: &mut Looked) -> u32
+fn least_next(graph: &OrderGraph, a: u32, marked: &[bool], looked: &mut Looked) -> u32
     requires { length marked.now ≡ length graph.now.elements }
     ensures least { (y : ℕ) → Before (lists_of graph.now) a y → slice_index_or marked.now y false ≡ true
         → result ≤ y }
@@ -92,4 +93,20 @@ pub fn least_next(graph: &OrderGraph, a: u32, marked: &[bool], looked: &mut Look
         least = less_behind_spot(graph, a, i, marked, least, looked);
     }
     least
+}
+
+/// The next element of the least ring: n steps lead on from it.
+pub fn next_of_ring(
+    graph: &OrderGraph,
+    z: u32,
+    n: u32,
+    a: u32,
+    table: &[bool],
+    looked: &mut Looked,
+) -> u32
+    requires table { IsTableOf (graph_of graph.now) z n table.now }
+    requires on { Reaches (lists_of graph.now) z (n + 1) a }
+    ensures { IsLeastNext (lists_of graph.now) z n a result }
+{
+    least_next(graph, a, table, looked)
 }

@@ -4,13 +4,12 @@ ghost use Rattle.std.specs.Prelude.{◌≡◌, ℕ, ◌+◌, ◌-◌, ◌<◌, �
 ghost use Rattle.specification.specs.Responses.{AreProper};
 ghost use Rattle.specification.specs.Search.{IsShortestLength};
 ghost use Rattle.order_graph.specs.Lists.{lists_of};
-ghost use Rattle.level_search.specs.Graph.{graph_of};
-ghost use Rattle.level_search.specs.Rings.{IsFirstRing, IsLeastNext, IsTableOf, Reaches};
+ghost use Rattle.level_search.specs.Rings.{IsFirstRing, IsLeastNext};
 ghost use Rattle.shown_table.specs.Tables.{IsShownTable};
 ghost use Rattle.level_search.specs.Balls.{FitsSets};
 ghost use Rattle.level_search.specs.Walks.{HasCycle};
 
-use super::choose::least_next;
+use super::choose::next_of_ring;
 use super::tables::tables;
 use crate::searching::PlainBound;
 use crate::tabled::{Sets, search_by_table};
@@ -18,22 +17,6 @@ use events::Memory;
 use order_graph::{Looked, OrderGraph};
 use shown_table::ShownTable;
 use std::alloc::Global;
-
-/// The next element of the least ring: n steps lead on from it.
-fn next_of_ring(
-    graph: &OrderGraph,
-    z: u32,
-    n: u32,
-    a: u32,
-    table: &[bool],
-    looked: &mut Looked,
-) -> u32
-    requires table { IsTableOf (graph_of graph.now) z n table.now }
-    requires on { Reaches (lists_of graph.now) z (n + 1) a }
-    ensures { IsLeastNext (lists_of graph.now) z n a result }
-{
-    least_next(graph, a, table, looked)
-}
 
 /// The least element through which a shortest cycle leads.
 fn first_source(graph: &OrderGraph, table: &ShownTable, k: u32, sets: &mut Sets) -> u32

@@ -7,7 +7,7 @@ ghost use Rattle.level_search.specs.Graph.{graph_of};
 ghost use Rattle.level_search.specs.Progress.{FitsState};
 ghost use Rattle.level_search.specs.ScratchView.{LooksWithin};
 
-use super::layer::layer;
+use super::expand::layer;
 use super::start::start;
 use super::state::State;
 use order_graph::{Looked, OrderGraph};

@@ -8,7 +8,7 @@ ghost use Rattle.level_search.specs.ScratchView.{LooksWithin};
 ghost use Rattle.level_search.specs.Walks.{HasCycle, IsSearchAnswer};
 
 use super::bound_source::BoundSource;
-use super::layer::layer;
+use super::expand::layer;
 use super::start::start;
 use super::state::State;
 use order_graph::{Looked, OrderGraph};

@@ -1,7 +1,7 @@
 //! What a search writes on: marks, what is reached, and the queue.
 
 ghost use Rattle.std.specs.Prelude.{◌≡◌, ℕ, ◌+◌, ◌<◌, ◌≤◌, true, vec_len};
-ghost use Rattle.level_search.specs.Progress.{Grows, IsQueued, IsReached};
+ghost use Rattle.level_search.specs.Progress.{Grows, IsQueued, IsReached, StaysQueued};
 
 /// Where a search is.
 ///
@@ -22,8 +22,7 @@ impl State {
     pub fn reach(&mut self, y: u32)
         requires known { y < vec_len self.old.seen }
         requires queued { IsQueued self.old }
-        ensures queued { IsQueued self.new }
-        ensures places { vec_len self.new.seen ≡ vec_len self.old.seen }
+        ensures queued { StaysQueued self.old self.new }
         ensures grows { Grows (λ z. z ≡ y) y self.old self.new }
         ensures reached { IsReached self.new.queue.items self.new.tail y }
         ensures tail { self.new.tail ≤ self.old.tail + 1 }
@@ -42,8 +41,7 @@ impl State {
     pub fn visit(&mut self, element: u32, y: u32)
         requires known { y < vec_len self.old.seen }
         requires queued { IsQueued self.old }
-        ensures queued { IsQueued self.new }
-        ensures places { vec_len self.new.seen ≡ vec_len self.old.seen }
+        ensures queued { StaysQueued self.old self.new }
         ensures grows { Grows (λ z. z ≡ y) element self.old self.new }
         ensures reached { IsReached self.new.queue.items self.new.tail y }
         ensures found { y ≡ element → self.new.found ≡ true }

@@ -2,8 +2,10 @@
 use super::conflicts::number_on;
 use crate::Gate;
 use sample_recordings::{RING_OF_FOUR, THREE_WAY_CYCLE};
+use std::alloc::Global;
 use std::sync::atomic::{AtomicU64, Ordering};
 use std::test::Fail;
+use std::thread::Threads;
 
 /// Counts the searches of each of four sources by two workers, begun and ended, and calls that name something
 /// else.
@@ -134,20 +136,28 @@ impl Gate for Hold {
     }
 }
 
+/// Whether two workers find this number while the first search is held, which sees what it waits for.
+fn is_found_while_held(
+    rt: &(impl Threads + Sync),
+    alloc: Global,
+    text: &str,
+    hold: &Hold,
+    number: u32,
+) -> Result<bool, Fail> {
+    let found = number_on(rt, alloc, text, 2, hold)?;
+    Ok(found == Some(number) && hold.saw_both())
+}
+
 #[test]
 fn two_searches_at_once(rt: HostRuntime) -> Result<(), Fail> {
     let hold = Hold::until(2, 0);
-    let found = number_on(&rt, rt.alloc(), THREE_WAY_CYCLE, 2, &hold)?;
-    assert_eq!(rt; found, Some(3));
-    assert!(rt; hold.saw_both());
+    assert!(rt; is_found_while_held(&rt, rt.alloc(), THREE_WAY_CYCLE, &hold, 3)?);
     Ok(())
 }
 
 #[test]
 fn a_search_held_until_the_others_have_ended(rt: HostRuntime) -> Result<(), Fail> {
     let hold = Hold::until(0, 3);
-    let found = number_on(&rt, rt.alloc(), RING_OF_FOUR, 2, &hold)?;
-    assert_eq!(rt; found, Some(4));
-    assert!(rt; hold.saw_both());
+    assert!(rt; is_found_while_held(&rt, rt.alloc(), RING_OF_FOUR, &hold, 4)?);
     Ok(())
 }

@@ -101,32 +101,35 @@ fn has_conflict(
     }
 }
 
-const RING_STEPS: [Shown; 4] = [
-    Shown("a", "b", 2, 1),
-    Shown("b", "c", 3, 1),
-    Shown("c", "d", 4, 2),
-    Shown("d", "a", 5, 2),
+/// Recordings, with the steps of their least cycles.
+const WORKED: &[(&str, &[Shown])] = &[
+    (
+        RING_OF_FOUR,
+        &[
+            Shown("a", "b", 2, 1),
+            Shown("b", "c", 3, 1),
+            Shown("c", "d", 4, 2),
+            Shown("d", "a", 5, 2),
+        ],
+    ),
+    (
+        THREE_WAY_CYCLE,
+        &[
+            Shown("x", "b", 2, 1),
+            Shown("b", "a", 0, 3),
+            Shown("a", "x", 1, 1),
+        ],
+    ),
+    (
+        OPPOSITE_PAIR,
+        &[Shown("a", "b", 0, 2), Shown("b", "a", 1, 2)],
+    ),
+    (PAIR_APART, &[Shown("a", "c", 0, 3), Shown("c", "a", 1, 1)]),
 ];
-
-const CYCLE_STEPS: [Shown; 3] = [
-    Shown("x", "b", 2, 1),
-    Shown("b", "a", 0, 3),
-    Shown("a", "x", 1, 1),
-];
-
-const PAIR_STEPS: [Shown; 2] = [Shown("a", "b", 0, 2), Shown("b", "a", 1, 2)];
-
-const APART_STEPS: [Shown; 2] = [Shown("a", "c", 0, 3), Shown("c", "a", 1, 1)];
 
 #[test]
 fn steps_of_worked_recordings(rt: HostRuntime) -> Result<(), Fail> {
-    let rows = [
-        (RING_OF_FOUR, RING_STEPS.as_slice()),
-        (THREE_WAY_CYCLE, CYCLE_STEPS.as_slice()),
-        (OPPOSITE_PAIR, PAIR_STEPS.as_slice()),
-        (PAIR_APART, APART_STEPS.as_slice()),
-    ];
-    for (text, expected) in rows {
+    for (text, expected) in WORKED.iter().copied() {
         assert!(rt; leads_round(&rt, rt.alloc(), text, expected)?, "at {text}");
     }
     Ok(())
@@ -134,13 +137,7 @@ fn steps_of_worked_recordings(rt: HostRuntime) -> Result<(), Fail> {
 
 #[test]
 fn conflicts_of_worked_recordings(rt: HostRuntime) -> Result<(), Fail> {
-    let rows = [
-        (RING_OF_FOUR, RING_STEPS.as_slice()),
-        (THREE_WAY_CYCLE, CYCLE_STEPS.as_slice()),
-        (OPPOSITE_PAIR, PAIR_STEPS.as_slice()),
-        (PAIR_APART, APART_STEPS.as_slice()),
-    ];
-    for (text, expected) in rows {
+    for (text, expected) in WORKED.iter().copied() {
         assert!(rt; has_conflict(&rt, rt.alloc(), text, expected)?, "at {text}");
     }
     Ok(())

@@ -30,19 +30,14 @@ returns-then-eq c =
     )
 
 pub returns-else-eq : goal.returns-else-eq
-returns-else-eq c =
-    let h : History = c.args.recording.now in
-    let steps : List Step = c.args.steps.now in
-    let s : Step = c.in-Some-Some.step.now in
-    let n : Step = c.in-Some-Some.next.now in
-    let at : slice_get steps c.args.i ≡ Some s = sym c.in-Some-Some.ensures in
-    let behind : slice_get steps (next_place (length steps) c.args.i) ≡ Some n = sym c.in-Some-Some.ensures' in (
-      λ t. absurd (false≢true (sym c.if-eq.false ∙ t)),
-      λ right.
-          let joins : s.to ≡ n.from = right_joins h c.requires.legal steps c.args.i s n c.requires.within at behind right in
-          let same : c.step.inside.to ≡ c.next.inside.from = ap (λ (z : Step). z.to) c.step.view_is ∙ joins ∙ sym (ap (λ (z : Step). z.from) c.next.view_is) in
-          absurd (false≢true (c.if-eq.ensures ∙ (bytes_decides c.step.inside.to c.next.inside.from).1 same)),
-    )
+returns-else-eq c = (
+  λ t. absurd (false≢true (sym c.if-eq.false ∙ t)),
+  λ right.
+      let joins = right_joins c.args.recording.now c.requires.legal c.args.steps.now c.args.i c.in-Some-Some.step.now c.in-Some-Some.next.now c.requires.within
+      (sym c.in-Some-Some.ensures) (sym c.in-Some-Some.ensures') right in
+      let same : c.step.inside.to ≡ c.next.inside.from = ap (λ (z : Step). z.to) c.step.view_is ∙ joins ∙ sym (ap (λ (z : Step). z.from) c.next.view_is) in
+      absurd (false≢true (c.if-eq.ensures ∙ (bytes_decides c.step.inside.to c.next.inside.from).1 same)),
+)
 
 pub returns-in_default : goal.returns-in_default
 returns-in_default c =

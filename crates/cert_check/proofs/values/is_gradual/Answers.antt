@@ -2,7 +2,7 @@
 use Rattle.std.proofs.Common.{◌≡◌, ◌⊎◌, inl, inr, ℕ, ◌<◌, ◌≤◌, ◌+◌, ◌^◌, List, length, map, take, drop, suc, get_or, sym, subst, arith, refl, ◌++◌, ◌∷◌, []}
 use Rattle.std.specs.Prelude.{slice_index}
 use Rattle.cert_check.specs.Values.{IsGradual}
-use Rattle.cert_check.proofs.ValueTests.{GoesTo, go_on, go_stop, map-more, map-split, whole_front}
+use Rattle.cert_check.proofs.ValueTests.{GoesTo, go_on, go_stop, one-further, map-split, whole_front}
 use Rattle.cert_check.proofs.values.is_gradual.Goals as goal
 use Rattle.cert_check.proofs.values.is_gradual.Goals.{then-value-most-2, else-value-most-2}
 
@@ -22,26 +22,20 @@ returns-then-value-most c =
 pub loop-place-preserved : goal.loop-place-preserved
 loop-place-preserved c =
     let f : ℕ → ℕ = slice_index c.args.values.now in
-    let xs : List ℕ = c.args.places.now in
-    let i : ℕ = c.loop-place.place-index in
-    let lt : i < length xs = c.loop-place-test.true in
     let v : ℕ = c.from-value.result in
     let most : ℕ = c.loop-place.most in
     let next : ℕ = c.if-value-most-2.most in
-    let value : v ≡ f (get_or xs i 0) = c.from-value.ensures in
     let le : v ≤ most = c.if-value-most.false in
     let which : ((next ≡ most) × (most ≤ v + 1)) ⊎ ((next ≡ v + 1) × (v + 1 < most)) =
     elim c.if-value-most-2.branch [
       | then-value-most-2 w ↦ inr (w.most-is, w.if-value-most-2.true)
       | else-value-most-2 w ↦ inl (w.most-is, w.if-value-most-2.false)
     ] in
-    let more : GoesTo (map f (take i xs) ++ v ∷ []) next = go_on (map f (take i xs)) most v next c.loop-place.invariant le which in
-    subst (λ (ds : List ℕ). GoesTo ds next) (sym (map-more f xs i lt))
-    (subst (λ (d : ℕ). GoesTo (map f (take i xs) ++ d ∷ []) next) value more)
+    one-further (λ (ds : List ℕ). GoesTo ds next) f c.args.places.now c.loop-place.place-index v c.loop-place-test.true c.from-value.ensures
+    (go_on (map f (take c.loop-place.place-index c.args.places.now)) most v next c.loop-place.invariant le which)
 
 pub returns : goal.returns
 returns c =
-    let f : ℕ → ℕ = slice_index c.args.values.now in
-    let whole : map f (take c.loop-place.place-index c.args.places.now) ≡ map f c.args.places.now = whole_front f c.args.places.now c.loop-place.place-index (omega arith) in
-    let gradual : IsGradual (map f c.args.places.now) = subst IsGradual whole c.loop-place.invariant.gradual in
+    let gradual : IsGradual (map (slice_index c.args.values.now) c.args.places.now) =
+    subst IsGradual (whole_front (slice_index c.args.values.now) c.args.places.now c.loop-place.place-index (omega arith)) c.loop-place.invariant.gradual in
     (λ t. gradual, λ r. refl)

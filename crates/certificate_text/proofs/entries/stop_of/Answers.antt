@@ -12,22 +12,24 @@ returns-then-not-is_row c =
     λ e. false≢true (sym c.if-not-is_row.true ∙ (slice_eq-Decides Decides-eqb _ _ _ c.eq-is_row.ensures).1 (e ∙ sym c.as_slice.ensures)) in
     row-unnamed c.args.k (words_of c.args.line.now) c.first_word.result.0.now (words_behind c.first_word.result.1.now) c.first_word.ensures.words ne
 
+-- the words begin with the word of rows
+row-words : (words rest : List Word) (word wanted : Word) → words ≡ word ∷ rest → word ≡ wanted → wanted ≡ codes "layers" → words ≡ codes "layers" ∷ rest
+row-words words rest word wanted is same row = is ∙ ap (λ (w : Word). w ∷ rest) (same ∙ row)
+
 pub returns-in_default : goal.returns-in_default
 returns-in_default c =
-    let is = (slice_eq-Decides Decides-eqb _ _ _ c.eq-is_row.ensures).0 c.if-not-is_row.false ∙ c.as_slice.ensures in
+    let same = (slice_eq-Decides Decides-eqb _ _ _ c.eq-is_row.ensures).0 c.if-not-is_row.false in
     row-unlayered c.args.k (words_of c.args.line.now) (words_behind c.first_word.result.1.now)
-    (c.first_word.ensures.words ∙ ap (λ (w : Word). w ∷ words_behind c.first_word.result.1.now) is) (c.in_default.ensures.shape)
+    (row-words _ _ _ _ c.first_word.ensures.words same c.as_slice.ensures) (c.in_default.ensures.shape)
 
 pub returns-then-is_form : goal.returns-then-is_form
 returns-then-is_form c =
-    let is = (slice_eq-Decides Decides-eqb _ _ _ c.eq-is_row.ensures).0 c.if-not-is_row.false ∙ c.as_slice.ensures in
+    let same = (slice_eq-Decides Decides-eqb _ _ _ c.eq-is_row.ensures).0 c.if-not-is_row.false in
     let ok = c.in-Ok.ensures.ok in
-    row-there c.args.k (words_of c.args.line.now) (words_behind c.first_word.result.1.now) ok.0 c.in-Ok.form
-    (c.first_word.ensures.words ∙ ap (λ (w : Word). w ∷ words_behind c.first_word.result.1.now) is) ok.1 ok.2 (sym c.is_form.ensures ∙ c.if-is_form.true)
+    row-there c.args.k _ _ ok.0 c.in-Ok.form (row-words _ _ _ _ c.first_word.ensures.words same c.as_slice.ensures) ok.1 ok.2 (sym c.is_form.ensures ∙ c.if-is_form.true)
 
 pub returns-else-is_form : goal.returns-else-is_form
 returns-else-is_form c =
-    let is = (slice_eq-Decides Decides-eqb _ _ _ c.eq-is_row.ensures).0 c.if-not-is_row.false ∙ c.as_slice.ensures in
+    let same = (slice_eq-Decides Decides-eqb _ _ _ c.eq-is_row.ensures).0 c.if-not-is_row.false in
     let ok = c.in-Ok.ensures.ok in
-    row-unformed c.args.k (words_of c.args.line.now) (words_behind c.first_word.result.1.now) ok.0 c.in-Ok.form
-    (c.first_word.ensures.words ∙ ap (λ (w : Word). w ∷ words_behind c.first_word.result.1.now) is) ok.1 ok.2 (sym c.is_form.ensures ∙ c.if-is_form.false)
+    row-unformed c.args.k _ _ ok.0 c.in-Ok.form (row-words _ _ _ _ c.first_word.ensures.words same c.as_slice.ensures) ok.1 ok.2 (sym c.is_form.ensures ∙ c.if-is_form.false)

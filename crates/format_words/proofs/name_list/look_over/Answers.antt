@@ -8,9 +8,7 @@ use Rattle.format_words.proofs.NamesRead.{some-word-at, names-end, names-more, n
 use Rattle.format_words.proofs.name_list.look_over.Goals as goal
 
 pub returns-in_err-word : goal.returns-in_err-word
-returns-in_err-word c =
-    let some : 0 < length c.loop-rest.rest.now = grind (arith, common_steps) in
-    absurd (some-word-at c.loop-rest.rest.now some c.in_err-word.ensures.word)
+returns-in_err-word c = absurd (some-word-at c.loop-rest.rest.now (grind (arith, common_steps)) c.in_err-word.ensures.word)
 
 pub returns-in_err-name_of : goal.returns-in_err-name_of
 returns-in_err-name_of c =

@@ -1,12 +1,9 @@
 -- One name more, and at the end all of them.
-use Rattle.std.proofs.Common.{sym, ap, ◌∙◌, arith, map}
-use Rattle.std.proofs.lemmas.List.{take_all}
-use Rattle.serde_json.specs.Data.{string, array}
-use Rattle.serde_json.specs.View.{items_of}
-use Rattle.serde_json.proofs.Views.{view-Array}
+use Rattle.std.proofs.Common.{sym, arith, map}
+use Rattle.serde_json.specs.Data.{string}
 use Rattle.events.specs.Names.{NameBytes}
 use Rattle.format_words.proofs.NameList.{not-past}
-use Rattle.report.proofs.Listed.{values-more, names-listed}
+use Rattle.report.proofs.Listed.{values-more, all-listed}
 use Rattle.report.proofs.words.response_value.Goals as goal
 use Rattle.report.proofs.words.response_value.Goals.{in-Some+in_ok-name_value+in_ok-push, in_default}
 
@@ -19,7 +16,4 @@ loop-i-preserved c = elim c.match-get.branch [
 ]
 
 pub returns : goal.returns
-returns c =
-    let whole = take_all c.loop-i.i c.args.response.now (omega arith) in
-    view-Array c.loop-i.names
-    ∙ ap array (ap items_of (c.loop-i.invariant ∙ ap (map (λ (name : NameBytes). string name)) whole) ∙ names-listed c.args.response.now)
+returns c = all-listed c.loop-i.names c.args.response.now c.loop-i.i c.loop-i.invariant (omega arith)

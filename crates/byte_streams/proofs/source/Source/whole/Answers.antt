@@ -1,4 +1,4 @@
-use Rattle.std.proofs.Common.{◌≡◌, ◌∙◌, ◌<◌, [], ◌++◌, ℕ, ap, arith, inl, inr, length, length-append, length-take, rules, subst, sym, take, unwrap_or}
+use Rattle.std.proofs.Common.{◌≡◌, ◌≢◌, ◌∙◌, ◌<◌, ◌≤◌, List, [], ◌++◌, ℕ, ap, arith, inl, inr, length, length-append, length-take, rules, subst, sym, take, unwrap_or}
 use Rattle.std.proofs.KnownBytes.{Consumes-trans}
 use Rattle.std.proofs.Math.Nat.{eq-or-lt_of_le}
 use Rattle.byte_streams.specs.Streams.{IsClosed}
@@ -14,19 +14,15 @@ returns-then-n-eq0-clause-made g c = λ fresh.
     read-ended c.args.self.now c.loop-n.self c.read.new.self c.loop-n.all.items (take c.in-Some.n c.read.new.buffer) _
     (c.loop-n.invariant.reads fresh) none (read.asked (read.went.3 (c.loop-n.invariant.still fresh).1) some)
 
+-- a read that gives something leaves something
+read-some : (all buffer : List ℕ) (n : ℕ) → n ≢ 0 → n ≤ length buffer → 0 < length (all ++ take n buffer)
+read-some all buffer n some within = omega (arith, some, within, length-append all (take n buffer), length-take {A = ℕ})
+
 pub returns-then-is_err-clause-memory : goal.returns-then-is_err-clause-memory
 returns-then-is_err-clause-memory g c = λ _.
     let read = c.in-Some.ensures in
     let came = take c.in-Some.n c.read.new.buffer in
-    let more : 0 < length (c.loop-n.all.items ++ came) =
-    omega (
-      arith,
-      c.if-n-eq0.false,
-      read.within,
-      length-append
-          c.loop-n.all.items came,
-      length-take {A = ℕ},
-    ) in (
+    let more = read-some c.loop-n.all.items c.read.new.buffer c.in-Some.n c.if-n-eq0.false read.within in (
       read.went.0,
       (
         c.loop-n.all.items ++ came,
@@ -41,15 +37,7 @@ returns-then-is_err-clause-made g c = λ fresh.
     let read = c.in-Some.ensures in
     let some : 0 < length c.read.new.buffer = search rules in
     let came = take c.in-Some.n c.read.new.buffer in
-    let more : 0 < length (c.loop-n.all.items ++ came) =
-    omega (
-      arith,
-      c.if-n-eq0.false,
-      read.within,
-      length-append
-          c.loop-n.all.items came,
-      length-take {A = ℕ},
-    ) in
+    let more = read-some c.loop-n.all.items c.read.new.buffer c.in-Some.n c.if-n-eq0.false read.within in
     let all : ReadSoFar c.args.self.now c.read.new.self (c.loop-n.all.items ++ came) =
     read-more c.args.self.now c.loop-n.self c.read.new.self c.loop-n.all.items came _
     (c.loop-n.invariant.reads fresh) (omega (arith, c.if-n-eq0.false, read.within, length-take {A = ℕ})) (read.asked (read.went.3 (c.loop-n.invariant.still fresh).1) some) in

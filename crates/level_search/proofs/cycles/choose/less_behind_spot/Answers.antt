@@ -5,10 +5,7 @@ use Rattle.order_graph.proofs.AllSpots.{spots_sound}
 use Rattle.level_search.proofs.cycles.choose.less_behind_spot.Goals as goal
 
 pub less_behind-requires-clause-inside : goal.less_behind-requires-clause-inside
-less_behind-requires-clause-inside c =
-    let here : Stands (lists_of c.args.graph.now) c.in-Some.spot.list c.in-Some.spot.place c.args.a =
-    spots_sound (lists_of c.args.graph.now) c.args.a c.args.i c.in-Some.spot (sym c.in-Some.ensures) in
-    here.within
+less_behind-requires-clause-inside c = (spots_sound (lists_of c.args.graph.now) c.args.a c.args.i c.in-Some.spot (sym c.in-Some.ensures)).within
 
 pub returns-in-Some-clause-first : goal.returns-in-Some-clause-first
 returns-in-Some-clause-first c =

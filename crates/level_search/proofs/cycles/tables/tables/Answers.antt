@@ -4,22 +4,18 @@ use Rattle.std.proofs.lemmas.Grind.{common_steps}
 use Rattle.order_graph.specs.Lists.{lists_of}
 use Rattle.level_search.specs.Graph.{graph_of}
 use Rattle.level_search.specs.Rings.{IsTable, IsTableOf}
-use Rattle.level_search.proofs.TableRows.{bits_of, push_before, push_last, table_slice}
+use Rattle.level_search.proofs.TableRows.{bits_of, push_before, push_last, last_table}
 use Rattle.level_search.proofs.cycles.tables.tables.Goals as goal
 
 pub next_table-requires-clause-table : goal.next_table-requires-clause-table
 next_table-requires-clause-table c =
-    let count = c.loop-n.invariant.count in
-    let low = c.loop-n.auto.n in
-    (table_slice (IsTableOf (graph_of c.args.graph.now) c.args.z (c.loop-n.n - 1)) c.loop-n.all.items (c.loop-n.n - 1) c.index.result.now c.as_slice.result.now (omega arith)
-    c.index.ensures c.as_slice.ensures.value (c.loop-n.invariant.tables (c.loop-n.n - 1) (omega arith))).table_is
+    (last_table (IsTableOf (graph_of c.args.graph.now) c.args.z) c.loop-n.n c.loop-n.all.items c.index.result.now c.as_slice.result.now (omega (arith, c.loop-n.auto.n))
+    (omega (arith, c.loop-n.invariant.count, c.loop-n.all.ok)) c.loop-n.invariant.tables c.index.ensures c.as_slice.ensures.value).table_is
 
 pub next_table-requires-clause-count : goal.next_table-requires-clause-count
 next_table-requires-clause-count c =
-    let count = c.loop-n.invariant.count in
-    let low = c.loop-n.auto.n in
-    (table_slice (IsTableOf (graph_of c.args.graph.now) c.args.z (c.loop-n.n - 1)) c.loop-n.all.items (c.loop-n.n - 1) c.index.result.now c.as_slice.result.now (omega arith)
-    c.index.ensures c.as_slice.ensures.value (c.loop-n.invariant.tables (c.loop-n.n - 1) (omega arith))).count
+    (last_table (IsTableOf (graph_of c.args.graph.now) c.args.z) c.loop-n.n c.loop-n.all.items c.index.result.now c.as_slice.result.now (omega (arith, c.loop-n.auto.n))
+    (omega (arith, c.loop-n.invariant.count, c.loop-n.all.ok)) c.loop-n.invariant.tables c.index.ensures c.as_slice.ensures.value).count
 
 pub loop-n-preserved : goal.loop-n-preserved
 loop-n-preserved c =

@@ -7,10 +7,7 @@ use Rattle.level_search.proofs.Growth.{grows_weaker}
 use Rattle.level_search.proofs.searching.expand.expand_spot.Goals as goal
 
 pub sweep-requires-clause-inside : goal.sweep-requires-clause-inside
-sweep-requires-clause-inside c =
-    let here : Stands (lists_of c.args.graph.now) c.in-Some.spot.list c.in-Some.spot.place c.args.x =
-    spots_sound (lists_of c.args.graph.now) c.args.x c.args.i c.in-Some.spot (sym c.in-Some.ensures) in
-    here.within
+sweep-requires-clause-inside c = (spots_sound (lists_of c.args.graph.now) c.args.x c.args.i c.in-Some.spot (sym c.in-Some.ensures)).within
 
 pub returns-in-Some-clause-grows : goal.returns-in-Some-clause-grows
 returns-in-Some-clause-grows c =

@@ -11,7 +11,7 @@ use Rattle.level_search.proofs.searching.sweep.read_one.Goals as goal
 pub returns-in-Some-clause-good : goal.returns-in-Some-clause-good
 returns-in-Some-clause-good c =
     let done = c.visit.ensures in
-    good_grown (graph_of c.args.graph.now) c.args.element c.in-Some.y c.args.state.now c.visit.new.self c.requires.good c.in-Some.ensures.known done.queued done.places done.marks done.grows
+    good_grown (graph_of c.args.graph.now) c.args.element c.in-Some.y c.args.state.now c.visit.new.self c.requires.good c.in-Some.ensures.known done.queued.0 done.queued.1 done.marks done.grows
 
 pub returns-in-Some-clause-grows : goal.returns-in-Some-clause-grows
 returns-in-Some-clause-grows c =

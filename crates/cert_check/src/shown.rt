@@ -1,0 +1,35 @@
+//! Whether an operation shows one element before another.
+
+ghost use Rattle.std.specs.Prelude.{◌↔◌, IsTrue};
+ghost use Rattle.events.specs.Operations.{response};
+ghost use Rattle.specification.specs.Members.{Before};
+
+use events::{Name, OpName, Recording, Response};
+
+/// Whether a response has one name at a lesser place than the other.
+fn stands_before(response: &Response, from: &Name, to: &Name) -> bool
+    ensures { IsTrue result ↔ Before from.now to.now response.now }
+{
+    let mut has_from = false;
+    for i in 0..response.len() {
+        if let Some(name) = response.get(i) {
+            if has_from && name == *to {
+                return true;
+            }
+            if name == *from {
+                has_from = true;
+            }
+        }
+    }
+    false
+}
+
+/// Whether an operation shows one name before the other.
+pub fn shows(recording: &Recording, by: OpName, from: &Name, to: &Name) -> bool
+    ensures { IsTrue result ↔ Before from.now to.now (response recording.now by) }
+{
+    match recording.response(by) {
+        None => false,
+        Some(response) => stands_before(response, from, to),
+    }
+}
