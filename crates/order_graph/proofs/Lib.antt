@@ -8,5 +8,6 @@ pub mod Shown
 pub mod Totals
 pub mod Parts
 pub mod CoverSteps
+pub mod Copying
 pub mod Made
 pub mod Covers

@@ -5,3 +5,4 @@ pub mod Spots
 pub mod Cuts
 pub mod Kept
 pub mod Covers
+pub mod Runs

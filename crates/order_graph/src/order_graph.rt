@@ -60,7 +60,7 @@ impl OrderGraph {
 
     /// The graph of a recording that has no fault. It takes memory and time linear in the places of all
     /// responses, the operations and the elements: a name is looked up at most once for each place, and not
-    /// at all where it is the one that followed the name before it the last time.
+    /// at all where the response goes on like the one before it in the list.
     pub fn of(alloc: Global, recording: &Recording) -> Result<OrderGraph, Memory>
         requires { IsSound recording.now }
         ensures { IfOk result (λ g. g ≡ responses_of recording.now) }

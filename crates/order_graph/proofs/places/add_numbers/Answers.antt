@@ -1,36 +1,37 @@
--- One name more.
-use Rattle.std.proofs.Common.{◌≡◌, ℕ, ◌+◌, ◌<◌, List, [], ◌∷◌, ◌++◌, Vec, Global, take, length, get_or, sym, subst, ◌≤◌, ◌∙◌, ap, arith, append_assoc}
-use Rattle.std.specs.Prelude.{unwrap_or, slice_get, Some}
-use Rattle.std.proofs.lemmas.List.{length-set, map_push}
-use Rattle.std.proofs.lemmas.Option.{slice_get-get_or, get_or_from_slice_get}
-use Rattle.events.specs.Names.{NameBytes}
+-- A run more is copied, and one number more looked up.
+use Rattle.std.proofs.Common.{◌≡◌, ◌∙◌, ℕ, ◌+◌, ◌<◌, ◌≤◌, List, [], ◌∷◌, ◌++◌, length, take, drop, sym, ap, arith, append_assoc, length-drop}
+use Rattle.std.proofs.lemmas.Option.{slice_get_within}
+use Rattle.std.specs.Prelude.{unwrap_or}
 use Rattle.specification.specs.Elements.{number_in, numbers_in}
-use Rattle.element_numbers.proofs.NameNumbers.{number-most}
-use Rattle.element_numbers.proofs.OneMore.{take-next}
+use Rattle.order_graph.proofs.Copying.{run_more, one_more, past-end}
 use Rattle.order_graph.proofs.places.add_numbers.Goals as goal
-use Rattle.order_graph.proofs.places.add_numbers.Goals.{in-Some+in_ok-push, in_default}
 
-pub loop-i-preserved : goal.loop-i-preserved
-loop-i-preserved c =
-    let names : List NameBytes = c.args.names.now in
-    let xs : List NameBytes = c.args.response.now in
-    let i : ℕ = c.loop-i.i in
-    let old : List ℕ = c.args.items.now.items in
-    let lt : i < length xs = omega arith in
-    let number = λ (a : NameBytes). unwrap_or (number_in names a) (length names) in
-    elim c.match-get.branch [
-      | in-Some+in_ok-push w ↦
-          let name : NameBytes = w.in-Some.name in
-          let at : slice_get xs i ≡ Some name = sym w.in-Some.ensures in
-          let next : take (i + 1) xs ≡ take i xs ++ name ∷ [] = take-next xs i name lt (sym (get_or_from_slice_get xs i name name at)) in
-          record {
-            room = ap (λ (v : Vec ℕ Global). length v.items) w.followers-is ∙ length-set c.loop-i.followers.items c.loop-i.last w.guessed_number-number.result ∙ c.loop-i.invariant.room;
-            last = subst (λ n. n ≤ length names) (sym (w.last-is ∙ w.guessed_number-number.ensures)) (number-most names name);
-            numbers = ap (λ (v : Vec ℕ Global). v.items) w.items-is ∙ w.in_ok-push.ensures.items
-                ∙ ap (λ n. c.loop-i.items.items ++ n ∷ []) w.guessed_number-number.ensures
-                ∙ ap (λ l. l ++ number name ∷ []) c.loop-i.invariant.numbers
-                ∙ append_assoc old (numbers_in names (take i xs)) (number name ∷ [])
-                ∙ ap (λ l. old ++ l) (sym (map_push number (take i xs) name) ∙ ap (numbers_in names) (sym next));
-          }
-      | in_default w ↦ absurd (w.in_default.not-Some (get_or xs i []) (c.get.ensures ∙ slice_get-get_or xs i [] lt))
-    ]
+pub runs-preserved : goal.runs-preserved
+runs-preserved c =
+    let names = c.args.names.now in
+    let w = c.args.response.now in
+    record {
+      within = omega (arith, c.runs.invariant.within, c.in_ok-run.ensures.within, length-drop c.runs.i w);
+      numbers = c.in_ok-run.ensures.numbers ∙ ap (λ l. l ++ numbers_in names (take c.in_ok-run.run' (drop c.runs.i w))) c.runs.invariant.numbers
+          ∙ append_assoc c.args.items.now.items (numbers_in names (take c.runs.i w)) (numbers_in names (take c.in_ok-run.run' (drop c.runs.i w)))
+          ∙ ap (λ l. c.args.items.now.items ++ l) (run_more names w c.runs.i c.in_ok-run.run');
+    }
+
+pub runs-preserved-in-Some : goal.runs-preserved-in-Some
+runs-preserved-in-Some c =
+    let names = c.args.names.now in
+    let w = c.args.response.now in
+    let n : ℕ = c.runs.i + c.in_ok-run.run' in
+    let number : ℕ = unwrap_or (number_in names c.in-Some.name) (length names) in
+    record {
+      within = omega (arith, slice_get_within w n c.in-Some.name (sym c.in-Some.ensures));
+      numbers = c.in_ok-push.ensures.items ∙ ap (λ x. c.copy_run.new.items.items ++ x ∷ []) c.number_or_count-number.ensures
+          ∙ ap (λ l. l ++ number ∷ []) (c.in_ok-run.ensures.numbers ∙ ap (λ l. l ++ numbers_in names (take c.in_ok-run.run' (drop c.runs.i w))) c.runs.invariant.numbers
+          ∙ append_assoc c.args.items.now.items (numbers_in names (take c.runs.i w)) (numbers_in names (take c.in_ok-run.run' (drop c.runs.i w)))
+          ∙ ap (λ l. c.args.items.now.items ++ l) (run_more names w c.runs.i c.in_ok-run.run'))
+          ∙ append_assoc c.args.items.now.items (numbers_in names (take n w)) (number ∷ [])
+          ∙ ap (λ l. c.args.items.now.items ++ l) (one_more names w n c.in-Some.name (sym c.in-Some.ensures));
+    }
+
+pub runs-smaller : goal.runs-smaller
+runs-smaller c = omega (arith, c.runs-test.true, c.len.ensures.value, past-end c.args.response.now (c.runs.i + c.in_ok-run.run') (sym c.in_default.is ∙ c.get.ensures))

@@ -23,10 +23,6 @@ pub numbers_of-requires-clause-few : goal.numbers_of-requires-clause-few
 numbers_of-requires-clause-few c =
     few-names c.args.recording.now c.replicas.ensures.legal c.requires.sound c.deref.result.now (c.deref.ensures.value ∙ c.requires.names)
 
-pub places_of-requires-clause-distinct : goal.places_of-requires-clause-distinct
-places_of-requires-clause-distinct c =
-    distinct-names c.args.recording.now c.replicas.ensures.legal c.requires.sound c.deref-3.result.now (c.deref-3.ensures.value ∙ c.requires.names)
-
 pub places_of-requires-clause-few : goal.places_of-requires-clause-few
 places_of-requires-clause-few c =
     few-names c.args.recording.now c.replicas.ensures.legal c.requires.sound c.deref-3.result.now (c.deref-3.ensures.value ∙ c.requires.names)
