@@ -6,7 +6,8 @@ use Rattle.format_words.specs.Place as place
 use Rattle.trace_text.specs.Causes.{cause_of}
 use Rattle.trace_text.specs.declared.cause.LineFault.{LineFault}
 
--- the right lines so far, the line begun, and the fault that each call answers; no line begun where memory ran out for it
+-- the right lines so far, the line begun, and the fault that each call answers; no line begun where memory
+-- ran out for it
 pub record ReaderState : Type 0 where
   pub lines : List Line
   pub begun : Option (List ℕ)

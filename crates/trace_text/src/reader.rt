@@ -56,8 +56,8 @@ impl Reader {
     ///
     /// A fault is answered exactly where the text fed so far has the LF of a faulty line, and it is the fault
     /// of every text that begins so; or it is out of memory, at a line after right lines that has its LF. Out
-    /// of memory for a line that a piece cuts is answered with that line's LF: where the text ends before, the
-    /// line is cut whatever it holds. It takes time in proportion to the piece and the line begun.
+    /// of memory for a line that a piece cuts is answered with that line's LF: where the text ends before,
+    /// the line is cut whatever it holds. It takes time in proportion to the piece and the line begun.
     pub fn feed(&mut self, piece: &[u8]) -> Result<(), LineFault>
         // What was fed is now this piece longer.
         ensures fed { (text : List ℕ) → WasFed self.old text → WasFed self.new (text ++ piece.now) }
