@@ -15,7 +15,6 @@ pub some : (v : Responses) → AreProper v → (m : ℕ) → IsLeastLength v m �
 some v proper m (inl shortest) other = ((conflict_number_is_shortest_cycle v proper).0 m).1 shortest
 some v proper m (inr without) other = absurd (other without.0)
 
-
 pub shortest : (v : Responses) → (m : ℕ) → IsLeastLength v m → m ≢ 4294967295 → IsShortestLength v m
 shortest v m (inl is) other = is
 shortest v m (inr without) other = absurd (other without.0)

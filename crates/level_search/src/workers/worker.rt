@@ -85,9 +85,13 @@ fn search_from<G: Gate>(
         → All (IsLength (lists_of graph.now)) worker.new.seat.offered }
 {
     gate.before(worker.number, source);
-    if let Some(length) =
-        search_by_table(graph, table, source, &mut worker.sets, &mut worker.seat)
-    {
+    if let Some(length) = search_by_table(
+        graph,
+        table,
+        source,
+        &mut worker.sets,
+        &mut worker.seat,
+    ) {
         worker.seat.offer(length);
     }
     gate.after(worker.number, source);

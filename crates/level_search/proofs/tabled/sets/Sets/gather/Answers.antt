@@ -51,9 +51,9 @@ loop-x-preserved c =
               λ has. let o = (inv.next y).0 has in (o.0, layer_more x sets o.0 o.1, o.2),
               λ o. elim (cases_eq o.0 x) [
                 | inl e ↦ absurd (true≢false (sym (w.if-has_in_layer.ensures.1 (
-                    subst (λ (s : List ℕ). Has s x) (sym inv.reached) (subst (Has sets.reached) e o.1.reached),
-                    λ has. o.1.not_near (subst (Has sets.near) (sym e) (subst (λ (s : List ℕ). Has s x) inv.near has)),
-                  ))))
+                  subst (λ (s : List ℕ). Has s x) (sym inv.reached) (subst (Has sets.reached) e o.1.reached),
+                  λ has. o.1.not_near (subst (Has sets.near) (sym e) (subst (λ (s : List ℕ). Has s x) inv.near has)),
+                ))))
                 | inr apart ↦ (inv.next y).1 (o.0, layer_last x sets o.0 o.1 apart, o.2)
               ],
             );
