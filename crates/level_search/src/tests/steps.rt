@@ -3,11 +3,11 @@ ghost use Rattle.std.specs.Prelude.{IfOk};
 ghost use Rattle.specification.specs.Search.{IsShortestLength};
 
 use super::conflicts::{PAIR_APART, number_of};
-use super::graphs::ask_on;
+use super::graphs::ask_of;
 use crate::{NoGate, SearchFault, Step, Steps, least_cycle};
 use events::{Memory, Name, OpName};
 use order_graph::OrderGraph;
-use sample_recordings::{OPPOSITE_PAIR, RING_OF_FOUR, THREE_WAY_CYCLE};
+use sample_recordings::{OPPOSITE_PAIR, RING_OF_FOUR, THREE_WAY_CYCLE, recording};
 use std::alloc::Global;
 use std::test::Fail;
 use std::thread::Threads;
@@ -68,7 +68,12 @@ fn leads_round(
     text: &str,
     expected: &[Shown],
 ) -> Result<bool, Fail> {
-    let found = ask_on(rt, alloc, text, |graph| Ok(steps_of(rt, alloc, graph)?))?;
+    let found = ask_of(
+        rt,
+        alloc,
+        &recording(alloc, text)?,
+        |graph| Ok(steps_of(rt, alloc, graph)?),
+    )?;
     match found {
         Some(steps) => are(&steps, expected),
         None => Ok(false),
