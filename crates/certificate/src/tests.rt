@@ -20,7 +20,6 @@ enum Said {
     NoText,
 }
 
-/// What is said of a recording; where the first call finds no memory, what the second says.
 fn judged<H: Threads + Sync, G: Gate>(
     rt: &H,
     alloc: Global,
@@ -28,11 +27,7 @@ fn judged<H: Threads + Sync, G: Gate>(
     workers: u32,
     gate: &G,
 ) -> Said {
-    let verdict = match judge(rt, alloc, recording, workers, gate) {
-        Err(SearchFault::Memory) => judge(rt, alloc, recording, workers, gate),
-        verdict => verdict,
-    };
-    match verdict {
+    match judge(rt, alloc, recording, workers, gate) {
         Ok(Verdict::Accepted(order)) => Said::Accepted(order.len()),
         Ok(Verdict::Refused { k, steps }) => Said::Refused(k, steps.len()),
         Ok(_) => Said::Faulty,
@@ -41,7 +36,7 @@ fn judged<H: Threads + Sync, G: Gate>(
     }
 }
 
-/// What is said of the recording that the text spells.
+/// What is said of the recording that the text spells; where memory is wanted, what the second call says.
 fn answered<H: Threads + Sync, G: Gate>(
     rt: &H,
     alloc: Global,
@@ -49,9 +44,12 @@ fn answered<H: Threads + Sync, G: Gate>(
     workers: u32,
     gate: &G,
 ) -> Said {
-    match recording(alloc, text) {
-        Ok(recording) => judged(rt, alloc, &recording, workers, gate),
-        Err(_) => Said::NoText,
+    let Ok(recording) = recording(alloc, text) else {
+        return Said::NoText;
+    };
+    match judged(rt, alloc, &recording, workers, gate) {
+        Said::Memory => judged(rt, alloc, &recording, workers, gate),
+        answer => answer,
     }
 }
 

@@ -11,4 +11,4 @@ text-with text lines line rest behind whole cut =
 pub ended-line : (Begins : List Line → Type 0) (Takes : List Line → Line → Type 0) (text : List ℕ) (number : ℕ) (lines : List Line) (line rest behind : List ℕ) →
     text ≡ text_of lines ++ rest → rest ≡ line ++ 10 ∷ behind → IsOneLine line → number ≡ length lines + 1 → Begins lines → Takes lines line → TakesMemoryAt Begins Takes text number
 ended-line Begins Takes text number lines line rest behind whole cut one is begins takes =
-    (record { good = lines; begins = begins; rest = rest; text_is = whole; number = is }, line, behind, cut, one, takes)
+    record { good = lines; begins = begins; next = line; one_line = one; more = behind; text_is = text-with text lines line rest behind whole cut; number = is; takes = takes }

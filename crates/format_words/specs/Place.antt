@@ -11,6 +11,12 @@ pub record IsBehindRightLines (Begins : List Line → Type 0) (text : List ℕ) 
   pub number : line ≡ length good + 1
 
 -- the line of this number is there, with its LF, after such lines, and reading it takes memory
-abbrev pub TakesMemoryAt : (List Line → Type 0) → (List Line → Line → Type 0) → List ℕ → ℕ → Type 0
-TakesMemoryAt Begins Takes text line =
-    (at : IsBehindRightLines Begins text line) × (next : Line) × (more : List ℕ) × (at.rest ≡ next ++ 10 ∷ more) × IsOneLine next × Takes at.good next
+pub record TakesMemoryAt (Begins : List Line → Type 0) (Takes : List Line → Line → Type 0) (text : List ℕ) (line : ℕ) : Type 0 where
+  pub good : List Line
+  pub begins : Begins good
+  pub next : Line
+  pub one_line : IsOneLine next
+  pub more : List ℕ
+  pub text_is : text ≡ text_of good ++ next ++ 10 ∷ more
+  pub number : line ≡ length good + 1
+  pub takes : Takes good next

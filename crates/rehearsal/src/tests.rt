@@ -89,15 +89,12 @@ fn have_alike(one: &Recording, other: &Recording) -> bool {
     one.replicas() == other.replicas() && one.len() == other.len()
 }
 
-/// The recording of the three-way cycle.
-fn three_way(alloc: Global) -> Option<Recording> {
-    recording(alloc, THREE_WAY_CYCLE).ok()
-}
-
 #[test]
 fn two_recorders_run_at_once(rt: HostRuntime) {
     let alloc = rt.alloc();
-    let recording = three_way(alloc).expect(&rt, "a recording");
+    let recording = recording(alloc, THREE_WAY_CYCLE)
+        .ok()
+        .expect(&rt, "a recording");
     let hold = Hold::new();
     let closed = rehearse(&rt, alloc, &recording, 2, &hold);
     assert!(rt; closed.is_ok());
@@ -109,7 +106,9 @@ fn two_recorders_run_at_once(rt: HostRuntime) {
 #[test]
 fn what_is_closed_has_the_streams(rt: HostRuntime) {
     let alloc = rt.alloc();
-    let recording = three_way(alloc).expect(&rt, "a recording");
+    let recording = recording(alloc, THREE_WAY_CYCLE)
+        .ok()
+        .expect(&rt, "a recording");
     let closed = rehearsed(&rt, alloc, &recording, 1, &NoGate)
         .ok()
         .expect(&rt, "a recording");

@@ -1,5 +1,5 @@
 //! One thread hands in all streams, and chances which recorder is next.
-ghost use Rattle.std.specs.Prelude.{◌≡◌};
+ghost use Rattle.std.specs.Prelude.{◌≡◌, All};
 
 use anyhow::{Result, anyhow};
 use events::{Recording, Refusal};
@@ -12,7 +12,7 @@ const MOST_TURNS: u32 = 1_000_000;
 
 /// Hands in the entry at this place of the pass's stream, and answers the next place. Where the stream
 /// has ended, or what is received is not there yet, nothing happens.
-pub fn record_next<R: Wait>(
+fn record_next<R: Wait>(
     rt: &R,
     alloc: Global,
     session: &Session,
@@ -39,15 +39,18 @@ pub fn record_next<R: Wait>(
     }
 }
 
-/// The recording of a session of which each pass has recorded its stream, one entry after the other, as
-/// chance has it.
-pub fn interleaved<R: Wait>(
+/// Hands in all streams.
+fn hand_in<R: Wait>(
     rt: &R,
     alloc: Global,
+    session: &Session,
+    passes: &mut [Pass],
     recording: &Recording,
     seed: u64,
-) -> Result<Recording> {
-    let (session, mut passes) = Session::open(alloc, recording.replicas())?;
+) -> Result<()>
+    requires { All (λ p. p.session ≡ session.now) passes.old }
+    ensures { All (λ p. p.session ≡ session.now) passes.new }
+{
     let mut places = [0u32; 16];
     let mut chance = seed;
     for _ in 0..MOST_TURNS {
@@ -57,14 +60,27 @@ pub fn interleaved<R: Wait>(
         let next = (chance >> 33) as usize % 16;
         if next < passes.len() {
             let pass = &mut passes[next];
-            places[next] = record_next(rt, alloc, &session, pass, recording, places[next])?;
+            places[next] = record_next(rt, alloc, session, pass, recording, places[next])?;
             if session.count(pass) == u64::from(recording.len()) {
-                break;
+                return Ok(());
             }
         }
     }
+    Err(anyhow!("not all entries came"))
+}
+
+/// The recording of a session of which each pass has recorded its stream.
+pub fn interleaved<R: Wait>(
+    rt: &R,
+    alloc: Global,
+    recording: &Recording,
+    seed: u64,
+) -> Result<Recording> {
+    let (session, passes) = Session::open(alloc, recording.replicas())?;
+    let mut passes = passes;
+    hand_in(rt, alloc, &session, passes.as_mut_slice(), recording, seed)?;
     match session.close(passes) {
-        Ok(merged) if merged.len() == recording.len() => Ok(merged),
-        _ => Err(anyhow!("not all entries came")),
+        Ok(merged) => Ok(merged),
+        Err(_) => Err(anyhow!("not closed")),
     }
 }

@@ -44,15 +44,22 @@ fn certificate_for(
     }
 }
 
+/// The certificate's text; where the first call finds no memory, what the second gives.
+fn written(alloc: Global, certificate: &Certificate) -> Result<Vec<u8>, Memory>
+    requires { IsSpellable (certificate_of certificate.now) }
+{
+    match certificate.write(alloc) {
+        Err(Memory) => certificate.write(alloc),
+        text => text,
+    }
+}
+
 /// The text of the certificate of the recording that a text spells.
 fn certified<H: Threads + Sync>(rt: &H, alloc: Global, text: &str) -> Option<Vec<u8>> {
     let recording = recording(alloc, text).ok()?;
     let verdict = verdict_on(rt, alloc, &recording).ok()?;
     let certificate = certificate_for(alloc, &recording, &verdict).ok()?;
-    match certificate.write(alloc) {
-        Ok(text) => Some(text),
-        Err(Memory) => certificate.write(alloc).ok(),
-    }
+    written(alloc, &certificate).ok()
 }
 
 /// Whether the recording that the text spells has this certificate.

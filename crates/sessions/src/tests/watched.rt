@@ -5,10 +5,31 @@ use super::observing::judged;
 use super::{copied, opened, recorded, three_way};
 use crate::{Observer, Pass, Session, Verdict};
 use certificate::Order;
-use events::Recording;
+use events::{Entry, Recording};
 use std::alloc::Global;
 use std::sync::Wait;
 use std::thread::Threads;
+
+/// Whether a copy of the entry is recorded by its replica's pass.
+fn hands_in<R: Wait>(
+    rt: &R,
+    alloc: Global,
+    session: &Session,
+    passes: &mut [Pass],
+    entry: &Entry,
+) -> bool
+    requires { All (λ p. p.session ≡ session.now) passes.old }
+    ensures { All (λ p. p.session ≡ session.now) passes.new }
+{
+    let Some(body) = copied(alloc, &entry.body) else {
+        return false;
+    };
+    let replica = entry.replica as usize;
+    if replica >= passes.len() {
+        return false;
+    }
+    recorded(rt, session, &mut passes[replica], body).is_ok()
+}
 
 /// Whether the entries from one place to another are recorded in their order, each by its replica's pass.
 fn hand_in<R: Wait>(
@@ -27,14 +48,7 @@ fn hand_in<R: Wait>(
         let Some(entry) = recording.entry(i) else {
             return false;
         };
-        let Some(body) = copied(alloc, &entry.body) else {
-            return false;
-        };
-        let replica = entry.replica as usize;
-        if replica >= passes.len() {
-            return false;
-        }
-        if recorded(rt, session, &mut passes[replica], body).is_err() {
+        if !hands_in(rt, alloc, session, passes, entry) {
             return false;
         }
     }
@@ -83,9 +97,28 @@ fn watched_three_way_cycle(rt: HostRuntime) {
     let mut passes = passes;
     let first = passes.get_mut(0).expect(&rt, "a pass");
     let mut observer = session.observer(first);
-    let team = passes.as_mut_slice();
-    assert!(rt; hand_in(&rt, alloc, &session, team, &recording, 0, 8));
+    assert!(rt;
+        hand_in(
+            &rt,
+            alloc,
+            &session,
+            passes.as_mut_slice(),
+            &recording,
+            0,
+            8
+        )
+    );
     assert!(rt; next_steps(&rt, alloc, &session, &mut observer) == Some(0));
-    assert!(rt; hand_in(&rt, alloc, &session, team, &recording, 8, 9));
+    assert!(rt;
+        hand_in(
+            &rt,
+            alloc,
+            &session,
+            passes.as_mut_slice(),
+            &recording,
+            8,
+            9
+        )
+    );
     assert!(rt; next_steps(&rt, alloc, &session, &mut observer) == Some(3));
 }
