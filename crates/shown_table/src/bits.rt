@@ -42,6 +42,7 @@ impl BitSet {
         self.words[n / 64] = word | 1u64 << (n % 64);
     }
 
+    /// Whether it has a number.
     pub fn contains(&self, n: usize) -> bool
         ensures { IsTrue result ↔ Has self.now n }
     {
