@@ -281,13 +281,13 @@ module _ (elements : Elements) (numbers : AreNumbered elements) (standings : Sta
       let numbered = numbers.numbered at.0 x.0 x.1 in
       let told = just.shown at.0 x.0 at.1 x.1 at.2 in
       let to_live : at.1.shown ≡ true → is_live at.1 ≡ true = λ e.
-          (let s = (shows.1 x.0.name).0 (told.0 e) in
-          let place : s.number ≡ at.0 = same_Some s.number at.0 (sym s.numbered ∙ numbered) in
-          let both : Some s.standing ≡ Some at.1 = sym s.stands ∙ ap (slice_get standings.list.items) place ∙ at.2 in
-          let same : s.standing ≡ at.1 = cc in
-          sym (ap is_live same) ∙ s.live) in
+      (let s = (shows.1 x.0.name).0 (told.0 e) in
+      let place : s.number ≡ at.0 = same_Some s.number at.0 (sym s.numbered ∙ numbered) in
+      let both : Some s.standing ≡ Some at.1 = sym s.stands ∙ ap (slice_get standings.list.items) place ∙ at.2 in
+      let same : s.standing ≡ at.1 = cc in
+      sym (ap is_live same) ∙ s.live) in
       let to_shown : is_live at.1 ≡ true → at.1.shown ≡ true = λ e.
-          told.1 ((shows.1 x.0.name).1 (record { number = at.0; standing = at.1; numbered = numbered; stands = at.2; live = e })) in
+      told.1 ((shows.1 x.0.name).1 (record { number = at.0; standing = at.1; numbered = numbered; stands = at.2; live = e })) in
       asunder at.1 at.3 (both_ways (is_live at.1) at.1.shown to_shown to_live)
     where
       both_ways : (l m : Bool) → (l ≡ true → m ≡ true) → (m ≡ true → l ≡ true) → l ≡ m

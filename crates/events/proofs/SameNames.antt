@@ -76,7 +76,7 @@ module _ (a b : List ℕ) (from other_from c : ℕ) (bytes : take c (drop from a
       let within : e ≤ from + c = h.low 0 (omega arith) in
       let first : slice_range a x e ≡ slice_range b y f = same-range x y e f low begins rise.0 same within in
       let rest : take n (pieces a e ends) ≡ take n (pieces b f other) =
-          same-pieces n e f ends other total (omega (arith, low, rise.0)) same rise.1.1 (tail e f ends from other other_from (from + c) n h) in
+      same-pieces n e f ends other total (omega (arith, low, rise.0)) same rise.1.1 (tail e f ends from other other_from (from + c) n h) in
       rw (first, rest) refl
 
   module _ (differ : (p : ℕ) → slice_get (drop from a) c ≡ Some p → slice_get (drop other_from b) c ≡ Some p → ⊥) where
@@ -91,9 +91,9 @@ module _ (a b : List ℕ) (from other_from c : ℕ) (bytes : take c (drop from a
         let place : x + q ≡ from + c = omega (arith, near) in
         let other_place : y + q ≡ other_from + c = omega (arith, near, begins) in
         let at : slice_get w q ≡ slice_get (drop from a) c =
-            ap (λ l. slice_get l q) (sym here) ∙ take-get (e - x) q (drop x a) (omega (arith, inside, size)) ∙ drop-get x q a ∙ ap (slice_get a) place ∙ sym (drop-get from c a) in
+        ap (λ l. slice_get l q) (sym here) ∙ take-get (e - x) q (drop x a) (omega (arith, inside, size)) ∙ drop-get x q a ∙ ap (slice_get a) place ∙ sym (drop-get from c a) in
         let other_at : slice_get w q ≡ slice_get (drop other_from b) c =
-            ap (λ l. slice_get l q) (sym there) ∙ take-get (f - y) q (drop y b) (omega (arith, inside, other_size)) ∙ drop-get y q b ∙ ap (slice_get b) other_place ∙ sym (drop-get other_from c b) in
+        ap (λ l. slice_get l q) (sym there) ∙ take-get (f - y) q (drop y b) (omega (arith, inside, other_size)) ∙ drop-get y q b ∙ ap (slice_get b) other_place ∙ sym (drop-get other_from c b) in
         let known : slice_get w q ≡ Some (get_or w q 0) = slice_get-get_or w q 0 inside in
         differ (get_or w q 0) (sym at ∙ known) (sym other_at ∙ known)
 

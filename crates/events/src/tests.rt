@@ -304,7 +304,14 @@ fn of_names(alloc: Global, names: &[&str]) -> Option<Response> {
 }
 
 /// Whether these names from a place and the others from a place are alike for so many.
-fn are_alike(alloc: Global, names: &[&str], i: usize, others: &[&str], j: usize, count: usize) -> bool {
+fn are_alike(
+    alloc: Global,
+    names: &[&str],
+    i: usize,
+    others: &[&str],
+    j: usize,
+    count: usize,
+) -> bool {
     let (Some(one), Some(other)) = (of_names(alloc, names), of_names(alloc, others)) else {
         return false;
     };
@@ -312,21 +319,96 @@ fn are_alike(alloc: Global, names: &[&str], i: usize, others: &[&str], j: usize,
 }
 
 static NAMES_IN_ORDER: [&str; 5] = ["left", "a", "b", "c", "d"];
+
 static OTHERS_IN_ORDER: [&str; 5] = ["a", "b", "c", "right", "d"];
 // More bytes than are compared at once.
-static LONG_NAMES: [&str; 4] = ["sixteen_letters0", "sixteen_letters1", "sixteen_letters2", "x"];
-static OTHER_LONG_NAMES: [&str; 4] = ["sixteen_letters0", "sixteen_letters1", "sixteen_letters2", "y"];
+static LONG_NAMES: [&str; 4] = [
+    "sixteen_letters0",
+    "sixteen_letters1",
+    "sixteen_letters2",
+    "x",
+];
+
+static OTHER_LONG_NAMES: [&str; 4] = [
+    "sixteen_letters0",
+    "sixteen_letters1",
+    "sixteen_letters2",
+    "y",
+];
 
 #[test]
 fn responses_go_on_alike(rt: HostRuntime) {
     let alloc = rt.alloc();
-    assert!(rt; are_alike(alloc, NAMES_IN_ORDER.as_slice(), 1, OTHERS_IN_ORDER.as_slice(), 0, 3));
-    assert!(rt; are_alike(alloc, NAMES_IN_ORDER.as_slice(), 4, OTHERS_IN_ORDER.as_slice(), 4, 1));
-    assert!(rt; are_alike(alloc, NAMES_IN_ORDER.as_slice(), 0, OTHERS_IN_ORDER.as_slice(), 0, 0));
-    assert!(rt; are_alike(alloc, NAMES_IN_ORDER.as_slice(), 6, OTHERS_IN_ORDER.as_slice(), 0, 0));
-    assert!(rt; are_alike(alloc, ["ab", "c"].as_slice(), 0, ["a", "bc"].as_slice(), 0, 0));
-    assert!(rt; are_alike(alloc, ["a", "bc"].as_slice(), 0, ["a", "b", "c"].as_slice(), 0, 1));
-    assert!(rt; are_alike(alloc, LONG_NAMES.as_slice(), 0, OTHER_LONG_NAMES.as_slice(), 0, 3));
+    assert!(rt;
+        are_alike(
+            alloc,
+            NAMES_IN_ORDER.as_slice(),
+            1,
+            OTHERS_IN_ORDER.as_slice(),
+            0,
+            3
+        )
+    );
+    assert!(rt;
+        are_alike(
+            alloc,
+            NAMES_IN_ORDER.as_slice(),
+            4,
+            OTHERS_IN_ORDER.as_slice(),
+            4,
+            1
+        )
+    );
+    assert!(rt;
+        are_alike(
+            alloc,
+            NAMES_IN_ORDER.as_slice(),
+            0,
+            OTHERS_IN_ORDER.as_slice(),
+            0,
+            0
+        )
+    );
+    assert!(rt;
+        are_alike(
+            alloc,
+            NAMES_IN_ORDER.as_slice(),
+            6,
+            OTHERS_IN_ORDER.as_slice(),
+            0,
+            0
+        )
+    );
+    assert!(rt;
+        are_alike(
+            alloc,
+            ["ab", "c"].as_slice(),
+            0,
+            ["a", "bc"].as_slice(),
+            0,
+            0
+        )
+    );
+    assert!(rt;
+        are_alike(
+            alloc,
+            ["a", "bc"].as_slice(),
+            0,
+            ["a", "b", "c"].as_slice(),
+            0,
+            1
+        )
+    );
+    assert!(rt;
+        are_alike(
+            alloc,
+            LONG_NAMES.as_slice(),
+            0,
+            OTHER_LONG_NAMES.as_slice(),
+            0,
+            3
+        )
+    );
     assert!(rt; are_alike(alloc, LONG_NAMES.as_slice(), 1, LONG_NAMES.as_slice(), 1, 3));
 }
 

@@ -6,6 +6,7 @@ use super::Response;
 
 /// How many bytes are compared at once: first many, and where these differ few.
 const LONG: usize = 128;
+
 const SHORT: usize = 16;
 
 impl Response {
@@ -22,7 +23,14 @@ impl Response {
         if i > ends.len() || j > other_ends.len() {
             return 0;
         }
-        same_pieces(self.bytes.as_slice(), ends, i, other.bytes.as_slice(), other_ends, j)
+        same_pieces(
+            self.bytes.as_slice(),
+            ends,
+            i,
+            other.bytes.as_slice(),
+            other_ends,
+            j,
+        )
     }
 }
 

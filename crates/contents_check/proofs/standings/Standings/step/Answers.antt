@@ -34,7 +34,7 @@ returns-then-not-index-clause-step c =
     let absent = not_shown c.args.elements.now c.requires.numbers c.args.self.now.list.items (joined w c.args.i last c.args.j) c.requires.shown name number c.index.result.now numbered at c.if-not-index.true in (
       slice_get_within w c.args.i name there,
       subst (λ l. ShowJust c.args.elements.now c.note.new.self.list.items l) (sym (joined_next w c.args.i last c.args.j name there))
-      (note_new c.args.elements.now c.requires.numbers number c.args.self.now c.note.new.self c.note.ensures name (take c.args.i w) (drop c.args.j last) numbered absent c.requires.shown),
+          (note_new c.args.elements.now c.requires.numbers number c.args.self.now c.note.new.self c.note.ensures name (take c.args.i w) (drop c.args.j last) numbered absent c.requires.shown),
     )
 
 pub returns-clause-step : goal.returns-clause-step
