@@ -154,11 +154,11 @@ def most_threads(program: str, words: list) -> int:
 
 
 def threads(tally: Tally, program: str, folder: str) -> None:
-    """As many threads search as were asked for, in one run of several: a search may end before all have begun. The check of
-    contents before it has a thread for each processor, and begins twice."""
+    """As many threads search as were asked for, in one run of several near the limits: a search may end before all have begun. The
+    check of contents before it has a thread for each processor, and begins twice."""
     path = os.path.join(folder, "ring")
     with open(path, "wb") as out:
-        subprocess.run([sys.executable, str(ROOT / "tests" / "shared" / "traces.py"), "wide_ring", "L"], stdout=out, check=True)
+        subprocess.run([sys.executable, str(ROOT / "tests" / "shared" / "traces.py"), "wide_ring", "XL"], stdout=out, check=True)
     processors = os.cpu_count() or 1
     many = min(64, 2 * processors + 8)
     seen = most_threads(program, ["verdict", "--workers", "1", path])
@@ -209,12 +209,13 @@ def gallery(tally: Tally, program: str) -> None:
 
 
 def embedding(tally: Tally) -> None:
-    """The page on embedding shows lines of the program that the gate runs, and what it prints."""
+    """The page on embedding shows lines of the program and of the reader's tests that the gate runs, and what the program
+    prints."""
     page = (ROOT / "docs" / "embedding.md").read_text()
     crate = ROOT / "crates" / "live_example"
-    source = (crate / "src" / "main.rt").read_text()
+    source = (crate / "src" / "main.rt").read_text() + (ROOT / "crates" / "trace_text" / "src" / "tests.rt").read_text()
     shown = [part.split("```")[0] for part in page.split("```rust\n")[1:]]
-    tally.check("embedding: shows the program", len(shown) >= 3 and "fn main(" in shown[0])
+    tally.check("embedding: shows the program", len(shown) >= 4 and any("fn main(" in lines for lines in shown))
     for lines in shown:
         wanted = [line.strip() for line in source.splitlines()]
         tally.check(f"embedding: {lines[:30]!r}", all(line.strip() in wanted for line in lines.splitlines()))
