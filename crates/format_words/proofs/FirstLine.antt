@@ -1,21 +1,17 @@
 -- The first line of a text.
-use Rattle.std.proofs.Common.{◌≡◌, ℕ, ◌+◌, ◌<◌, ◌≤◌, ◌==◌, Bool, true, false, not, cond, ltb, List, ◌∷◌, ◌++◌, length, get_or, take, drop, position, Some, None, refl, sym, ap, ◌∙◌, arith, length-take, ltb-false}
-use Rattle.std.specs.List.{position_or_len}
+use Rattle.std.proofs.Common.{◌≡◌, ℕ, ◌+◌, ◌<◌, ◌≤◌, ◌==◌, Bool, true, false, List, ◌∷◌, ◌++◌, length, get_or, slice_index, take, drop, position, Some, None, sym, ap, ◌∙◌, arith, length-take}
 use Rattle.std.proofs.lemmas.List.{drop_more, take-append-drop, get_or-take}
-use Rattle.std.proofs.lemmas.List.Sums.{prefix_len_passes}
 use Rattle.std.proofs.lemmas.List.Quantifiers.{position-Some}
-use Rattle.std.proofs.lemmas.Bool.{eqb-true, both_ways, eq-eqb, not-true}
+use Rattle.std.proofs.lemmas.Bool.{eqb-true, eq-eqb}
+use Rattle.std.proofs.lemmas.Grind.{get_or_default_zero}
+use Rattle.memchr.specs.Find.{NoneBefore, Nowhere, Passes, is_byte}
 use Rattle.specification.specs.Lines.{IsOneLine}
 
-abbrev is_lf : ℕ → Bool
-is_lf b = b == 10
-
 -- what stands before the first LF has none
-pub line-before : (text : List ℕ) (end : ℕ) → position (λ b. b == 10) text ≡ Some end → IsOneLine (take end text)
-line-before text end e (k, low, is) =
-    let found = position-Some is_lf text end 10 e in
-    let below : k < end = omega (arith, length-take end text) in
-    both_ways (is_lf (get_or text k 10)) (found.2 k below) (eq-eqb (get_or text k 10) 10 (sym (get_or-take end text k 10 below) ∙ is))
+pub line-before : (text : List ℕ) (end : ℕ) → NoneBefore (Passes (is_byte 10) text) 0 (length text) end → IsOneLine (take end text)
+line-before text end first (k, low, is) =
+    let below : k < end = omega (arith, length-take end text, low) in
+    first.before k (omega arith) below (eq-eqb (get_or text k 0) 10 (sym (get_or_default_zero text k 10 (omega (arith, below, first.high))) ∙ sym (get_or-take end text k 10 below) ∙ is))
 
 -- what stands before the first of a byte, and what after it
 pub parts-at : (c : ℕ) (text : List ℕ) (end : ℕ) → position (λ b. b == c) text ≡ Some end → (end < length text) × (text ≡ take end text ++ c ∷ drop (end + 1) text)
@@ -25,16 +21,11 @@ parts-at c text end e =
     (found.0, sym (take-append-drop end text) ∙ ap (λ l. take end text ++ l) (drop_more text end c found.0 ∙ ap (λ b. b ∷ drop (end + 1) text) there))
 
 -- and after it stands the LF
-pub line-parts : (text : List ℕ) (end : ℕ) → position (λ b. b == 10) text ≡ Some end → (end < length text) × (text ≡ take end text ++ 10 ∷ drop (end + 1) text)
-line-parts text end e = parts-at 10 text end e
+pub line-parts : (text : List ℕ) (end : ℕ) → end < length text → Passes (is_byte 10) text end → text ≡ take end text ++ 10 ∷ drop (end + 1) text
+line-parts text end low passes =
+    let there : get_or text end 0 ≡ 10 = eqb-true (get_or text end 0) 10 passes in
+    sym (take-append-drop end text) ∙ ap (λ l. take end text ++ l) (drop_more text end 0 low ∙ ap (λ b. b ∷ drop (end + 1) text) there)
 
-none-above : (b : Bool) (n : ℕ) → cond b (Some n) None ≡ None → b ≡ false
-none-above true n e = absurd (cc)
-none-above false n e = refl
-
--- a text without a first LF is one line
-pub no-line : (text : List ℕ) → position (λ b. b == 10) text ≡ None → IsOneLine text
-no-line text e (k, low, is) =
-    let all : length text ≤ position_or_len is_lf text = ltb-false _ _ (none-above (ltb (position_or_len is_lf text) (length text)) (position_or_len is_lf text) e) in
-    let other = prefix_len_passes (λ b. not (is_lf b)) text k 10 (omega arith) in
-    both_ways (is_lf (get_or text k 10)) (not-true (is_lf (get_or text k 10)) other) (eq-eqb (get_or text k 10) 10 is)
+-- a text without an LF is one line
+pub no-line : (text : List ℕ) → Nowhere (Passes (is_byte 10) text) 0 (length text) → IsOneLine text
+no-line text none (k, low, is) = none k (omega arith) low (eq-eqb (get_or text k 0) 10 (sym (get_or_default_zero text k 10 low) ∙ is))
