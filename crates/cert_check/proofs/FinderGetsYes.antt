@@ -1,18 +1,16 @@
 -- What the finder writes gets yes.
-use Rattle.std.proofs.Common.{◌≡◌, ℕ, zero, suc, List, refl, sym, ap, ◌∙◌, subst}
-use Rattle.events.specs.History.{History, IsLegal}
+use Rattle.std.proofs.Common.{◌≡◌, zero, suc, refl, ap, ◌∙◌}
+use Rattle.events.specs.History.{History}
 use Rattle.specification.specs.Faults as fault
-use Rattle.specification.specs.Verdict.{Verdict, faulty, accepted, refused, IsVerdict}
+use Rattle.specification.specs.Verdict.{Verdict, faulty, accepted, refused}
 use Rattle.specification.specs.TraceText.{trace_text}
 use Rattle.specification.specs.CertificateText.{Certificate, certificate_text}
 use Rattle.specification.specs.ExactRows.{IsCertificateOf}
 use Rattle.certificate_text.proofs.VerdictCertificates.{certificates_are_valid}
 use Rattle.certificate_text.proofs.OneCertificate.{one-certificate}
-use Rattle.cert_check.specs.AnswerOf.{Reads, IsAnswer, kind_of}
+use Rattle.cert_check.specs.AnswerOf.{Reads, kind_of}
 use Rattle.cert_check.specs.Laws.{kind_of_verdict, VerdictsCertificatesGetYes}
-use Rattle.cert_check.specs.declared.answer.Answer.{Answer}
 use Rattle.cert_check.specs.declared.answer.Answer.TheVariants.{Yes}
-use Rattle.cert_check.specs.declared.answer.Kind.{Kind}
 use Rattle.cert_check.proofs.ReasonsExclude.{get_yes}
 
 kind-of : (h : History) (v : Verdict) (c : Certificate) → IsCertificateOf h v c → kind_of c ≡ kind_of_verdict v

@@ -5,6 +5,7 @@ pub mod FaultReasons
 pub mod Listed
 pub mod Ranks
 pub mod Depths
+pub mod TableRule
 pub mod Rings
 pub mod StepsRight
 pub mod OrderJudged

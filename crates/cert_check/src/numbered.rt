@@ -1,7 +1,7 @@
 //! A recording's elements by number, and its responses as lists of numbers.
 
 use super::places::places_of;
-use super::values::{is_deep_before, is_gradual, is_rising};
+use super::values::is_rising;
 use element_numbers::{inserted_names, numbers_of};
 use events::{Memory, Name, OpName, Recording};
 use indexmap::IndexMap;
@@ -24,7 +24,7 @@ ghost use Rattle.std.specs.Prelude.{◌≡◌, ◌+◌, ◌-◌, ◌<◌, ◌∷
 ghost use Rattle.std.specs.Prelude.{IsPermutation, IsTrue, MatchBool, MatchOption, length, map, slice_index};
 ghost use Rattle.std.specs.Prelude.{slice_get, Some};
 ghost use Rattle.specification.specs.Faults.{IsSound};
-ghost use Rattle.cert_check.specs.Numbering.{IsNumbering, IsOf, AreWithin, AreDeepAt, places_at};
+ghost use Rattle.cert_check.specs.Numbering.{IsNumbering, IsOf, AreWithin, places_at};
 ghost use Rattle.cert_check.specs.Noted.{Noted, Holds, CanBeNoted, at_depth, pairs_from, placed_from};
 ghost use Rattle.cert_check.specs.Values.{IsRising};
 
@@ -145,19 +145,5 @@ impl Numbered {
             }
         }
         None
-    }
-
-    /// Whether these depths meet the layer rule for a source along each list of places.
-    pub fn are_deep(&self, depths: &[u32], source: u32, bound: u32) -> bool
-        requires { AreWithin (length depths.now) self.now }
-        ensures { IsTrue result ↔ ((j : ℕ) → j < length self.now.places.items
-            → AreDeepAt self.now depths.now source bound j) }
-    {
-        for list in &self.places {
-            if !is_gradual(depths, list) || !is_deep_before(depths, source, bound, list) {
-                return false;
-            }
-        }
-        true
     }
 }

@@ -4,11 +4,13 @@ ghost use Rattle.std.specs.Prelude.{◌≡◌, ◌↔◌, ◌+◌, ◌<◌, All,
 ghost use Rattle.events.specs.Names.{NameBytes};
 ghost use Rattle.specification.specs.CertificateText.{IsRow};
 ghost use Rattle.specification.specs.ValidCertificate.{HasSource};
-ghost use Rattle.cert_check.specs.Numbering.{IsNumbering, AreWithin};
+ghost use Rattle.bit_tables.specs.Lists.{IsTableOf};
+ghost use Rattle.cert_check.specs.Numbering.{IsNumbering, AreWithin, lists_of};
 ghost use Rattle.cert_check.specs.Judged.{TellsLayerRule, TellsRow, TellsRows};
 
 use super::answer::Reason;
 use super::numbered::Numbered;
+use bit_tables::{AfterTable, are_deep};
 use events::{Memory, Name};
 use std::alloc::Global;
 use witnesses::{Layers, Row};
@@ -34,24 +36,29 @@ fn has_source(row: &Row, source: &Name) -> bool
     }
 }
 
-/// Whether the row of the element with this number meets the layer rule. It costs the places of all
-/// responses, the elements and the names of the row.
+/// Whether the row of the element with this number meets the layer rule. It costs the elements, and for each
+/// name of the row a step for 64 elements.
 fn meets_rule(
     alloc: Global,
     numbered: &Numbered,
+    table: &AfterTable,
     k: u32,
     source: u32,
     row: &Row,
 ) -> Result<bool, Memory>
     requires numbering { IsNumbering numbered.now }
     requires within { AreWithin (length numbered.now.names.items) numbered.now }
+    requires table { IsTableOf (length numbered.now.names.items) (lists_of numbered.now) table.now }
     requires layers { length row.now + 1 ≡ k }
     ensures { IfOk result (TellsLayerRule numbered.now k source row.now) }
 {
     let found = numbered.depths_of(alloc, k, row)?;
     match found {
         None => Ok(false),
-        Some(depths) => Ok(numbered.are_deep(&depths, source, k - 1)),
+        Some(depths) => {
+            let deep = are_deep(alloc, table, &depths, k - 1, source)?;
+            Ok(deep)
+        }
     }
 }
 
@@ -59,12 +66,14 @@ fn meets_rule(
 fn row_fault(
     alloc: Global,
     numbered: &Numbered,
+    table: &AfterTable,
     k: u32,
     rows: &Layers,
     i: u32,
 ) -> Result<Option<Reason>, Memory>
     requires numbering { IsNumbering numbered.now }
     requires within { AreWithin (length numbered.now.names.items) numbered.now }
+    requires table { IsTableOf (length numbered.now.names.items) (lists_of numbered.now) table.now }
     requires rows { All (IsRow k) rows.now }
     requires element { i < length numbered.now.names.items }
     ensures { IfOk result (TellsRow numbered.now k rows.now i) }
@@ -75,7 +84,7 @@ fn row_fault(
         Some(row) => {
             if !has_source(row, &source) {
                 Ok(Some(Reason::MissingLayer { source }))
-            } else if meets_rule(alloc, numbered, k, i, row)? {
+            } else if meets_rule(alloc, numbered, table, k, i, row)? {
                 Ok(None)
             } else {
                 Ok(Some(Reason::ShortLayer { source }))
@@ -86,6 +95,9 @@ fn row_fault(
 
 /// The first thing that is wrong with the rows of a certificate for `k` of 3 and more: one row after the
 /// other, in order of numbers, and then a row too many.
+///
+/// It makes a table of which elements are shown after which, `n * n / 8` bytes for n elements, in `n / 64`
+/// steps for each place of a response.
 pub fn rows_fault(
     alloc: Global,
     numbered: &Numbered,
@@ -97,9 +109,27 @@ pub fn rows_fault(
     requires rows { All (IsRow k) rows.now }
     ensures { IfOk result (TellsRows numbered.now k rows.now) }
 {
+    let table = AfterTable::of(alloc, numbered.names.len(), &numbered.places)?;
+    first_row_fault(alloc, numbered, &table, k, rows)
+}
+
+/// The first thing that is wrong with the rows, by a table of which elements are shown after which.
+fn first_row_fault(
+    alloc: Global,
+    numbered: &Numbered,
+    table: &AfterTable,
+    k: u32,
+    rows: &Layers,
+) -> Result<Option<Reason>, Memory>
+    requires numbering { IsNumbering numbered.now }
+    requires within { AreWithin (length numbered.now.names.items) numbered.now }
+    requires table { IsTableOf (length numbered.now.names.items) (lists_of numbered.now) table.now }
+    requires rows { All (IsRow k) rows.now }
+    ensures { IfOk result (TellsRows numbered.now k rows.now) }
+{
     let count = numbered.names.len() as u32;
     for i in 0..count {
-        if let Some(fault) = row_fault(alloc, numbered, k, rows, i)? {
+        if let Some(fault) = row_fault(alloc, numbered, table, k, rows, i)? {
             return Ok(Some(fault));
         }
     }

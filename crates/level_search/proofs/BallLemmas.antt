@@ -2,9 +2,10 @@
 use Rattle.std.proofs.Common.{◌≡◌, ℕ, zero, suc, ◌+◌, ◌<◌, ◌≤◌, ◌⊎◌, List, length, add-one, inl, inr, sym, subst, arith}
 use Rattle.std.specs.Prelude.{◌↔◌}
 use Rattle.std.proofs.lemmas.Bool.{cases_lt}
-use Rattle.shown_table.specs.Sets.{Has}
-use Rattle.shown_table.proofs.SetLemmas.{Has-either}
-use Rattle.shown_table.specs.Tables.{IsShown, IsShownTable, row_of}
+use Rattle.bit_tables.specs.Sets.{Has}
+use Rattle.bit_tables.proofs.SetLemmas.{Has-either}
+use Rattle.bit_tables.specs.Lists.{row_of}
+use Rattle.shown_table.specs.Tables.{IsShown, IsShownTable}
 use Rattle.level_search.specs.Balls.{IsAtLevel, IsBall, IsInLayer}
 use Rattle.level_search.specs.Graph.{Before}
 use Rattle.level_search.specs.Rings.{Reaches}

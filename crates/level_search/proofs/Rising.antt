@@ -8,8 +8,9 @@ use Rattle.level_search.specs.Graph.{Before}
 use Rattle.level_search.specs.Walks.{HasCycle}
 use Rattle.level_search.specs.Rings.{IsRing, Leads}
 use Rattle.level_search.specs.Sources.{UNRANKED, IsRanked, AreRanked, Rises}
-use Rattle.shown_table.specs.Sets.{Has}
-use Rattle.shown_table.specs.Tables.{IsShownTable, row_of}
+use Rattle.bit_tables.specs.Sets.{Has}
+use Rattle.bit_tables.specs.Lists.{row_of}
+use Rattle.shown_table.specs.Tables.{IsShownTable}
 use Rattle.level_search.proofs.BallLemmas.{before_shown}
 use Rattle.level_search.proofs.RingWalks.{ring_through, cycle_ring}
 

@@ -1,6 +1,6 @@
 -- The elements that a search over a table has reached: those from which fewer steps than some number lead to the source.
 use Rattle.std.specs.Prelude.{◌≡◌, ℕ, ◌+◌, ◌/◌, ◌<◌, ◌↔◌, List, length}
-use Rattle.shown_table.specs.Sets.{Has}
+use Rattle.bit_tables.specs.Sets.{Has}
 use Rattle.level_search.specs.Rings.{Reaches}
 use Rattle.level_search.specs.Walks.{HasCycle}
 use Rattle.level_search.specs.declared.tabled.sets.Sets.{Sets}

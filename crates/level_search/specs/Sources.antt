@@ -1,7 +1,7 @@
 -- Elements to search from, and an order of the other elements that each list follows.
 use Rattle.std.specs.Prelude.{◌≢◌, ℕ, ◌<◌, List, length, slice_index, Contains}
-use Rattle.shown_table.specs.Sets.{Has}
-use Rattle.shown_table.specs.Tables.{row_of}
+use Rattle.bit_tables.specs.Sets.{Has}
+use Rattle.bit_tables.specs.Lists.{row_of}
 use Rattle.order_graph.specs.Lists.{Stands}
 use Rattle.level_search.specs.Walks.{HasCycle}
 

@@ -7,10 +7,11 @@ ghost use Rattle.level_search.specs.Sources.{AreRanked, MeetsCycles, Rises};
 
 mod peeling;
 
+use bit_tables::BitSet;
 use events::Memory;
 use order_graph::OrderGraph;
 use peeling::order_taken;
-use shown_table::{BitSet, ShownTable};
+use shown_table::ShownTable;
 use std::alloc::Global;
 
 /// The rank of an element that is out of place.

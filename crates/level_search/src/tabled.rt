@@ -2,8 +2,9 @@
 
 ghost use Rattle.std.specs.Prelude.{◌≡◌, ℕ, ◌<◌, ◌≤◌, ◌⊎◌, ◌↔◌, true, false, length};
 ghost use Rattle.order_graph.specs.Lists.{lists_of};
-ghost use Rattle.shown_table.specs.Sets.{Has};
-ghost use Rattle.shown_table.specs.Tables.{IsShownTable, row_of};
+ghost use Rattle.bit_tables.specs.Sets.{Has};
+ghost use Rattle.bit_tables.specs.Lists.{row_of};
+ghost use Rattle.shown_table.specs.Tables.{IsShownTable};
 ghost use Rattle.level_search.specs.Balls.{FitsSets, IsBall, IsInLayer};
 ghost use Rattle.level_search.specs.Walks.{IsSearchAnswer};
 

@@ -1,3 +1,2 @@
 -- Lemmas on sets of bits, and on the places of lists that are noted.
-pub mod SetLemmas
 pub mod Noting

@@ -6,8 +6,9 @@ use Rattle.std.proofs.lemmas.List.{get_or_past}
 use Rattle.std.proofs.lemmas.Option.{slice_get_within, slice_get-get_or, get_or_from_slice_get}
 use Rattle.std.specs.Vec.{with_item}
 use Rattle.order_graph.specs.Lists.{BeforeIn, Stands, row}
-use Rattle.shown_table.specs.Sets.{Has}
-use Rattle.shown_table.specs.Tables.{HaveWidth, IsShown, row_of}
+use Rattle.bit_tables.specs.Sets.{Has}
+use Rattle.bit_tables.specs.Lists.{HaveWidth, row_of}
+use Rattle.shown_table.specs.Tables.{IsShown}
 use Rattle.shown_table.specs.Fronts.{AreLast, AreNotedTo, IsFront, IsShownBelow, IsShownTo, StandsBack, StandsTo}
 use Rattle.shown_table.specs.declared.front.Front.{Front}
 use Rattle.order_graph.specs.declared.spot.Spot.{Spot}

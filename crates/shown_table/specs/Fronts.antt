@@ -2,8 +2,8 @@
 use Rattle.std.specs.Prelude.{◌≡◌, ℕ, ◌<◌, ◌≤◌, ◌+◌, ◌↔◌, ◌⊎◌, Some, List, length, slice_get, vec_len, Contains}
 use Rattle.order_graph.specs.Lists.{BeforeIn, Stands}
 use Rattle.order_graph.specs.declared.spot.Spot.{Spot}
-use Rattle.shown_table.specs.Sets.{Has, room}
-use Rattle.shown_table.specs.Tables.{HaveWidth, row_of}
+use Rattle.bit_tables.specs.Sets.{Has, room}
+use Rattle.bit_tables.specs.Lists.{HaveWidth, row_of}
 use Rattle.shown_table.specs.declared.front.Front.{Front}
 
 -- one of the lists before l has a at a lesser place than b

@@ -1,4 +1,3 @@
--- What contracts of this crate see: sets as words of bits, and tables of what stands before each element.
-pub mod Sets
+-- What contracts of this crate see: tables of what stands before each element.
 pub mod Tables
 pub mod Fronts

@@ -1,19 +1,12 @@
 -- Which elements stand before which in some lists, and tables of that.
 use Rattle.std.specs.Prelude.{◌≡◌, ℕ, ◌<◌, ◌+◌, ◌/◌, ◌↔◌, List, [], length, slice_index_or}
 use Rattle.order_graph.specs.Lists.{BeforeIn}
-use Rattle.shown_table.specs.Sets.{Has}
+use Rattle.bit_tables.specs.Lists.{HaveWidth, row_of}
+use Rattle.bit_tables.specs.Sets.{Has}
 
 -- some list has a at a lesser place than b
 abbrev pub IsShown : List (List ℕ) → ℕ → ℕ → Type 0
 IsShown lists a b = (l : ℕ) × BeforeIn lists l a b
-
--- the row of an element
-abbrev pub row_of : List (List ℕ) → ℕ → List ℕ
-row_of rows a = slice_index_or rows a []
-
--- the rows have this many words each
-abbrev pub HaveWidth : ℕ → List (List ℕ) → Type 0
-HaveWidth width rows = (a : ℕ) → a < length rows → length (row_of rows a) ≡ width
 
 -- the table has a row for each number below n, of those that stand before it in some list
 pub record IsShownTable (n : ℕ) (lists rows : List (List ℕ)) : Type 0 where

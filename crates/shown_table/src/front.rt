@@ -1,9 +1,9 @@
 //! What is known of a list up to one of its places, while a table is made.
 
 ghost use Rattle.std.specs.Prelude.{◌≡◌, ℕ, ◌+◌, ◌<◌, ◌≤◌, ◌⊎◌, [], true, Contains, length};
-ghost use Rattle.shown_table.specs.Sets.{Has};
+ghost use Rattle.bit_tables.specs.Sets.{Has};
 
-use super::bits::BitSet;
+use bit_tables::BitSet;
 use order_graph::Spot;
 
 /// The most elements that are added to a row one by one.

@@ -2,12 +2,13 @@
 
 ghost use Rattle.std.specs.Prelude.{◌≡◌, ◌<◌, ◌≤◌, ◌+◌, ◌/◌, ◌⊎◌, ◌↔◌, ℕ, IfOk, OnOk, List, [], length};
 ghost use Rattle.order_graph.specs.Lists.{lists_of, row};
-ghost use Rattle.shown_table.specs.Sets.{Has};
-ghost use Rattle.shown_table.specs.Tables.{HaveWidth, IsShownTable, row_of};
+ghost use Rattle.bit_tables.specs.Sets.{Has};
+ghost use Rattle.bit_tables.specs.Lists.{HaveWidth, row_of};
+ghost use Rattle.shown_table.specs.Tables.{IsShownTable};
 ghost use Rattle.shown_table.specs.Fronts.{IsBetween, IsFront};
 
-use super::bits::BitSet;
 use super::front::{Front, add_few, goes_on};
+use bit_tables::{BitSet, empty_rows};
 use events::Memory;
 use order_graph::{Looked, OrderGraph, Spot};
 use std::alloc::Global;
@@ -79,20 +80,6 @@ fn note_list(
         note_place(graph, Spot { list, place }, rows, front, &mut looked)?;
     }
     Ok(())
-}
-
-/// This many empty rows.
-fn empty_rows(alloc: Global, n: usize) -> Result<Vec<BitSet>, Memory>
-    ensures len { IfOk result (λ rows. length rows.items ≡ n) }
-    ensures width { IfOk result (λ rows. HaveWidth (n / 64 + 1) rows.items) }
-    ensures empty { IfOk result (λ rows. (a b : ℕ) → a < n → ¬ Has (row_of rows.items a) b) }
-{
-    let mut rows = Vec::with_capacity(alloc, n)?;
-    'rows: for _i in 0..n {
-        let row = BitSet::new(alloc, n)?;
-        rows.push(row)?;
-    }
-    Ok(rows)
 }
 
 impl ShownTable {

@@ -1,4 +1,3 @@
-//! Tests of the table and of the sets of numbers.
+//! Tests of the table.
 
 mod plain;
-mod sets;

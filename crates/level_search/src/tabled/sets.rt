@@ -2,13 +2,15 @@
 
 ghost use Rattle.std.specs.Prelude.{◌≡◌, ℕ, ◌*◌, ◌<◌, ◌⊎◌, ◌↔◌, IfOk, IsTrue, false, length};
 ghost use Rattle.order_graph.specs.Lists.{lists_of};
-ghost use Rattle.shown_table.specs.Sets.{Has};
-ghost use Rattle.shown_table.specs.Tables.{IsShownTable, row_of};
+ghost use Rattle.bit_tables.specs.Sets.{Has};
+ghost use Rattle.bit_tables.specs.Lists.{row_of};
+ghost use Rattle.shown_table.specs.Tables.{IsShownTable};
 ghost use Rattle.level_search.specs.Balls.{FitsSets, IsInLayer};
 
+use bit_tables::BitSet;
 use events::Memory;
 use order_graph::OrderGraph;
-use shown_table::{BitSet, ShownTable};
+use shown_table::ShownTable;
 use std::alloc::Global;
 
 /// Where a search over a table is: `reached` has the elements from which no more steps than the level lead

@@ -1,5 +1,5 @@
 -- The value at the next place is above all before it, or is not above the last.
-use Rattle.std.proofs.Common.{◌≡◌, ℕ, ◌<◌, ◌+◌, List, length, map, take, drop, suc, get_or, sym, subst, arith, refl, ◌++◌, ◌∷◌, []}
+use Rattle.std.proofs.Common.{ℕ, ◌+◌, List, map, take, drop, suc, get_or, subst, arith, refl}
 use Rattle.std.specs.Prelude.{slice_index}
 use Rattle.cert_check.specs.Values.{IsRising}
 use Rattle.cert_check.proofs.ValueTests.{RiseTo, rise_more, rise_stop, one-further, map-split, whole_front}

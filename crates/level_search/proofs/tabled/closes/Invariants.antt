@@ -1,6 +1,6 @@
 use Rattle.std.proofs.Common.{ℕ, ◌<◌}
-use Rattle.shown_table.specs.Sets.{Has}
-use Rattle.shown_table.specs.Tables.{row_of}
+use Rattle.bit_tables.specs.Sets.{Has}
+use Rattle.bit_tables.specs.Lists.{row_of}
 use Rattle.level_search.proofs.tabled.closes.Given as goal
 
 abbrev pub invariant-loop-x : goal.invariant-loop-x

@@ -1,8 +1,8 @@
 use Rattle.std.proofs.Common.{◌≡◌, ℕ, ◌<◌, ◌*◌, ◌∙◌, length, get_or, subst, sym, arith}
 use Rattle.std.proofs.lemmas.Grind.{get_or_default_zero}
 use Rattle.std.proofs.lemmas.List.Elements.{Contains-get_or}
-use Rattle.shown_table.specs.Sets.{Has}
-use Rattle.shown_table.proofs.SetLemmas.{Has-room}
+use Rattle.bit_tables.specs.Sets.{Has}
+use Rattle.bit_tables.proofs.SetLemmas.{Has-room}
 use Rattle.shown_table.proofs.front.add_few.Goals as goal
 
 pub insert-requires : goal.insert-requires

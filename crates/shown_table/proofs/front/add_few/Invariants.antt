@@ -1,5 +1,5 @@
 use Rattle.std.proofs.Common.{◌≡◌, ℕ, ◌<◌, ◌⊎◌, length, get_or}
-use Rattle.shown_table.specs.Sets.{Has}
+use Rattle.bit_tables.specs.Sets.{Has}
 use Rattle.shown_table.proofs.front.add_few.Given as goal
 
 abbrev pub invariant-loop-y : goal.invariant-loop-y

@@ -5,8 +5,8 @@ use Rattle.std.proofs.lemmas.List.{get_or_read}
 use Rattle.std.proofs.lemmas.List.Elements.{Contains-push, Contains-append_left, Contains-push_cases}
 use Rattle.std.proofs.lemmas.Option.{slice_get-get_or, get_or_from_slice_get}
 use Rattle.order_graph.specs.Lists.{lists_of, row, Stands}
-use Rattle.shown_table.specs.Sets.{Has}
-use Rattle.shown_table.specs.Tables.{row_of}
+use Rattle.bit_tables.specs.Sets.{Has}
+use Rattle.bit_tables.specs.Lists.{row_of}
 use Rattle.shown_table.specs.Fronts.{IsFront, StandsBack}
 use Rattle.shown_table.proofs.Noting.{back_noted, front_step}
 use Rattle.shown_table.proofs.table.note_place.Goals as goal

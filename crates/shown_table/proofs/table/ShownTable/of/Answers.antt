@@ -4,7 +4,7 @@ use Rattle.std.proofs.lemmas.List.{length-map}
 use Rattle.specification.specs.Elements.{numbers_in}
 use Rattle.specification.specs.Responses.{Returned}
 use Rattle.order_graph.specs.Lists.{lists_of}
-use Rattle.shown_table.specs.Tables.{HaveWidth}
+use Rattle.bit_tables.specs.Lists.{HaveWidth}
 use Rattle.shown_table.proofs.Noting.{noted_shown}
 use Rattle.shown_table.proofs.table.ShownTable.of.Goals as goal
 

@@ -1,8 +1,8 @@
 -- One element more, of the layer or not.
 use Rattle.std.proofs.Common.{◌≡◌, ℕ, ◌+◌, ◌<◌, ◌∙◌, inl, inr, List, length, ap, sym, subst, refl, false, true, arith}
 use Rattle.std.proofs.lemmas.Bool.{cases_eq, true≢false}
-use Rattle.shown_table.specs.Sets.{Has}
-use Rattle.shown_table.specs.Tables.{row_of}
+use Rattle.bit_tables.specs.Sets.{Has}
+use Rattle.bit_tables.specs.Lists.{row_of}
 use Rattle.level_search.specs.Balls.{FitsSets, IsInLayer}
 use Rattle.level_search.proofs.BallLemmas.{layer_more, layer_last}
 use Rattle.level_search.proofs.tabled.sets.Sets.gather.Goals as goal

@@ -1,0 +1,170 @@
+-- Layers of numbers, one after the other.
+use Rattle.std.proofs.Common.{◌≡◌, ℕ, ◌+◌, ◌<◌, ◌≤◌, ◌⊎◌, ◌∙◌, Bool, true, false, not, List, [], length, get_or, ap, sym, refl, inl, inr, arith, true≢false}
+use Rattle.std.specs.Prelude.{◌↔◌, All, Contains, IsTrue}
+use Rattle.std.proofs.lemmas.Bool.{cases_eq, cases_lt}
+use Rattle.std.proofs.lemmas.List.{get_or_past, get_or_default}
+use Rattle.bit_tables.specs.Sets.{Has}
+use Rattle.bit_tables.specs.Lists.{row_of, IsShown, IsTableOf}
+use Rattle.bit_tables.specs.Rule.{StandsBelow, AreDepths, MeetsRule}
+
+-- one of the first i places of the list has x
+abbrev pub IsAmongFirst : ℕ → List ℕ → ℕ → Type 0
+IsAmongFirst i w x = (k : ℕ) × (k < i) × (get_or w k x ≡ x)
+
+-- what is known of the first m layers
+pub record IsTested (m : ℕ) (layers rows : List (List ℕ)) (standing shown : List ℕ) : Type 0 where
+  pub standing_is : (y : ℕ) → Has standing y ↔ StandsBelow m layers y
+  pub shown_is : (y : ℕ) → Has shown y ↔ ((x : ℕ) × StandsBelow m layers x × Has (row_of rows x) y)
+  pub gradual : (j x y : ℕ) → j < m → StandsBelow j layers x → Has (row_of rows x) y → StandsBelow (j + 1) layers y
+
+-- the row of one number more
+pub successors_step : (rows : List (List ℕ)) (w : List ℕ) (i : ℕ) (old into new row : List ℕ) → i < length w → row ≡ row_of rows (get_or w i 0)
+    → ((y : ℕ) → Has into y ↔ (Has old y ⊎ ((x : ℕ) × IsAmongFirst i w x × Has (row_of rows x) y)))
+    → ((y : ℕ) → Has new y ↔ (Has into y ⊎ Has row y))
+    → (y : ℕ) → Has new y ↔ (Has old y ⊎ ((x : ℕ) × IsAmongFirst (i + 1) w x × Has (row_of rows x) y))
+successors_step rows w i old into new row within is before grown y =
+    let first : ℕ = get_or w i 0 in (
+      λ has. elim ((grown y).0 has) [
+        | inl was ↦
+            elim ((before y).0 was) [
+              | inl o ↦ inl o
+              | inr s ↦ inr (s.0, (s.1.0, (omega arith), s.1.2), s.2)
+            ]
+        | inr here ↦ inr (first, (i, (omega arith), get_or_default w i first 0 within), rw is at here)
+      ],
+      λ h. (grown y).1
+          (elim h [
+            | inl o ↦ inl ((before y).1 (inl o))
+            | inr s ↦
+                elim (cases_eq s.1.0 i) [
+                  | inl last ↦
+                      let at : get_or w i s.0 ≡ s.0 = ap (λ k. get_or w k s.0) (sym last) ∙ s.1.2 in
+                      let same : first ≡ s.0 = get_or_default w i 0 s.0 within ∙ at in
+                      inr (rw (is, same) s.2)
+                  | inr past ↦ inl ((before y).1 (inr (s.0, (s.1.0, (omega arith), s.1.2), s.2)))
+                ]
+          ]),
+    )
+
+stands_more : (m : ℕ) (layers : List (List ℕ)) (x : ℕ) → StandsBelow (m + 1) layers x → StandsBelow m layers x ⊎ Contains (get_or layers m []) x
+stands_more m layers x s =
+    elim (cases_eq s.0 m) [
+      | inl last ↦ inr (rw last at s.2)
+      | inr before ↦ inl (s.0, (omega arith), s.2)
+    ]
+
+stands_before : (m j : ℕ) (layers : List (List ℕ)) (x : ℕ) → m ≤ j → StandsBelow m layers x → StandsBelow j layers x
+stands_before m j layers x le s = (s.0, (omega arith), s.2)
+
+-- what stands in layers of numbers below n is below n
+stands_within : (n : ℕ) (layers : List (List ℕ)) → All (λ layer. All (λ x. x < n) layer) layers → (m x : ℕ) → StandsBelow m layers x → x < n
+stands_within n layers ok m x (i, low, (k, inside, at)) =
+    elim (cases_lt i (length layers)) [
+      | inl within ↦ let small : get_or (get_or layers i []) k x < n = ok i [] within k x inside in omega arith
+      | inr past ↦
+          let none : length (get_or layers i []) ≡ 0 = ap length (get_or_past layers i [] past) in
+          absurd (omega arith)
+    ]
+
+-- before the first layer
+pub tested_none : (layers rows : List (List ℕ)) (standing shown : List ℕ) → ((y : ℕ) → ¬ Has standing y) → ((y : ℕ) → ¬ Has shown y)
+    → IsTested 0 layers rows standing shown
+tested_none layers rows standing shown none_standing none_shown = record {
+  standing_is = λ y. (λ has. absurd (none_standing y has), λ s. absurd (let low : s.0 < 0 = s.1 in omega arith));
+  shown_is = λ y. (λ has. absurd (none_shown y has), λ s. absurd (let low : s.1.0 < 0 = s.1.1 in omega arith));
+  gradual = λ j x y low. absurd (omega arith);
+}
+
+module _ (m : ℕ) (layers rows : List (List ℕ)) (standing shown standing' : List ℕ) (is : IsTested m layers rows standing shown)
+    (grown : (y : ℕ) → Has standing' y ↔ (Has standing y ⊎ Contains (get_or layers m []) y)) where
+  standing_more : (y : ℕ) → Has standing' y ↔ StandsBelow (m + 1) layers y
+  standing_more y = (
+    λ has. elim ((grown y).0 has) [
+      | inl was ↦ stands_before m (m + 1) layers y (omega arith) ((is.standing_is y).0 was)
+      | inr here ↦ (m, (omega arith), here)
+    ],
+    λ s. (grown y).1
+        (elim (stands_more m layers y s) [
+          | inl before ↦ inl ((is.standing_is y).1 before)
+          | inr here ↦ inr here
+        ]),
+  )
+
+  -- one layer more
+  pub tested_step : (shown' : List ℕ) → ((y : ℕ) → Has shown y → Has standing' y)
+      → ((y : ℕ) → Has shown' y ↔ (Has shown y ⊎ ((x : ℕ) × Contains (get_or layers m []) x × Has (row_of rows x) y)))
+      → IsTested (m + 1) layers rows standing' shown'
+  tested_step shown' subset more = record {
+    standing_is = standing_more;
+    shown_is = λ y. (
+      λ has. elim ((more y).0 has) [
+        | inl was ↦ let s = (is.shown_is y).0 was in (s.0, stands_before m (m + 1) layers s.0 (omega arith) s.1, s.2)
+        | inr s ↦ (s.0, (m, (omega arith), s.1), s.2)
+      ],
+      λ s. (more y).1
+          (elim (stands_more m layers s.0 s.1) [
+            | inl before ↦ inl ((is.shown_is y).1 (s.0, before, s.2))
+            | inr here ↦ inr (s.0, here, s.2)
+          ]),
+    );
+    gradual = λ j x y low stands has.
+        elim (cases_eq j m) [
+          | inl last ↦
+              let by_m : StandsBelow m layers x = rw last at stands in
+              let next : StandsBelow (m + 1) layers y = (standing_more y).0 (subset y ((is.shown_is y).1 (x, by_m, has))) in
+              rw last next
+          | inr before ↦ is.gradual j x y (omega arith) stands has
+        ];
+  }
+
+  -- layers that meet the rule pass the test
+  pub tested_subset : (n source : ℕ) (lists : List (List ℕ)) (depth : ℕ → ℕ) → m < length layers → All (λ layer. All (λ x. x < n) layer) layers
+      → IsTableOf n lists rows → AreDepths layers depth → MeetsRule lists source (length layers) depth
+      → (y : ℕ) → Has shown y → Has standing' y
+  tested_subset n source lists depth within ok table depths meets y has =
+      let s = (is.shown_is y).0 has in
+      let low : s.0 < n = stands_within n layers ok m s.0 s.1 in
+      let shallow : depth s.0 < m = (depths.below m s.0 (omega arith)).1 s.1 in
+      let step : depth y ≤ depth s.0 + 1 = meets.gradual s.0 y ((table.shown s.0 y low).0 s.2) in
+      (standing_more y).1 ((depths.below (m + 1) y (omega arith)).0 (omega arith))
+
+-- after the last layer
+module _ (n source : ℕ) (layers rows lists : List (List ℕ)) (standing shown : List ℕ) (depth : ℕ → ℕ) (ok : All (λ layer. All (λ x. x < n) layer) layers)
+    (is : IsTested (length layers) layers rows standing shown) (table : IsTableOf n lists rows) (depths : AreDepths layers depth) where
+  tested_gradual : (x y : ℕ) → IsShown lists x y → depth y ≤ depth x + 1
+  tested_gradual x y s =
+      elim (cases_lt (depth x + 1) (length layers)) [
+        | inr deep ↦ omega (arith, depths.most y)
+        | inl below ↦
+            let stands : StandsBelow (depth x + 1) layers x = (depths.below (depth x + 1) x (omega arith)).0 (omega arith) in
+            let low : x < n = stands_within n layers ok (depth x + 1) x stands in
+            let next : StandsBelow (depth x + 1 + 1) layers y = is.gradual (depth x + 1) x y below stands ((table.shown x y low).1 s) in
+            let shallow : depth y < depth x + 1 + 1 = (depths.below (depth x + 1 + 1) y (omega arith)).1 next in
+            omega arith
+      ]
+
+  tested_deep : (¬ Has shown source) → (x : ℕ) → IsShown lists x source → length layers ≤ depth x
+  tested_deep none x s =
+      elim (cases_lt (depth x) (length layers)) [
+        | inr deep ↦ deep
+        | inl below ↦
+            let stands : StandsBelow (length layers) layers x = (depths.below (length layers) x (omega arith)).0 below in
+            let low : x < n = stands_within n layers ok (length layers) x stands in
+            absurd (none ((is.shown_is source).1 (x, stands, (table.shown x source low).1 s)))
+      ]
+
+  pub tested_all : (Has shown source → ⊥) ↔ MeetsRule lists source (length layers) depth
+  tested_all = (
+    λ none. record { gradual = tested_gradual; deep = tested_deep none },
+    λ meets has.
+        let s = (is.shown_is source).0 has in
+        let low : s.0 < n = stands_within n layers ok (length layers) s.0 s.1 in
+        let shallow : depth s.0 < length layers = (depths.below (length layers) s.0 (omega arith)).1 s.1 in
+        let deep : length layers ≤ depth s.0 = meets.deep s.0 ((table.shown s.0 source low).0 s.2) in
+        omega arith,
+  )
+
+-- the answer `!b`
+pub negated : (b : Bool) (P : Type 0) → (IsTrue b ↔ P) → IsTrue (not b) ↔ (P → ⊥)
+negated true P same = (λ h. absurd (true≢false (sym h)), λ none. absurd (none (same.0 refl)))
+negated false P same = (λ h p. true≢false (sym (same.1 p)), λ _. refl)

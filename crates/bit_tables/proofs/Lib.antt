@@ -1,0 +1,4 @@
+pub mod DepthLemmas
+pub mod LayerLemmas
+pub mod Places
+pub mod SetLemmas

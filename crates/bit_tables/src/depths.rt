@@ -1,0 +1,73 @@
+//! The layer rule of numbers whose depths are known.
+
+ghost use Rattle.std.specs.Prelude.{◌≡◌, ◌<◌, ◌≤◌, ◌+◌, ◌/◌, ◌⊎◌, ◌↔◌, ◌^◌, ℕ, All, Contains, IfOk, IsTrue, List, OnOk};
+ghost use Rattle.std.specs.Prelude.{length, map, slice_index, slice_index_or, vec_len};
+ghost use Rattle.bit_tables.specs.Lists.{HaveWidth, IsTableOf};
+ghost use Rattle.bit_tables.specs.Rule.{MeetsRule, layer_at};
+
+use super::layers::meets_rule;
+use super::table::AfterTable;
+use std::alloc::{AllocError, Global};
+
+/// So many empty layers.
+fn empty_layers(alloc: Global, count: u32) -> Result<Vec<Vec<u32>>, AllocError>
+    ensures count { IfOk result (λ layers. vec_len layers ≡ count) }
+    ensures empty { IfOk result (λ layers. (d x : ℕ) → ¬ Contains (layer_at layers.items d) x) }
+{
+    let mut layers = Vec::new(alloc);
+    for _ in 0..count {
+        layers.push(Vec::new(alloc))?;
+    }
+    Ok(layers)
+}
+
+/// Puts a number into the layer of its depth, if there is one.
+fn put(layers: &mut Vec<Vec<u32>>, depth: u32, number: u32) -> Result<(), AllocError>
+    ensures count { vec_len layers.new ≡ vec_len layers.old }
+    ensures layers { OnOk result ((d x : ℕ) → d < vec_len layers.old → Contains (layer_at layers.new.items d) x
+        ↔ (Contains (layer_at layers.old.items d) x ⊎ ((d ≡ depth) × (x ≡ number)))) }
+{
+    if (depth as usize) < layers.len() {
+        layers[depth as usize].push(number)?;
+    }
+    Ok(())
+}
+
+/// The numbers by depth, as many layers as the count.
+fn layers_by_depth(alloc: Global, depths: &[u32], count: u32) -> Result<Vec<Vec<u32>>, AllocError>
+    requires { length depths.now < 2 ^ 32 }
+    ensures count { IfOk result (λ layers. length layers.items ≡ count) }
+    ensures layers { IfOk result (λ layers. (d x : ℕ) → d < count → Contains (layer_at layers.items d) x
+        ↔ ((x < length depths.now) × (slice_index depths.now x ≡ d))) }
+{
+    let mut layers = empty_layers(alloc, count)?;
+    for x in 0..depths.len() as u32 {
+        put(&mut layers, depths[x as usize], x)?;
+    }
+    Ok(layers)
+}
+
+/// Whether the numbers below `n`, at these depths of at most the count, meet the layer rule for a source: no
+/// number is more than one deeper than one that stands before it in some list of the table, and what stands
+/// before the source is as deep as the count.
+///
+/// It takes `n / 64` steps for each number of a lesser depth than the count and each depth, and memory for
+/// these numbers and two sets.
+pub fn are_deep(
+    alloc: Global,
+    table: &AfterTable,
+    depths: &[u32],
+    count: u32,
+    source: u32,
+) -> Result<bool, AllocError>
+    requires few { length depths.now < 2 ^ 32 }
+    requires most { All (λ d. d ≤ count) depths.now }
+    requires len { length table.now ≡ length depths.now }
+    requires width { HaveWidth (length depths.now / 64 + 1) table.now }
+    ensures { IfOk result (λ deep. (lists : List (List ℕ)) → IsTableOf (length depths.now) lists table.now
+        → IsTrue deep ↔ MeetsRule lists source count (λ x. slice_index_or depths.now x count)) }
+{
+    let layers = layers_by_depth(alloc, depths, count)?;
+    let deep = meets_rule(alloc, table, depths.len(), &layers, source as usize)?;
+    Ok(deep)
+}

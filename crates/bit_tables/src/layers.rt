@@ -1,0 +1,64 @@
+//! The layer rule of a row, asked of a table.
+
+ghost use Rattle.std.specs.Prelude.{◌≡◌, ◌<◌, ◌+◌, ◌/◌, ◌⊎◌, ◌↔◌, ℕ, All, Contains, IfOk, IsTrue, List};
+ghost use Rattle.std.specs.Prelude.{length, map};
+ghost use Rattle.bit_tables.specs.Sets.{Has, room};
+ghost use Rattle.bit_tables.specs.Lists.{HaveWidth, IsTableOf, row_of};
+ghost use Rattle.bit_tables.specs.Rule.{AreDepths, MeetsRule};
+
+use super::bits::BitSet;
+use super::table::AfterTable;
+use std::alloc::{AllocError, Global};
+
+/// Adds the numbers of a layer.
+fn add_layer(into: &mut BitSet, layer: &[u32])
+    requires { All (λ x. x < room into.old) layer.now }
+    ensures len { length into.new ≡ length into.old }
+    ensures has { (y : ℕ) → Has into.new y ↔ (Has into.old y ⊎ Contains layer.now y) }
+{
+    'numbers: for x in layer {
+        into.insert(*x as usize);
+    }
+}
+
+/// Adds what stands after a number of the layer in some list.
+fn add_successors(into: &mut BitSet, table: &AfterTable, layer: &[u32])
+    requires within { All (λ x. x < length table.now) layer.now }
+    requires width { HaveWidth (length into.old) table.now }
+    ensures len { length into.new ≡ length into.old }
+    ensures has { (y : ℕ) → Has into.new y
+        ↔ (Has into.old y ⊎ ((x : ℕ) × Contains layer.now x × Has (row_of table.now x) y)) }
+{
+    'numbers: for x in layer {
+        into.union_with(table.after(*x as usize));
+    }
+}
+
+/// Whether layers of numbers below `n` meet the layer rule for a source: no number is more than one layer
+/// deeper than one that stands before it in some list of the table, and what stands before the source is in
+/// no layer. It takes `n / 64` steps for each number in the layers and each layer, and two sets of memory.
+pub fn meets_rule(
+    alloc: Global,
+    table: &AfterTable,
+    n: usize,
+    layers: &[Vec<u32>],
+    source: usize,
+) -> Result<bool, AllocError>
+    requires len { length table.now ≡ n }
+    requires width { HaveWidth (n / 64 + 1) table.now }
+    requires within { All (λ layer. All (λ x. x < n) layer.items) layers.now }
+    ensures { IfOk result (λ meets. (lists : List (List ℕ)) (depth : ℕ → ℕ) → IsTableOf n lists table.now
+        → AreDepths (map (λ layer. layer.items) layers.now) depth
+        → IsTrue meets ↔ MeetsRule lists source (length layers.now) depth) }
+{
+    let mut standing = BitSet::new(alloc, n)?;
+    let mut shown = BitSet::new(alloc, n)?;
+    'layers: for layer in layers {
+        add_layer(&mut standing, layer);
+        if !shown.is_subset(&standing) {
+            return Ok(false);
+        }
+        add_successors(&mut shown, table, layer);
+    }
+    Ok(!shown.contains(source))
+}

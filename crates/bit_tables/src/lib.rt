@@ -1,0 +1,17 @@
+//! Sets of numbers below a bound, a bit each; tables of which numbers stand after which in some lists; and
+//! the layer rule of a row, asked of such a table. It searches nothing.
+#![tactic(auto)]
+
+mod bits;
+mod depths;
+mod layers;
+mod table;
+mod words;
+
+pub use bits::BitSet;
+pub use depths::are_deep;
+pub use layers::meets_rule;
+pub use table::{AfterTable, empty_rows};
+
+#[cfg(test)]
+mod tests;

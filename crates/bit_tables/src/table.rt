@@ -1,0 +1,80 @@
+//! Which numbers stand after which in some lists.
+
+ghost use Rattle.std.specs.Prelude.{◌≡◌, ◌<◌, ◌≤◌, ◌+◌, ◌/◌, ◌⊎◌, ◌↔◌, ℕ, All, IfOk, List, length, map};
+ghost use Rattle.bit_tables.specs.Sets.{Has, room};
+ghost use Rattle.bit_tables.specs.Lists.{HasInOrder, HaveWidth, IsTableOf, row_of};
+
+use super::bits::BitSet;
+use std::alloc::{AllocError, Global};
+use std::marker::Model;
+
+/// For each number the set of those that stand after it in some list.
+#[derive(Drop)]
+pub struct AfterTable {
+    rows: Vec<BitSet>,
+}
+
+/// Its rows.
+impl Model for AfterTable {
+    ghost Value = { List (List ℕ) };
+
+    ghost view = { λ t. t.rows.items };
+}
+
+/// Adds to the row of each number in the list those that stand after it there. From the end of the list on,
+/// `after` has the numbers that came by.
+fn note_list(rows: &mut [BitSet], after: &mut BitSet, list: &[u32])
+    requires within { All (λ x. x < length rows.old) list.now }
+    requires room { length rows.old ≤ room after.old }
+    requires width { HaveWidth (length after.old) rows.old }
+    ensures len { length rows.new ≡ length rows.old }
+    ensures after_len { length after.new ≡ length after.old }
+    ensures width { HaveWidth (length after.old) rows.new }
+    ensures shown { (a b : ℕ) → a < length rows.old
+        → Has (row_of rows.new a) b ↔ (Has (row_of rows.old a) b ⊎ HasInOrder list.now a b) }
+{
+    after.clear();
+    'places: for i in (0..list.len()).rev() {
+        let x = list[i] as usize;
+        rows[x].union_with(after);
+        after.insert(x);
+    }
+}
+
+/// So many empty rows, each with room for the numbers up to `n`.
+pub fn empty_rows(alloc: Global, n: usize) -> Result<Vec<BitSet>, AllocError>
+    ensures len { IfOk result (λ rows. length rows.items ≡ n) }
+    ensures width { IfOk result (λ rows. HaveWidth (n / 64 + 1) rows.items) }
+    ensures empty { IfOk result (λ rows. (a b : ℕ) → a < n → ¬ Has (row_of rows.items a) b) }
+{
+    let mut rows = Vec::with_capacity(alloc, n)?;
+    'rows: for _i in 0..n {
+        let row = BitSet::new(alloc, n)?;
+        rows.push(row)?;
+    }
+    Ok(rows)
+}
+
+impl AfterTable {
+    /// The table of some lists of numbers below `n`. It takes `n / 64` steps for each place of the lists and
+    /// each list, and `n * n / 8` bytes.
+    pub fn of(alloc: Global, n: usize, lists: &[Vec<u32>]) -> Result<AfterTable, AllocError>
+        requires { All (λ list. All (λ x. x < n) list.items) lists.now }
+        ensures { IfOk result (λ t. IsTableOf n (map (λ list. list.items) lists.now) t) }
+    {
+        let mut rows = empty_rows(alloc, n)?;
+        let mut after = BitSet::new(alloc, n)?;
+        'lists: for list in lists {
+            note_list(&mut rows, &mut after, list);
+        }
+        Ok(AfterTable { rows })
+    }
+
+    /// The numbers that stand after this one in some list.
+    pub fn after(&self, a: usize) -> &BitSet
+        requires { a < length self.now }
+        ensures { result.now ≡ row_of self.now a }
+    {
+        &self.rows[a]
+    }
+}

@@ -1,0 +1,3 @@
+//! Tests of the sets of numbers and of the tables.
+
+mod sets;

@@ -1,0 +1,39 @@
+//! Words of bits.
+
+ghost use Rattle.std.specs.Prelude.{◌≡◌, ◌<◌, ◌↔◌, ℕ, IsTrue, bit_or, length, slice_index};
+ghost use Rattle.bit_tables.specs.Sets.{Has};
+
+/// Adds the bits of `from` to those of `into`, word by word.
+pub fn join(into: &mut [u64], from: &[u64])
+    requires { length into.old ≡ length from.now }
+    ensures len { length into.new ≡ length into.old }
+    ensures joined { (k : ℕ) → k < length into.old →
+        slice_index into.new k ≡ bit_or (slice_index into.old k) (slice_index from.now k) }
+{
+    'words: for k in 0..from.len() {
+        into[k] |= from[k];
+    }
+}
+
+/// Whether `b` has each bit that `a` has.
+pub fn is_within(a: &[u64], b: &[u64]) -> bool
+    requires { length a.now ≡ length b.now }
+    ensures { IsTrue result ↔ ((x : ℕ) → Has a.now x → Has b.now x) }
+{
+    'words: for k in 0..a.len() {
+        if a[k] & b[k] != a[k] {
+            return false;
+        }
+    }
+    true
+}
+
+/// Makes each word 0.
+pub fn empty(words: &mut [u64])
+    ensures len { length words.new ≡ length words.old }
+    ensures zero { (k : ℕ) → slice_index words.new k ≡ 0 }
+{
+    for word in words.iter_mut() {
+        *word = 0;
+    }
+}

@@ -1,8 +1,0 @@
-use Rattle.events.specs.History.{History}
-use Rattle.specification.specs.Responses.{responses_of}
-use Rattle.specification.specs.ValidCertificate.{RowsRightBefore}
-use Rattle.cert_check.specs.Numbering.{IsOf}
-use Rattle.cert_check.proofs.rows.rows_fault.Given as goal
-
-abbrev pub invariant-loop-i : goal.invariant-loop-i
-invariant-loop-i l = (h : History) → IsOf h l.numbered → RowsRightBefore (responses_of h) l.k l.rows l.i
