@@ -76,18 +76,15 @@ noted_else number b i z n = go (nat_eq i number) refl
     go true e = absurd (n (eqb-true i number e))
     go false e = refl
 
-noted_inserted : (number : ℕ) (b : Bool) (i : ℕ) (z : Standing) → (noted_after number b i z).inserted ≡ z.inserted
-noted_inserted number b i z = go (nat_eq i number)
-  where
-    go : (t : Bool) → (cond t (record { inserted = z.inserted; deleted = z.deleted; shown = b }) z).inserted ≡ z.inserted
-    go true = refl
-    go false = refl
+abbrev note : Bool → Standing → Standing
+note b z = record { inserted = z.inserted; deleted = z.deleted; shown = b }
 
-noted_deleted : (number : ℕ) (b : Bool) (i : ℕ) (z : Standing) → (noted_after number b i z).deleted ≡ z.deleted
-noted_deleted number b i z = go (nat_eq i number)
+-- what a note leaves alone
+noted_same : (part : Standing → Bool) → ((v : Bool) (z : Standing) → part (note v z) ≡ part z) → (number : ℕ) (b : Bool) (i : ℕ) (z : Standing) → part (noted_after number b i z) ≡ part z
+noted_same part alone number b i z = go (nat_eq i number)
   where
-    go : (t : Bool) → (cond t (record { inserted = z.inserted; deleted = z.deleted; shown = b }) z).deleted ≡ z.deleted
-    go true = refl
+    go : (t : Bool) → part (cond t (note b z) z) ≡ part z
+    go true = alone b z
     go false = refl
 
 module _ (elements : Elements) (numbers : AreNumbered elements) (number : ℕ) (b : Bool) (old new : Standings) (notes : Notes number b old new) where
@@ -97,24 +94,24 @@ module _ (elements : Elements) (numbers : AreNumbered elements) (number : ℕ) (
   pub fits_noted : Fits elements old → Fits elements new
   fits_noted fits = record { size = notes.size ∙ fits.size; apart = notes.apart }
 
+  -- what was told of the counted operations is told still
+  told_noted : (part : Standing → Bool) → ((v : Bool) (z : Standing) → part (note v z) ≡ part z) → (Tells : List ℕ → NameBytes → Type 0)
+      → ((i : ℕ) (x : Element) (y : Standing) → slice_get elements.list.items i ≡ Some x → slice_get old.list.items i ≡ Some y → (part y ≡ true) ↔ Tells old.counts x.name)
+      → (i : ℕ) (x : Element) (y : Standing) → slice_get elements.list.items i ≡ Some x → slice_get new.list.items i ≡ Some y → (part y ≡ true) ↔ Tells new.counts x.name
+  told_noted part alone Tells told i x y there at =
+      let w = was i y at in
+      let same : part y ≡ part w.0 = ap part w.2 ∙ noted_same part alone number b i w.0 in
+      let before = told i x w.0 there w.1 in (
+        (λ e. subst (λ (cs : List ℕ). Tells cs x.name) (sym notes.counts) (before.0 (sym same ∙ e))),
+        (λ k. same ∙ before.1 (subst (λ (cs : List ℕ). Tells cs x.name) notes.counts k)),
+      )
+
   pub behind_noted : (h : History) → AreBehind h elements old → AreBehind h elements new
   behind_noted h behind = record {
     size = notes.size ∙ behind.size;
     apart = notes.apart;
-    inserted = λ i x y there at.
-        let w = was i y at in
-        let same : y.inserted ≡ w.0.inserted = ap (λ (s : Standing). s.inserted) w.2 ∙ noted_inserted number b i w.0 in
-        let told = behind.inserted i x w.0 there w.1 in (
-          (λ e. subst (λ (cs : List ℕ). IsInsertedBy h cs x.name) (sym notes.counts) (told.0 (sym same ∙ e))),
-          (λ k. same ∙ told.1 (subst (λ (cs : List ℕ). IsInsertedBy h cs x.name) notes.counts k)),
-        );
-    deleted = λ i x y there at.
-        let w = was i y at in
-        let same : y.deleted ≡ w.0.deleted = ap (λ (s : Standing). s.deleted) w.2 ∙ noted_deleted number b i w.0 in
-        let told = behind.deleted i x w.0 there w.1 in (
-          (λ e. subst (λ (cs : List ℕ). IsDeletedBy h cs x.name) (sym notes.counts) (told.0 (sym same ∙ e))),
-          (λ k. same ∙ told.1 (subst (λ (cs : List ℕ). IsDeletedBy h cs x.name) notes.counts k)),
-        );
+    inserted = told_noted (λ (s : Standing). s.inserted) (λ v z. refl) (IsInsertedBy h) behind.inserted;
+    deleted = told_noted (λ (s : Standing). s.deleted) (λ v z. refl) (IsDeletedBy h) behind.deleted;
   }
 
   same_name : (i : ℕ) (x : Element) (a : NameBytes) → slice_get elements.list.items i ≡ Some x → number_of elements a ≡ Some number → i ≡ number → x.name ≡ a
