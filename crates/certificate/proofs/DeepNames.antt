@@ -11,9 +11,6 @@ use Rattle.specification.proofs.Numbers.{number, number-rises}
 use Rattle.specification.proofs.OperationNames.{Rising, Rising-map, AllPairs-from_Rising}
 use Rattle.certificate.specs.Depths.{names_deep}
 
-abbrev pub items_of : Vec NameBytes Global → List NameBytes
-items_of v = v.items
-
 deep_cons : (b : Bool) (a : NameBytes) (xs ys : List NameBytes) → cond b (a ∷ (xs ++ ys)) (xs ++ ys) ≡ cond b (a ∷ xs) xs ++ ys
 deep_cons true a xs ys = refl
 deep_cons false a xs ys = refl
@@ -26,28 +23,6 @@ deep_push d (b ∷ names) [] a n same = absurd (omega arith)
 deep_push d (b ∷ names) (m ∷ depths) a n same =
     ap (λ (l : List NameBytes). cond (eqb m d) (b ∷ l) l) (deep_push d names depths a n (omega arith))
     ∙ deep_cons (eqb m d) b (names_deep d names depths) (cond {A = List NameBytes} (eqb n d) (a ∷ []) [])
-
--- a push at one place
-pub pushed_at : (rows : List (Vec NameBytes Global)) (y : ℕ) (v w : Vec NameBytes Global) (q : NameBytes) → y < length rows → v ≡ get_or rows y v
-    → w.items ≡ v.items ++ q ∷ [] → (x : ℕ) → x < length rows
-    → get_or (map items_of (set rows y w)) x [] ≡ get_or (map items_of rows) x [] ++ cond (eqb y x) (q ∷ []) []
-pushed_at rows y v w q within is pushed x inside =
-    let both : get_or (map items_of (set rows y w)) x [] ≡ get_or (set (map items_of rows) y w.items) x [] =
-    ap (λ l. get_or l x []) (map-set items_of rows y w) in
-    elim (eqb_tells y x) [
-      | inl h ↦
-          let place : y < length (map items_of rows) = subst (λ n. y < n) (sym (length-map rows items_of)) within in
-          let here : get_or (map items_of rows) y [] ≡ v.items = get_or-map items_of rows y v [] within ∙ ap items_of (sym is) in
-          both ∙ ap (λ i. get_or (set (map items_of rows) y w.items) i []) (sym h.1)
-          ∙ get_or-set_same (map items_of rows) y w.items [] place ∙ pushed
-          ∙ ap (λ l. l ++ q ∷ []) (sym here) ∙ ap (λ i. get_or (map items_of rows) i [] ++ q ∷ []) h.1
-          ∙ ap (λ (b : Bool). get_or (map items_of rows) x [] ++ cond {A = List NameBytes} b (q ∷ []) []) (sym h.0)
-      | inr h ↦
-          let other : x ≢ y = λ e. h.1 (sym e) in
-          both ∙ get_or-set_other (map items_of rows) y x w.items [] other
-          ∙ sym (append-nil (get_or (map items_of rows) x []))
-          ∙ ap (λ (b : Bool). get_or (map items_of rows) x [] ++ cond {A = List NameBytes} b (q ∷ []) []) (sym h.0)
-    ]
 
 -- members stand beside this depth, and what stands beside it is a member
 pub deep_place : (d : ℕ) (names : List NameBytes) (depths : List ℕ) (x : NameBytes) → In x (names_deep d names depths) → (i : ℕ) × (slice_get names i ≡ Some x) × (slice_get depths i ≡ Some d)

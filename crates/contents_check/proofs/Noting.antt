@@ -76,18 +76,15 @@ noted_else number b i z n = go (nat_eq i number) refl
     go true e = absurd (n (eqb-true i number e))
     go false e = refl
 
-noted_inserted : (number : ℕ) (b : Bool) (i : ℕ) (z : Standing) → (noted_after number b i z).inserted ≡ z.inserted
-noted_inserted number b i z = go (nat_eq i number)
-  where
-    go : (t : Bool) → (cond t (record { inserted = z.inserted; deleted = z.deleted; shown = b }) z).inserted ≡ z.inserted
-    go true = refl
-    go false = refl
+abbrev note : Bool → Standing → Standing
+note b z = record { inserted = z.inserted; deleted = z.deleted; shown = b }
 
-noted_deleted : (number : ℕ) (b : Bool) (i : ℕ) (z : Standing) → (noted_after number b i z).deleted ≡ z.deleted
-noted_deleted number b i z = go (nat_eq i number)
+-- what a note leaves alone
+noted_same : (part : Standing → Bool) → ((v : Bool) (z : Standing) → part (note v z) ≡ part z) → (number : ℕ) (b : Bool) (i : ℕ) (z : Standing) → part (noted_after number b i z) ≡ part z
+noted_same part alone number b i z = go (nat_eq i number)
   where
-    go : (t : Bool) → (cond t (record { inserted = z.inserted; deleted = z.deleted; shown = b }) z).deleted ≡ z.deleted
-    go true = refl
+    go : (t : Bool) → part (cond t (note b z) z) ≡ part z
+    go true = alone b z
     go false = refl
 
 module _ (elements : Elements) (numbers : AreNumbered elements) (number : ℕ) (b : Bool) (old new : Standings) (notes : Notes number b old new) where
@@ -97,24 +94,24 @@ module _ (elements : Elements) (numbers : AreNumbered elements) (number : ℕ) (
   pub fits_noted : Fits elements old → Fits elements new
   fits_noted fits = record { size = notes.size ∙ fits.size; apart = notes.apart }
 
+  -- what was told of the counted operations is told still
+  told_noted : (part : Standing → Bool) → ((v : Bool) (z : Standing) → part (note v z) ≡ part z) → (Tells : List ℕ → NameBytes → Type 0)
+      → ((i : ℕ) (x : Element) (y : Standing) → slice_get elements.list.items i ≡ Some x → slice_get old.list.items i ≡ Some y → (part y ≡ true) ↔ Tells old.counts x.name)
+      → (i : ℕ) (x : Element) (y : Standing) → slice_get elements.list.items i ≡ Some x → slice_get new.list.items i ≡ Some y → (part y ≡ true) ↔ Tells new.counts x.name
+  told_noted part alone Tells told i x y there at =
+      let w = was i y at in
+      let same : part y ≡ part w.0 = ap part w.2 ∙ noted_same part alone number b i w.0 in
+      let before = told i x w.0 there w.1 in (
+        (λ e. subst (λ (cs : List ℕ). Tells cs x.name) (sym notes.counts) (before.0 (sym same ∙ e))),
+        (λ k. same ∙ before.1 (subst (λ (cs : List ℕ). Tells cs x.name) notes.counts k)),
+      )
+
   pub behind_noted : (h : History) → AreBehind h elements old → AreBehind h elements new
   behind_noted h behind = record {
     size = notes.size ∙ behind.size;
     apart = notes.apart;
-    inserted = λ i x y there at.
-        let w = was i y at in
-        let same : y.inserted ≡ w.0.inserted = ap (λ (s : Standing). s.inserted) w.2 ∙ noted_inserted number b i w.0 in
-        let told = behind.inserted i x w.0 there w.1 in (
-          (λ e. subst (λ (cs : List ℕ). IsInsertedBy h cs x.name) (sym notes.counts) (told.0 (sym same ∙ e))),
-          (λ k. same ∙ told.1 (subst (λ (cs : List ℕ). IsInsertedBy h cs x.name) notes.counts k)),
-        );
-    deleted = λ i x y there at.
-        let w = was i y at in
-        let same : y.deleted ≡ w.0.deleted = ap (λ (s : Standing). s.deleted) w.2 ∙ noted_deleted number b i w.0 in
-        let told = behind.deleted i x w.0 there w.1 in (
-          (λ e. subst (λ (cs : List ℕ). IsDeletedBy h cs x.name) (sym notes.counts) (told.0 (sym same ∙ e))),
-          (λ k. same ∙ told.1 (subst (λ (cs : List ℕ). IsDeletedBy h cs x.name) notes.counts k)),
-        );
+    inserted = told_noted (λ (s : Standing). s.inserted) (λ v z. refl) (IsInsertedBy h) behind.inserted;
+    deleted = told_noted (λ (s : Standing). s.deleted) (λ v z. refl) (IsDeletedBy h) behind.deleted;
   }
 
   same_name : (i : ℕ) (x : Element) (a : NameBytes) → slice_get elements.list.items i ≡ Some x → number_of elements a ≡ Some number → i ≡ number → x.name ≡ a
@@ -127,6 +124,17 @@ module _ (elements : Elements) (numbers : AreNumbered elements) (number : ℕ) (
   other_name : (i : ℕ) (x : Element) (a : NameBytes) → slice_get elements.list.items i ≡ Some x → number_of elements a ≡ Some number → (i ≡ number → ⊥) → x.name ≡ a → ⊥
   other_name i x a there numbered differs q = differs (same_Some i number (sym (numbers.numbered i x there) ∙ ap (number_of elements) q ∙ numbered))
 
+  -- an element of the name is shown as was noted, and any other as it was before
+  noted_or_kept : (a : NameBytes) → number_of elements a ≡ Some number → (i : ℕ) (x : Element) (y : Standing) → slice_get elements.list.items i ≡ Some x → slice_get new.list.items i ≡ Some y
+      → ((x.name ≡ a) × (y.shown ≡ b)) ⊎ ((x.name ≡ a → ⊥) × (z : Standing) × (slice_get old.list.items i ≡ Some z) × (y.shown ≡ z.shown))
+  noted_or_kept a numbered i x y there at =
+      let w = was i y at in
+      let of : y.shown ≡ (noted_after number b i w.0).shown = ap (λ (s : Standing). s.shown) w.2 in
+      elim (ℕ_discrete i number) [
+        | yes e ↦ inl (same_name i x a there numbered e, of ∙ noted_here number b i w.0 e)
+        | no n ↦ inr (other_name i x a there numbered n, w.0, w.1, of ∙ noted_else number b i w.0 n)
+      ]
+
 -- a name is shown now as well
 pub note_new : (elements : Elements) (numbers : AreNumbered elements) (number : ℕ) (old new : Standings) → Notes number true old new → (a : NameBytes) (xs ys : List NameBytes) → number_of elements a ≡ Some number
     → (In a (xs ++ ys) → ⊥) → ShowJust elements old.list.items (xs ++ ys) → ShowJust elements new.list.items (xs ++ a ∷ ys)
@@ -136,25 +144,14 @@ note_new elements numbers number old new notes a xs ys numbered absent just = re
     | inl e ↦ (number, ap (number_of elements) e ∙ numbered)
     | inr r ↦ just.known z r
   ];
-  shown = λ i x y there at.
-      let w = was elements numbers number true old new notes i y at in
-      let of = ap (λ (s : Standing). s.shown) w.2 in
-      elim (ℕ_discrete i number) [
-        | yes e ↦
-            (let named : x.name ≡ a = same_name elements numbers number true old new notes i x a there numbered e in (
-              (λ _. subst (λ (z : NameBytes). In z (xs ++ a ∷ ys)) (sym named) (here_in a xs ys)),
-              (λ _. of ∙ noted_here number true i w.0 e),
-            ))
-        | no n ↦
-            (let stays = of ∙ noted_else number true i w.0 n in
-            let told = just.shown i x w.0 there w.1 in (
-              (λ e. in_more x.name a xs ys (told.0 (sym stays ∙ e))),
-              (λ m. stays ∙ told.1 (elim (more_of x.name a xs ys m) [
-                | inl q ↦ absurd (other_name elements numbers number true old new notes i x a there numbered n q)
-                | inr r ↦ r
-              ])),
-            ))
-      ];
+  shown = λ i x y there at. elim (noted_or_kept elements numbers number true old new notes a numbered i x y there at) [
+    | inl w ↦ ((λ _. subst (λ (z : NameBytes). In z (xs ++ a ∷ ys)) (sym w.0) (here_in a xs ys)), (λ _. w.1))
+    | inr w ↦
+        (let told = just.shown i x w.1 there w.2 in (
+          (λ e. in_more x.name a xs ys (told.0 (sym w.3 ∙ e))),
+          (λ m. w.3 ∙ told.1 (elim (more_of x.name a xs ys m) [ inl q ↦ absurd (w.0 q) | inr r ↦ r ])),
+        ))
+  ];
 }
 
 -- a name is not shown any more
@@ -165,25 +162,17 @@ note_gone elements numbers number old new notes a xs ys numbered just =
     record {
       once = less.0;
       known = λ z i. just.known z (in_more z a xs ys i);
-      shown = λ i x y there at.
-          let w = was elements numbers number false old new notes i y at in
-          let of = ap (λ (s : Standing). s.shown) w.2 in
-          elim (ℕ_discrete i number) [
-            | yes e ↦
-                (let named : x.name ≡ a = same_name elements numbers number false old new notes i x a there numbered e in (
-                  (λ q. absurd (false≢true (sym (of ∙ noted_here number false i w.0 e) ∙ q))),
-                  (λ m. absurd (less.1 (subst (λ (z : NameBytes). In z (xs ++ ys)) named m))),
-                ))
-            | no n ↦
-                (let stays = of ∙ noted_else number false i w.0 n in
-                let told = just.shown i x w.0 there w.1 in (
-                  (λ e. elim (more_of x.name a xs ys (told.0 (sym stays ∙ e))) [
-                    | inl q ↦ absurd (other_name elements numbers number false old new notes i x a there numbered n q)
-                    | inr r ↦ r
-                  ]),
-                  (λ m. stays ∙ told.1 (in_more x.name a xs ys m)),
-                ))
-          ];
+      shown = λ i x y there at. elim (noted_or_kept elements numbers number false old new notes a numbered i x y there at) [
+        | inl w ↦ (
+          (λ q. absurd (false≢true (sym w.1 ∙ q))),
+          (λ m. absurd (less.1 (subst (λ (z : NameBytes). In z (xs ++ ys)) w.0 m))),
+        )
+        | inr w ↦
+            (let told = just.shown i x w.1 there w.2 in (
+              (λ e. elim (more_of x.name a xs ys (told.0 (sym w.3 ∙ e))) [ inl q ↦ absurd (w.0 q) | inr r ↦ r ]),
+              (λ m. w.3 ∙ told.1 (in_more x.name a xs ys m)),
+            ))
+      ];
     }
 
 -- what is noted as shown is so of other standings that show the same

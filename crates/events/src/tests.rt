@@ -318,98 +318,51 @@ fn are_alike(
     one.same_names(i, &other, j) == count
 }
 
-static NAMES_IN_ORDER: [&str; 5] = ["left", "a", "b", "c", "d"];
+const NAMES_IN_ORDER: &[&str] = &["left", "a", "b", "c", "d"];
 
-static OTHERS_IN_ORDER: [&str; 5] = ["a", "b", "c", "right", "d"];
-// More bytes than are compared at once.
-static LONG_NAMES: [&str; 4] = [
+const OTHERS_IN_ORDER: &[&str] = &["a", "b", "c", "right", "d"];
+
+/// More bytes than are compared at once.
+const LONG_NAMES: &[&str] = &[
     "sixteen_letters0",
     "sixteen_letters1",
     "sixteen_letters2",
     "x",
 ];
 
-static OTHER_LONG_NAMES: [&str; 4] = [
+const OTHER_LONG_NAMES: &[&str] = &[
     "sixteen_letters0",
     "sixteen_letters1",
     "sixteen_letters2",
     "y",
 ];
 
+/// Names from a place, others from a place, and for how many they are alike.
+#[derive(Clone, Copy)]
+struct Alike(
+    &'static [&'static str],
+    usize,
+    &'static [&'static str],
+    usize,
+    usize,
+);
+
+const ALIKE: &[Alike] = &[
+    Alike(NAMES_IN_ORDER, 1, OTHERS_IN_ORDER, 0, 3),
+    Alike(NAMES_IN_ORDER, 4, OTHERS_IN_ORDER, 4, 1),
+    Alike(NAMES_IN_ORDER, 0, OTHERS_IN_ORDER, 0, 0),
+    Alike(NAMES_IN_ORDER, 6, OTHERS_IN_ORDER, 0, 0),
+    Alike(&["ab", "c"], 0, &["a", "bc"], 0, 0),
+    Alike(&["a", "bc"], 0, &["a", "b", "c"], 0, 1),
+    Alike(LONG_NAMES, 0, OTHER_LONG_NAMES, 0, 3),
+    Alike(LONG_NAMES, 1, LONG_NAMES, 1, 3),
+];
+
 #[test]
 fn responses_go_on_alike(rt: HostRuntime) {
-    let alloc = rt.alloc();
-    assert!(rt;
-        are_alike(
-            alloc,
-            NAMES_IN_ORDER.as_slice(),
-            1,
-            OTHERS_IN_ORDER.as_slice(),
-            0,
-            3
-        )
-    );
-    assert!(rt;
-        are_alike(
-            alloc,
-            NAMES_IN_ORDER.as_slice(),
-            4,
-            OTHERS_IN_ORDER.as_slice(),
-            4,
-            1
-        )
-    );
-    assert!(rt;
-        are_alike(
-            alloc,
-            NAMES_IN_ORDER.as_slice(),
-            0,
-            OTHERS_IN_ORDER.as_slice(),
-            0,
-            0
-        )
-    );
-    assert!(rt;
-        are_alike(
-            alloc,
-            NAMES_IN_ORDER.as_slice(),
-            6,
-            OTHERS_IN_ORDER.as_slice(),
-            0,
-            0
-        )
-    );
-    assert!(rt;
-        are_alike(
-            alloc,
-            ["ab", "c"].as_slice(),
-            0,
-            ["a", "bc"].as_slice(),
-            0,
-            0
-        )
-    );
-    assert!(rt;
-        are_alike(
-            alloc,
-            ["a", "bc"].as_slice(),
-            0,
-            ["a", "b", "c"].as_slice(),
-            0,
-            1
-        )
-    );
-    assert!(rt;
-        are_alike(
-            alloc,
-            LONG_NAMES.as_slice(),
-            0,
-            OTHER_LONG_NAMES.as_slice(),
-            0,
-            3
-        )
-    );
-    assert!(rt; are_alike(alloc, LONG_NAMES.as_slice(), 1, LONG_NAMES.as_slice(), 1, 3));
+    for Alike(names, i, others, j, count) in ALIKE.iter().copied() {
+        assert!(rt; are_alike(rt.alloc(), names, i, others, j, count), "from {i} and {j}");
+    }
 }
 
 /// Whether a recording is opened with so many replicas and no entry.

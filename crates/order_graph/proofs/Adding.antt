@@ -9,7 +9,7 @@ use Rattle.order_graph.specs.Spots.{spots_in, spots_from, spots_of}
 use Rattle.order_graph.specs.declared.spot.Spot.{Spot}
 use Rattle.order_graph.proofs.AllSpots.{spots_sound}
 
-abbrev pub items_of : Vec Spot Global → List Spot
+abbrev pub items_of : {X : Type 0} → Vec X Global → List X
 items_of v = v.items
 
 cond_append : (b : Bool) (a : Spot) (xs ys : List Spot) → cond b (a ∷ (xs ++ ys)) (xs ++ ys) ≡ cond b (a ∷ xs) xs ++ ys
@@ -35,25 +35,25 @@ from_push n (q ∷ qs) r x =
     ∙ sym (append_assoc (spots_in n 0 q x) (spots_from (n + 1) qs x) (spots_in (n + suc (length qs)) 0 r x))
 
 -- a push at one place
-pub pushed_at : (spots : List (Vec Spot Global)) (y : ℕ) (v w : Vec Spot Global) (q : Spot) → y < length spots → v ≡ get_or spots y v
-    → w.items ≡ v.items ++ q ∷ [] → (x : ℕ) → x < length spots
-    → get_or (map items_of (set spots y w)) x [] ≡ get_or (map items_of spots) x [] ++ cond (eqb y x) (q ∷ []) []
-pushed_at spots y v w q within is pushed x inside =
-    let both : get_or (map items_of (set spots y w)) x [] ≡ get_or (set (map items_of spots) y w.items) x [] =
-    ap (λ l. get_or l x []) (map-set items_of spots y w) in
+pub pushed_at : {X : Type 0} (lists : List (Vec X Global)) (y : ℕ) (v w : Vec X Global) (q : X) → y < length lists → v ≡ get_or lists y v
+    → w.items ≡ v.items ++ q ∷ [] → (x : ℕ) → x < length lists
+    → get_or (map items_of (set lists y w)) x [] ≡ get_or (map items_of lists) x [] ++ cond (eqb y x) (q ∷ []) []
+pushed_at {X} lists y v w q within is pushed x inside =
+    let both : get_or (map items_of (set lists y w)) x [] ≡ get_or (set (map items_of lists) y w.items) x [] =
+    ap (λ l. get_or l x []) (map-set items_of lists y w) in
     elim (eqb_tells y x) [
       | inl h ↦
-          let place : y < length (map items_of spots) = subst (λ n. y < n) (sym (length-map spots items_of)) within in
-          let here : get_or (map items_of spots) y [] ≡ v.items = get_or-map items_of spots y v [] within ∙ ap items_of (sym is) in
-          both ∙ ap (λ i. get_or (set (map items_of spots) y w.items) i []) (sym h.1)
-          ∙ get_or-set_same (map items_of spots) y w.items [] place ∙ pushed
-          ∙ ap (λ l. l ++ q ∷ []) (sym here) ∙ ap (λ i. get_or (map items_of spots) i [] ++ q ∷ []) h.1
-          ∙ ap (λ (b : Bool). get_or (map items_of spots) x [] ++ cond {A = List Spot} b (q ∷ []) []) (sym h.0)
+          let place : y < length (map items_of lists) = subst (λ n. y < n) (sym (length-map lists items_of)) within in
+          let here : get_or (map items_of lists) y [] ≡ v.items = get_or-map items_of lists y v [] within ∙ ap items_of (sym is) in
+          both ∙ ap (λ i. get_or (set (map items_of lists) y w.items) i []) (sym h.1)
+          ∙ get_or-set_same (map items_of lists) y w.items [] place ∙ pushed
+          ∙ ap (λ l. l ++ q ∷ []) (sym here) ∙ ap (λ i. get_or (map items_of lists) i [] ++ q ∷ []) h.1
+          ∙ ap (λ (b : Bool). get_or (map items_of lists) x [] ++ cond {A = List X} b (q ∷ []) []) (sym h.0)
       | inr h ↦
           let other : x ≢ y = λ e. h.1 (sym e) in
-          both ∙ get_or-set_other (map items_of spots) y x w.items [] other
-          ∙ sym (append-nil (get_or (map items_of spots) x []))
-          ∙ ap (λ (b : Bool). get_or (map items_of spots) x [] ++ cond {A = List Spot} b (q ∷ []) []) (sym h.0)
+          both ∙ get_or-set_other (map items_of lists) y x w.items [] other
+          ∙ sym (append-nil (get_or (map items_of lists) x []))
+          ∙ ap (λ (b : Bool). get_or (map items_of lists) x [] ++ cond {A = List X} b (q ∷ []) []) (sym h.0)
     ]
 
 -- how many spots there are

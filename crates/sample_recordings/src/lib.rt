@@ -8,13 +8,15 @@ mod growing;
 mod random;
 mod reading;
 mod soundness;
+mod standing;
 mod texts;
 
-pub use entries::{add, place_of, push};
+pub use entries::{add, push};
 pub use growing::{MOST_ELEMENTS, generated, mostly_ordered};
 pub use random::Random;
 pub use reading::recording;
 pub use soundness::check_sound;
+pub use standing::stands_before;
 pub use texts::{
     EMPTY, OPPOSITE_PAIR, PAST_A_NEIGHBOUR, READ_THE_OTHER_WAY, RING_OF_FOUR, THREE_WAY_CYCLE,
 };

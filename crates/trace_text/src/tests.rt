@@ -7,17 +7,24 @@ use events::{Body, Entry, Memory, Name, Recording, Refusal, Response};
 use std::alloc::{AllocError, Global};
 use std::test::Fail;
 
-/// What reading says; where the first call finds no memory, what the second says.
-fn reading(alloc: Global, text: &[u8]) -> Result<Recording, LineFault> {
-    match read(alloc, text) {
+/// What the first call says; where it finds no memory, what the second says.
+fn again<F: Fn() -> Result<Recording, LineFault>>(call: F) -> Result<Recording, LineFault>
+    requires { F.IsAlwaysCallable call }
+{
+    match call() {
         Err(
             LineFault {
                 cause: Cause::Refused(Refusal::Memory),
                 line: _,
             },
-        ) => read(alloc, text),
+        ) => call(),
         answer => answer,
     }
+}
+
+/// What reading says.
+fn reading(alloc: Global, text: &[u8]) -> Result<Recording, LineFault> {
+    again(|| read(alloc, text))
 }
 
 /// The text of the recording; where the first call finds no memory, what the second gives.
@@ -505,15 +512,11 @@ fn fed_once(alloc: Global, text: &[u8], size: usize) -> Result<Recording, LineFa
 fn fed(alloc: Global, text: &[u8], size: usize) -> Result<Recording, LineFault>
     requires { 0 < size }
 {
-    match fed_once(alloc, text, size) {
-        Err(
-            LineFault {
-                cause: Cause::Refused(Refusal::Memory),
-                line: _,
-            },
-        ) => fed_once(alloc, text, size),
-        answer => answer,
-    }
+    again(
+        || -> Result<Recording, LineFault>
+            requires { 0 < size }
+        { fed_once(alloc, text, size) },
+    )
 }
 
 /// What a reader says of the text, fed in two pieces that are cut at this place.
@@ -527,15 +530,7 @@ fn fed_in_two_once(alloc: Global, text: &[u8], at: usize) -> Result<Recording, L
 
 /// The same; where the first reader finds no memory, what the second says.
 fn fed_in_two(alloc: Global, text: &[u8], at: usize) -> Result<Recording, LineFault> {
-    match fed_in_two_once(alloc, text, at) {
-        Err(
-            LineFault {
-                cause: Cause::Refused(Refusal::Memory),
-                line: _,
-            },
-        ) => fed_in_two_once(alloc, text, at),
-        answer => answer,
-    }
+    again(|| fed_in_two_once(alloc, text, at))
 }
 
 /// Whether what a reader says is the recording that this text spells.

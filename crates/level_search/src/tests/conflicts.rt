@@ -2,10 +2,10 @@
 ghost use Rattle.std.specs.Prelude.{IfOk};
 ghost use Rattle.specification.specs.Conflict.{IsConflictNumber};
 
-use super::graphs::ask_on;
+use super::graphs::ask_of;
 use crate::{Gate, NoGate, SearchFault, conflict_number};
 use order_graph::OrderGraph;
-use sample_recordings::{EMPTY, OPPOSITE_PAIR, RING_OF_FOUR, THREE_WAY_CYCLE};
+use sample_recordings::{EMPTY, OPPOSITE_PAIR, RING_OF_FOUR, THREE_WAY_CYCLE, recording};
 use std::alloc::Global;
 use std::test::Fail;
 use std::thread::Threads;
@@ -19,12 +19,12 @@ const ACCEPTED: &str =
     "trace 1\nreplicas 5\n0 ins a 0 : a\n1 ins b 0 : b\n2 recv 0 1\n2 recv 1 1\n2 read : a b\n3 recv 1 1\n3 ins c 1 : b c\n4 recv 3 1\n4 del b : c\n4 ins d 1 : c d\n";
 
 /// The conflict number of a graph. A call that finds no memory is made again.
-pub fn number_of<H: Threads + Sync, G: Gate>(
-    rt: &H,
+pub fn number_of(
+    rt: &(impl Threads + Sync),
     alloc: Global,
     graph: &OrderGraph,
     workers: u32,
-    gate: &G,
+    gate: &impl Gate,
 ) -> Result<Option<u32>, SearchFault>
     ensures { IfOk result (λ k. IsConflictNumber graph.now k) }
 {
@@ -60,19 +60,6 @@ fn all_refuse(rt: &(impl Threads + Sync), alloc: Global, graph: &OrderGraph) -> 
     true
 }
 
-/// Whether any number of workers that is allowed, and no other, finds this conflict number of the recording
-/// that a text spells.
-fn is_found(
-    rt: &(impl Threads + Sync),
-    alloc: Global,
-    text: &str,
-    number: Option<u32>,
-) -> Result<bool, Fail> {
-    ask_on(rt, alloc, text, |graph| {
-        Ok(all_find(rt, alloc, graph, number)? && all_refuse(rt, alloc, graph))
-    })
-}
-
 /// What is found of the recording that a text spells.
 pub fn number_on<H: Threads + Sync, G: Gate>(
     rt: &H,
@@ -81,7 +68,7 @@ pub fn number_on<H: Threads + Sync, G: Gate>(
     workers: u32,
     gate: &G,
 ) -> Result<Option<u32>, Fail> {
-    ask_on(rt, alloc, text, |graph| {
+    ask_of(rt, alloc, &recording(alloc, text)?, |graph| {
         Ok(number_of(rt, alloc, graph, workers, gate)?)
     })
 }
@@ -98,7 +85,10 @@ fn worked_recordings_for_any_number_of_workers(rt: HostRuntime) -> Result<(), Fa
         (EMPTY, None),
     ];
     for (text, number) in rows {
-        assert!(rt; is_found(&rt, alloc, text, number)?, "at {text}");
+        let found = ask_of(&rt, alloc, &recording(alloc, text)?, |graph| {
+            Ok(all_find(&rt, alloc, graph, number)? && all_refuse(&rt, alloc, graph))
+        })?;
+        assert!(rt; found, "at {text}");
     }
     Ok(())
 }

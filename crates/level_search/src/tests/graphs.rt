@@ -1,7 +1,7 @@
 //! Questions on the graphs of recordings, which must be sound. A call that finds no memory is made again.
 use events::{Memory, Recording};
 use order_graph::OrderGraph;
-use sample_recordings::{check_sound, recording};
+use sample_recordings::check_sound;
 use std::alloc::Global;
 use std::test::Fail;
 use std::thread::Threads;
@@ -30,17 +30,4 @@ pub fn ask_of<A, Q: FnOnce(&OrderGraph) -> Result<A, Fail>>(
 {
     let graph = graph(rt, alloc, recording)?;
     question(&graph)
-}
-
-/// The same, for the recording that a text spells.
-pub fn ask_on<A, Q: FnOnce(&OrderGraph) -> Result<A, Fail>>(
-    rt: &(impl Threads + Sync),
-    alloc: Global,
-    text: &str,
-    question: Q,
-) -> Result<A, Fail>
-    requires { Q.IsAlwaysCallable question }
-{
-    let recording = recording(alloc, text)?;
-    ask_of(rt, alloc, &recording, question)
 }

@@ -2,9 +2,9 @@
 ghost use Rattle.std.specs.Prelude.{◌<◌};
 
 use super::graphs::ask_of;
-use events::{Body, Name, Recording};
+use events::Recording;
 use order_graph::OrderGraph;
-use sample_recordings::{MOST_ELEMENTS, Random, generated, place_of};
+use sample_recordings::{MOST_ELEMENTS, Random, generated, stands_before};
 use std::alloc::Global;
 use std::test::Fail;
 use std::thread::Threads;
@@ -12,45 +12,11 @@ use std::thread::Threads;
 /// Which element stands before which, by their numbers.
 pub type Table = [[bool; MOST_ELEMENTS]; MOST_ELEMENTS];
 
-/// Whether an operation returned the one name before the other.
-fn has_in_order(body: &Body, a: Name, b: Name) -> bool {
-    let response = match body {
-        Body::Ins { response, .. } => response,
-        Body::Del { response, .. } => response,
-        Body::Read { response } => response,
-        Body::Recv { .. } => return false,
-    };
-    match (place_of(response, a), place_of(response, b)) {
-        (Some(i), Some(j)) => i < j,
-        _ => false,
-    }
-}
-
-/// Whether some response has the one name before the other.
-fn stands_before(recording: &Recording, a: Name, b: Name) -> bool {
-    for i in 0..recording.len() {
-        if let Some(entry) = recording.entry(i) {
-            if has_in_order(&entry.body, a, b) {
-                return true;
-            }
-        }
-    }
-    false
-}
-
-/// The same, by the elements' numbers.
-fn follows(recording: &Recording, graph: &OrderGraph, a: u32, b: u32) -> bool {
-    match (graph.name(a), graph.name(b)) {
-        (Some(a), Some(b)) => stands_before(recording, a, b),
-        _ => false,
-    }
-}
-
 /// Before which elements one stands.
 fn row_of(recording: &Recording, graph: &OrderGraph, a: u32) -> [bool; MOST_ELEMENTS] {
     let mut row = [false; MOST_ELEMENTS];
     for b in 0..6 {
-        row[b as usize] = follows(recording, graph, a, b);
+        row[b as usize] = stands_before(recording, graph.name(a), graph.name(b));
     }
     row
 }

@@ -1,12 +1,12 @@
 //! Searches on worked and on random graphs.
 
-use super::graphs::ask_on;
+use super::graphs::ask_of;
 use super::plain::{Table, ask_next, shortest};
 use super::sources::FallingBound;
 use crate::{BoundSource, PlainBound, Scratch, distances, search};
 use events::Memory;
 use order_graph::OrderGraph;
-use sample_recordings::{OPPOSITE_PAIR, RING_OF_FOUR, Random};
+use sample_recordings::{OPPOSITE_PAIR, RING_OF_FOUR, Random, recording};
 use std::alloc::Global;
 use std::test::Fail;
 
@@ -53,7 +53,12 @@ fn looked_round(alloc: Global, graph: &OrderGraph) -> Result<(u64, Option<u32>, 
 #[test]
 fn what_a_search_of_the_ring_of_four_looks_at(rt: HostRuntime) -> Result<(), Fail> {
     let alloc = rt.alloc();
-    let answer = ask_on(&rt, alloc, RING_OF_FOUR, |ring| looked_round(alloc, ring))?;
+    let answer = ask_of(
+        &rt,
+        alloc,
+        &recording(alloc, RING_OF_FOUR)?,
+        |ring| looked_round(alloc, ring),
+    )?;
     assert_eq!(rt; answer, (0, Some(4), 8));
     Ok(())
 }
@@ -75,7 +80,7 @@ fn found_below(
 #[test]
 fn searches_of_the_ring_of_four_under_bounds(rt: HostRuntime) -> Result<(), Fail> {
     let alloc = rt.alloc();
-    let all = ask_on(&rt, alloc, RING_OF_FOUR, |ring| {
+    let all = ask_of(&rt, alloc, &recording(alloc, RING_OF_FOUR)?, |ring| {
         found_below(alloc, ring, [4294967295, 5, 4])
     })?;
     assert_eq!(rt; all, [Some(4), Some(4), None]);
@@ -94,7 +99,7 @@ fn found_under(
 #[test]
 fn a_search_reads_its_bound_again(rt: HostRuntime) -> Result<(), Fail> {
     let alloc = rt.alloc();
-    let found = ask_on(&rt, alloc, RING_OF_FOUR, |ring| {
+    let found = ask_of(&rt, alloc, &recording(alloc, RING_OF_FOUR)?, |ring| {
         found_under(alloc, ring, FallingBound::new(5, 3))
     })?;
     assert_eq!(rt; found, None);
@@ -110,8 +115,13 @@ fn fits(alloc: Global, graph: &OrderGraph, other: &OrderGraph) -> Result<(bool, 
 #[test]
 fn a_scratch_fits_its_graph_alone(rt: HostRuntime) -> Result<(), Fail> {
     let alloc = rt.alloc();
-    let fitting = ask_on(&rt, alloc, RING_OF_FOUR, |ring| {
-        ask_on(&rt, alloc, OPPOSITE_PAIR, |pair| fits(alloc, ring, pair))
+    let fitting = ask_of(&rt, alloc, &recording(alloc, RING_OF_FOUR)?, |ring| {
+        ask_of(
+            &rt,
+            alloc,
+            &recording(alloc, OPPOSITE_PAIR)?,
+            |pair| fits(alloc, ring, pair),
+        )
     })?;
     assert_eq!(rt; fitting, (true, false));
     Ok(())
@@ -193,7 +203,7 @@ fn all_distances(
 #[test]
 fn distances_in_the_ring_of_four(rt: HostRuntime) -> Result<(), Fail> {
     let alloc = rt.alloc();
-    let all = ask_on(&rt, alloc, RING_OF_FOUR, |ring| {
+    let all = ask_of(&rt, alloc, &recording(alloc, RING_OF_FOUR)?, |ring| {
         all_distances(alloc, ring, [(0, 9), (3, 9), (0, 2), (0, 0)])
     })?;
     let wanted = [[0, 1, 2, 3], [1, 2, 3, 0], [0, 1, 2, 2], [0, 0, 0, 0]];

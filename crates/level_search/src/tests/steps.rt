@@ -3,11 +3,11 @@ ghost use Rattle.std.specs.Prelude.{IfOk};
 ghost use Rattle.specification.specs.Search.{IsShortestLength};
 
 use super::conflicts::{PAIR_APART, number_of};
-use super::graphs::ask_on;
+use super::graphs::ask_of;
 use crate::{Conflict, NoGate, SearchFault, Step, Steps, least_conflict, least_cycle};
 use events::{Memory, Name, OpName};
 use order_graph::OrderGraph;
-use sample_recordings::{OPPOSITE_PAIR, RING_OF_FOUR, THREE_WAY_CYCLE};
+use sample_recordings::{OPPOSITE_PAIR, RING_OF_FOUR, THREE_WAY_CYCLE, recording};
 use std::alloc::Global;
 use std::test::Fail;
 use std::thread::Threads;
@@ -63,8 +63,11 @@ impl Shown {
     }
 }
 
-/// Whether the steps are exactly these.
-fn are(steps: &Steps, expected: &[Shown]) -> Result<bool, Fail> {
+/// Whether there are steps, and exactly these.
+fn are(steps: Option<Steps>, expected: &[Shown]) -> Result<bool, Fail> {
+    let Some(steps) = steps else {
+        return Ok(false);
+    };
     for (i, shown) in expected.iter().enumerate() {
         if steps.get(i).copied() != Some(shown.step()?) {
             return Ok(false);
@@ -73,31 +76,11 @@ fn are(steps: &Steps, expected: &[Shown]) -> Result<bool, Fail> {
     Ok(steps.len() == expected.len())
 }
 
-/// Whether the least cycle of the recording that a text spells has exactly these steps.
-fn leads_round(
-    rt: &(impl Threads + Sync),
-    alloc: Global,
-    text: &str,
-    expected: &[Shown],
-) -> Result<bool, Fail> {
-    let found = ask_on(rt, alloc, text, |graph| Ok(steps_of(rt, alloc, graph)?))?;
-    match found {
-        Some(steps) => are(&steps, expected),
-        None => Ok(false),
-    }
-}
-
-/// Whether the least conflict of the recording that a text spells has exactly these steps, and their number.
-fn has_conflict(
-    rt: &(impl Threads + Sync),
-    alloc: Global,
-    text: &str,
-    expected: &[Shown],
-) -> Result<bool, Fail> {
-    let found = ask_on(rt, alloc, text, |graph| Ok(conflict_of(rt, alloc, graph)?))?;
-    match found {
-        Some(Conflict { k, steps }) => Ok(k as usize == expected.len() && are(&steps, expected)?),
-        None => Ok(false),
+/// The steps of a conflict that has as many as its number says.
+fn counted(conflict: Option<Conflict>) -> Option<Steps> {
+    match conflict {
+        Some(Conflict { k, steps }) if k as usize == steps.len() => Some(steps),
+        _ => None,
     }
 }
 
@@ -130,7 +113,13 @@ const WORKED: &[(&str, &[Shown])] = &[
 #[test]
 fn steps_of_worked_recordings(rt: HostRuntime) -> Result<(), Fail> {
     for (text, expected) in WORKED.iter().copied() {
-        assert!(rt; leads_round(&rt, rt.alloc(), text, expected)?, "at {text}");
+        let steps = ask_of(
+            &rt,
+            rt.alloc(),
+            &recording(rt.alloc(), text)?,
+            |graph| Ok(steps_of(&rt, rt.alloc(), graph)?),
+        )?;
+        assert!(rt; are(steps, expected)?, "at {text}");
     }
     Ok(())
 }
@@ -138,7 +127,10 @@ fn steps_of_worked_recordings(rt: HostRuntime) -> Result<(), Fail> {
 #[test]
 fn conflicts_of_worked_recordings(rt: HostRuntime) -> Result<(), Fail> {
     for (text, expected) in WORKED.iter().copied() {
-        assert!(rt; has_conflict(&rt, rt.alloc(), text, expected)?, "at {text}");
+        let found = ask_of(&rt, rt.alloc(), &recording(rt.alloc(), text)?, |graph| {
+            Ok(conflict_of(&rt, rt.alloc(), graph)?)
+        })?;
+        assert!(rt; are(counted(found), expected)?, "at {text}");
     }
     Ok(())
 }

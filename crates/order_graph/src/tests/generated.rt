@@ -7,41 +7,27 @@ use std::alloc::Global;
 use std::test::Fail;
 use std::thread::Threads;
 
-/// Whether the graph of the next generated recording answers all as the plain programs do.
+/// Whether the graph of the next generated recording answers all as the plain programs do, or what covering
+/// responses show is what they find.
 fn next_agrees(
     rt: &(impl Threads + Sync),
     alloc: Global,
     random: &mut Random,
+    kept: Kept,
 ) -> Result<bool, Fail> {
-    ask(
-        rt,
-        alloc,
-        generated(alloc, random)?,
-        Kept::All,
-        |recording, graph| { Ok(agrees(recording, graph)) },
-    )
-}
-
-/// Whether the covering responses of the next generated recording show what the plain programs find.
-fn next_covering_tells_the_same(
-    rt: &(impl Threads + Sync),
-    alloc: Global,
-    random: &mut Random,
-) -> Result<bool, Fail> {
-    ask(
-        rt,
-        alloc,
-        generated(alloc, random)?,
-        Kept::Covering,
-        |recording, graph| { Ok(tells_the_same(recording, graph)) },
-    )
+    ask(rt, alloc, generated(alloc, random)?, kept, |recording, graph| {
+        Ok(match kept {
+            Kept::All => agrees(recording, graph),
+            Kept::Covering => tells_the_same(recording, graph),
+        })
+    })
 }
 
 #[test]
 fn generated_recordings_agree_with_the_plain_programs(rt: HostRuntime) -> Result<(), Fail> {
     let mut random = Random(2016);
     for _ in 0..300 {
-        assert!(rt; next_agrees(&rt, rt.alloc(), &mut random)?);
+        assert!(rt; next_agrees(&rt, rt.alloc(), &mut random, Kept::All)?);
     }
     Ok(())
 }
@@ -50,7 +36,7 @@ fn generated_recordings_agree_with_the_plain_programs(rt: HostRuntime) -> Result
 fn covering_responses_of_generated_recordings_tell_the_same(rt: HostRuntime) -> Result<(), Fail> {
     let mut random = Random(1936);
     for _ in 0..300 {
-        assert!(rt; next_covering_tells_the_same(&rt, rt.alloc(), &mut random)?);
+        assert!(rt; next_agrees(&rt, rt.alloc(), &mut random, Kept::Covering)?);
     }
     Ok(())
 }

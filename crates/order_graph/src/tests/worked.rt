@@ -48,13 +48,10 @@ fn shows(
     text: &str,
     expected: &[Shown],
 ) -> Result<bool, Fail> {
-    ask(
-        rt,
-        alloc,
-        recording(alloc, text)?,
-        Kept::All,
-        |recording, graph| { Ok(has_shown(graph, expected) && agrees(recording, graph)) },
-    )
+    let recording = recording(alloc, text)?;
+    ask(rt, alloc, recording, Kept::All, |recording, graph| {
+        Ok(has_shown(graph, expected) && agrees(recording, graph))
+    })
 }
 
 /// Whether there are four elements, and a list for each of the eight operations of the ring.
@@ -100,15 +97,8 @@ fn has_marks(ring: &OrderGraph) -> bool {
 #[test]
 fn marks_of_the_ring_of_four(rt: HostRuntime) -> Result<(), Fail> {
     let ring = recording(rt.alloc(), RING_OF_FOUR)?;
-    assert!(rt;
-        ask(
-            &rt,
-            rt.alloc(),
-            ring,
-            Kept::All,
-            |_, graph| Ok(has_marks(graph))
-        )?
-    );
+    let right = ask(&rt, rt.alloc(), ring, Kept::All, |_, graph| Ok(has_marks(graph)))?;
+    assert!(rt; right);
     Ok(())
 }
 

@@ -7,10 +7,11 @@ use Rattle.std.proofs.lemmas.Bool.{false≢true}
 use Rattle.std.proofs.lemmas.Bool.Decides.{Decides-eqb}
 use Rattle.events.specs.History.{History}
 use Rattle.specification.specs.Lines.{Line, text_of, IsOneLine}
-use Rattle.specification.specs.TraceText.{trace_lines, body_text, entry_line, IsFirstLineFault, header, replicas, shape, cut, refused}
+use Rattle.specification.specs.TraceText.{trace_lines, body_text, entry_line, IsFaultyLine, IsFirstLineFault, header, replicas, shape, cut, refused}
 use Rattle.events.specs.declared.recording.Entry.{Entry}
 use Rattle.events.specs.declared.recording.Body.{Body}
 use Rattle.events.specs.declared.recording.Body.TheVariants.{Ins, Del, Read, Recv}
+use Rattle.events.specs.declared.refusal.Refusal.{Refusal}
 use Rattle.events.specs.declared.refusal.Refusal.TheVariants.{NoReplica, OwnReceipt, NotYet}
 use Rattle.specification.specs.WorkedRecordings.{recording, ins, read, recv, a}
 use Rattle.specification.specs.WorkedTexts as worked
@@ -96,31 +97,32 @@ unknown_replica = record {
 abbrev inserted_once : History
 inserted_once = recording 2 (ins 0 a 0 (a ∷ []) ∷ [])
 
+abbrev inserting_once : List Line
+inserting_once = codes "trace 1" ∷ codes "replicas 2" ∷ codes "0 ins a 0 : a" ∷ []
+
+-- a line after one insert that is refused
+fourth_line : (line : Line) (why : Refusal) → is_in ◌==◌ 10 line ≡ false → worked.one_insert ++ text_of (line ∷ []) ≡ text_of inserting_once ++ line ++ 10 ∷ [] → IsFaultyLine inserting_once line (refused why) → IsFirstLineFault (worked.one_insert ++ text_of (line ∷ [])) 4 (refused why)
+unfolding digits
+fourth_line line why one is faulty = record {
+  good = inserting_once;
+  begins = (inserted_once, legal-from inserted_once refl, [], refl);
+  faulty = line;
+  one_line = one_line line one;
+  more = [];
+  text_is = is;
+  number = refl;
+  is_faulty = faulty;
+}
+
 early_receipt : IsFirstLineFault (worked.one_insert ++ text_of (codes "1 recv 0 2" ∷ [])) 4 (refused (NotYet 1))
 unfolding digits
-early_receipt = record {
-  good = codes "trace 1" ∷ codes "replicas 2" ∷ codes "0 ins a 0 : a" ∷ [];
-  begins = (inserted_once, legal-from inserted_once refl, [], refl);
-  faulty = codes "1 recv 0 2";
-  one_line = one_line (codes "1 recv 0 2") refl;
-  more = [];
-  text_is = refl;
-  number = refl;
-  is_faulty = (inserted_once, legal-from inserted_once refl, refl, recv 1 0 2, (lit< tt, (lit< tt, lit≤ tt, lit< tt)), refl, refl);
-}
+early_receipt =
+    fourth_line (codes "1 recv 0 2") (NotYet 1) refl refl (inserted_once, legal-from inserted_once refl, refl, recv 1 0 2, (lit< tt, (lit< tt, lit≤ tt, lit< tt)), refl, refl)
 
 own_receipt : IsFirstLineFault (worked.one_insert ++ text_of (codes "0 recv 0 1" ∷ [])) 4 (refused OwnReceipt)
 unfolding digits
-own_receipt = record {
-  good = codes "trace 1" ∷ codes "replicas 2" ∷ codes "0 ins a 0 : a" ∷ [];
-  begins = (inserted_once, legal-from inserted_once refl, [], refl);
-  faulty = codes "0 recv 0 1";
-  one_line = one_line (codes "0 recv 0 1") refl;
-  more = [];
-  text_is = refl;
-  number = refl;
-  is_faulty = (inserted_once, legal-from inserted_once refl, refl, recv 0 0 1, (lit< tt, (lit< tt, lit≤ tt, lit< tt)), refl, refl);
-}
+own_receipt =
+    fourth_line (codes "0 recv 0 1") OwnReceipt refl refl (inserted_once, legal-from inserted_once refl, refl, recv 0 0 1, (lit< tt, (lit< tt, lit≤ tt, lit< tt)), refl, refl)
 
 pub malformed_lines : worked.MalformedLines
 malformed_lines = (missing_header, missing_replicas, cut_header, cut_entry, empty_line, unknown_replica, early_receipt, own_receipt)

@@ -29,32 +29,17 @@ places_of-requires-clause-few c =
 
 pub spots_in_lists-requires-clause-few : goal.spots_in_lists-requires-clause-few
 spots_in_lists-requires-clause-few c =
-    let h = c.args.recording.now in
-    let names : List NameBytes = c.args.names.items in
-    let shown : List Operation = c.args.shown.items in
-    let rows : List (List ℕ) = rows_of c.in_ok-places.places in
-    few-rows h c.replicas.ensures.legal c.requires.sound names shown rows c.requires.names c.requires.part
-    (rows-are h names c.deref-3.result.now shown c.deref-2.result.now rows c.deref-3.ensures.value c.deref-2.ensures.value c.in_ok-places.ensures.rows)
+    few-rows c.args.recording.now c.replicas.ensures.legal c.requires.sound c.args.names.items c.args.shown.items (rows_of c.in_ok-places.places) c.requires.names c.requires.part (rows-are c.args.recording.now c.args.names.items c.deref-3.result.now c.args.shown.items c.deref-2.result.now (rows_of c.in_ok-places.places) c.deref-3.ensures.value c.deref-2.ensures.value c.in_ok-places.ensures.rows)
 
 pub spots_in_lists-requires-clause-known : goal.spots_in_lists-requires-clause-known
 spots_in_lists-requires-clause-known c =
-    let h = c.args.recording.now in
-    let names : List NameBytes = c.args.names.items in
-    let shown : List Operation = c.args.shown.items in
-    let rows : List (List ℕ) = rows_of c.in_ok-places.places in
-    let count : length names ≡ c.len.result = omega (arith, c.len.ensures, c.args.names.ok) in
-    subst (λ n. (l : ℕ) → All (λ x. x < n) (row rows l)) count
-    (kept-known h c.replicas.ensures.legal c.requires.sound names shown rows c.requires.names c.requires.part
-    (rows-are h names c.deref-3.result.now shown c.deref-2.result.now rows c.deref-3.ensures.value c.deref-2.ensures.value c.in_ok-places.ensures.rows))
+    let count : length c.args.names.items ≡ c.len.result = omega (arith, c.len.ensures, c.args.names.ok) in
+    subst (λ n. (l : ℕ) → All (λ x. x < n) (row (rows_of c.in_ok-places.places) l)) count
+    (kept-known c.args.recording.now c.replicas.ensures.legal c.requires.sound c.args.names.items c.args.shown.items (rows_of c.in_ok-places.places) c.requires.names c.requires.part (rows-are c.args.recording.now c.args.names.items c.deref-3.result.now c.args.shown.items c.deref-2.result.now (rows_of c.in_ok-places.places) c.deref-3.ensures.value c.deref-2.ensures.value c.in_ok-places.ensures.rows))
 
 pub spots_in_lists-requires-clause-short : goal.spots_in_lists-requires-clause-short
 spots_in_lists-requires-clause-short c =
-    let h = c.args.recording.now in
-    let names : List NameBytes = c.args.names.items in
-    let shown : List Operation = c.args.shown.items in
-    let rows : List (List ℕ) = rows_of c.in_ok-places.places in
-    kept-short h c.replicas.ensures.legal c.requires.sound names shown rows c.requires.names c.requires.part
-    (rows-are h names c.deref-3.result.now shown c.deref-2.result.now rows c.deref-3.ensures.value c.deref-2.ensures.value c.in_ok-places.ensures.rows)
+    kept-short c.args.recording.now c.replicas.ensures.legal c.requires.sound c.args.names.items c.args.shown.items (rows_of c.in_ok-places.places) c.requires.names c.requires.part (rows-are c.args.recording.now c.args.names.items c.deref-3.result.now c.args.shown.items c.deref-2.result.now (rows_of c.in_ok-places.places) c.deref-3.ensures.value c.deref-2.ensures.value c.in_ok-places.ensures.rows)
 
 pub invariant_of-result : goal.invariant_of-result
 invariant_of-result c =
@@ -80,9 +65,4 @@ invariant_of-result c =
 
 pub returns : goal.returns
 returns c =
-    let h = c.args.recording.now in
-    let names : List NameBytes = c.args.names.items in
-    let shown : List Operation = c.args.shown.items in
-    let rows : List (List ℕ) = rows_of c.in_ok-places.places in
-    kept-is h c.replicas.ensures.legal c.requires.sound names shown rows c.requires.names c.requires.part
-    (rows-are h names c.deref-3.result.now shown c.deref-2.result.now rows c.deref-3.ensures.value c.deref-2.ensures.value c.in_ok-places.ensures.rows)
+    kept-is c.args.recording.now c.replicas.ensures.legal c.requires.sound c.args.names.items c.args.shown.items (rows_of c.in_ok-places.places) c.requires.names c.requires.part (rows-are c.args.recording.now c.args.names.items c.deref-3.result.now c.args.shown.items c.deref-2.result.now (rows_of c.in_ok-places.places) c.deref-3.ensures.value c.deref-2.ensures.value c.in_ok-places.ensures.rows)
