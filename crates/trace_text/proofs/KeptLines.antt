@@ -22,7 +22,7 @@ use Rattle.format_words.specs.declared.stop.Shape as unsaid
 use Rattle.format_words.proofs.NameWords.{name-is, name_of-name}
 use Rattle.std.proofs.lemmas.Option.{none-some}
 use Rattle.format_words.proofs.LineWords.{word-then, name-lacks}
-use Rattle.trace_text.specs.Kept.{Kept, EMPTY, EndsWithWord, HasNoSpace, IsKeptOf, Keeps, StandsFor}
+use Rattle.trace_text.specs.Kept.{Kept, EMPTY, GIVEN_UP, EndsWithWord, HasNoSpace, IsKeptOf, Keeps, StandsFor}
 use Rattle.trace_text.proofs.LineWords.{entry_words, words-of-line}
 use Rattle.trace_text.proofs.LongLines.{IsShort, long-entry, words-apart, word-grows, entry-short, number-short}
 use Rattle.trace_text.proofs.OneReading.{line-right, entry-there, all-of}
@@ -241,7 +241,7 @@ part-kept kept part one few line k = record {
   few_word = omega (arith, few, length-append kept.word part);
 }
 
-given-up : (line : Line) (other : Line) → IsNever other → 1 ≤ length other → StandsFor other line → IsKeptOf (record { whole = 32 ∷ []; word = [] }) line
+given-up : (line : Line) (other : Line) → IsNever other → 1 ≤ length other → StandsFor other line → IsKeptOf GIVEN_UP line
 given-up line other never some stands = record {
   stands = stands-through (32 ∷ []) other line (never-stands (32 ∷ []) other space-never never (omega arith) some) stands;
   ends = inr ([], refl);
@@ -250,7 +250,7 @@ given-up line other never some stands = record {
   few_word = omega arith;
 }
 
-pub part-given-up : (kept : Kept) (part : Line) → HasNoSpace part → 32 < length kept.word + length part → Keeps kept part (record { whole = 32 ∷ []; word = [] })
+pub part-given-up : (kept : Kept) (part : Line) → HasNoSpace part → 32 < length kept.word + length part → Keeps kept part GIVEN_UP
 part-given-up kept part one many line k =
     let long : 33 ≤ length (kept.word ++ part) = omega (arith, many, length-append kept.word part) in
     given-up (line ++ part) (kept.whole ++ (kept.word ++ part))
@@ -285,7 +285,7 @@ name-left-out kept long name line k =
       few_word = omega arith;
     }
 
-pub word-given-up : (kept : Kept) → 135334 ≤ length kept.whole → (IsName kept.word → ⊥) → Keeps kept (32 ∷ []) (record { whole = 32 ∷ []; word = [] })
+pub word-given-up : (kept : Kept) → 135334 ≤ length kept.whole → (IsName kept.word → ⊥) → Keeps kept (32 ∷ []) GIVEN_UP
 word-given-up kept long bad line k =
     let p = long-front kept.whole k.ends long in
     given-up (line ++ 32 ∷ []) ((kept.whole ++ kept.word) ++ 32 ∷ [])
@@ -308,6 +308,17 @@ pub says-name : (r : Result NameBytes unsaid.Shape) (w : Word) → Says (λ name
 says-name (Ok a) w e = (λ _. let p = name-is w a e in subst IsName (sym p.0) p.1, λ _. refl)
 says-name (Err x) w e = (λ h. absurd (cc), λ h. absurd (none-some w (sym e ∙ name_of-name w h)))
 
+never-still : (line bytes : Line) → IsNever line → IsNever (line ++ bytes)
+never-still line bytes h = record {
+  first = λ more is. h.first (bytes ++ more) (sym (append_assoc line bytes more) ∙ is);
+  second = λ more n high is. h.second (bytes ++ more) n high (sym (append_assoc line bytes more) ∙ is);
+  entry = λ more e k is. h.entry (bytes ++ more) e k (sym (append_assoc line bytes more) ∙ is);
+}
+
+-- what begins with a space is not right, whatever follows
+pub still-given-up : (bytes : Line) → Keeps GIVEN_UP bytes GIVEN_UP
+still-given-up bytes line k = given-up (line ++ bytes) (32 ∷ bytes) (never-still (32 ∷ []) bytes space-never) (omega arith) (stands-on (32 ∷ []) line bytes k.stands)
+
 pub keeps-both : (a b c : Kept) (x y : Line) → Keeps a x b → Keeps b y c → Keeps a (x ++ y) c
 keeps-both a b c x y h k line kept = subst (IsKeptOf c) (append_assoc line x y) (k (line ++ x) (h line kept))
 
@@ -319,3 +330,10 @@ one-part-more a b c d bytes front part behind rest whole cut h k m = (
   whole ∙ ap (λ l. front ++ l) cut ∙ sym (append_assoc front part (32 ∷ behind)) ∙ sym (append_assoc (front ++ part) (32 ∷ []) behind),
   keeps-both a c d (front ++ part) (32 ∷ []) (keeps-both a b c front part h k) m,
 )
+
+no-bytes : (word : Line) → length word ≡ 0 → word ≡ []
+no-bytes [] h = refl
+no-bytes (b ∷ word) h = absurd (omega (arith, h))
+
+pub given-up-is : (kept : Kept) → length kept.word ≡ 0 → kept.whole ≡ 32 ∷ [] → kept ≡ GIVEN_UP
+given-up-is kept none space = λ i. record { whole = space i; word = no-bytes kept.word none i }

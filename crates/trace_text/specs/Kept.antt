@@ -17,6 +17,10 @@ pub record Kept : Type 0 where
 abbrev pub EMPTY : Kept
 EMPTY = record { whole = []; word = [] }
 
+-- one space, which begins no right line
+abbrev pub GIVEN_UP : Kept
+GIVEN_UP = record { whole = 32 ∷ []; word = [] }
+
 -- whatever follows: a fault of the kept line is one of the line, after each right lines; and where the kept line is
 -- right, it is the line
 pub record StandsFor (kept line : Line) : Type 0 where

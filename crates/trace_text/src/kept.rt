@@ -52,7 +52,7 @@ fn is_name(word: &[u8]) -> bool
 impl KeptLine {
     ghost use Rattle.std.specs.Prelude.{◌≡◌, ◌↔◌, ◌<◌, ◌^◌, ◌∷◌, ◌++◌, [], length, OnOk, true};
     ghost use Rattle.events.specs.Names.{IsName};
-    ghost use Rattle.trace_text.specs.Kept.{EMPTY, HasNoSpace, Keeps};
+    ghost use Rattle.trace_text.specs.Kept.{EMPTY, GIVEN_UP, HasNoSpace, Keeps};
 
     /// Nothing of a line. It takes no memory.
     pub fn new(alloc: Global) -> KeptLine
@@ -73,12 +73,19 @@ impl KeptLine {
 
     /// Keeps one space in the line's place.
     fn give_up(&mut self) -> Result<(), Memory>
-        ensures { OnOk result (self.new ≡ record { whole = 32 ∷ []; word = [] }) }
+        ensures { OnOk result (self.new ≡ GIVEN_UP) }
     {
         self.word.clear();
         self.whole.clear();
         self.whole.push(b' ')?;
         Ok(())
+    }
+
+    /// Whether one space stands for the line, whatever follows.
+    fn is_given_up(&self) -> bool
+        ensures { result ≡ true → self.now ≡ GIVEN_UP }
+    {
+        self.word_len() == 0 && self.whole() == b" ".as_slice()
     }
 
     /// How many bytes the whole words have.
@@ -157,6 +164,16 @@ impl KeptLine {
 
     /// Adds bytes of the line. It takes time in proportion to them.
     pub fn add(&mut self, bytes: &[u8]) -> Result<(), Memory>
+        ensures { OnOk result (Keeps self.old bytes.now self.new) }
+    {
+        if self.is_given_up() {
+            return Ok(());
+        }
+        self.add_words(bytes)
+    }
+
+    /// Adds bytes of the line, word by word.
+    fn add_words(&mut self, bytes: &[u8]) -> Result<(), Memory>
         ensures { OnOk result (Keeps self.old bytes.now self.new) }
     {
         let mut rest = bytes;

@@ -1,8 +1,8 @@
-use Rattle.trace_text.proofs.KeptLines.{one-part-more}
+use Rattle.std.proofs.Common.{subst, sym}
+use Rattle.trace_text.specs.Kept.{Kept, Keeps}
+use Rattle.trace_text.proofs.KeptLines.{still-given-up}
 use Rattle.trace_text.proofs.kept.KeptLine.add.Goals as goal
 
-pub loop-part-preserved : goal.loop-part-preserved
-loop-part-preserved c =
-    let so_far = c.loop-part.invariant in
-    one-part-more c.args.self.now c.loop-part.self c.add_part.new.self c.end_word.new.self c.args.bytes.now so_far.0 c.in-Some.part.now c.in-Some.behind.now c.loop-part.rest.now
-    so_far.1 c.in-Some.ensures.1 so_far.2 c.in_ok-add_part.ensures c.in_ok-end_word.ensures
+pub returns-then-is_given_up : goal.returns-then-is_given_up
+returns-then-is_given_up c =
+    subst (λ (k : Kept). Keeps k c.args.bytes.now k) (sym (c.is_given_up.ensures c.if-is_given_up.true)) (still-given-up c.args.bytes.now)
