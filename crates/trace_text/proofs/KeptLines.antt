@@ -278,7 +278,7 @@ name-left-out kept long name line k =
     subst (λ (l : Line). StandsFor l ((l ++ kept.word) ++ 32 ∷ [])) (sym p.1) (left-out p.0 kept.word p.2 name) in
     record {
       stands = subst (λ (l : Line). StandsFor l (line ++ 32 ∷ [])) (sym (append-nil kept.whole))
-      (stands-through kept.whole ((kept.whole ++ kept.word) ++ 32 ∷ []) (line ++ 32 ∷ []) left (stands-on (kept.whole ++ kept.word) line (32 ∷ []) k.stands));
+          (stands-through kept.whole ((kept.whole ++ kept.word) ++ 32 ∷ []) (line ++ 32 ∷ []) left (stands-on (kept.whole ++ kept.word) line (32 ∷ []) k.stands));
       ends = k.ends;
       one_word = All-nil (λ b. (b == 32) ≡ false);
       few_whole = k.few_whole;

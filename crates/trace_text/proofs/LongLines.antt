@@ -150,8 +150,7 @@ names-apart : (hs response front back others : List Word) → front ++ back ≡ 
 names-apart hs response front back others is few long some more names other_names =
     let p = cut-front front back hs response is (omega (arith, few, long)) in
     let count : length front ≡ length hs + length p.0 = ap length p.1 ∙ length-append hs p.0 in
-    let whole = subst (All IsName) p.2 names in
-    (
+    let whole = subst (All IsName) p.2 names in (
       p.0,
       ap (λ l. l ++ others) p.1 ∙ append_assoc hs p.0 others,
       omega (arith, few, long, some, count, ap length p.2, length-append p.0 back),

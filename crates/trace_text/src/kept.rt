@@ -112,8 +112,10 @@ impl KeptLine {
 
     /// Makes the word begun longer.
     fn grow_word(&mut self, part: &[u8]) -> Result<(), Memory>
-        ensures { OnOk result (self.new ≡ record { whole = self.old.whole;
-            word = self.old.word ++ part.now }) }
+        ensures { OnOk result (self.new ≡ record {
+          whole = self.old.whole;
+          word = self.old.word ++ part.now;
+        }) }
     {
         self.word.extend_from_slice(part)?;
         Ok(())
@@ -132,8 +134,10 @@ impl KeptLine {
 
     /// Puts the word begun and a space behind the whole words.
     fn take_word(&mut self) -> Result<(), Memory>
-        ensures { OnOk result (self.new ≡ record { whole = (self.old.whole ++ self.old.word) ++ 32 ∷ [];
-            word = [] }) }
+        ensures { OnOk result (self.new ≡ record {
+          whole = (self.old.whole ++ self.old.word) ++ 32 ∷ [];
+          word = [];
+        }) }
     {
         self.whole.extend_from_slice(self.word.as_slice())?;
         self.whole.push(b' ')?;

@@ -27,5 +27,5 @@ returns-clause-ok c = (
   c.in_ok-line.ensures.right,
   c.clear.ensures,
   λ text ends. right-ended (good c.args.reading.now) (good c.line.new.self) c.args.begun.now c.add.new.self c.close.new.self c.in-Some.line.now text c.args.back.now
-  ends c.requires c.add.ensures c.close.ensures c.in-Some.ensures c.in_ok-line.ensures.ok c.in_ok-line.ensures.right,
+      ends c.requires c.add.ensures c.close.ensures c.in-Some.ensures c.in_ok-line.ensures.ok c.in_ok-line.ensures.right,
 )
