@@ -1,14 +1,18 @@
 -- A text that grows by pieces.
-use Rattle.std.proofs.Common.{◌≡◌, ℕ, ◌+◌, List, [], ◌∷◌, ◌++◌, length, Option, Some, None, IfSome, refl, sym, ap, ◌∙◌, subst, arith, inl, inr, append_assoc, length-append}
+use Rattle.std.proofs.Common.{◌≡◌, ℕ, ◌+◌, ◌≤◌, List, [], ◌∷◌, ◌++◌, length, Option, Some, None, IfSome, Result, Ok, Err, OnOk, refl, sym, ap, ◌∙◌, subst, arith, inl, inr, append_assoc, length-append}
 use Rattle.std.proofs.lemmas.List.{append-nil}
+use Rattle.std.proofs.lemmas.Option.{same_Some}
 use Rattle.std.proofs.lemmas.List.Elements.{Contains-append_cases}
 use Rattle.specification.specs.Lines.{Line, text_of, IsOneLine}
 use Rattle.specification.specs.TraceText.{BeginsSpelling, IsFaultyLine, IsCutAt}
+use Rattle.format_words.proofs.CutText.{line-on}
 use Rattle.format_words.proofs.Places as places
 use Rattle.trace_text.specs.Causes.{cause_of}
-use Rattle.trace_text.specs.Fed.{EndsIn, HoldsFault, IsAdded}
+use Rattle.trace_text.specs.Fed.{EndsIn, HoldsFault, IsAdded, IsOpenAt, IsClosed, ShowsWhole}
+use Rattle.trace_text.specs.Kept.{EMPTY, Kept, StandsFor}
 use Rattle.trace_text.specs.declared.cause.LineFault.{LineFault}
 use Rattle.trace_text.proofs.Faults.{line-holds}
+use Rattle.trace_text.proofs.KeptLines.{empty-kept, stands-right}
 
 one-line-both : (front back : Line) → IsOneLine front → IsOneLine back → IsOneLine (front ++ back)
 one-line-both front back h k has = elim (Contains-append_cases front back 10 has) [ inl x ↦ h x | inr y ↦ k y ]
@@ -20,18 +24,20 @@ text-on : (lines : List Line) (front text piece : List ℕ) → text ≡ text_of
 text-on lines front text piece is = ap (λ t. t ++ piece) is ∙ append_assoc (text_of lines) front piece
 
 -- bytes without an LF lengthen the line begun
-pub ends-on : (lines : List Line) (old new : Option (List ℕ)) (text piece : List ℕ) → EndsIn lines old text → IsOneLine piece → IsAdded old piece new → EndsIn lines new (text ++ piece)
-ends-on lines (Some front) (Some begun) text piece ends one added = (
-  subst IsOneLine (sym added) (one-line-both front piece ends.0 one),
-  text-on lines front text piece ends.1 ∙ ap (λ l. text_of lines ++ l) (sym added),
+pub ends-on : (lines : List Line) (old new : Option Kept) (text piece : List ℕ) → EndsIn lines old text → IsOneLine piece → IsAdded old piece new → EndsIn lines new (text ++ piece)
+ends-on lines (Some old) (Some new) text piece ends one added = (
+  ends.0 ++ piece,
+  added ends.0 ends.1,
+  one-line-both ends.0 piece ends.2 one,
+  text-on lines ends.0 text piece ends.3,
 )
-ends-on lines (Some front) None text piece ends one some = (
-  front ++ piece,
-  omega (arith, some, length-append front piece),
-  one-line-both front piece ends.0 one,
-  text-on lines front text piece ends.1,
+ends-on lines (Some old) None text piece ends one some = (
+  ends.0 ++ piece,
+  omega (arith, some, length-append ends.0 piece),
+  one-line-both ends.0 piece ends.2 one,
+  text-on lines ends.0 text piece ends.3,
 )
-ends-on lines None (Some begun) text piece ends one added = absurd added
+ends-on lines None (Some new) text piece ends one added = absurd added
 ends-on lines None None text piece ends one added = (
   ends.0 ++ piece,
   omega (arith, ends.1, length-append ends.0 piece),
@@ -40,29 +46,46 @@ ends-on lines None None text piece ends one added = (
 )
 
 -- a line begins behind right lines
-pub ends-anew : (lines : List Line) (new : Option (List ℕ)) (text rest : List ℕ) → IsOneLine rest → IsAdded (Some []) rest new → text ≡ text_of lines ++ rest → EndsIn lines new text
+pub ends-anew : (lines : List Line) (new : Option Kept) (text rest : List ℕ) → IsOneLine rest → IsAdded (Some EMPTY) rest new → text ≡ text_of lines ++ rest → EndsIn lines new text
 ends-anew lines new text rest one added is =
-    subst (EndsIn lines new) (sym is) (ends-on lines (Some []) new (text_of lines) rest (no-byte, sym (append-nil (text_of lines))) one added)
+    subst (EndsIn lines new) (sym is) (ends-on lines (Some EMPTY) new (text_of lines) rest ([], empty-kept, no-byte, sym (append-nil (text_of lines))) one added)
 
--- the line begun ends
-pub line-ended : (lines : List Line) (old : Option (List ℕ)) (line text back behind : List ℕ) → EndsIn lines old text → IsOneLine back → IsAdded old back (Some line)
-    → IsOneLine line × (text ++ (back ++ 10 ∷ behind) ≡ text_of lines ++ (line ++ 10 ∷ behind))
-line-ended lines (Some front) line text back behind ends one added = (
-  subst IsOneLine (sym added) (one-line-both front back ends.0 one),
-  text-on lines front text (back ++ 10 ∷ behind) ends.1 ∙ ap (λ l. text_of lines ++ l) (sym (append_assoc front back (10 ∷ behind)) ∙ ap (λ l. l ++ 10 ∷ behind) (sym added)),
+line-behind : (lines : List Line) (begun text back behind : List ℕ) → text ≡ text_of lines ++ begun → text ++ (back ++ 10 ∷ behind) ≡ text_of lines ++ ((begun ++ back) ++ 10 ∷ behind)
+line-behind lines begun text back behind is = text-on lines begun text (back ++ 10 ∷ behind) is ∙ ap (λ l. text_of lines ++ l) (sym (append_assoc begun back (10 ∷ behind)))
+
+-- the line begun ends, and what is kept of it stands for it
+pub line-ended : (lines : List Line) (old added closed : Option Kept) (kept text back behind : List ℕ) → EndsIn lines old text → IsOneLine back → IsAdded old back added → IsClosed added closed → ShowsWhole closed kept
+    → (line : Line) × StandsFor kept line × IsOneLine line × (text ++ (back ++ 10 ∷ behind) ≡ text_of lines ++ (line ++ 10 ∷ behind))
+line-ended lines (Some old) (Some new) (Some closed) kept text back behind ends one added close shows = (
+  ends.0 ++ back,
+  subst (λ (l : Line). StandsFor l (ends.0 ++ back)) (sym close ∙ shows) (added ends.0 ends.1).stands,
+  one-line-both ends.0 back ends.2 one,
+  line-behind lines ends.0 text back behind ends.3,
 )
-line-ended lines None line text back behind ends one added = absurd added
+line-ended lines (Some old) (Some new) None kept text back behind ends one added close shows = absurd shows
+line-ended lines (Some old) None (Some closed) kept text back behind ends one added close shows = absurd close
+line-ended lines (Some old) None None kept text back behind ends one added close shows = absurd shows
+line-ended lines None (Some new) closed kept text back behind ends one added close shows = absurd added
+line-ended lines None None (Some closed) kept text back behind ends one added close shows = absurd close
+line-ended lines None None None kept text back behind ends one added close shows = absurd shows
+
+-- where what is kept was right, it is the line
+pub right-ended : (lines after : List Line) (old added closed : Option Kept) (kept text back : List ℕ) → EndsIn lines old text → IsOneLine back → IsAdded old back added → IsClosed added closed → ShowsWhole closed kept
+    → after ≡ lines ++ kept ∷ [] → BeginsSpelling after → text ++ (back ++ 10 ∷ []) ≡ text_of after
+right-ended lines after old added closed kept text back ends one is_added close shows taken begins =
+    let ended = line-ended lines old added closed kept text back [] ends one is_added close shows in
+    let same : kept ≡ ended.0 = stands-right kept ended.0 lines ended.1 (subst BeginsSpelling taken begins) in
+    ended.3
+    ∙ ap (λ l. text_of lines ++ (l ++ 10 ∷ [])) (sym same)
+    ∙ line-on lines kept []
+    ∙ append-nil (text_of (lines ++ kept ∷ []))
+    ∙ ap text_of (sym taken)
 
 -- a line that was lost ends
-pub lost-ended : (lines : List Line) (old : Option (List ℕ)) (text back behind : List ℕ) → EndsIn lines old text → IsOneLine back
+pub lost-ended : (lines : List Line) (old : Option Kept) (text back behind : List ℕ) → EndsIn lines old text → IsOneLine back
     → (line : List ℕ) × IsOneLine line × (text ++ (back ++ 10 ∷ behind) ≡ text_of lines ++ (line ++ 10 ∷ behind))
-lost-ended lines (Some front) text back behind ends one =
-    let p = line-ended lines (Some front) (front ++ back) text back behind ends one refl in (front ++ back, p.0, p.1)
-lost-ended lines None text back behind ends one = (
-  ends.0 ++ back,
-  one-line-both ends.0 back ends.2 one,
-  text-on lines ends.0 text (back ++ 10 ∷ behind) ends.3 ∙ ap (λ l. text_of lines ++ l) (sym (append_assoc ends.0 back (10 ∷ behind))),
-)
+lost-ended lines (Some old) text back behind ends one = (ends.0 ++ back, one-line-both ends.0 back ends.2 one, line-behind lines ends.0 text back behind ends.3)
+lost-ended lines None text back behind ends one = (ends.0 ++ back, one-line-both ends.0 back ends.2 one, line-behind lines ends.0 text back behind ends.3)
 
 -- the fault of a line that is there
 pub holds : (text : List ℕ) (fault : LineFault) (lines : List Line) (line rest behind : List ℕ) → text ≡ text_of lines ++ rest → rest ≡ line ++ 10 ∷ behind → IsOneLine line
@@ -72,11 +95,15 @@ holds text fault lines line rest behind whole cut one is begins faulty = record 
   faulty = line-holds text fault.line lines line rest behind (cause_of fault.cause) whole cut one is begins faulty;
 }
 
+some-kept : (whole word : List ℕ) → (Some (record { whole = whole; word = word }) ≡ Some EMPTY → ⊥) → 1 ≤ length (whole ++ word)
+some-kept [] [] some = absurd (some refl)
+some-kept [] (b ∷ word) some = omega arith
+some-kept (b ∷ whole) word some = omega arith
+
 -- where a line is begun, the text is cut at it
-pub cut-there : (lines : List Line) (begun : Option (List ℕ)) (text : List ℕ) (number : ℕ) → BeginsSpelling lines → EndsIn lines begun text → (begun ≡ Some [] → ⊥) → number ≡ length lines + 1 → IsCutAt text number
-cut-there lines (Some []) text number begins ends some is = absurd (some refl)
-cut-there lines (Some (b ∷ begun)) text number begins ends some is =
-    record { good = lines; begins = begins; rest = b ∷ begun; some_byte = omega arith; one_line = ends.0; text_is = ends.1; number = is }
+pub cut-there : (lines : List Line) (begun : Option Kept) (text : List ℕ) (number : ℕ) → BeginsSpelling lines → EndsIn lines begun text → (begun ≡ Some EMPTY → ⊥) → number ≡ length lines + 1 → IsCutAt text number
+cut-there lines (Some kept) text number begins ends some is =
+    record { good = lines; begins = begins; rest = ends.0; some_byte = ends.1.stands.some (some-kept kept.whole kept.word some); one_line = ends.2; text_is = ends.3; number = is }
 cut-there lines None text number begins ends some is =
     record { good = lines; begins = begins; rest = ends.0; some_byte = ends.1; one_line = ends.2; text_is = ends.3; number = is }
 
@@ -87,8 +114,20 @@ behind-end text back behind before piece is cut =
     ∙ sym (append_assoc text (back ++ 10 ∷ []) behind)
     ∙ ap (λ t. t ++ behind) is
 
+no-bytes : (line : List ℕ) → (1 ≤ length line → 1 ≤ 0) → line ≡ []
+no-bytes [] h = refl
+no-bytes (b ∷ line) h = let wrong : 1 ≤ 0 = h (omega arith) in absurd (omega (arith, wrong))
+
 -- a text that ends with its right lines
-pub ends-at : (lines : List Line) (begun : Option (List ℕ)) (text : List ℕ) → EndsIn lines begun text → begun ≡ Some [] → text ≡ text_of lines
-ends-at lines (Some []) text ends is = ends.1 ∙ append-nil (text_of lines)
-ends-at lines (Some (b ∷ begun)) text ends is = absurd (cc)
+pub ends-at : (lines : List Line) (begun : Option Kept) (text : List ℕ) → EndsIn lines begun text → begun ≡ Some EMPTY → text ≡ text_of lines
+ends-at lines (Some kept) text ends is =
+    let same : kept ≡ EMPTY = same_Some kept EMPTY is in
+    ends.3 ∙ ap (λ l. text_of lines ++ l) (no-bytes ends.0 (λ some. subst (λ (k : Kept). 1 ≤ length (k.whole ++ k.word)) same (ends.1.stands.none some))) ∙ append-nil (text_of lines)
 ends-at lines None text ends is = absurd (cc)
+
+-- a piece behind right lines alone
+pub piece-read : {A E : Type 0} (r : Result A E) (lines after : List Line) (old new : Option Kept) (piece : List ℕ) → old ≡ Some EMPTY → OnOk r (EndsIn after new (text_of lines ++ piece)) → OnOk r (BeginsSpelling lines → BeginsSpelling after)
+    → OnOk r ((text : List ℕ) → IsOpenAt lines old text → IsOpenAt after new (text ++ piece))
+piece-read (Ok x) lines after old new piece none ends right =
+    λ text open_at. (right open_at.0, subst (λ t. EndsIn after new (t ++ piece)) (sym (ends-at lines old text open_at.1 none)) ends)
+piece-read (Err x) lines after old new piece none ends right = tt

@@ -1,4 +1,5 @@
 pub mod LineWords
+pub mod LongLines
 pub mod Spelled
 pub mod SecondLine
 pub mod FaultyLines
@@ -11,5 +12,6 @@ pub mod Accepted
 pub mod OneReading
 pub mod ReadBack
 pub mod OneFault
+pub mod KeptLines
 pub mod EachText
 pub mod FedText

@@ -63,7 +63,7 @@ lines-stand h good line more legal begins one is =
     front-of-push (trace_lines h) good (lines_of more) [] line (some-line more) lines
 
 -- one of the entries' lines is an entry's
-entry-there : (entries : List Entry) (before rest : List Line) (line : Line) → map entry_line entries ≡ before ++ line ∷ rest →
+pub entry-there : (entries : List Entry) (before rest : List Line) (line : Line) → map entry_line entries ≡ before ++ line ∷ rest →
     (earlier : List Entry) × (later : List Entry) × (e : Entry) × (entries ≡ earlier ++ e ∷ later) × (before ≡ map entry_line earlier) × (line ≡ entry_line e)
 entry-there [] [] rest line is = absurd (cc)
 entry-there [] (b ∷ before) rest line is = absurd (cc)
@@ -74,7 +74,7 @@ entry-there (e ∷ entries) (b ∷ before) rest line is =
     let p = entry-there entries before rest line tail in
     (e ∷ p.0, p.1, p.2, ap (λ l. e ∷ l) p.3, ap (λ y. y ∷ before) head ∙ ap (λ l. entry_line e ∷ l) p.4, p.5)
 
-all-of : (P : Entry → Type 0) (earlier later : List Entry) (e : Entry) → All P (earlier ++ e ∷ later) → All P earlier × P e
+pub all-of : (P : Entry → Type 0) (earlier later : List Entry) (e : Entry) → All P (earlier ++ e ∷ later) → All P earlier × P e
 all-of P [] later e h = (All-nil P, All-head P e later h)
 all-of P (d ∷ earlier) later e h =
     let p = all-of P earlier later e (All-tail P d (earlier ++ e ∷ later) h) in

@@ -26,7 +26,7 @@ replicas-again : (n : ℕ) → n < 2 ^ 32 → replicas_at (codes "replicas" ∷ 
 unfolding replicas_at
 replicas-again n small = rw (word-again (codes "replicas") (decimal n ∷ []), number-again n [] small) refl
 
-replicas-words : (n : ℕ) → n < 2 ^ 32 → words_of (replicas_line n) ≡ codes "replicas" ∷ decimal n ∷ []
+pub replicas-words : (n : ℕ) → n < 2 ^ 32 → words_of (replicas_line n) ≡ codes "replicas" ∷ decimal n ∷ []
 replicas-words n small = ap (λ l. codes "replicas" ∷ l) (last-word (decimal n) (number-lacks n small))
 
 -- a line of which a number is read is the second line with that number

@@ -2,5 +2,6 @@ pub mod Reading
 pub mod Causes
 pub mod Progress
 pub mod Place
+pub mod Kept
 pub mod Fed
 pub mod Laws

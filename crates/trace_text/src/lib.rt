@@ -9,6 +9,7 @@
 mod begun;
 mod cause;
 mod entry;
+mod kept;
 mod laws;
 mod pieces;
 mod reader;

@@ -3,6 +3,7 @@
 ghost use Rattle.std.specs.Prelude.{◌≡◌, ◌⊎◌, ◌∷◌, ◌++◌, ◌+◌, [], IfOk, IfErr, List, OnOk, Some, length, ℕ};
 ghost use Rattle.specification.specs.Lines.{text_of, IsOneLine};
 ghost use Rattle.specification.specs.TraceText.{BeginsSpelling, IsCutAt};
+ghost use Rattle.trace_text.specs.Kept.{EMPTY};
 ghost use Rattle.trace_text.specs.Fed.{EndsIn, HoldsFault, IsOpenAt};
 ghost use Rattle.trace_text.specs.Place.{TakesMemoryAt};
 ghost use Rattle.trace_text.specs.Progress.{good};
@@ -42,7 +43,7 @@ fn take_lines(
     begun: &mut Begun,
     piece: &[u8],
 ) -> Result<(), LineFault>
-    requires { begun.old ≡ Some [] }
+    requires { begun.old ≡ Some EMPTY }
     ensures ok { OnOk result (EndsIn (good reading.new) begun.new
         (text_of (good reading.old) ++ piece.now)) }
     ensures right { OnOk result (BeginsSpelling (good reading.old) → BeginsSpelling (good reading.new)) }
@@ -63,7 +64,7 @@ fn end_line(
     back: &[u8],
 ) -> Result<(), LineFault>
     requires { IsOneLine back.now }
-    ensures ok { OnOk result (BeginsSpelling (good reading.new) × (begun.new ≡ Some [])
+    ensures ok { OnOk result (BeginsSpelling (good reading.new) × (begun.new ≡ Some EMPTY)
         × ((text : List ℕ) → EndsIn (good reading.old) begun.old text
         → text ++ (back.now ++ 10 ∷ []) ≡ text_of (good reading.new))) }
     ensures fault { IfErr result (λ fault. (text behind : List ℕ) → EndsIn (good reading.old) begun.old text
@@ -71,8 +72,9 @@ fn end_line(
     ensures number { IfErr result (λ fault. fault.line ≡ length (good reading.old) + 1) }
 {
     begun.add(back);
+    begun.close();
     let number = reading.next_line();
-    let Some(line) = begun.bytes() else {
+    let Some(line) = begun.whole() else {
         return Err(LineFault {
             line: number,
             cause: Cause::Refused(Refusal::Memory),

@@ -3,8 +3,9 @@ use Rattle.std.proofs.lemmas.Bool.{false≢true}
 use Rattle.std.proofs.lemmas.Result.{err_from_is_err_and, IfErr-weaker}
 use Rattle.specification.specs.Lines.{text_of}
 use Rattle.trace_text.specs.Progress.{good}
+use Rattle.trace_text.specs.Fed.{HoldsFault}
 use Rattle.trace_text.specs.Place.{TakesMemoryAt}
-use Rattle.trace_text.proofs.GrowingText.{behind-end, cut-there, ends-at, ends-on}
+use Rattle.trace_text.proofs.GrowingText.{behind-end, cut-there, ends-at, ends-on, piece-read}
 use Rattle.trace_text.proofs.pieces.take_piece.Goals as goal
 
 pub returns-then-is_empty-clause-memory : goal.returns-then-is_empty-clause-memory
@@ -33,3 +34,15 @@ returns-clause-memory c =
     (λ fault h is text open_at. inl (subst (λ t. TakesMemoryAt t fault.line)
     (sym (behind-end text c.in-Some.back.now c.in-Some.behind.now (text_of (good c.end_line.new.reading)) c.args.piece.now (c.in_ok-end_line.ensures.ok.2 text open_at.1) c.in-Some.ensures.1)) (h is)))
     c.take_lines-2.ensures.memory
+
+pub returns-then-is_empty-clause-ok : goal.returns-then-is_empty-clause-ok
+returns-then-is_empty-clause-ok c =
+    piece-read c.take_lines.result (good c.args.reading.now) (good c.take_lines.new.reading) c.args.begun.now c.take_lines.new.begun c.args.piece.now
+    (c.is_empty.ensures.0 c.if-is_empty.true) c.take_lines.ensures.ok c.take_lines.ensures.right
+
+pub returns-then-is_empty-clause-fault : goal.returns-then-is_empty-clause-fault
+returns-then-is_empty-clause-fault c =
+    IfErr-weaker c.take_lines.result _ _
+    (λ fault h text open_at. subst (λ t. HoldsFault (t ++ c.args.piece.now) fault)
+    (sym (ends-at (good c.args.reading.now) c.args.begun.now text open_at.1 (c.is_empty.ensures.0 c.if-is_empty.true))) h)
+    c.take_lines.ensures.fault

@@ -1,0 +1,8 @@
+use Rattle.trace_text.proofs.KeptLines.{one-part-more}
+use Rattle.trace_text.proofs.kept.KeptLine.add_words.Goals as goal
+
+pub loop-part-preserved : goal.loop-part-preserved
+loop-part-preserved c =
+    let so_far = c.loop-part.invariant in
+    one-part-more c.args.self.now c.loop-part.self c.add_part.new.self c.end_word.new.self c.args.bytes.now so_far.0 c.in-Some.part.now c.in-Some.behind.now c.loop-part.rest.now
+    so_far.1 c.in-Some.ensures.1 so_far.2 c.in_ok-add_part.ensures c.in_ok-end_word.ensures

@@ -1,0 +1,215 @@
+//! What is kept of a line whose LF has not come, however long it grows.
+
+ghost use Rattle.std.specs.Prelude.{◌≡◌, ◌↔◌, ◌∷◌, ◌++◌, true, MatchOption};
+ghost use Rattle.events.specs.Names.{IsName};
+ghost use Rattle.trace_text.specs.Kept.{HasNoSpace};
+
+use events::{MOST_BYTES, Memory};
+use format_words::name_of;
+use std::alloc::Global;
+use std::marker::Model;
+
+/// A line with this many bytes of whole words has more than the most names, if its words spell an entry:
+/// an entry has at most five words besides its names, and each word at most 32 bytes and a space.
+const LONG_LINE: usize = 135_334;
+
+/// A line that is judged as the line that came so far, whatever follows.
+///
+/// It is the line itself until that is longer than the longest right line. Then the names that follow are
+/// left out; and once the line can be no right line any more, one space stands for it, since no right line
+/// begins so.
+#[derive(Drop)]
+pub struct KeptLine {
+    whole: Vec<u8>,
+    word: Vec<u8>,
+}
+
+impl Model for KeptLine {
+    ghost use Rattle.trace_text.specs.Kept.{Kept};
+
+    ghost Value = { Kept };
+
+    ghost view = { λ l. record { whole = l.whole.items; word = l.word.items } };
+}
+
+/// What stands before the first space, and what follows that space; none where there is no space.
+fn split_word(text: &[u8]) -> Option<(&[u8], &[u8])>
+    ensures { MatchOption result (HasNoSpace text.now)
+        (λ x. HasNoSpace x.0.now × (text.now ≡ x.0.now ++ 32 ∷ x.1.now)) }
+{
+    let end = text.iter().position(|byte| *byte == b' ')?;
+    Some((&text[..end], &text[end + 1..]))
+}
+
+/// Whether the word is a name.
+#[tactic(auto, unfolding(format_words::specs::Reading::name_of))]
+fn is_name(word: &[u8]) -> bool
+    ensures { (result ≡ true) ↔ IsName word.now }
+{
+    name_of(word).is_ok()
+}
+
+impl KeptLine {
+    ghost use Rattle.std.specs.Prelude.{◌≡◌, ◌↔◌, ◌<◌, ◌^◌, ◌∷◌, ◌++◌, [], length, OnOk, true};
+    ghost use Rattle.events.specs.Names.{IsName};
+    ghost use Rattle.trace_text.specs.Kept.{EMPTY, GIVEN_UP, HasNoSpace, Keeps};
+
+    /// Nothing of a line. It takes no memory.
+    pub fn new(alloc: Global) -> KeptLine
+        ensures { result ≡ EMPTY }
+    {
+        KeptLine {
+            whole: Vec::new(alloc),
+            word: Vec::new(alloc),
+        }
+    }
+
+    /// Whether there is no byte of a line.
+    pub fn is_empty(&self) -> bool
+        ensures { (result ≡ true) ↔ (self.now ≡ EMPTY) }
+    {
+        self.whole.is_empty() && self.word.is_empty()
+    }
+
+    /// Keeps one space in the line's place.
+    fn give_up(&mut self) -> Result<(), Memory>
+        ensures { OnOk result (self.new ≡ GIVEN_UP) }
+    {
+        self.word.clear();
+        self.whole.clear();
+        self.whole.push(b' ')?;
+        Ok(())
+    }
+
+    /// Whether one space stands for the line, whatever follows.
+    fn is_given_up(&self) -> bool
+        ensures { result ≡ true → self.now ≡ GIVEN_UP }
+    {
+        self.word_len() == 0 && self.whole() == b" ".as_slice()
+    }
+
+    /// How many bytes the whole words have.
+    fn whole_len(&self) -> usize
+        ensures { result ≡ length self.now.whole }
+    {
+        self.whole.len()
+    }
+
+    /// How many bytes the word begun has.
+    fn word_len(&self) -> usize
+        ensures bytes { result ≡ length self.now.word }
+        ensures fits { result < 2 ^ 63 }
+    {
+        self.word.len()
+    }
+
+    /// Whether the word begun is a name.
+    fn has_name(&self) -> bool
+        ensures { (result ≡ true) ↔ IsName self.now.word }
+    {
+        is_name(self.word.as_slice())
+    }
+
+    /// Makes the word begun longer.
+    fn grow_word(&mut self, part: &[u8]) -> Result<(), Memory>
+        ensures { OnOk result (self.new ≡ record {
+          whole = self.old.whole;
+          word = self.old.word ++ part.now;
+        }) }
+    {
+        self.word.extend_from_slice(part)?;
+        Ok(())
+    }
+
+    /// Adds bytes of the word begun.
+    fn add_part(&mut self, part: &[u8]) -> Result<(), Memory>
+        requires { HasNoSpace part.now }
+        ensures { OnOk result (Keeps self.old part.now self.new) }
+    {
+        if self.word_len() + part.len() > MOST_BYTES as usize {
+            return self.give_up();
+        }
+        self.grow_word(part)
+    }
+
+    /// Puts the word begun and a space behind the whole words.
+    fn take_word(&mut self) -> Result<(), Memory>
+        ensures { OnOk result (self.new ≡ record {
+          whole = (self.old.whole ++ self.old.word) ++ 32 ∷ [];
+          word = [];
+        }) }
+    {
+        self.whole.extend_from_slice(self.word.as_slice())?;
+        self.whole.push(b' ')?;
+        self.word.clear();
+        Ok(())
+    }
+
+    /// Leaves the word begun out.
+    fn leave_out(&mut self)
+        ensures { self.new ≡ record { whole = self.old.whole; word = [] } }
+    {
+        self.word.clear();
+    }
+
+    /// Ends the word begun with a space.
+    fn end_word(&mut self) -> Result<(), Memory>
+        ensures { OnOk result (Keeps self.old (32 ∷ []) self.new) }
+    {
+        if self.whole_len() < LONG_LINE {
+            return self.take_word();
+        }
+        if !self.has_name() {
+            return self.give_up();
+        }
+        self.leave_out();
+        Ok(())
+    }
+
+    /// Adds bytes of the line. It takes time in proportion to them.
+    pub fn add(&mut self, bytes: &[u8]) -> Result<(), Memory>
+        ensures { OnOk result (Keeps self.old bytes.now self.new) }
+    {
+        if self.is_given_up() {
+            return Ok(());
+        }
+        self.add_words(bytes)
+    }
+
+    /// Adds bytes of the line, word by word.
+    fn add_words(&mut self, bytes: &[u8]) -> Result<(), Memory>
+        ensures { OnOk result (Keeps self.old bytes.now self.new) }
+    {
+        let mut rest = bytes;
+        while let Some((part, behind)) = split_word(rest) {
+            self.add_part(part)?;
+            self.end_word()?;
+            rest = behind;
+        }
+        self.add_part(rest)
+    }
+
+    /// Puts the word begun behind the whole words, since the line ends so.
+    pub fn close(&mut self) -> Result<(), Memory>
+        ensures { OnOk result (self.new.whole ≡ self.old.whole ++ self.old.word) }
+    {
+        self.whole.extend_from_slice(self.word.as_slice())?;
+        self.word.clear();
+        Ok(())
+    }
+
+    /// The whole words.
+    pub fn whole(&self) -> &[u8]
+        ensures { result.now ≡ self.now.whole }
+    {
+        self.whole.as_slice()
+    }
+
+    /// Begins a line anew. What was kept of the line before is let go, and its room stays.
+    pub fn clear(&mut self)
+        ensures { self.new ≡ EMPTY }
+    {
+        self.whole.clear();
+        self.word.clear();
+    }
+}
