@@ -1,7 +1,8 @@
 //! Names of another response that a text goes on with.
 
-ghost use Rattle.std.specs.Prelude.{◌≡◌, ℕ, ◌+◌, ◌-◌, ◌<◌, ◌≤◌, ◌^◌, ◌++◌, Some, None, All, IfOk, IfSome, OnOk, OnErr};
-ghost use Rattle.std.specs.Prelude.{List, length, map, take, drop, slice_get, slice_index, vec_len, vec_capacity};
+ghost use Rattle.std.specs.Prelude.{◌≡◌, ℕ, ◌+◌, ◌-◌, ◌<◌, ◌≤◌, ◌^◌, ◌++◌, Some, All, IfOk, OnOk, OnErr};
+ghost use Rattle.std.specs.Prelude.{List, length, map, take, drop, slice_get, slice_index, vec_len};
+ghost use Rattle.std.specs.Prelude.{vec_capacity};
 ghost use Rattle.events.specs.Names.{NameBytes, IsName};
 ghost use Rattle.events.specs.Packed.{spaced, ends_of};
 ghost use Rattle.events.specs.Runs.{IsLongestRun, may_follow};
@@ -27,6 +28,7 @@ impl Response {
     pub fn push_run(&mut self, text: &[u8], other: &Response, j: usize) -> Result<Run, Memory>
         ensures ok { IfOk result (λ run. IsLongestRun text.now (drop j other.now) run.names run.bytes) }
         ensures value { IfOk result (λ run. self.new ≡ self.old ++ take run.names (drop j other.now)) }
+        ensures names { All IsName other.now }
         ensures err { OnErr result (self.new ≡ self.old) }
     {
         let ends = other.ends.as_slice();
@@ -91,7 +93,8 @@ fn put_ends(own: &mut Vec<u32>, ends: &[u32], from: usize, begin: usize)
 /// The longest run of names that the text begins with, where their bytes begin with the first one's space at
 /// `from`.
 fn longest_run(text: &[u8], bytes: &[u8], ends: &[u32], from: usize) -> Run
-    requires packed { (names : List NameBytes) × (bytes.now ≡ spaced names) × (ends.now ≡ ends_of from names) }
+    requires packed { (names : List NameBytes) × (bytes.now ≡ spaced names)
+        × (ends.now ≡ ends_of from names) }
     requires range { from < 2 ^ 32 }
     ensures { (names : List NameBytes) → bytes.now ≡ spaced names → ends.now ≡ ends_of from names
         → IsLongestRun text.now names result.names result.bytes }

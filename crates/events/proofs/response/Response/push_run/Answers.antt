@@ -1,5 +1,5 @@
 -- The names of the other response from a place on, as they are packed.
-use Rattle.std.proofs.Common.{◌≡◌, ◌∙◌, ℕ, ◌≤◌, List, length, take, drop, All, sym, ap, arith, length-drop}
+use Rattle.std.proofs.Common.{◌≡◌, ◌∙◌, ℕ, ◌≤◌, List, length, take, drop, All, subst, sym, ap, arith, length-drop}
 use Rattle.events.specs.Names.{NameBytes, IsName}
 use Rattle.events.specs.Packed.{spaced, ends_of, start_at, pieces, IsPacked}
 use Rattle.events.specs.Runs.{IsLongestRun}
@@ -99,3 +99,9 @@ returns-clause-value c =
     (bytes_are c.other.inside.bytes.items c.other.inside.ends.items c.other.invariant c.args.other.now c.other.view_is c.args.j c.start_from-from.result c.as_slice-ends.result.now c.as_slice-ends.ensures.value c.start_from-from.ensures.value c.as_slice.result.now c.after.result.now c.as_slice.ensures.value c.after.ensures)
     (ends_are c.other.inside.bytes.items c.other.inside.ends.items c.other.invariant c.args.other.now c.other.view_is c.args.j c.start_from-from.result c.as_slice-ends.result.now c.as_slice-ends.ensures.value c.start_from-from.ensures.value c.after-2.result.now c.after-2.ensures) in
     c.in_ok-push_packed.ensures.ok (take c.longest_run-run.result.names (drop c.args.j c.args.other.now)) (run_bytes c.args.text.now (drop c.args.j c.args.other.now) c.longest_run-run.result.names c.longest_run-run.result.bytes c.start_from-from.result longest c.after-3.result.now c.front.result.now (bytes_are c.other.inside.bytes.items c.other.inside.ends.items c.other.invariant c.args.other.now c.other.view_is c.args.j c.start_from-from.result c.as_slice-ends.result.now c.as_slice-ends.ensures.value c.start_from-from.ensures.value c.as_slice-2.result.now c.after-3.result.now c.as_slice-2.ensures.value c.after-3.ensures) c.front.ensures) (run_ends c.args.text.now (drop c.args.j c.args.other.now) c.longest_run-run.result.names c.longest_run-run.result.bytes c.start_from-from.result longest c.after-4.result.now c.front-2.result.now (ends_are c.other.inside.bytes.items c.other.inside.ends.items c.other.invariant c.args.other.now c.other.view_is c.args.j c.start_from-from.result c.as_slice-ends.result.now c.as_slice-ends.ensures.value c.start_from-from.ensures.value c.after-4.result.now c.after-4.ensures) c.front-2.ensures)
+
+pub returns-then-j-ends-clause-names : goal.returns-then-j-ends-clause-names
+returns-then-j-ends-clause-names c = subst (All IsName) c.other.view_is c.other.invariant.names
+
+pub returns-clause-names : goal.returns-clause-names
+returns-clause-names c = subst (All IsName) c.other.view_is c.other.invariant.names
