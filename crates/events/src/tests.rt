@@ -2,7 +2,7 @@
 
 use super::{
     Body, Entry, Memory, Name, NameFault, NewFault, OpName, PushFault, Recording, Refusal, Refused,
-    Response,
+    Response, Run,
 };
 use std::alloc::Global;
 use std::fmt::Display;
@@ -363,6 +363,69 @@ fn responses_go_on_alike(rt: HostRuntime) {
     for Alike(names, i, others, j, count) in ALIKE.iter().copied() {
         assert!(rt; are_alike(rt.alloc(), names, i, others, j, count), "from {i} and {j}");
     }
+}
+
+/// Puts a run at the end; where the first call finds no memory, the second is to.
+fn put_run(made: &mut Response, text: &[u8], other: &Response, j: usize) -> Option<Run> {
+    match made.push_run(text, other, j) {
+        Err(Memory) => made.push_run(text, other, j).ok(),
+        Ok(run) => Some(run),
+    }
+}
+
+/// Whether the text goes on with the names from a place on for so many, which take so many of its bytes, and
+/// a response of one name has them after it.
+fn goes_on(
+    alloc: Global,
+    text: &[u8],
+    names: &[&str],
+    j: usize,
+    count: usize,
+    bytes: usize,
+) -> bool {
+    let (Some(mut made), Some(other)) = (of_names(alloc, &["first"]), of_names(alloc, names)) else {
+        return false;
+    };
+    put_run(&mut made, text, &other, j)
+        == Some(Run {
+            names: count,
+            bytes,
+        })
+        && made.len().checked_sub(1) == Some(count)
+        && has_at(&made, 0, "first")
+        && made.same_names(1, &other, j) == count
+}
+
+#[test]
+fn texts_go_on_with_names(rt: HostRuntime) {
+    let alloc = rt.alloc();
+    let names = ["a", "b", "c", "d"];
+    assert!(rt; goes_on(alloc, b" a b c", &names, 0, 3, 6));
+    assert!(rt; goes_on(alloc, b" c d e", &names, 2, 2, 4));
+    assert!(rt; goes_on(alloc, b" b c d", &names, 0, 0, 0));
+    assert!(rt; goes_on(alloc, b" a b c d", &names, 0, 4, 8));
+    assert!(rt; goes_on(alloc, b" d", &names, 4, 0, 0));
+    assert!(rt; goes_on(alloc, b" d", &names, 5, 0, 0));
+    assert!(rt; goes_on(alloc, b"", &names, 1, 0, 0));
+    assert!(rt; goes_on(alloc, b" a", &[], 0, 0, 0));
+    assert!(rt; goes_on(alloc, b" a a b", &["a", "a", "a"], 1, 2, 4));
+    let long = b" sixteen_letters0 sixteen_letters1 sixteen_letters2 y";
+    assert!(rt; goes_on(alloc, long, &LONG_NAMES, 0, 3, 51));
+    assert!(rt; goes_on(alloc, long, &OTHER_LONG_NAMES, 1, 0, 0));
+    assert!(rt; goes_on(alloc, long, &OTHER_LONG_NAMES, 0, 4, 53));
+}
+
+#[test]
+fn runs_end_with_whole_words(rt: HostRuntime) {
+    let alloc = rt.alloc();
+    assert!(rt; goes_on(alloc, b" ab", &["a", "b"], 0, 0, 0));
+    assert!(rt; goes_on(alloc, b" a", &["ab"], 0, 0, 0));
+    assert!(rt; goes_on(alloc, b" c ab d", &["c", "a", "d"], 0, 1, 2));
+    assert!(rt; goes_on(alloc, b" c a d", &["c", "ab", "d"], 0, 1, 2));
+    assert!(rt; goes_on(alloc, b" a  b", &["a", "b"], 0, 1, 2));
+    assert!(rt; goes_on(alloc, b" a\x07 b", &["a", "b"], 0, 0, 0));
+    assert!(rt; goes_on(alloc, b" a b\x07", &["a", "b"], 0, 1, 2));
+    assert!(rt; goes_on(alloc, b"a b", &["a", "b"], 0, 0, 0));
 }
 
 /// Whether a recording is opened with so many replicas and no entry.

@@ -5,6 +5,7 @@ pub mod FirstLine
 pub mod Numbers
 pub mod NameWords
 pub mod NamesRead
+pub mod NameRuns
 pub mod LineWords
 pub mod WordsBack
 pub mod TextLines

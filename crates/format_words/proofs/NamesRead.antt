@@ -1,15 +1,11 @@
 -- Names, one word after another.
-use Rattle.std.proofs.Common.{◌≡◌, ℕ, ◌<◌, ◌≤◌, arith, List, [], ◌∷◌, ◌++◌, length, refl, sym, ap, ◌∙◌, Option, Some, None, option_map, option_and_then}
+use Rattle.std.proofs.Common.{◌≡◌, ℕ, ◌<◌, arith, List, [], ◌∷◌, ◌++◌, length, refl, sym, ap, ◌∙◌, Option, Some, None, option_and_then}
 use Rattle.std.proofs.lemmas.List.{append-nil, append_assoc}
 use Rattle.std.proofs.lemmas.Option.{some_pair_parts}
 use Rattle.events.specs.Names.{NameBytes}
 use Rattle.format_words.specs.Words.{Word, words_behind}
-use Rattle.format_words.specs.Reading.{◌>>=◌, GivesOne, HasSome, word_at, no_more, name_of, names_at}
+use Rattle.format_words.specs.Reading.{◌>>=◌, GivesOne, HasSome, word_at, no_more, name_of, names_at, onto}
 use Rattle.format_words.proofs.FirstWord.{some-word, none-behind}
-
--- the names so far, and those that words say
-abbrev pub onto : List NameBytes → Option (List NameBytes) → Option (List NameBytes)
-onto front names = option_map (λ (more : List NameBytes). front ++ more) names
 
 pub word-at-some : (ws : List Word) (w : Word) (more : List Word) → word_at ws ≡ Some (w, more) → ws ≡ w ∷ more
 word-at-some [] w more e = absurd (cc)
@@ -34,7 +30,7 @@ pub names-cons-some : (w : Word) (ws : List Word) (name : NameBytes) → name_of
 unfolding names_at
 names-cons-some w ws name e = rw e (and-then-onto name (names_at ws))
 
-onto-onto : (front back : List NameBytes) (o : Option (List NameBytes)) → onto front (onto back o) ≡ onto (front ++ back) o
+pub onto-onto : (front back : List NameBytes) (o : Option (List NameBytes)) → onto front (onto back o) ≡ onto (front ++ back) o
 onto-onto front back None = refl
 onto-onto front back (Some names) = ap Some (sym (append_assoc front back names))
 

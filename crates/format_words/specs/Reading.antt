@@ -1,5 +1,5 @@
 -- What words say: a number, a name, the name of an operation. Nothing, where they say none.
-use Rattle.std.specs.Prelude.{◌≡◌, ℕ, ◌+◌, ◌≤◌, ◌^◌, ◌==◌, ◌&&◌, nat_lt, nat_le, take, drop, position, if◌then◌else◌, Option, Some, None, option_and_then, Result, Ok, Err, List, [], ◌∷◌, length, decimal, bytes_eq}
+use Rattle.std.specs.Prelude.{◌≡◌, ℕ, ◌+◌, ◌≤◌, ◌^◌, ◌==◌, ◌&&◌, nat_lt, nat_le, take, drop, position, if◌then◌else◌, Option, Some, None, option_and_then, option_map, Result, Ok, Err, List, [], ◌∷◌, ◌++◌, length, decimal, bytes_eq}
 use Rattle.std.specs.Str.Parse.{digits_value}
 use Rattle.events.specs.Names.{NameBytes}
 use Rattle.events.specs.Operation.{Operation}
@@ -104,3 +104,7 @@ names_at (w ∷ ws) = do
   name ← name_of w
   names ← names_at ws
   Some (name ∷ names)
+
+-- the names so far, and those that words say
+abbrev pub onto : List NameBytes → Option (List NameBytes) → Option (List NameBytes)
+onto front names = option_map (λ (more : List NameBytes). front ++ more) names

@@ -77,7 +77,7 @@ fn add_entry(alloc: Global, recording: &mut Recording, line: &[u8]) -> Result<()
     ensures memory { IfErr result (λ cause. cause ≡ Cause.Refused Refusal.Memory
         → TakesMemory (trace_lines recording.old) line.now) }
 {
-    let entry = match entry_of(alloc, line) {
+    let entry = match entry_of(alloc, line, recording) {
         Ok(entry) => entry,
         Err(Stop::Shape) => return Err(Cause::Shape),
         Err(Stop::Memory) => return Err(Cause::Refused(Refusal::Memory)),

@@ -46,8 +46,8 @@ fn same_pieces(
     other_ends: &[u32],
     j: usize,
 ) -> usize
-    requires rise { Rise 0 ends.now (length bytes.now) }
-    requires other_rise { Rise 0 other_ends.now (length other_bytes.now) }
+    requires rise { Rise bytes.now 0 ends.now }
+    requires other_rise { Rise other_bytes.now 0 other_ends.now }
     requires places { (i ≤ length ends.now) × (j ≤ length other_ends.now) }
     ensures within { (result ≤ length ends.now - i) × (result ≤ length other_ends.now - j) }
     ensures same { take result (drop i (pieces bytes.now 0 ends.now))
@@ -62,7 +62,7 @@ fn same_pieces(
 }
 
 /// What stands from a place on.
-fn after<T: Copy>(items: &[T], place: usize) -> &[T]
+pub fn after<T: Copy>(items: &[T], place: usize) -> &[T]
     requires { place ≤ length items.now }
     ensures { result.now ≡ drop place items.now }
 {
@@ -70,7 +70,7 @@ fn after<T: Copy>(items: &[T], place: usize) -> &[T]
 }
 
 /// Where the piece at a place begins, also past the last: where the piece before it ends.
-fn start_from(ends: &[u32], i: usize) -> usize
+pub fn start_from(ends: &[u32], i: usize) -> usize
     requires { i ≤ length ends.now }
     ensures value { result ≡ start_at 0 ends.now i }
     ensures range { result < 2 ^ 32 }
@@ -79,7 +79,7 @@ fn start_from(ends: &[u32], i: usize) -> usize
 }
 
 /// How many bytes are the same from the beginning on.
-fn same_bytes(a: &[u8], b: &[u8]) -> usize
+pub fn same_bytes(a: &[u8], b: &[u8]) -> usize
     ensures within { (result ≤ length a.now) × (result ≤ length b.now) }
     ensures same { take result a.now ≡ take result b.now }
     ensures most { (x : ℕ) → slice_get a.now result ≡ Some x → slice_get b.now result ≡ Some x → ⊥ }

@@ -1,22 +1,19 @@
-use Rattle.std.proofs.Common.{◌≡◌, ◌<◌, length, arith}
+use Rattle.std.proofs.Common.{◌≡◌, ◌∙◌, length, ap, arith}
 use Rattle.std.proofs.lemmas.Grind.{common_steps}
 use Rattle.std.proofs.lemmas.Result.{err_from_is_err_and}
 use Rattle.format_words.specs.Words.{words_behind}
+use Rattle.format_words.specs.Reading.{onto}
 use Rattle.format_words.proofs.FirstWord.{none-behind}
-use Rattle.format_words.proofs.NamesRead.{some-word-at, names-end, names-more, names-stop}
+use Rattle.format_words.proofs.NamesRead.{names-end}
 use Rattle.format_words.proofs.name_list.grown_response.Goals as goal
 
-pub returns-in_err-word : goal.returns-in_err-word
-returns-in_err-word c = absurd (some-word-at c.loop-rest.rest.now (grind (arith, common_steps)) c.in_err-word.ensures.word)
-
-pub returns-in_err-push_word : goal.returns-in_err-push_word
-returns-in_err-push_word c =
-    let p = err_from_is_err_and c.from_residual-in_err-push_word.result c.from_residual-in_err-push_word.ensures.1 in
-    rw (p.1, p.2) (λ is. names-stop c.loop-rest.names _ _ _ _ c.loop-rest.invariant c.in_ok-word.ensures.word (c.in_err-push_word.ensures is))
+pub returns-in_err-behind : goal.returns-in_err-behind
+returns-in_err-behind c =
+    let p = err_from_is_err_and c.from_residual-in_err-behind.result c.from_residual-in_err-behind.ensures.1 in
+    rw (p.1, p.2) (λ is. c.loop-rest.invariant ∙ ap (onto c.loop-rest.names) (c.in_err-behind.ensures.stop is))
 
 pub loop-rest-preserved : goal.loop-rest-preserved
-loop-rest-preserved c =
-    rw c.in_ok-push_word.ensures.0 (names-more c.loop-rest.names _ _ _ _ c.in_ok-word.word.now c.loop-rest.invariant c.in_ok-word.ensures.word c.in_ok-push_word.ensures.1)
+loop-rest-preserved c = c.loop-rest.invariant ∙ c.in_ok-behind.ensures.names
 
 pub returns : goal.returns
 returns c =

@@ -1,7 +1,6 @@
 use Rattle.std.proofs.Common.{◌≡◌, length}
 use Rattle.format_words.specs.Words.{words_behind}
-use Rattle.format_words.specs.Reading.{names_at}
-use Rattle.format_words.proofs.NamesRead.{onto}
+use Rattle.format_words.specs.Reading.{names_at, onto}
 use Rattle.format_words.proofs.name_list.grown_response.Given as goal
 
 abbrev pub invariant-loop-rest : goal.invariant-loop-rest

@@ -1,8 +1,7 @@
 use Rattle.std.proofs.Common.{◌≡◌, List, length}
 use Rattle.events.specs.Names.{NameBytes}
 use Rattle.format_words.specs.Words.{words_behind}
-use Rattle.format_words.specs.Reading.{names_at}
-use Rattle.format_words.proofs.NamesRead.{onto}
+use Rattle.format_words.specs.Reading.{names_at, onto}
 use Rattle.format_words.proofs.name_list.look_over.Given as goal
 
 abbrev pub invariant-loop-rest : goal.invariant-loop-rest

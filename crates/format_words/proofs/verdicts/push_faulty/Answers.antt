@@ -1,5 +1,4 @@
 -- The word, the operation and the end, joined to the right.
-use Rattle.std.proofs.Common.{ap, ◌∙◌, ◌++◌}
 use Rattle.specification.specs.Lines.{operation_text}
 use Rattle.format_words.proofs.Joined.{joined}
 use Rattle.format_words.proofs.verdicts.push_faulty.Goals as goal

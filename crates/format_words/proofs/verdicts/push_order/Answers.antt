@@ -1,5 +1,5 @@
 -- The head, the names and the LF, joined to the right.
-use Rattle.std.proofs.Common.{ap, ◌∙◌, ◌++◌, ◌∷◌, []}
+use Rattle.std.proofs.Common.{◌∷◌, []}
 use Rattle.specification.specs.Lines.{names_text}
 use Rattle.format_words.proofs.Joined.{joined}
 use Rattle.format_words.proofs.verdicts.push_order.Goals as goal

@@ -1,8 +1,7 @@
 -- Past the end nothing is alike, and there are as many names as ends.
-use Rattle.std.proofs.Common.{◌≡◌, ◌∙◌, ◌<◌, ◌≤◌, ℕ, Some, List, length, slice_get, drop, sym, ap, arith, length-drop}
+use Rattle.std.proofs.Common.{◌≡◌, ◌∙◌, ◌<◌, ℕ, Some, List, length, slice_get, drop, sym, ap, arith, length-drop}
 use Rattle.std.proofs.lemmas.Option.{slice_get_within}
-use Rattle.events.specs.Packed.{pieces}
-use Rattle.events.proofs.Packed.{pieces-length}
+use Rattle.events.proofs.Packed.{pieces-length, rise}
 use Rattle.events.proofs.response.Response.same_names.Goals as goal
 use Rattle.events.proofs.response.Response.same_names.Goals.{then-i-ends-via-then-i-ends, then-i-ends-via-else-i-ends+then-j-other_ends}
 
@@ -25,3 +24,9 @@ returns-clause-within c =
       omega (arith, own, c.same_pieces.ensures.within.0, ap length c.as_slice-ends.ensures.value, length-drop c.args.i c.args.self.now),
       omega (arith, others, c.same_pieces.ensures.within.1, ap length c.as_slice-other_ends.ensures.value, length-drop c.args.j c.args.other.now),
     )
+
+pub same_pieces-requires-clause-rise : goal.same_pieces-requires-clause-rise
+same_pieces-requires-clause-rise c = rw (c.as_slice.ensures.value, c.as_slice-ends.ensures.value) (rise c.self.inside.bytes.items c.self.inside.ends.items c.self.invariant)
+
+pub same_pieces-requires-clause-other_rise : goal.same_pieces-requires-clause-other_rise
+same_pieces-requires-clause-other_rise c = rw (c.as_slice-2.ensures.value, c.as_slice-other_ends.ensures.value) (rise c.other.inside.bytes.items c.other.inside.ends.items c.other.invariant)

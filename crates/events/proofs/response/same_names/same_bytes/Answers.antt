@@ -1,5 +1,5 @@
 -- After the long chunks some short ones are the same, and then single bytes.
-use Rattle.std.proofs.Common.{◌≡◌, ◌∙◌, ◌+◌, ◌≤◌, ◌<◌, ◌≢◌, ℕ, List, Some, length, take, drop, get_or, slice_get, sym, ap, arith}
+use Rattle.std.proofs.Common.{◌∙◌, take, sym, ap, arith}
 use Rattle.std.proofs.lemmas.Option.{get_or_from_slice_get, slice_get_within}
 use Rattle.events.proofs.SameNames.{take-more}
 use Rattle.events.proofs.response.same_names.same_bytes.Goals as goal

@@ -1,5 +1,5 @@
 -- One chunk more is the same.
-use Rattle.std.proofs.Common.{◌≡◌, ◌∙◌, ◌+◌, ◌-◌, ◌≤◌, ℕ, Bool, true, false, List, length, take, drop, sym, refl, ap, arith}
+use Rattle.std.proofs.Common.{◌≡◌, ◌∙◌, ◌+◌, ◌-◌, ℕ, Bool, true, false, List, take, drop, sym, refl, ap, arith}
 use Rattle.std.specs.Prelude.{not, slice_range}
 use Rattle.std.specs.Cmp.Lexicographic.{bytes_decides}
 use Rattle.events.proofs.SameNames.{take-more}

@@ -5,8 +5,8 @@ use Rattle.events.specs.SameNames.{HaveSameEnds}
 use Rattle.events.proofs.SameNames as names
 use Rattle.events.proofs.response.same_names.same_pieces.Goals as goal
 
-begins-within : (bytes ends : List ℕ) (i from : ℕ) → i ≤ length ends → Rise 0 ends (length bytes) → from ≡ start_at 0 ends i → from ≤ length bytes
-begins-within bytes ends i from h rise is = omega (arith, is, names.start-within (start_at 0 ends i) (drop i ends) (length bytes) (names.rise-from 0 ends (length bytes) i h rise))
+begins-within : (bytes ends : List ℕ) (i from : ℕ) → i ≤ length ends → Rise bytes 0 ends → from ≡ start_at 0 ends i → from ≤ length bytes
+begins-within bytes ends i from h rise is = omega (arith, is, names.start-within bytes (start_at 0 ends i) (drop i ends) (names.rise-from bytes 0 ends i h rise))
 
 pub after-requires : goal.after-requires
 after-requires c = begins-within c.args.bytes.now c.args.ends.now c.args.i _ c.requires.places.0 c.requires.rise c.start_from-from.ensures.value
@@ -14,14 +14,14 @@ after-requires c = begins-within c.args.bytes.now c.args.ends.now c.args.i _ c.r
 pub after-requires-2 : goal.after-requires-2
 after-requires-2 c = begins-within c.args.other_bytes.now c.args.other_ends.now c.args.j _ c.requires.places.1 c.requires.other_rise c.start_from-other_from.ensures.value
 
-module _ (bytes ends : List ℕ) (i : ℕ) (other_bytes other_ends : List ℕ) (j from other_from c n : ℕ) (rise : Rise 0 ends (length bytes)) (other_rise : Rise 0 other_ends (length other_bytes))
+module _ (bytes ends : List ℕ) (i : ℕ) (other_bytes other_ends : List ℕ) (j from other_from c n : ℕ) (rise : Rise bytes 0 ends) (other_rise : Rise other_bytes 0 other_ends)
     (place : i ≤ length ends) (other_place : j ≤ length other_ends) (begins : from ≡ start_at 0 ends i) (other_begins : other_from ≡ start_at 0 other_ends j)
     (same : take c (drop from bytes) ≡ take c (drop other_from other_bytes)) (have : HaveSameEnds (drop i ends) from (drop j other_ends) other_from (from + c) n) where
-  rises : Rise from (drop i ends) (length bytes)
-  rises = subst (λ x. Rise x (drop i ends) (length bytes)) (sym begins) (names.rise-from 0 ends (length bytes) i place rise)
+  rises : Rise bytes from (drop i ends)
+  rises = subst (λ x. Rise bytes x (drop i ends)) (sym begins) (names.rise-from bytes 0 ends i place rise)
 
-  other_rises : Rise other_from (drop j other_ends) (length other_bytes)
-  other_rises = subst (λ x. Rise x (drop j other_ends) (length other_bytes)) (sym other_begins) (names.rise-from 0 other_ends (length other_bytes) j other_place other_rise)
+  other_rises : Rise other_bytes other_from (drop j other_ends)
+  other_rises = subst (λ x. Rise other_bytes x (drop j other_ends)) (sym other_begins) (names.rise-from other_bytes 0 other_ends j other_place other_rise)
 
   here : drop i (pieces bytes 0 ends) ≡ pieces bytes from (drop i ends)
   here = names.pieces-from bytes 0 ends i ∙ ap (λ x. pieces bytes x (drop i ends)) (sym begins)
@@ -30,7 +30,7 @@ module _ (bytes ends : List ℕ) (i : ℕ) (other_bytes other_ends : List ℕ) (
   there = names.pieces-from other_bytes 0 other_ends j ∙ ap (λ x. pieces other_bytes x (drop j other_ends)) (sym other_begins)
 
   alike : take n (drop i (pieces bytes 0 ends)) ≡ take n (drop j (pieces other_bytes 0 other_ends))
-  alike = ap (take n) here ∙ names.same-pieces bytes other_bytes from other_from c same n from other_from (drop i ends) (drop j other_ends) (length bytes) (omega arith) (omega arith) rises have ∙ ap (take n) (sym there)
+  alike = ap (take n) here ∙ names.same-pieces bytes other_bytes from other_from c same n from other_from (drop i ends) (drop j other_ends) (omega arith) (omega arith) rises have ∙ ap (take n) (sym there)
 
   differ : ((x : ℕ) → slice_get (drop from bytes) c ≡ Some x → slice_get (drop other_from other_bytes) c ≡ Some x → ⊥)
       → ((x y : ℕ) → slice_get (drop i ends) n ≡ Some x → slice_get (drop j other_ends) n ≡ Some y → x + other_from ≡ y + from → from + c < x)

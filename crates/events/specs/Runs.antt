@@ -1,0 +1,21 @@
+-- How far a text goes on with names that stand one after the other.
+use Rattle.std.specs.Prelude.{◌≡◌, ℕ, ◌≤◌, ◌<◌, ◌==◌, Bool, true, IsTrue, Option, Some, None, List, length, take, slice_get}
+use Rattle.events.specs.Names.{NameBytes}
+use Rattle.events.specs.Packed.{spaced}
+
+-- after a name the text is at its end, or a space follows
+abbrev pub may_follow : Option ℕ → Bool
+may_follow None = true
+may_follow (Some byte) = byte == 32
+
+-- the text begins with these names, each after a space, and the last one's word ends with it
+pub record BeginsWith (text : List ℕ) (names : List NameBytes) : Type 0 where
+  pub same : take (length (spaced names)) text ≡ spaced names
+  pub ends : IsTrue (may_follow (slice_get text (length (spaced names))))
+
+-- the text begins with the first n of the names and with no more of them, and these take so many bytes
+pub record IsLongestRun (text : List ℕ) (names : List NameBytes) (n bytes : ℕ) : Type 0 where
+  pub within : n ≤ length names
+  pub bytes_are : bytes ≡ length (spaced (take n names))
+  pub begins : 0 < n → BeginsWith text (take n names)
+  pub most : (m : ℕ) → m ≤ length names → BeginsWith text (take m names) → m ≤ n
