@@ -1,3 +1,4 @@
 //! Tests of the sets of numbers and of the tables.
 
 mod sets;
+mod tables;
