@@ -361,7 +361,10 @@ const ALIKE: &[Alike] = &[
 #[test]
 fn responses_go_on_alike(rt: HostRuntime) {
     for Alike(names, i, others, j, count) in ALIKE.iter().copied() {
-        assert!(rt; are_alike(rt.alloc(), names, i, others, j, count), "from {i} and {j}");
+        assert!(rt;
+            are_alike(rt.alloc(), names, i, others, j, count),
+            "from {i} and {j}"
+        );
     }
 }
 

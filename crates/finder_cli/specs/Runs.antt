@@ -51,72 +51,42 @@ IsLineFaultOf text fault = (cause : Cause) × (cause_of fault.cause ≡ Some cau
 -- where the fault is of the text, it is the first of the text
 abbrev pub NamesFirstFault : List ℕ → RunFault → Type 0
 NamesFirstFault text (run.Trace fault) = IsLineFaultOf text fault
-NamesFirstFault text run.Workers = Unit {0}
-NamesFirstFault text run.Read = Unit {0}
-NamesFirstFault text run.Write = Unit {0}
-NamesFirstFault text run.Memory = Unit {0}
-NamesFirstFault text run.Thread = Unit {0}
-NamesFirstFault text run.Stalled = Unit {0}
+NamesFirstFault text _ = Unit {0}
 
 -- no fault but the text's own and out of memory
 abbrev pub IsOfText : RunFault → Type 0
 IsOfText (run.Trace fault) = Unit {0}
 IsOfText run.Memory = Unit {0}
-IsOfText run.Workers = ⊥
-IsOfText run.Read = ⊥
-IsOfText run.Write = ⊥
-IsOfText run.Thread = ⊥
-IsOfText run.Stalled = ⊥
+IsOfText _ = ⊥
 
 -- no fault but those of threads, and out of memory
 abbrev pub IsOfSession : RunFault → Type 0
 IsOfSession run.Thread = Unit {0}
 IsOfSession run.Stalled = Unit {0}
 IsOfSession run.Memory = Unit {0}
-IsOfSession (run.Trace fault) = ⊥
-IsOfSession run.Workers = ⊥
-IsOfSession run.Read = ⊥
-IsOfSession run.Write = ⊥
+IsOfSession _ = ⊥
 
 -- no fault but that of reading, the text's own, and out of memory
 abbrev pub IsOfTrace : RunFault → Type 0
 IsOfTrace run.Read = Unit {0}
-IsOfTrace (run.Trace fault) = Unit {0}
-IsOfTrace run.Memory = Unit {0}
-IsOfTrace run.Workers = ⊥
-IsOfTrace run.Write = ⊥
-IsOfTrace run.Thread = ⊥
-IsOfTrace run.Stalled = ⊥
+IsOfTrace fault = IsOfText fault
 
 -- no fault but that of reading and out of memory
 abbrev pub IsOfReading : RunFault → Type 0
 IsOfReading run.Read = Unit {0}
 IsOfReading run.Memory = Unit {0}
-IsOfReading (run.Trace fault) = ⊥
-IsOfReading run.Workers = ⊥
-IsOfReading run.Write = ⊥
-IsOfReading run.Thread = ⊥
-IsOfReading run.Stalled = ⊥
+IsOfReading _ = ⊥
 
 -- no fault but those of a run without a session
 abbrev pub IsOfRun : RunFault → Type 0
-IsOfRun run.Workers = Unit {0}
-IsOfRun run.Read = Unit {0}
-IsOfRun (run.Trace fault) = Unit {0}
-IsOfRun run.Write = Unit {0}
-IsOfRun run.Memory = Unit {0}
 IsOfRun run.Thread = ⊥
 IsOfRun run.Stalled = ⊥
+IsOfRun _ = Unit {0}
 
 -- no fault but those of reading and writing, and out of memory
 abbrev pub IsOfVerifying : RunFault → Type 0
-IsOfVerifying run.Read = Unit {0}
-IsOfVerifying run.Memory = Unit {0}
 IsOfVerifying run.Write = Unit {0}
-IsOfVerifying (run.Trace fault) = ⊥
-IsOfVerifying run.Workers = ⊥
-IsOfVerifying run.Thread = ⊥
-IsOfVerifying run.Stalled = ⊥
+IsOfVerifying fault = IsOfReading fault
 
 -- outside 1 to 64
 abbrev pub IsNoWorkers : ℕ → Type 0

@@ -4,7 +4,6 @@ ghost use Rattle.std.specs.Prelude.{◌≡◌, ◌≢◌, ◌↔◌, ◌≤◌, 
 ghost use Rattle.std.specs.Io.KnownBytes.{IsAtEnd};
 ghost use Rattle.byte_streams.specs.Streams.{IsClosed};
 ghost use Rattle.command_line.specs.declared.task.Form.TheVariants.{Text};
-ghost use Rattle.events.specs.History.{SameStreams};
 ghost use Rattle.finder_cli.specs.Runs.{IsReportOn, Reports, ReportsFront, NamesFirstFault, IsOfSession};
 ghost use Rattle.finder_cli.specs.Runs.{IsNoWorkers};
 
@@ -69,7 +68,7 @@ fn rehearsed_report<H: Threads + Wait + Sync, G: Gate>(
     ensures ok { IfOk result (λ report. IsReportOn recording.now Text report.bytes.items report.status) }
     ensures fault { IfErr result IsOfSession }
 {
-    let closed = rehearsed(rt, alloc, recording, workers, gate)?;
+    let closed = rehearse(rt, alloc, recording, workers, gate)?;
     let verdict = verdict_on(rt, alloc, &closed, workers)?;
     let bytes = report::text(alloc, &closed, &verdict)?;
     // The verdict and the report are those of the recording too, since it has the same streams.
@@ -81,23 +80,18 @@ fn rehearsed_report<H: Threads + Wait + Sync, G: Gate>(
     })
 }
 
-/// What a session has after the recording was replayed in it.
-fn rehearsed<H: Threads + Wait + Sync, G: Gate>(
-    rt: &H,
-    alloc: Global,
-    recording: &Recording,
-    workers: u32,
-    gate: &G,
-) -> Result<Recording, RunFault>
-    requires workers { (1 ≤ workers) × (workers ≤ MOST_WORKERS) }
-    ensures ok { IfOk result (λ closed. SameStreams recording.now closed) }
-    ensures fault { IfErr result IsOfSession }
-{
-    match rehearse(rt, alloc, recording, workers, gate) {
-        Ok(closed) => Ok(closed),
-        Err(RehearsalFault::Thread) => Err(RunFault::Thread),
-        Err(RehearsalFault::Stalled) => Err(RunFault::Stalled),
-        Err(RehearsalFault::Memory) => Err(RunFault::Memory),
-        Err(RehearsalFault::Workers) => unreachable!(),
+impl From<RehearsalFault> for RunFault {
+    ghost use Rattle.std.specs.Prelude.{◌≡◌};
+    ghost use Rattle.finder_cli.specs.Endings.{fault_of_rehearsal};
+
+    ghost from_gives = { λ why fault. fault ≡ fault_of_rehearsal why };
+
+    fn from(why: RehearsalFault) -> RunFault {
+        match why {
+            RehearsalFault::Workers => RunFault::Workers,
+            RehearsalFault::Thread => RunFault::Thread,
+            RehearsalFault::Stalled => RunFault::Stalled,
+            RehearsalFault::Memory => RunFault::Memory,
+        }
     }
 }

@@ -90,35 +90,31 @@ fn have_alike(one: &Recording, other: &Recording) -> bool {
 }
 
 #[test]
-fn two_recorders_run_at_once(rt: HostRuntime) {
+fn two_recorders_run_at_once(rt: HostRuntime) -> Result<(), Fail> {
     let alloc = rt.alloc();
-    let recording = recording(alloc, THREE_WAY_CYCLE)
-        .ok()
-        .expect(&rt, "a recording");
+    let recording = recording(alloc, THREE_WAY_CYCLE)?;
     let hold = Hold::new();
     let closed = rehearse(&rt, alloc, &recording, 2, &hold);
     assert!(rt; closed.is_ok());
     assert!(rt; hold.met.load(Ordering::SeqCst) == 1);
     assert!(rt; hold.begun.load(Ordering::SeqCst) == 3 && hold.ended.load(Ordering::SeqCst) == 3);
     assert!(rt; hold.others.load(Ordering::SeqCst) == 0);
+    Ok(())
 }
 
 #[test]
-fn what_is_closed_has_the_streams(rt: HostRuntime) {
+fn what_is_closed_has_the_streams(rt: HostRuntime) -> Result<(), Fail> {
     let alloc = rt.alloc();
-    let recording = recording(alloc, THREE_WAY_CYCLE)
-        .ok()
-        .expect(&rt, "a recording");
-    let closed = rehearsed(&rt, alloc, &recording, 1, &NoGate)
-        .ok()
-        .expect(&rt, "a recording");
+    let recording = recording(alloc, THREE_WAY_CYCLE)?;
+    let closed = rehearsed(&rt, alloc, &recording, 1, &NoGate)?;
     assert!(rt; have_alike(&recording, &closed));
+    Ok(())
 }
 
 #[test]
-fn workers_are_1_to_64(rt: HostRuntime) {
+fn workers_are_1_to_64(rt: HostRuntime) -> Result<(), Fail> {
     let alloc = rt.alloc();
-    let recording = recording(alloc, EMPTY).ok().expect(&rt, "a recording");
+    let recording = recording(alloc, EMPTY)?;
     for workers in [0, 65, u32::MAX] {
         assert!(rt;
             rehearse(&rt, alloc, &recording, workers, &NoGate).err()
@@ -126,4 +122,5 @@ fn workers_are_1_to_64(rt: HostRuntime) {
         );
     }
     assert!(rt; rehearsed(&rt, alloc, &recording, 64, &NoGate).is_ok());
+    Ok(())
 }

@@ -11,7 +11,7 @@ mod soundness;
 mod standing;
 mod texts;
 
-pub use entries::{add, push};
+pub use entries::{add, place_of, push};
 pub use growing::{MOST_ELEMENTS, generated, mostly_ordered};
 pub use random::Random;
 pub use reading::recording;

@@ -131,19 +131,9 @@ fn session_of_two(rt: HostRuntime) {
     assert!(rt; closes_without(alloc, session, first, second, one, other));
 }
 
-/// Whether so many workers are refused for so many turns.
-fn refuses<H: Threads + Wait + Sync>(
-    rt: &H,
-    alloc: Global,
-    session: &Session,
-    observer: &mut Observer,
-    turns: u32,
-    workers: u32,
-) -> bool
-    requires { observer.old.session ≡ session.now }
-    ensures { observer.new.session ≡ session.now }
-{
-    judged(rt, alloc, session, observer, turns, workers).err() == Some(SearchFault::Workers)
+/// Whether the number of workers was refused.
+fn is_refused(answer: Result<Verdicts, SearchFault>) -> bool {
+    answer.err() == Some(SearchFault::Workers)
 }
 
 #[test]
@@ -151,9 +141,9 @@ fn workers_are_tested_first(rt: HostRuntime) {
     let alloc = rt.alloc();
     let (session, mut first, _) = pair(alloc).expect(&rt, "a session");
     let mut observer = session.observer(&mut first);
-    assert!(rt; refuses(&rt, alloc, &session, &mut observer, 0, 0));
-    assert!(rt; refuses(&rt, alloc, &session, &mut observer, 1, 65));
-    assert!(rt; refuses(&rt, alloc, &session, &mut observer, 0, 4294967295));
+    assert!(rt; is_refused(judged(&rt, alloc, &session, &mut observer, 0, 0)));
+    assert!(rt; is_refused(judged(&rt, alloc, &session, &mut observer, 1, 65)));
+    assert!(rt; is_refused(judged(&rt, alloc, &session, &mut observer, 0, 4294967295)));
 }
 
 #[test]

@@ -3,7 +3,7 @@ ghost use Rattle.std.specs.Prelude.{◌≡◌, ◌<◌, ◌≤◌, IfSome};
 
 use super::{copied, opened, recorded, three_way};
 use crate::{Pass, ReplayFault, Session};
-use events::{Recording, Refusal};
+use events::{Body, Recording, Refusal};
 use std::alloc::Global;
 use std::sync::Wait;
 
@@ -27,19 +27,18 @@ fn fault(at: u32, why: Refusal) -> ReplayFault {
     }
 }
 
-/// Records the entry at this place of the replica's stream, and answers how many entries the replica has.
-fn record_at<R: Wait>(
+/// Records a copy of this entry of the replica's stream, and answers how many entries the replica has.
+pub fn record_copy<R: Wait>(
     rt: &R,
     alloc: Global,
     session: &Session,
     pass: &mut Pass,
-    recording: &Recording,
-    at: u32,
+    body: Option<&Body>,
 ) -> Result<u32, Refusal>
     requires { pass.old.session ≡ session.now }
     ensures { pass.new.session ≡ session.now }
 {
-    let Some(body) = recording.stream(session.replica(pass), at) else {
+    let Some(body) = body else {
         return Ok(0);
     };
     let Some(body) = copied(alloc, body) else {
@@ -62,7 +61,8 @@ fn resumed<R: Wait>(
 {
     let mut count = 0;
     for at in from..recording.stream_len(session.replica(pass)) {
-        match record_at(rt, alloc, session, pass, recording, at) {
+        let body = recording.stream(session.replica(pass), at);
+        match record_copy(rt, alloc, session, pass, body) {
             Ok(now) => count = now,
             Err(why) => return Err(fault(at, why)),
         }
@@ -101,7 +101,8 @@ fn stalled_replay(rt: HostRuntime) {
     let (session, mut first, mut second, _) = team(alloc).expect(&rt, "a session");
     let stalled = replayed(&rt, alloc, &session, &mut second, &recording, 10);
     assert!(rt; stalled == Err(ReplayFault::Stalled { at: 0 }));
-    assert!(rt; record_at(&rt, alloc, &session, &mut first, &recording, 0) == Ok(1));
+    let body = recording.stream(0, 0);
+    assert!(rt; record_copy(&rt, alloc, &session, &mut first, body) == Ok(1));
     assert!(rt; replayed(&rt, alloc, &session, &mut second, &recording, 10) == Ok(2));
 }
 
@@ -114,7 +115,8 @@ fn stalled_and_resumed(rt: HostRuntime) {
     assert!(rt; stalled == Err(ReplayFault::Stalled { at: 2 }) && session.count(&mut first) == 2);
     assert!(rt; replayed(&rt, alloc, &session, &mut second, &recording, 3) == Ok(2));
     assert!(rt; replayed(&rt, alloc, &session, &mut third, &recording, 1) == Ok(2));
-    assert!(rt; record_at(&rt, alloc, &session, &mut first, &recording, 2) == Ok(3));
+    let receipt = recording.stream(0, 2);
+    assert!(rt; record_copy(&rt, alloc, &session, &mut first, receipt) == Ok(3));
     assert!(rt; resumed(&rt, alloc, &session, &mut first, &recording, 3) == Ok(5));
     assert!(rt; session.count(&mut second) == 9);
 }

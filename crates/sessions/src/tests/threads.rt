@@ -79,22 +79,13 @@ fn all_record<H: Threads + Wait + Sync>(
     passes
 }
 
-/// Whether a snapshot has as many entries as the observer counts after it, or fewer, and no fewer than it
-/// counted before.
-fn sees_more<R: Wait>(
-    rt: &R,
-    alloc: Global,
-    session: &Session,
-    observer: &mut Observer,
-    before: u64,
-) -> bool
-    requires { observer.old.session ≡ session.now }
-    ensures { observer.new.session ≡ session.now }
-{
-    match watched(rt, alloc, session, observer) {
+/// Whether a snapshot has as many entries as were counted after it, or fewer, and no fewer than were counted
+/// before.
+fn is_between(seen: Option<Recording>, before: u64, after: u64) -> bool {
+    match seen {
         Some(seen) => {
             let entries = u64::from(seen.len());
-            before <= entries && entries <= session.watch_count(observer)
+            before <= entries && entries <= after
         }
         None => false,
     }
@@ -116,7 +107,8 @@ fn looks_on<R: Wait>(
     let mut observer = observer;
     for _ in 0..100_000 {
         let before = session.watch_count(&mut observer);
-        if !sees_more(rt, alloc, session, &mut observer, before) {
+        let seen = watched(rt, alloc, session, &mut observer);
+        if !is_between(seen, before, session.watch_count(&mut observer)) {
             wrong.fetch_add(1, Ordering::SeqCst);
         }
         if before >= entries {

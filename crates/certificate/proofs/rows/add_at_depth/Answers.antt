@@ -1,6 +1,6 @@
 use Rattle.std.proofs.Common.{◌≡◌, ◌<◌, [], ◌∷◌, ◌++◌, length, arith}
 use Rattle.std.proofs.lemmas.Grind.{common_steps}
-use Rattle.certificate.proofs.DeepNames.{pushed_at}
+use Rattle.order_graph.proofs.Adding.{pushed_at}
 use Rattle.certificate.proofs.rows.add_at_depth.Goals as goal
 
 pub returns-in_ok-push-clause-names : goal.returns-in_ok-push-clause-names

@@ -2,7 +2,7 @@ use Rattle.std.proofs.Common.{◌≡◌, ℕ, ◌-◌, List, Vec, Global, get_or
 use Rattle.std.proofs.lemmas.List.{length-map}
 use Rattle.events.specs.Names.{NameBytes}
 use Rattle.specification.specs.LayerRule.{Row}
-use Rattle.certificate.proofs.DeepNames.{items_of}
+use Rattle.order_graph.proofs.Adding.{items_of}
 use Rattle.certificate.proofs.DistanceRows.{deep_row}
 use Rattle.certificate.proofs.rows.row_of_layers.Goals as goal
 
