@@ -1,8 +1,7 @@
 #!/usr/bin/env python3
-"""pieces.py PROGRAM: traces that come through a pipe in pieces: vectors cut anywhere, endless streams, a line without end."""
+"""pieces.py PROGRAM: traces that come through a pipe in pieces: vectors cut anywhere, endless streams, lines of a gigabyte."""
 import os
 import random
-import resource
 import subprocess
 import sys
 import threading
@@ -86,12 +85,59 @@ def try_endless(program: str, tally: Tally) -> None:
         tally.check(f"endless after {line!r} in time", time.monotonic() - started < 5)
 
 
+def measured(program: str, words: list, pieces) -> tuple[Ended, float, float]:
+    """A run that is given each piece, its seconds, and the most megabytes of memory that it had."""
+    begun = time.monotonic()
+    started = subprocess.Popen([program, *words], stdin=subprocess.PIPE, stdout=subprocess.PIPE,
+                               stderr=subprocess.PIPE, bufsize=0)
+    try:
+        for piece in pieces:
+            started.stdin.write(piece)
+        started.stdin.close()
+    except BrokenPipeError:
+        pass
+    out, err = started.stdout.read(), started.stderr.read()
+    _, status, usage = os.wait4(started.pid, 0)
+    started.returncode = os.waitstatus_to_exitcode(status)
+    started.stdout.close()
+    started.stderr.close()
+    return Ended(started.returncode, out, err), time.monotonic() - begun, usage.ru_maxrss / 1024
+
+
+def long_line(front: bytes, piece: bytes, back: bytes):
+    """A text whose last line goes on for a gigabyte before its back."""
+    yield front
+    block = piece * (2 ** 20 // len(piece))
+    for _ in range(2 ** 30 // len(block)):
+        yield block
+    yield back
+
+
+def try_long_lines(program: str, tally: Tally) -> None:
+    """A line of a gigabyte takes no more memory than one that is right, and its fault comes with its LF."""
+    read = b"trace 1\nreplicas 1\n0 read :"
+    name = b" abcdefghijklmnopqrstuvwxyz01234"
+    for what, front, piece, back, words in (
+            ("bytes without LF", b"", b"x", b"", "line 1: cut"),
+            ("bytes", b"trace 1\n", b"x", b"\n", "line 2: replicas"),
+            ("spaces", read, b" ", b"\n", "line 3: shape"),
+            ("names without LF", read, name, b"", "line 3: cut"),
+            ("names", read, name, b"\n", "line 3: long response"),
+            ("names and a word that is none", read, name, b" !\n", "line 3: shape"),
+            ("names and two spaces", read, name, b"  a\n", "line 3: shape")):
+        ended, seconds, megabytes = measured(program, ["verdict", "-"], long_line(front, piece, back))
+        tally.same(f"a gigabyte of {what}", ended, fault(words))
+        tally.check(f"a gigabyte of {what} in 15 seconds", seconds < 15, f"{seconds:.1f} s")
+        tally.check(f"a gigabyte of {what} in 100 megabytes", megabytes < 100, f"{megabytes:.0f} MB")
+
+
 def main() -> None:
     program = program_of(sys.argv)
     tally = Tally()
     try_vectors(program, tally)
     try_many_entries(program, tally)
     try_endless(program, tally)
+    try_long_lines(program, tally)
     tally.close()
 
 

@@ -9,8 +9,8 @@ use format_words::name_of;
 use std::alloc::Global;
 use std::marker::Model;
 
-/// A line with this many bytes of whole words has more than the most names, if its words spell an entry:
-/// an entry has at most five words besides its names, and each word at most 32 bytes and a space.
+/// Whole words of an entry that have this many bytes hold more than the most names: each word has at most 32
+/// bytes and a space after it, so 4,101 words have fewer, and at most five are none of the names.
 const LONG_LINE: usize = 135_334;
 
 /// A line that is judged as the line that came so far, whatever follows.

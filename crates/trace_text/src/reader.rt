@@ -10,9 +10,10 @@ use std::marker::Model;
 
 /// A reader of a trace text that comes in pieces, cut anywhere.
 ///
-/// It keeps the recording so far and the line that is begun, as far as it has come. A line that is whole
-/// within a piece is read where it lies. Once a fault was answered, out of memory included, each later call
-/// answers the same.
+/// It keeps the recording so far, and of the line that is begun at most 135,398 bytes, about as many as the
+/// longest right line has: of a line that goes on, what fixes its fault. A line that is whole within a piece
+/// is read where it lies. Once a fault was answered, out of memory included, each later call answers the
+/// same.
 #[derive(Drop)]
 pub struct Reader {
     alloc: Global,
@@ -57,7 +58,8 @@ impl Reader {
     /// A fault is answered exactly where the text fed so far has the LF of a faulty line, and it is the fault
     /// of every text that begins so; or it is out of memory, at a line after right lines that has its LF. Out
     /// of memory for a line that a piece cuts is answered with that line's LF: where the text ends before,
-    /// the line is cut whatever it holds. It takes time in proportion to the piece and the line begun.
+    /// the line is cut whatever it holds. It takes time in proportion to the piece and the line begun, of
+    /// which at most the length of the longest right line counts.
     pub fn feed(&mut self, piece: &[u8]) -> Result<(), LineFault>
         // What was fed is now this piece longer.
         ensures fed { (text : List ℕ) → WasFed self.old text → WasFed self.new (text ++ piece.now) }

@@ -33,7 +33,7 @@ fn read_at_once(alloc: Global, bytes: &[u8]) -> Result<Recording, LineFault>
 /// second line of a recording, or an entry that has names in its response or is recorded. So it is never
 /// answered for another fault of the text, but for an entry with names that the recording refuses. That
 /// memory did run out, no contract can say. It takes time in proportion to the text, and keeps what
-/// the recording holds and the last line, where that has no LF.
+/// the recording holds and, where the last line has no LF, at most 135,398 bytes of it.
 pub fn read(alloc: Global, bytes: &[u8]) -> Result<Recording, LineFault>
     ensures ok { IfOk result (λ h. Spells bytes.now h) }
     ensures fault { IfErr result (λ fault. IfSome (cause_of fault.cause)
