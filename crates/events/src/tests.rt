@@ -265,7 +265,10 @@ fn has_three(made: &Response) -> bool {
 
 /// Whether these two names stand in it, and no other.
 fn has_left_and_right(made: &Response) -> bool {
-    made.len() == 2 && made.bytes_at(0) == Some(b"left".as_slice()) && has_at(made, 1, "right")
+    made.len() == 2
+        && made.text_len() == 11
+        && made.bytes_at(0) == Some(b"left".as_slice())
+        && has_at(made, 1, "right")
 }
 
 /// Whether bytes that are no name are refused for what is wrong with them.

@@ -62,7 +62,7 @@ fn same_pieces(
 }
 
 /// What stands from a place on.
-pub fn after<T: Copy>(items: &[T], place: usize) -> &[T]
+pub(super) fn after<T: Copy>(items: &[T], place: usize) -> &[T]
     requires { place ≤ length items.now }
     ensures { result.now ≡ drop place items.now }
 {
@@ -70,7 +70,7 @@ pub fn after<T: Copy>(items: &[T], place: usize) -> &[T]
 }
 
 /// Where the piece at a place begins, also past the last: where the piece before it ends.
-pub fn start_from(ends: &[u32], i: usize) -> usize
+pub(super) fn start_from(ends: &[u32], i: usize) -> usize
     requires { i ≤ length ends.now }
     ensures value { result ≡ start_at 0 ends.now i }
     ensures range { result < 2 ^ 32 }
@@ -79,7 +79,7 @@ pub fn start_from(ends: &[u32], i: usize) -> usize
 }
 
 /// How many bytes are the same from the beginning on.
-pub fn same_bytes(a: &[u8], b: &[u8]) -> usize
+pub(super) fn same_bytes(a: &[u8], b: &[u8]) -> usize
     ensures within { (result ≤ length a.now) × (result ≤ length b.now) }
     ensures same { take result a.now ≡ take result b.now }
     ensures most { (x : ℕ) → slice_get a.now result ≡ Some x → slice_get b.now result ≡ Some x → ⊥ }
