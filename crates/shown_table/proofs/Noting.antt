@@ -8,6 +8,7 @@ use Rattle.std.specs.Vec.{with_item}
 use Rattle.order_graph.specs.Lists.{BeforeIn, Stands, row}
 use Rattle.bit_tables.specs.Sets.{Has}
 use Rattle.bit_tables.specs.Lists.{HaveWidth, row_of}
+use Rattle.bit_tables.proofs.Places.{width_set}
 use Rattle.shown_table.specs.Tables.{IsShown}
 use Rattle.shown_table.specs.Fronts.{AreLast, AreNotedTo, IsFront, IsShownBelow, IsShownTo, StandsBack, StandsTo}
 use Rattle.shown_table.specs.declared.front.Front.{Front}
@@ -88,16 +89,6 @@ module _ (lists : List (List ℕ)) (l j x : ℕ) (here : Stands lists l j x) whe
       | inr late ↦ inr (one_stands lists l at.place j y x (let e = at.early in omega arith) at.stands here)
     ]),
   )
-
-pub width_set : (width : ℕ) (rows : List (List ℕ)) (x : ℕ) (new : List ℕ) → HaveWidth width rows → length new ≡ width → HaveWidth width (set rows x new)
-width_set width rows x new all same a within =
-    let inside : a < length rows = omega (arith, length-set rows x new) in
-    elim (cases_eq a x) [
-      | inl here ↦
-          let x_in : x < length rows = omega arith in
-          ap length (ap (row_of (set rows x new)) here ∙ get_or-set_same rows x new [] x_in) ∙ same
-      | inr apart ↦ ap length (get_or-set_other rows x a new [] apart) ∙ all a inside
-    ]
 
 -- nothing stands among the first 0 places
 pub before_none : (lists : List (List ℕ)) (l : ℕ) (before : List ℕ) → ((x : ℕ) → ¬ Has before x) → (x : ℕ) → Has before x ↔ StandsTo lists l 0 x

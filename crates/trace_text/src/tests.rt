@@ -650,6 +650,11 @@ fn as_many_entries_as_there_can_be(rt: HostRuntime) -> Result<(), Fail> {
     Ok(())
 }
 
+/// Whether what a reader says is this fault at this line.
+fn has_fault(said: Result<Recording, LineFault>, line: u32, cause: Cause) -> bool {
+    said.err() == Some(LineFault { line, cause })
+}
+
 /// The first of the rows whose text, after a front and in pieces of so many bytes, has not this fault at this
 /// line; none where all have.
 fn first_wrong_in_pieces(
@@ -668,11 +673,7 @@ fn first_wrong_in_pieces(
             back: b"",
         };
         let bytes = whole.join(alloc)?;
-        let fault = LineFault {
-            line: *line,
-            cause: *cause,
-        };
-        if fed(alloc, &bytes, size).err() != Some(fault) {
+        if !has_fault(fed(alloc, &bytes, size), *line, *cause) {
             return Ok(Some(*text));
         }
     }
@@ -762,11 +763,7 @@ fn first_wrong_long_line(alloc: Global, size: usize) -> Result<Option<&'static s
 {
     for (front, back, line, cause) in LONG_LINES {
         let text = long_line(alloc, front, back)?;
-        let fault = LineFault {
-            line: *line,
-            cause: *cause,
-        };
-        if fed(alloc, &text, size).err() != Some(fault) {
+        if !has_fault(fed(alloc, &text, size), *line, *cause) {
             return Ok(Some(*front));
         }
     }
