@@ -15,28 +15,30 @@ fn next_agrees(
     random: &mut Random,
     kept: Kept,
 ) -> Result<bool, Fail> {
-    ask(rt, alloc, generated(alloc, random)?, kept, |recording, graph| {
-        Ok(match kept {
-            Kept::All => agrees(recording, graph),
-            Kept::Covering => tells_the_same(recording, graph),
-        })
-    })
+    ask(
+        rt,
+        alloc,
+        generated(alloc, random)?,
+        kept,
+        |recording, graph| {
+            Ok(match kept {
+                Kept::All => agrees(recording, graph),
+                Kept::Covering => tells_the_same(recording, graph),
+            })
+        },
+    )
 }
 
 #[test]
 fn generated_recordings_agree_with_the_plain_programs(rt: HostRuntime) -> Result<(), Fail> {
-    let mut random = Random(2016);
-    for _ in 0..300 {
-        assert!(rt; next_agrees(&rt, rt.alloc(), &mut random, Kept::All)?);
-    }
-    Ok(())
-}
-
-#[test]
-fn covering_responses_of_generated_recordings_tell_the_same(rt: HostRuntime) -> Result<(), Fail> {
-    let mut random = Random(1936);
-    for _ in 0..300 {
-        assert!(rt; next_agrees(&rt, rt.alloc(), &mut random, Kept::Covering)?);
+    for (seed, kept) in [(2016, Kept::All), (1936, Kept::Covering)] {
+        let mut random = Random(seed);
+        for _ in 0..300 {
+            assert!(rt;
+                next_agrees(&rt, rt.alloc(), &mut random, kept)?,
+                "from {seed}"
+            );
+        }
     }
     Ok(())
 }

@@ -97,7 +97,13 @@ fn has_marks(ring: &OrderGraph) -> bool {
 #[test]
 fn marks_of_the_ring_of_four(rt: HostRuntime) -> Result<(), Fail> {
     let ring = recording(rt.alloc(), RING_OF_FOUR)?;
-    let right = ask(&rt, rt.alloc(), ring, Kept::All, |_, graph| Ok(has_marks(graph)))?;
+    let right = ask(
+        &rt,
+        rt.alloc(),
+        ring,
+        Kept::All,
+        |_, graph| Ok(has_marks(graph)),
+    )?;
     assert!(rt; right);
     Ok(())
 }
