@@ -13,22 +13,8 @@ use trace_text::{Cause, LineFault};
 /// More than any text here has bytes.
 const LARGE: usize = 4096;
 
-/// What a run says of the text, and what it wrote.
-fn ran_once<H: Threads + Sync>(
-    rt: &H,
-    alloc: Global,
-    text: &str,
-    workers: u32,
-    form: Form,
-) -> (Result<Status, RunFault>, Page) {
-    let mut page = Page::new(LARGE, 0);
-    let mut source = Source::new(Script::new(text, LARGE, 0));
-    let mut sink = Sink::new(&mut page);
-    let answer = run(rt, alloc, &mut source, &mut sink, workers, form);
-    (answer, page)
-}
-
-/// The same; where the first run finds no memory, what the second says and writes.
+/// What a run says of the text, and what it wrote; where the first finds no memory, what the second says and
+/// writes.
 fn ran<H: Threads + Sync>(
     rt: &H,
     alloc: Global,
@@ -36,8 +22,15 @@ fn ran<H: Threads + Sync>(
     workers: u32,
     form: Form,
 ) -> (Result<Status, RunFault>, Page) {
-    match ran_once(rt, alloc, text, workers, form) {
-        (Err(RunFault::Memory), _) => ran_once(rt, alloc, text, workers, form),
+    let once = || {
+        let mut page = Page::new(LARGE, 0);
+        let mut source = Source::new(Script::new(text, LARGE, 0));
+        let mut sink = Sink::new(&mut page);
+        let answer = run(rt, alloc, &mut source, &mut sink, workers, form);
+        (answer, page)
+    };
+    match once() {
+        (Err(RunFault::Memory), _) => once(),
         answer => answer,
     }
 }

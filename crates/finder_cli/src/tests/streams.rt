@@ -21,31 +21,7 @@ struct Trial<'a> {
     answer: Result<Status, RunFault>,
 }
 
-fn tried_once<'a, H: Threads + Sync>(
-    rt: &H,
-    alloc: Global,
-    text: &'a str,
-    read_fails: u32,
-    write_fails: u32,
-) -> Trial<'a> {
-    let mut script = Script::new(text, 7, read_fails);
-    let mut page = Page::new(1, write_fails);
-    let answer = run(
-        rt,
-        alloc,
-        &mut Source::new(&mut script),
-        &mut Sink::new(&mut page),
-        4,
-        Form::Text,
-    );
-    Trial {
-        script,
-        page,
-        answer,
-    }
-}
-
-/// The same; where the first run finds no memory, the second.
+/// A run of which these reads and writes fail; where the first finds no memory, the second.
 fn tried<'a, H: Threads + Sync>(
     rt: &H,
     alloc: Global,
@@ -53,9 +29,27 @@ fn tried<'a, H: Threads + Sync>(
     read_fails: u32,
     write_fails: u32,
 ) -> Trial<'a> {
-    let first = tried_once(rt, alloc, text, read_fails, write_fails);
+    let once = || {
+        let mut script = Script::new(text, 7, read_fails);
+        let mut page = Page::new(1, write_fails);
+        let mut source = Source::new(&mut script);
+        let answer = run(
+            rt,
+            alloc,
+            &mut source,
+            &mut Sink::new(&mut page),
+            4,
+            Form::Text,
+        );
+        Trial {
+            script,
+            page,
+            answer,
+        }
+    };
+    let first = once();
     if first.answer == Err(RunFault::Memory) {
-        return tried_once(rt, alloc, text, read_fails, write_fails);
+        return once();
     }
     first
 }
