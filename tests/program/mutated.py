@@ -12,6 +12,7 @@ from pathlib import Path
 
 ROOT = Path(__file__).resolve().parents[2]
 sys.path.insert(0, str(ROOT / "tests"))
+from shared.mutants import edited, mutated, some_bytes  # noqa: E402
 from shared.program import Ended, Tally, program_of, run  # noqa: E402
 
 CASES = 1000
@@ -24,10 +25,6 @@ REPORT = re.compile(rb"replicas \d+ operations \d+ inserts \d+\n(?:doubled OP OP
                     .replace(b"OP", rb"\d+\.[1-9]\d*").replace(b"NAMES", rb"(?: NAME)*").replace(b"NAME", rb"[A-Za-z0-9_.-]{1,32}"))
 FAULT = re.compile(rb"finder: line \d+: (header|replicas|shape|cut|no such replica|own receipt|not yet, have \d+"
                    rb"|entries full|inserts full|long response|places full)\n")
-
-WORDS = [b"0", b"1", b"2", b"01", b"4294967295", b"4294967296", b"ins", b"del", b"read", b"recv", b":", b"a", b"",
-         b"trace 1", b"replicas 2", b"\n", b" ", b"\r\n", b"\0", b"\xff", b"\xc3\xa4"]
-
 
 def is_right(ended: Ended) -> bool:
     """A report, or one line of fault, on the right stream, and nothing on the other."""
@@ -43,56 +40,6 @@ def has_right_steps(report: re.Match) -> bool:
         return True
     number = int(report[2])
     return number >= 2 and report[4].count(b"\n") == number and (report[3] == b"no") == (number == 2)
-
-
-def some_bytes(rnd: random.Random) -> bytes:
-    alphabet = rnd.choice([bytes(range(256)), b"0123456789 :abdeilnprstv.\n", b"trace 1\nreplicas 2\n0 ins a : 0"])
-    return bytes(rnd.choice(alphabet) for _ in range(rnd.randint(0, 400)))
-
-
-def mutated(rnd: random.Random, text: bytes, other: bytes) -> bytes:
-    """The text with one change."""
-    at, end = sorted(rnd.randint(0, len(text)) for _ in range(2))
-    end = min(end, at + 40)
-    kind = rnd.randrange(8)
-    if kind == 0:
-        return text[:at] + bytes([rnd.randrange(256)]) + text[at + 1:]
-    if kind == 1:
-        return text[:at] + text[end:]
-    if kind == 2:
-        return text[:end] + text[at:end] + text[end:]
-    if kind == 3:
-        return text[:at] + rnd.choice(WORDS) + text[at:]
-    if kind == 4:
-        lines = text.split(b"\n")
-        i, j = rnd.randrange(len(lines)), rnd.randrange(len(lines))
-        lines[i], lines[j] = lines[j], lines[i]
-        return b"\n".join(lines)
-    if kind == 5:
-        words = text.split(b" ")
-        words[rnd.randrange(len(words))] = rnd.choice(WORDS)
-        return b" ".join(words)
-    if kind == 6:
-        return text[:at] + other[min(at, len(other)):]
-    return text[:at]
-
-
-def edited(rnd: random.Random, text: bytes) -> bytes:
-    """The text with one change that mostly leaves it a trace: of a name, a number, or the order of two lines."""
-    lines = text.splitlines(keepends=True)
-    at = rnd.randrange(min(2, len(lines) - 1), len(lines))
-    if rnd.random() < 0.3:
-        other = rnd.randrange(min(2, len(lines) - 1), len(lines))
-        lines[at], lines[other] = lines[other], lines[at]
-        return b"".join(lines)
-    words = lines[at].rstrip(b"\n").split(b" ")
-    i = rnd.randrange(len(words))
-    if words[i].isdigit():
-        words[i] = b"%d" % rnd.randrange(4)
-    elif b":" in words and i > words.index(b":"):
-        words[i:i + 1] = rnd.choice([[], [words[i]] * 2, [rnd.choice(words[words.index(b":") + 1:])], [b"new"]])
-    lines[at] = b" ".join(words) + b"\n"
-    return b"".join(lines)
 
 
 def cases() -> list:

@@ -1,0 +1,83 @@
+"""A slow reader of trace texts: the first faulty line and its cause. It is written from docs/formats.md, and shares nothing
+with the program: each line is matched whole by one expression."""
+import re
+from collections import Counter
+
+MOST_ENTRIES, MOST_INSERTS, MOST_NAMES, MOST_PLACES = 4096, 256, 4096, 262_144
+MOST_NUMBER = 4_294_967_295
+
+NUMBER = rb"(?:0|[1-9][0-9]*)"
+NAME = rb"[A-Za-z0-9_.-]{1,32}"
+ENTRY = re.compile(rb"(?P<r>NUMBER) (?:ins NAME (?P<at>NUMBER) :(?P<inserted>(?: NAME)*)|del NAME :(?P<deleted>(?: NAME)*)"
+                   rb"|read :(?P<read>(?: NAME)*)|recv (?P<q>NUMBER) (?P<n>NUMBER))"
+                   .replace(b"NUMBER", NUMBER).replace(b"NAME", NAME))
+REPLICAS = re.compile(rb"replicas (?:[1-9]|1[0-6])")
+
+
+class Lines:
+    """What the right lines so far say of each replica."""
+
+    def __init__(self):
+        self.replicas = 0
+        self.entries, self.inserts, self.operations, self.places = Counter(), Counter(), Counter(), Counter()
+
+    def cause(self, number: int, line: bytes) -> str | None:
+        """What is wrong with the next line; a right one is taken."""
+        if number == 1:
+            return None if line == b"trace 1" else "header"
+        if number == 2:
+            if not REPLICAS.fullmatch(line):
+                return "replicas"
+            self.replicas = int(line.split()[1])
+            return None
+        entry = ENTRY.fullmatch(line)
+        if entry is None or any(int(entry[key]) > MOST_NUMBER for key in ("r", "at", "q", "n") if entry[key]) or entry["n"] == b"0":
+            return "shape"
+        refused = self.refused(entry)
+        if refused is None:
+            self.take(entry)
+        return refused
+
+    def refused(self, entry: re.Match) -> str | None:
+        """Why a recording refuses an entry, by the first cause that holds."""
+        r, names = int(entry["r"]), names_of(entry)
+        if r >= self.replicas or entry["q"] and int(entry["q"]) >= self.replicas:
+            return "no such replica"
+        if entry["q"] and int(entry["q"]) == r:
+            return "own receipt"
+        if entry["q"] and self.operations[int(entry["q"])] < int(entry["n"]):
+            return f"not yet, have {self.operations[int(entry['q'])]}"
+        if self.entries[r] >= MOST_ENTRIES:
+            return "entries full"
+        if entry["at"] and self.inserts[r] >= MOST_INSERTS:
+            return "inserts full"
+        if names > MOST_NAMES:
+            return "long response"
+        return "places full" if self.places[r] + names > MOST_PLACES else None
+
+    def take(self, entry: re.Match) -> None:
+        r = int(entry["r"])
+        self.entries[r] += 1
+        self.inserts[r] += bool(entry["at"])
+        self.operations[r] += not entry["q"]
+        self.places[r] += names_of(entry)
+
+
+def names_of(entry: re.Match) -> int:
+    """How many names an entry's response has."""
+    response = next((entry[key] for key in ("inserted", "deleted", "read") if entry[key] is not None), b"")
+    return response.count(b" ")
+
+
+def line_fault(text: bytes) -> str | None:
+    """The first faulty line and its cause, as the program words them; none where the text spells a recording."""
+    *lines, last = text.split(b"\n")
+    so_far = Lines()
+    for number, line in enumerate(lines, 1):
+        cause = so_far.cause(number, line)
+        if cause is not None:
+            return f"line {number}: {cause}"
+    if last:
+        return f"line {len(lines) + 1}: cut"
+    missing = {0: "header", 1: "replicas"}.get(len(lines))
+    return f"line {len(lines) + 1}: {missing}" if missing else None
