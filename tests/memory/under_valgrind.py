@@ -1,0 +1,65 @@
+#!/usr/bin/env python3
+"""under_valgrind.py PROGRAM [MUTANTS]: the built program under Debian's valgrind, which must report nothing.
+
+Each command goes over each vector, `verify` over its certificate too, and `verdict` over so many changed texts, 1,000 unless
+told otherwise. The exit status and the texts must be those of a run without valgrind. It takes about a second of processor for
+each run, on all processors at once."""
+import os
+import random
+import sys
+import tempfile
+from concurrent.futures import ThreadPoolExecutor
+from pathlib import Path
+
+ROOT = Path(__file__).resolve().parents[2]
+sys.path.insert(0, str(ROOT / "tests"))
+from shared.mutants import edited, mutated, some_bytes  # noqa: E402
+from shared.program import Tally, need, program_of, run  # noqa: E402
+
+VECTORS = ROOT / "tests" / "vectors"
+SEED = 1945
+VALGRIND = ["-q", "--leak-check=full", "--errors-for-leak-kinds=definite,indirect", "--error-exitcode=99"]
+
+
+def changed_texts(many: int) -> list[bytes]:
+    rnd = random.Random(SEED)
+    traces = [path.read_bytes() for path in sorted(VECTORS.glob("*.trace")) if path.stat().st_size < 20_000]
+    made = []
+    for _ in range(many):
+        text = rnd.choice(traces)
+        for _ in range(rnd.randint(1, 3)):
+            text = edited(rnd, text) if rnd.random() < 0.5 and text.count(b"\n") > 2 else mutated(rnd, text, rnd.choice(traces))
+        made.append(text if rnd.random() < 0.8 else some_bytes(rnd))
+    return made
+
+
+def asked(program: str, folder: str, many: int):
+    """What is run: words and standard input."""
+    for trace in sorted(VECTORS.glob("*.trace")):
+        for words in (["verdict"], ["verdict", "--json"], ["cert"], ["live"]):
+            yield [*words, str(trace)], b""
+        made = run(program, ["cert", str(trace)])
+        if made.status < 2:
+            path = os.path.join(folder, f"{trace.stem}.cert")
+            Path(path).write_bytes(made.out)
+            yield ["verify", str(trace), path], b""
+    for text in changed_texts(many):
+        yield ["verdict", "-"], text
+
+
+def main() -> None:
+    many = int(sys.argv[2]) if len(sys.argv) > 2 else 1000
+    program = program_of(sys.argv[:2])
+    need("valgrind", "valgrind")
+    tally = Tally()
+    with tempfile.TemporaryDirectory() as folder, ThreadPoolExecutor(os.cpu_count()) as pool:
+        def tried(case) -> tuple:
+            words, text = case
+            return words, text, run("valgrind", [*VALGRIND, program, *words], text), run(program, words, text)
+        for words, text, got, wanted in pool.map(tried, asked(program, folder, many)):
+            tally.same(f"{words} on {text[:300]!r}", got, wanted)
+    tally.close()
+
+
+if __name__ == "__main__":
+    main()
