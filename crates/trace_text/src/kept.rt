@@ -199,7 +199,7 @@ impl KeptLine {
         Ok(())
     }
 
-    /// The whole words.
+    /// The whole words: after `close` all that is kept of the line.
     pub fn whole(&self) -> &[u8]
         ensures { result.now ≡ self.now.whole }
     {
