@@ -14,10 +14,11 @@ use trace_text::{Cause, read};
 
 /// Whether the certificate is valid for the recording that the trace spells; where not, the first reason.
 ///
-/// It searches nothing: beyond reading the texts and looking for a fault, a row of a certificate costs the
-/// places of all responses and the elements, and a step the response of its operation. Its memory is linear
-/// in the texts. Out of memory is never answered for a text that is faulty before any line of it takes
-/// memory.
+/// It searches nothing. Beyond reading the texts and looking for a fault, a step of a certificate costs the
+/// response of its operation, and a row the n elements of the recording, and `n / 64` steps for each of its
+/// names and layers. For the rows a table is made once, in `n / 64` steps for each place of a response. Its
+/// memory is linear in the texts but for that table, which takes `n * n / 8` bytes, about 2 MB at most. Out
+/// of memory is never answered for a text that is faulty before any line of it takes memory.
 pub fn check<H: Threads + Sync>(
     rt: &H,
     alloc: Global,

@@ -1,4 +1,4 @@
-//! Tests of the values that stand along a list of elements' numbers.
+//! Whether values rise along a list of elements' numbers.
 
 ghost use Rattle.std.specs.Prelude.{◌↔◌, ◌<◌, All, IsTrue, length, map, slice_index};
 ghost use Rattle.cert_check.specs.Values.{IsRising};

@@ -42,7 +42,7 @@ impl Begun {
         !self.is_lost && self.kept.is_empty()
     }
 
-    /// The whole words; none where the line is lost.
+    /// The whole words, after `close` all that is kept of the line; none where the line is lost.
     pub fn whole(&self) -> Option<&[u8]>
         ensures { MatchOption result (self.now ≡ None) (λ bytes. ShowsWhole self.now bytes.now) }
     {

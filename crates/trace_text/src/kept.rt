@@ -9,15 +9,16 @@ use format_words::name_of;
 use std::alloc::Global;
 use std::marker::Model;
 
-/// Whole words of an entry that have this many bytes hold more than the most names: each word has at most 32
-/// bytes and a space after it, so 4,101 words have fewer, and at most five are none of the names.
+/// Whole words of an entry that have this many bytes hold more names than a response may have. A word has at
+/// most 32 bytes, and a space after it: so these are 4,102 words at least, of which at most five stand before
+/// the response's names.
 const LONG_LINE: usize = 135_334;
 
 /// A line that is judged as the line that came so far, whatever follows.
 ///
-/// It is the line itself until that is longer than the longest right line. Then the names that follow are
-/// left out; and once the line can be no right line any more, one space stands for it, since no right line
-/// begins so.
+/// It is the line itself until its whole words are longer than the longest right line. Names that follow
+/// these are left out. Where a word has more than 32 bytes, or one that follows these is no name, the line
+/// can't be right any more: then one space stands for it, since no right line begins so.
 #[derive(Drop)]
 pub struct KeptLine {
     whole: Vec<u8>,
@@ -198,7 +199,7 @@ impl KeptLine {
         Ok(())
     }
 
-    /// The whole words.
+    /// The whole words: after `close` all that is kept of the line.
     pub fn whole(&self) -> &[u8]
         ensures { result.now ≡ self.now.whole }
     {
