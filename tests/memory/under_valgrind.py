@@ -1,7 +1,8 @@
 #!/usr/bin/env python3
 """under_valgrind.py PROGRAM [MUTANTS]: the built program under Debian's valgrind, which must report nothing.
 
-Each command goes over each vector, `verify` over its certificate too, and `verdict` over so many changed texts, 1,000 unless
+`verdict` and `cert` go over each vector, `verify` over its certificate too (not `live`, whose threads wait for one another for
+minutes under valgrind), and `verdict` over so many changed texts, 1,000 unless
 told otherwise. The exit status and the texts must be those of a run without valgrind. It takes about a second of processor for
 each run, on all processors at once."""
 import os
@@ -36,7 +37,7 @@ def changed_texts(many: int) -> list[bytes]:
 def asked(program: str, folder: str, many: int):
     """What is run: words and standard input."""
     for trace in sorted(VECTORS.glob("*.trace")):
-        for words in (["verdict"], ["verdict", "--json"], ["cert"], ["live"]):
+        for words in (["verdict"], ["verdict", "--json"], ["cert"]):
             yield [*words, str(trace)], b""
         made = run(program, ["cert", str(trace)])
         if made.status < 2:
