@@ -11,6 +11,7 @@
 ;;     (domepeeler-received recording 1 0 n)                  ; that operation was applied at replica 1
 ;;     (domepeeler-delete recording 1 "a" nil)                ; replica 1 deleted a; its list is now empty
 ;;     (domepeeler-read recording 0 '("a"))                   ; replica 0 read its list
+;;     (domepeeler-view recording 0 '("a"))                   ; replica 0 showed this part of its list
 ;;     (princ (domepeeler-text recording))                    ; the trace; tools/explain says what is wrong with it
 ;;     (alist-get 'verdict (domepeeler-judge recording)))     ; asks the program
 ;;
@@ -84,6 +85,13 @@ Answers the operation's number."
   "REPLICA read its list, RESPONSE.  Answers the operation's number."
   (domepeeler--acts recording replica)
   (domepeeler--operation recording replica "read" response 0))
+
+(defun domepeeler-view (recording replica part)
+  "REPLICA showed PART of its list, the window of an editor say.
+Answers the operation's number."
+  (domepeeler--acts recording replica)
+  (prog1 (domepeeler--operation recording replica "view" part 0)
+    (setcar (last (domepeeler-recording-lines recording)) "trace 2")))
 
 (defun domepeeler-received (recording replica author n)
   "AUTHOR's operation N was applied at REPLICA.

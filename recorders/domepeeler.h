@@ -8,6 +8,7 @@
  *     domepeeler_received(recording, 1, 0, n);                       // that operation was applied at replica 1
  *     domepeeler_delete(recording, 1, "a", NULL, 0);                 // replica 1 deleted a; its list is now empty
  *     domepeeler_read(recording, 0, list, 1);                        // replica 0 read its list
+ *     domepeeler_view(recording, 0, list, 1);                        // replica 0 showed this part of its list
  *     fputs(domepeeler_text(recording), stdout);                     // the trace; tools/explain says what is wrong with it
  *     char *report = domepeeler_judge(recording, NULL);              // asks the program: its report as JSON, or NULL
  *     free(report);
@@ -205,6 +206,14 @@ static inline unsigned domepeeler_delete(struct domepeeler *d, int replica, cons
 static inline unsigned domepeeler_read(struct domepeeler *d, int replica, const char *const *response, size_t names) {
     if (!domepeeler_acts(d, replica)) return 0;
     return domepeeler_operation(d, replica, "read", 0, response, names);
+}
+
+/* The replica showed this part of its list, the window of an editor say. Answers the operation's number. */
+static inline unsigned domepeeler_view(struct domepeeler *d, int replica, const char *const *part, size_t names) {
+    if (!domepeeler_acts(d, replica)) return 0;
+    unsigned n = domepeeler_operation(d, replica, "view", 0, part, names);
+    if (n) d->text[strlen("trace ")] = '2';
+    return n;
 }
 
 /* The author's operation n, and with it all that the author had seen by then, was applied at the replica. Answers 1. */

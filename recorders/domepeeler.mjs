@@ -7,6 +7,7 @@
 //     recording.received(1, 0, n)                  // that operation was applied at replica 1
 //     recording.delete(1, "a", [])                 // replica 1 deleted a, and its list is now empty
 //     recording.read(0, ["a"])                     // replica 0 read its list
+//     recording.view(0, ["a"])                     // replica 0 showed this part of its list
 //     console.log(recording.text())                // the trace; tools/explain says what is wrong with it
 //     console.log((await recording.judge()).verdict) // asks the program
 //
@@ -57,6 +58,14 @@ export class Recording {
   read(replica, response) {
     this.#acts(replica)
     return this.#operation(replica, "read", response, 0)
+  }
+
+  /** The replica showed this part of its list, the window of an editor say. Answers the operation's number. */
+  view(replica, part) {
+    this.#acts(replica)
+    const n = this.#operation(replica, "view", part, 0)
+    this.#lines[0] = "trace 2"
+    return n
   }
 
   /** The author's operation n, and with it all that the author had seen by then, was applied at the replica. */

@@ -7,6 +7,7 @@ Copy this file into your project; it needs Python 3 and nothing else. docs/recor
     recording.received(1, 0, n)              # that operation was applied at replica 1
     recording.delete(1, "a", [])             # replica 1 deleted a, and its list is now empty
     recording.read(0, ["a"])                 # replica 0 read its list
+    recording.view(0, ["a"])                 # replica 0 showed this part of its list
     print(recording.text())                  # the trace; tools/explain says what is wrong with it
     print(recording.judge()["verdict"])      # asks the program
 
@@ -68,6 +69,13 @@ class Recording:
         """The replica read its list. Answers the operation's number."""
         self._acts(replica)
         return self._operation(replica, "read", response)
+
+    def view(self, replica: int, part: list) -> int:
+        """The replica showed this part of its list, the window of an editor say. Answers the operation's number."""
+        self._acts(replica)
+        n = self._operation(replica, "view", part)
+        self._lines[0] = "trace 2"
+        return n
 
     def received(self, replica: int, author: int, n: int) -> None:
         """The author's operation n, and with it all that the author had seen by then, was applied at the replica."""

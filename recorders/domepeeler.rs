@@ -9,6 +9,7 @@
 //! recording.received(1, 0, n)?;                 // that operation was applied at replica 1
 //! recording.delete(1, "a", &[] as &[&str])?;    // replica 1 deleted a, and its list is now empty
 //! recording.read(0, &["a"])?;                   // replica 0 read its list
+//! recording.view(0, &["a"])?;                   // replica 0 showed this part of its list
 //! print!("{}", recording.text());               // the trace; tools/explain says what is wrong with it
 //! println!("{}", recording.judge().unwrap());   // asks the program: its report as JSON
 //! ```
@@ -140,6 +141,14 @@ impl Recording {
     pub fn read<N: AsRef<str>>(&mut self, replica: usize, response: &[N]) -> Result<u32, Refused> {
         self.acts(replica)?;
         self.operation(replica, "read", response, 0)
+    }
+
+    /// The replica showed this part of its list, the window of an editor say. Answers the operation's number.
+    pub fn view<N: AsRef<str>>(&mut self, replica: usize, part: &[N]) -> Result<u32, Refused> {
+        self.acts(replica)?;
+        let n = self.operation(replica, "view", part, 0)?;
+        self.lines.replace_range(.."trace 1".len(), "trace 2");
+        Ok(n)
     }
 
     /// The author's operation n, and with it all that the author had seen by then, was applied at the replica.

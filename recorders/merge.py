@@ -10,7 +10,8 @@ import re
 import sys
 from pathlib import Path
 
-ENTRY = re.compile(r"[0-9]+ (recv [0-9]+ [0-9]+|(ins|del|read) .*)", re.ASCII)
+ENTRIES = {"trace 1": re.compile(r"[0-9]+ (recv [0-9]+ [0-9]+|(ins|del|read) .*)", re.ASCII),
+           "trace 2": re.compile(r"[0-9]+ (recv [0-9]+ [0-9]+|(ins|del|read|view) .*)", re.ASCII)}
 
 
 class Unmerged(ValueError):
@@ -19,25 +20,25 @@ class Unmerged(ValueError):
 
 def merge(texts: list) -> str:
     """The trace of these logs, one for each replica that did or received anything."""
-    heads = {tuple(text.split("\n")[:2]) for text in texts}
-    if len(heads) != 1:
+    counts = {tuple(text.split("\n")[1:2]) for text in texts}
+    if len(counts) != 1:
         raise Unmerged("the logs begin with different lines: they are of different sessions, or there is none")
-    head = heads.pop()
     waiting = [entries(number, text) for number, text in enumerate(texts, 1)]
     authors = [line.split(" ")[0] for lines in waiting for line in lines[:1]]
     for author in authors:
         if authors.count(author) > 1:
             raise Unmerged(f"two logs are of replica {author}")
+    head = [max(text.split("\n")[0] for text in texts), *counts.pop()]
     return "\n".join([*head, *merged([lines for lines in waiting if lines])]) + "\n"
 
 
 def entries(number: int, text: str) -> list:
     """The lines of a log after the first two; it is the log of one replica."""
     *lines, rest = text.split("\n")
-    if rest or lines[:1] != ["trace 1"] or not lines[1:2]:
+    if rest or not lines[1:2] or lines[0] not in ENTRIES:
         raise Unmerged(f"log {number} is no text of a recorder, or was cut off")
     for place, line in enumerate(lines[2:], 3):
-        if not ENTRY.fullmatch(line):
+        if not ENTRIES[lines[0]].fullmatch(line):
             raise Unmerged(f"line {place} of log {number} is no entry: {line}")
         if line.split(" ")[0] != lines[2].split(" ")[0]:
             raise Unmerged(f"line {place} of log {number} is of another replica than line 3")

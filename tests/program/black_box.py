@@ -9,6 +9,8 @@ from pathlib import Path
 
 ROOT = Path(__file__).resolve().parents[2]
 sys.path.insert(0, str(ROOT / "tests"))
+from reference.traces import spellings  # noqa: E402
+from shared.forger import line  # noqa: E402
 from shared.program import Ended, Tally, fault, program_of, report, run  # noqa: E402
 
 VECTORS = ROOT / "tests" / "vectors"
@@ -34,6 +36,54 @@ WORKED = [
 ]
 DOUBLED = "0 ins a 0 : a|0 ins b 1 : a b|1 ins b 0 : b"
 DOUBLED_JSON = b'{"again":"1.1","first":"0.2","inserts":3,"operations":3,"replicas":2,"verdict":"doubled"}\n'
+
+# Recordings with views by name, in version 2 of the trace: how many replicas, the entries, the lines of the report, and those of
+# the certificate behind the first.
+VIEWS = [
+    ("a view of a part", 2, "0 ins a 0 : a|0 ins b 1 : a b|1 recv 0 2|1 view : b",
+     f"replicas 2 operations 3 inserts 2|{ACCEPTED} a b", "accepted|order : a b"),
+    ("three views round a ring", 3,
+     "0 ins a 0 : a|1 ins b 0 : b|2 ins c 0 : c|0 recv 1 1|0 recv 2 1|0 view : a b|0 view : b c|0 view : c a",
+     "replicas 3 operations 6 inserts 3|refused 3|strong no|weak yes|step a b 0.2 : a b|step b c 0.3 : b c|step c a 0.4 : c a",
+     "refused 3|step a b 0.2|step b c 0.3|step c a 0.4|layers a / b|layers b / c|layers c / a"),
+    ("two views in opposite orders", 2, "0 ins a 0 : a|1 ins b 0 : b|0 recv 1 1|1 recv 0 1|0 view : a b|1 view : b a",
+     "replicas 2 operations 4 inserts 2|refused 2|strong no|weak no|step a b 0.2 : a b|step b a 1.2 : b a",
+     "refused 2|step a b 0.2|step b a 1.2"),
+    ("a deleted element in a view", 1, "0 ins a 0 : a|0 del a :|0 view : a",
+     "replicas 1 operations 3 inserts 1|contents 0.3|strong no|weak no", "contents 0.3"),
+    ("a name twice in a view", 1, "0 ins a 0 : a|0 view : a a",
+     "replicas 1 operations 2 inserts 1|contents 0.2|strong no|weak no", "contents 0.2"),
+    ("an empty view of nothing", 1, "0 view :", f"replicas 1 operations 1 inserts 0|{ACCEPTED}", "accepted|order :"),
+    ("version 2 without a view", 1, "0 read :", f"replicas 1 operations 1 inserts 0|{ACCEPTED}", "accepted|order :"),
+    ("version 2 without an entry", 1, "", f"replicas 1 operations 0 inserts 0|{ACCEPTED}", "accepted|order :"),
+    ("an empty view of an element", 1, "0 ins a 0 : a|0 view :", f"replicas 1 operations 2 inserts 1|{ACCEPTED} a",
+     "accepted|order : a"),
+    ("a view of all", 1, "0 ins a 0 : a|0 ins b 1 : a b|0 view : a b", f"replicas 1 operations 3 inserts 2|{ACCEPTED} a b",
+     "accepted|order : a b"),
+    ("a view without the middle", 1, "0 ins a 0 : a|0 ins b 1 : a b|0 ins c 2 : a b c|0 view : a c",
+     f"replicas 1 operations 4 inserts 3|{ACCEPTED} a b c", "accepted|order : a b c"),
+    ("a view of all in another order", 1, "0 ins a 0 : a|0 ins b 1 : a b|0 view : b a",
+     "replicas 1 operations 3 inserts 2|refused 2|strong no|weak no|step a b 0.2 : a b|step b a 0.3 : b a",
+     "refused 2|step a b 0.2|step b a 0.3"),
+    ("a view and no read may leave an element out", 1, "0 ins a 0 : a|0 view :|0 read :",
+     "replicas 1 operations 3 inserts 1|contents 0.3|strong no|weak no", "contents 0.3"),
+    ("an insert may leave nothing out", 1, "0 ins a 0 : a|0 view :|0 ins b 0 : b",
+     "replicas 1 operations 3 inserts 2|contents 0.3|strong no|weak no", "contents 0.3"),
+    ("a delete may leave nothing out", 1, "0 ins a 0 : a|0 ins b 0 : b a|0 del a :",
+     "replicas 1 operations 3 inserts 2|contents 0.3|strong no|weak no", "contents 0.3"),
+    ("an element in a view before it arrives", 2, "0 ins a 0 : a|1 view : a",
+     "replicas 2 operations 2 inserts 1|contents 1.1|strong no|weak no", "contents 1.1"),
+    ("a name in a view that nothing inserts", 1, "0 view : a",
+     "replicas 1 operations 1 inserts 0|contents 0.1|strong no|weak no", "contents 0.1"),
+    ("an element in a view whose delete has not arrived", 2, "0 ins a 0 : a|1 recv 0 1|0 del a :|1 view : a",
+     f"replicas 2 operations 3 inserts 1|{ACCEPTED} a", "accepted|order : a"),
+    ("the receipt of a view brings what it had seen", 3, "0 ins a 0 : a|1 recv 0 1|1 view :|2 recv 1 1|2 read :",
+     "replicas 3 operations 3 inserts 1|contents 2.1|strong no|weak no", "contents 2.1"),
+    ("a doubled name before the fault of a view", 1, "0 view : q|0 ins a 0 : a|0 ins a 0 : a",
+     "replicas 1 operations 3 inserts 2|doubled 0.2 0.3", "doubled 0.2 0.3"),
+    ("a view of the name view", 1, "0 ins view 0 : view|0 view : view|0 del view :",
+     f"replicas 1 operations 3 inserts 1|{ACCEPTED} view", "accepted|order : view"),
+]
 
 # Vectors of which the report must not depend on the number of workers.
 SEARCHED = ["all-three-way-cycle", "all-opposite-pair", "all-ring-of-four"]
@@ -61,6 +111,30 @@ MALFORMED = [
     ("trace 1\nreplicas 1\n0 read :\r\n", "line 3: shape"),
     ("trace 1\nreplicas 1\n0 ins \u00e4 0 : \u00e4\n", "line 3: shape"),
     ("trace 1\nreplicas 1\n0 read :\0\n", "line 3: shape"),
+    ("trace 2", "line 1: cut"),
+    ("trace 2\n", "line 2: replicas"),
+    ("trace 2\nreplicas 1\n0 read :", "line 3: cut"),
+    ("trace 2\nreplicas 1\n0 view :", "line 3: cut"),
+    ("trace 1\nreplicas 1\n0 view :\n", "line 3: shape"),
+    ("trace 1\nreplicas 1\n1 view :\n", "line 3: shape"),
+    ("trace 1\nreplicas 1\n0 view :", "line 3: cut"),
+    ("trace 1\nreplicas 1\n0 read :\n0 view :\n", "line 4: shape"),
+    ("trace 2\nreplicas 1\n1 view :\n", "line 3: no such replica"),
+    ("trace 2\nreplicas 1\n01 view :\n", "line 3: shape"),
+    ("trace 2\nreplicas 1\n0 view : \n", "line 3: shape"),
+    ("trace 2\nreplicas 1\n0 view\n", "line 3: shape"),
+    ("trace 2\nreplicas 1\n0 view a :\n", "line 3: shape"),
+    ("trace 2\nreplicas 1\n0 View :\n", "line 3: shape"),
+    ("trace 2\nreplicas 1\n0 views :\n", "line 3: shape"),
+    ("trace 2\nreplicas 2\n0 view :\n1 recv 0 2\n", "line 4: not yet, have 1"),
+    ("trace 2\ntrace 1\nreplicas 1\n", "line 2: replicas"),
+    ("trace 2\nreplicas 1\ntrace 2\n", "line 3: shape"),
+    ("trace 3\nreplicas 1\n", "line 1: header"),
+    ("trace 0\nreplicas 1\n", "line 1: header"),
+    ("trace 12\nreplicas 1\n", "line 1: header"),
+    ("trace 2 \nreplicas 1\n", "line 1: header"),
+    ("trace 2\r\nreplicas 1\n", "line 1: header"),
+    ("trace\nreplicas 1\n", "line 1: header"),
 ]
 
 USAGE = [
@@ -102,6 +176,28 @@ def worked(tally: Tally, program: str) -> None:
     tally.same("doubled name as JSON", got, Ended(1, DOUBLED_JSON, b""))
 
 
+def views(tally: Tally, program: str, folder: str) -> None:
+    """Recordings with views: report, certificate, and what the checker says of it."""
+    path = os.path.join(folder, "cert")
+    for name, replicas, entries, lines, certificate in VIEWS:
+        trace = lines_of(f"trace 2|replicas {replicas}|{entries}")
+        wanted = report(lines_of(lines))
+        tally.same(name, run(program, ["verdict", "-"], trace), wanted)
+        tally.same(f"live: {name}", run(program, ["live", "-"], trace), wanted)
+        certified = lines_of(f"cert 1|{certificate}")
+        tally.same(f"cert: {name}", run(program, ["cert", "-"], trace), wanted._replace(out=certified))
+        Path(path).write_bytes(certified)
+        kind = certificate.split("|")[0].split(" ")[0]
+        tally.same(f"verify: {name}", run(program, ["verify", "-", path], trace), line(f"yes {kind}\n"))
+        Path(path).write_bytes(b"cert 1\naccepted\norder : a\n" if kind != "accepted" else b"cert 1\ncontents 0.1\n")
+        answer = line("no order\n" if kind == "refused" else "no fault\n")
+        tally.same(f"verify: {name}, another certificate", run(program, ["verify", "-", path], trace), answer)
+    pair = VECTORS / "all-opposite-pair.trace"
+    trace = pair.read_bytes().replace(b"trace 1", b"trace 2").replace(b" read :", b" view :")
+    for words, suffix in (["verdict", "-"], ".report"), (["verdict", "--json", "-"], ".json"), (["cert", "-"], ".cert"):
+        tally.same(f"{pair.name} with views, {words}", run(program, words, trace), Ended(1, pair.with_suffix(suffix).read_bytes(), b""))
+
+
 def malformed(tally: Tally, program: str) -> None:
     for text, words in MALFORMED:
         tally.same(repr(text), run(program, trace=text.encode()), fault(words))
@@ -113,6 +209,17 @@ def malformed(tally: Tally, program: str) -> None:
     tally.same("long response", run(program, trace=b"trace 1\nreplicas 1\n" + limit.encode()), fault("line 3: long response"))
     limit = ("0 read :" + " a" * 4096 + "\n") * 64 + "0 read : a\n"
     tally.same("places full", run(program, trace=b"trace 1\nreplicas 1\n" + limit.encode()), fault("line 67: places full"))
+    front = b"trace 2\nreplicas 1\n"
+    for what, limit, words in (("entries", "0 view :\n" * 4097, "line 4099: entries full"),
+                               ("entries, the last a read", "0 view :\n" * 4096 + "0 read :\n", "line 4099: entries full"),
+                               ("names", "0 view :" + " a" * 4097 + "\n", "line 3: long response"),
+                               ("names of all", ("0 view :" + " a" * 4096 + "\n") * 64 + "0 view : a\n", "line 67: places full"),
+                               ("names of all, reads too", ("0 view :" + " a" * 4096 + "\n0 read :" + " a" * 4096 + "\n") * 32
+                                + "0 read : a\n", "line 67: places full")):
+        tally.same(f"views full: {what}", run(program, trace=front + limit.encode()), fault(words))
+    limit = "0 view :\n" * 4096
+    wanted = report(lines_of(f"replicas 1 operations 4096 inserts 0|{ACCEPTED}"))
+    tally.same("as many views as there can be", run(program, trace=front + limit.encode()), wanted)
 
 
 def reports_of(vector: Path) -> list:
@@ -126,7 +233,9 @@ def vectors(tally: Tally, program: str) -> None:
     for path in sorted(VECTORS.glob("*.trace")):
         for words, wanted in reports_of(path):
             tally.same(f"{path.name} as a file {words}", run(program, ["verdict", *words, str(path)]), wanted)
-            tally.same(f"{path.name} {words}", run(program, ["verdict", "-", *words], path.read_bytes()), wanted)
+            for spelling in spellings(path.read_text()):
+                got = run(program, ["verdict", "-", *words], spelling.encode())
+                tally.same(f"{path.name} {words} as {spelling[:7]}", got, wanted)
     for path in sorted(VECTORS.glob("malformed/*.trace")):
         wanted = fault(path.with_suffix(".fault").read_text().rstrip("\n"))
         for words in [], ["--json"]:
@@ -213,7 +322,7 @@ def embedding(tally: Tally) -> None:
     prints."""
     page = (ROOT / "docs" / "embedding.md").read_text()
     crate = ROOT / "crates" / "live_example"
-    source = (crate / "src" / "main.rt").read_text() + (ROOT / "crates" / "trace_text" / "src" / "tests.rt").read_text()
+    source = (crate / "src" / "main.rt").read_text() + (ROOT / "crates/trace_text/src/tests/piecewise.rt").read_text()
     shown = [part.split("```")[0] for part in page.split("```rust\n")[1:]]
     tally.check("embedding: shows the program", len(shown) >= 4 and any("fn main(" in lines for lines in shown))
     for lines in shown:
@@ -308,11 +417,14 @@ def run_to_closed_pipe(words: list, read: int) -> Ended:
 
 def long_texts(tally: Tally, program: str) -> None:
     front = b"trace 1\nreplicas 1\n"
-    for name, line in [("digits", b"0" * 10_000_000), ("blanks", b" " * 10_000_000), ("one name", b"0 ins " + b"a" * 10_000_000 + b" 0 :"),
-                       ("many names", b"0 read :" + b" a" * 5_000_000)]:
+    for name, whole in [("digits", b"0" * 10_000_000), ("blanks", b" " * 10_000_000), ("one name", b"0 ins " + b"a" * 10_000_000 + b" 0 :"),
+                        ("many names", b"0 read :" + b" a" * 5_000_000), ("a view in version 1", b"0 view :" + b" a" * 5_000_000)]:
         words = "line 3: long response" if name == "many names" else "line 3: shape"
-        tally.same(f"a line of 10 MB of {name}", run(program, trace=front + line + b"\n"), fault(words))
-        tally.same(f"10 MB of {name}, cut", run(program, trace=front + line), fault("line 3: cut"))
+        tally.same(f"a line of 10 MB of {name}", run(program, trace=front + whole + b"\n"), fault(words))
+        tally.same(f"10 MB of {name}, cut", run(program, trace=front + whole), fault("line 3: cut"))
+    view = b"trace 2\nreplicas 1\n0 view :" + b" a" * 5_000_000
+    tally.same("a line of 10 MB of a view", run(program, trace=view + b"\n"), fault("line 3: long response"))
+    tally.same("10 MB of a view, cut", run(program, trace=view), fault("line 3: cut"))
     tally.same("10 MB without LF", run(program, trace=b"t" * 10_000_000), fault("line 1: cut"))
     tally.same("10 MB of LF", run(program, trace=front + b"\n" * 10_000_000), fault("line 3: shape"))
 
@@ -321,6 +433,8 @@ def main() -> None:
     program = program_of(sys.argv)
     tally = Tally()
     worked(tally, program)
+    with tempfile.TemporaryDirectory() as folder:
+        views(tally, program, folder)
     malformed(tally, program)
     vectors(tally, program)
     workers(tally, program)

@@ -8,6 +8,7 @@ from pathlib import Path
 
 ROOT = Path(__file__).resolve().parents[2]
 sys.path.insert(0, str(ROOT / "tests"))
+from reference.traces import spellings  # noqa: E402
 from shared.forger import line  # noqa: E402
 from shared.program import Ended, Tally, fault, program_of, run  # noqa: E402
 
@@ -28,6 +29,8 @@ def vectors(tally: Tally, program: str) -> None:
         wanted = Ended(status, cert.read_bytes(), b"")
         tally.same(f"cert {trace.name}", run(program, ["cert", str(trace)]), wanted)
         tally.same(f"cert of {trace.name} from standard input", run(program, ["cert", "-"], trace.read_bytes()), wanted)
+        for spelling in spellings(trace.read_text())[1:]:
+            tally.same(f"cert of {trace.name} in version 2", run(program, ["cert", "-"], spelling.encode()), wanted)
         said = line(f"yes {kind_in(cert.read_bytes())}\n")
         tally.same(f"verify {trace.name}", run(program, ["verify", str(trace), str(cert)]), said)
         tally.same(f"verify - {cert.name}", run(program, ["verify", "-", str(cert)], trace.read_bytes()), said)

@@ -59,6 +59,7 @@ def cases() -> list:
 
 
 FRONT = b"trace 1\nreplicas 16\n"
+FRONT_OF_VIEWS = b"trace 2\nreplicas 16\n"
 
 # Texts of any length, by the number of bytes that is wanted.
 GROWING = {
@@ -67,6 +68,8 @@ GROWING = {
     "one line of names": lambda n: FRONT + b"0 read :" + b" a" * (n // 2),
     "one long name": lambda n: FRONT + b"0 del " + b"a" * n + b" :\n",
     "one long number": lambda n: FRONT + b"9" * n + b" read :\n",
+    "one line of a view": lambda n: FRONT_OF_VIEWS + b"0 view :" + b" a" * (n // 2),
+    "full views": lambda n: FRONT_OF_VIEWS + b"".join(b"%d view :%s\n" % (i % 16, b" a" * 4096) for i in range(n // 8200)),
     "full responses": lambda n: FRONT + b"".join(b"%d read :%s\n" % (i % 16, b" a" * 4096) for i in range(n // 8200)),
     "empty lines": lambda n: FRONT + b"\n" * n,
 }

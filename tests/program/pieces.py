@@ -67,6 +67,8 @@ def try_many_entries(program: str, tally: Tally) -> None:
     """As many entries as there can be, in pieces that cut lines."""
     text = ("trace 1\nreplicas 16\n" + "\n".join(MANY) + "\n").encode()
     tally.same("65,536 reads", piped(program, ["verdict", "-"], cuts(text, 1000)), Ended(0, MANY_REPORT, b""))
+    text = text.replace(b"trace 1", b"trace 2").replace(b"read", b"view")
+    tally.same("65,536 views", piped(program, ["verdict", "-"], cuts(text, 1000)), Ended(0, MANY_REPORT, b""))
 
 
 def endless(front: bytes):
@@ -116,6 +118,7 @@ def long_line(front: bytes, piece: bytes, back: bytes):
 def try_long_lines(program: str, tally: Tally) -> None:
     """A line of a gigabyte takes no more memory than one that is right, and its fault comes with its LF."""
     read = b"trace 1\nreplicas 1\n0 read :"
+    view = b"trace 2\nreplicas 1\n0 view :"
     name = b" abcdefghijklmnopqrstuvwxyz01234"
     for what, front, piece, back, words in (
             ("bytes without LF", b"", b"x", b"", "line 1: cut"),
@@ -124,7 +127,9 @@ def try_long_lines(program: str, tally: Tally) -> None:
             ("names without LF", read, name, b"", "line 3: cut"),
             ("names", read, name, b"\n", "line 3: long response"),
             ("names and a word that is none", read, name, b" !\n", "line 3: shape"),
-            ("names and two spaces", read, name, b"  a\n", "line 3: shape")):
+            ("names and two spaces", read, name, b"  a\n", "line 3: shape"),
+            ("names of a view", view, name, b"\n", "line 3: long response"),
+            ("names of a view in version 1", view.replace(b"trace 2", b"trace 1"), name, b"\n", "line 3: shape")):
         ended, seconds, megabytes = measured(program, ["verdict", "-"], long_line(front, piece, back))
         tally.same(f"a gigabyte of {what}", ended, fault(words))
         tally.check(f"a gigabyte of {what} in a minute", seconds < 60, f"{seconds:.1f} s")

@@ -2,7 +2,8 @@
 """same_answers.py PROGRAM OTHER [COUNT]: two programs, an older one say, on generated recordings, 2,000 unless told otherwise.
 
 Report, report as JSON and certificate must be the same, byte for byte, and so must the exit statuses. Half of the recordings
-are small, with a fault now and then; the others have up to 200 elements and long responses, and mostly no fault."""
+are small, with a fault now and then; the others have up to 200 elements and long responses, and mostly no fault. Of either half
+a share has views, unless one of the programs is so old that it reads version 1 of the trace alone."""
 import random
 import sys
 from collections import Counter
@@ -14,20 +15,28 @@ from shared.program import Tally, program_of, run  # noqa: E402
 from shared.sessions import session, with_fault  # noqa: E402
 
 SEED = 20261123
+WITH_VIEW = b"trace 2\nreplicas 1\n0 view :\n"
 COMMANDS = ["verdict", "-"], ["verdict", "--json", "-"], ["verdict", "--workers", "1", "-"], ["cert", "-"]
 
 
-def small(rnd: random.Random) -> str:
+def small(rnd: random.Random, views: bool) -> str:
     """A small recording, in one of three with a fault."""
-    text = session(rnd)
-    return with_fault(rnd, text) if rnd.random() < 0.3 else text
+    text = session(rnd, views)
+    return with_fault(rnd, text, views) if rnd.random() < 0.3 else text
 
 
-def large(rnd: random.Random) -> str:
+def window(rnd: random.Random, names: list) -> list:
+    """What an editor shows of a long document: names that stand together."""
+    first = rnd.randint(0, len(names))
+    return names[first:first + rnd.randint(0, 20)]
+
+
+def large(rnd: random.Random, views: bool) -> str:
     """A recording of 2 to 6 replicas that insert, delete and read, each with a list of its own order of what it has received: the same
     order at all replicas, but at some places two elements exchanged."""
     replicas, count = rnd.randint(2, 6), rnd.randint(20, 200)
-    lines = ["trace 1", f"replicas {replicas}"]
+    share_of_views = rnd.choice([0, 0.3, 1]) if views else 0
+    lines = ["trace 2" if share_of_views else "trace 1", f"replicas {replicas}"]
     order, has, done, seen = [], [[] for _ in range(replicas)], [[] for _ in range(replicas)], [[0] * replicas for _ in range(replicas)]
     gone = [set() for _ in range(replicas)]
     swapped = rnd.random() < 0.5
@@ -59,7 +68,9 @@ def large(rnd: random.Random) -> str:
             gone[r].add(name)
             operation(r, f"del {name}", ("del", name), answer(r))
         elif kind < 0.65:
-            operation(r, "read", ("read", ""), answer(r))
+            is_view = share_of_views and rnd.random() < share_of_views
+            shown = answer(r)
+            operation(r, "view" if is_view else "read", ("read", ""), window(rnd, shown) if is_view else shown)
         else:
             s = rnd.choice([q for q in range(replicas) if q != r])
             if seen[r][s] < len(done[s]):
@@ -84,8 +95,10 @@ def main() -> None:
     program, other = program_of(sys.argv[:2]), program_of([sys.argv[0], sys.argv[2]])
     count = int(sys.argv[3]) if len(sys.argv) > 3 else 2000
     rnd, tally, kinds = random.Random(SEED), Tally(), Counter()
+    views = all(run(one, ["verdict", "-"], WITH_VIEW).status == 0 for one in (program, other))
+    print("with views" if views else "without views, which one of the programs does not read")
     for i in range(count):
-        text = (small if i % 2 else large)(rnd)
+        text = (small if i % 2 else large)(rnd, views)
         for words in COMMANDS:
             got, wanted = run(program, words, text.encode()), run(other, words, text.encode())
             tally.same(f"{' '.join(words)} of\n{text}", got, wanted)

@@ -9,8 +9,9 @@ MOST_NUMBER = 4_294_967_295
 NUMBER = rb"(?:0|[1-9][0-9]*)"
 NAME = rb"[A-Za-z0-9_.-]{1,32}"
 ENTRY = re.compile(rb"(?P<r>NUMBER) (?:ins NAME (?P<at>NUMBER) :(?P<inserted>(?: NAME)*)|del NAME :(?P<deleted>(?: NAME)*)"
-                   rb"|read :(?P<read>(?: NAME)*)|recv (?P<q>NUMBER) (?P<n>NUMBER))"
+                   rb"|(?P<kind>read|view) :(?P<answered>(?: NAME)*)|recv (?P<q>NUMBER) (?P<n>NUMBER))"
                    .replace(b"NUMBER", NUMBER).replace(b"NAME", NAME))
+HEADERS = {b"trace 1": 1, b"trace 2": 2}
 REPLICAS = re.compile(rb"replicas (?:[1-9]|1[0-6])")
 
 
@@ -18,13 +19,14 @@ class Lines:
     """What the right lines so far say of each replica."""
 
     def __init__(self):
-        self.replicas = 0
+        self.version = self.replicas = 0
         self.entries, self.inserts, self.operations, self.places = Counter(), Counter(), Counter(), Counter()
 
     def cause(self, number: int, line: bytes) -> str | None:
         """What is wrong with the next line; a right one is taken."""
         if number == 1:
-            return None if line == b"trace 1" else "header"
+            self.version = HEADERS.get(line, 0)
+            return None if self.version else "header"
         if number == 2:
             if not REPLICAS.fullmatch(line):
                 return "replicas"
@@ -32,6 +34,8 @@ class Lines:
             return None
         entry = ENTRY.fullmatch(line)
         if entry is None or any(int(entry[key]) > MOST_NUMBER for key in ("r", "at", "q", "n") if entry[key]) or entry["n"] == b"0":
+            return "shape"
+        if entry["kind"] == b"view" and self.version == 1:
             return "shape"
         refused = self.refused(entry)
         if refused is None:
@@ -65,7 +69,7 @@ class Lines:
 
 def names_of(entry: re.Match) -> int:
     """How many names an entry's response has."""
-    response = next((entry[key] for key in ("inserted", "deleted", "read") if entry[key] is not None), b"")
+    response = next((entry[key] for key in ("inserted", "deleted", "answered") if entry[key] is not None), b"")
     return response.count(b" ")
 
 
@@ -81,3 +85,19 @@ def line_fault(text: bytes) -> str | None:
         return f"line {len(lines) + 1}: cut"
     missing = {0: "header", 1: "replicas"}.get(len(lines))
     return f"line {len(lines) + 1}: {missing}" if missing else None
+
+
+def has_view(text: str) -> bool:
+    """Whether some entry of the recording that the text spells is a view."""
+    return any(line.split(" ")[1] == "view" for line in text.splitlines()[2:])
+
+
+def written(text: str) -> str:
+    """The spelling that is written for the recording that the text spells: of version 1 exactly where no entry is a view."""
+    return f"trace {2 if has_view(text) else 1}" + text[len("trace 1"):]
+
+
+def spellings(text: str) -> list:
+    """All spellings of the recording that the text spells: two where no entry is a view, which differ in line 1 alone."""
+    versions = [2] if has_view(text) else [1, 2]
+    return [f"trace {version}" + text[len("trace 1"):] for version in versions]

@@ -56,8 +56,8 @@ def recording_of(text: str) -> Recording:
         if kind == "recv":
             streams[replica].append(Receipt((int(words[2]), int(words[3]))))
             continue
-        fixed = {"ins": 5, "del": 4, "read": 3}[kind]  # how many words stand up to the colon
-        name = words[2] if kind != "read" else ""
+        fixed = {"ins": 5, "del": 4, "read": 3, "view": 3}[kind]  # how many words stand up to the colon
+        name = words[2] if kind in ("ins", "del") else ""
         at = int(words[3]) if kind == "ins" else 0
         streams[replica].append(Operation(kind, name, at, tuple(words[fixed:])))
     operations = {}
@@ -92,6 +92,12 @@ def contents(recording: Recording, pairs: set, e: tuple) -> set:
     return {body.name for body in seen if body.kind == "ins"} - {body.name for body in seen if body.kind == "del"}
 
 
+def holds_what_is_visible(body: Operation, visible: set) -> bool:
+    """Nothing else, and all of it unless it is a view's response."""
+    shown = set(body.response)
+    return shown <= visible and (body.kind == "view" or visible <= shown)
+
+
 def stands_where_asked(body: Operation) -> bool:
     w = body.response
     return body.kind != "ins" or (len(w) > 0 and w[min(body.at, len(w) - 1)] == body.name)
@@ -105,7 +111,7 @@ def first_fault(recording: Recording) -> Fault | None:
             return Fault("doubled", first, again)
     pairs = visibility(recording)
     for e, body in recording.operations.items():
-        if len(set(body.response)) < len(body.response) or set(body.response) != contents(recording, pairs, e):
+        if len(set(body.response)) < len(body.response) or not holds_what_is_visible(body, contents(recording, pairs, e)):
             return Fault("contents", e)
         if not stands_where_asked(body):
             return Fault("position", e)

@@ -1,9 +1,12 @@
-"""Random small sessions as traces, which other scripts judge: by any order, by a plan that leads to rings, and with a fault."""
+"""Random small sessions as traces, which other scripts judge: by any order, by plans that lead to rings, and with a fault.
+
+A share of them holds views, and a few without a view are spelled in version 2 all the same."""
 import random
 
 # Names whose order by bytes says nothing of the order of inserts.
-NAMES = ["a", "b", "c", "Z", "_", "-", ".", "0", "10", "9.1", "ins", "del", "read", "recv", "e-1", "E_1", "x" * 32]
+NAMES = ["a", "b", "c", "Z", "_", "-", ".", "0", "10", "9.1", "ins", "del", "read", "view", "recv", "e-1", "E_1", "x" * 32]
 PAST_THE_END = [7, 4096, 4294967295]
+OTHER_KIND = {"read": "view", "view": "read"}
 
 
 class Editor:
@@ -19,12 +22,14 @@ class Session:
     """A session as it is played: what each editor answers is right in its contents and positions, in orders of the
     session's own choosing."""
 
-    def __init__(self, rnd: random.Random):
+    def __init__(self, rnd: random.Random, views: bool = True):
         self.rnd = rnd
+        self.share_of_views = rnd.choice([0, 0, 0.3, 0.8]) if views else 0
+        self.may_be_version_2 = views
         self.editors = [Editor(number) for number in range(rnd.randint(2, 4))]
         self.names = rnd.sample(NAMES, rnd.randint(1, 5))
         self.effects = {}  # by operation: what it inserts or deletes, as (kind, name)
-        self.lines = ["trace 1", f"replicas {len(self.editors)}"]
+        self.lines = []
         self.ordered = rnd.choice([self.one_order, self.each_its_own, self.tournament, self.round])
         self.order = rnd.sample(self.names, len(self.names))
         self.beats = {pair for i, a in enumerate(self.names) for b in self.names[:i]
@@ -60,12 +65,28 @@ class Session:
         gone = {name for kind, name in effects if kind == "del"}
         return self.ordered(sorted({name for kind, name in effects if kind == "ins"} - gone))
 
-    def operate(self, editor: Editor, kind: str, name: str = "") -> None:
+    def part(self, shown: list) -> list:
+        """A part of a list: a window of it, or elements here and there; these mostly as they stand in the list, else in an order of
+        their own."""
+        if self.rnd.random() < 0.4:
+            first, behind = sorted(self.rnd.randint(0, len(shown)) for _ in range(2))
+            return shown[first:behind]
+        share = self.rnd.choice([0.3, 0.6, 0.9])
+        some = [a for a in shown if self.rnd.random() < share]
+        return some if self.rnd.random() < 0.5 else self.ordered(sorted(some))
+
+    def look(self, editor: Editor) -> None:
+        self.operate(editor, "view" if self.share_of_views and self.rnd.random() < self.share_of_views else "read")
+
+    def operate(self, editor: Editor, kind: str, name: str = "", wanted: list | None = None) -> None:
+        """`wanted` is what a view shows, where that is planned."""
         operation = (editor.number, len(editor.did) + 1)
         self.effects[operation] = (kind, name)
         editor.known.add(operation)
         editor.did.append(set(editor.known))
         shown = self.shown_to(editor)
+        if kind == "view":
+            shown = self.part(shown) if wanted is None else wanted
         words = [str(editor.number), kind, *([name] if name else [])]
         if kind == "ins":
             at = shown.index(name) if name in shown else 0
@@ -97,7 +118,7 @@ class Session:
                 shown = self.shown_to(editor)
                 self.operate(editor, "del", self.rnd.choice(shown if shown and self.rnd.random() < 0.9 else NAMES))
             else:
-                self.operate(editor, "read")
+                self.look(editor)
         return self.text()
 
     def play_ring(self) -> str:
@@ -114,25 +135,55 @@ class Session:
         moves += [(p, "recv", r), (p, "recv", q), (p, "read", "")]
         share_of_others = self.rnd.choice([0, 0.1, 0.3])
         for editor, kind, what in moves:
-            while self.rnd.random() < share_of_others:
-                self.rnd.choice([self.hear, lambda other: self.operate(other, "read")])(self.rnd.choice(self.editors))
+            self.others_move(share_of_others)
             if kind == "recv":
                 self.receive(editor, what, len(what.did))
             else:
                 self.operate(editor, kind, what)
         return self.text()
 
+    def play_windows(self) -> str:
+        """One editor hears of all elements, and shows each two neighbours of a ring, or three of it, in a view; and other parts between."""
+        self.ordered = self.one_order
+        ring = self.order = self.rnd.sample(self.names, self.rnd.randint(2, len(self.names)))
+        hub, *others = self.rnd.sample(self.editors, len(self.editors))
+        for name in ring:
+            self.operate(self.rnd.choice(others), "ins", name)
+        for other in others:
+            if other.did:
+                self.receive(hub, other, len(other.did))
+        shown = [[ring[i - 1], ring[i]] for i in range(len(ring))]
+        if len(ring) > 3 and self.rnd.random() < 0.3:
+            shown[1] = [*shown[1], ring[2]]
+        self.rnd.shuffle(shown)
+        share_of_others = self.rnd.choice([0, 0.1, 0.3])
+        for names in shown:
+            self.others_move(share_of_others)
+            self.operate(hub, "view", wanted=names)
+        return self.text()
+
+    def others_move(self, share: float) -> None:
+        """Moves of any editors, that were not planned."""
+        while self.rnd.random() < share:
+            self.rnd.choice([self.hear, self.look])(self.rnd.choice(self.editors))
+
     def text(self) -> str:
-        return "".join(line + "\n" for line in self.lines)
+        needs_2 = any(line.split(" ")[1] == "view" for line in self.lines)
+        is_2 = needs_2 or self.may_be_version_2 and self.rnd.random() < 0.1
+        return "".join(line + "\n" for line in ["trace 2" if is_2 else "trace 1", f"replicas {len(self.editors)}", *self.lines])
 
 
-def session(rnd: random.Random) -> str:
-    played = Session(rnd)
+def session(rnd: random.Random, views: bool = True) -> str:
+    """A session; where no views are asked for it is spelled in version 1."""
+    played = Session(rnd, views)
+    if played.share_of_views > 0.5 and len(played.names) > 1 and rnd.random() < 0.4:
+        return played.play_windows()
     return played.play_ring() if len(played.editors) > 2 and len(played.names) > 2 and rnd.random() < 0.7 else played.play()
 
 
-def with_fault(rnd: random.Random, text: str) -> str:
-    """The text with one change of an operation that leaves it a trace."""
+def with_fault(rnd: random.Random, text: str, views: bool = True) -> str:
+    """The text with one change of an operation that leaves it a trace; where views are asked for, one more kind of change makes a
+    read a view or a view a read."""
     lines = text.splitlines()
     places = [i for i, line in enumerate(lines) if ":" in line.split()]
     if not places:
@@ -142,7 +193,7 @@ def with_fault(rnd: random.Random, text: str) -> str:
     colon = words.index(":")
     front, response = words[:colon], words[colon + 1:]
     inserts = [i for i in places if lines[i].split()[1] == "ins"]
-    kind = rnd.randrange(7)
+    kind = rnd.randrange(8 if views else 7)
     if kind == 0 and response:
         response.pop(rnd.randrange(len(response)))
     elif kind == 1:
@@ -161,5 +212,8 @@ def with_fault(rnd: random.Random, text: str) -> str:
         at, other = rnd.sample(inserts, 2)
         words = lines[at].split()
         front, response = [*words[:2], lines[other].split()[2], words[3]], words[5:]
+    elif kind == 7 and front[1] in OTHER_KIND:
+        lines[0] = "trace 2"
+        front = [front[0], OTHER_KIND[front[1]]]
     lines[at] = " ".join([*front, ":", *response])
     return "".join(line + "\n" for line in lines)

@@ -15,6 +15,7 @@ from pathlib import Path
 
 ROOT = Path(__file__).resolve().parents[2]
 sys.path.insert(0, str(ROOT / "tests"))
+from reference.traces import has_view, written  # noqa: E402
 from shared.program import Ended, Tally, program_of, run  # noqa: E402
 from shared.sessions import session, with_fault  # noqa: E402
 from shared.traces import trace as long_trace  # noqa: E402
@@ -102,6 +103,22 @@ WORDS = [
      "[a] inserted by 0.1 (line 3), an earlier operation of replica 0"),
     ("its own delete", 1, "0 ins a 0 : a|0 del a : a", "[a] inserted by 0.1 (line 3), an earlier operation of replica 0|"
      "[a] deleted by 0.2 (line 4), this operation itself"),
+    ("a deleted element in a view", 1, "0 ins a 0 : a|0 ins b 1 : a b|0 del a : b|0 view : a",
+     "contents 0.4: this view does not hold a part of what is visible to it. Strong and weak list specification fail.|"
+     "line 6, 0.4: replica 0 showed a part of the list|answered: [a]|visible, of which a view may leave out some: b|"
+     "before it: 0.3 (line 5) is still right; since then replica 0 received nothing|Too many|"
+     "[a] inserted by 0.1 (line 3), an earlier operation of replica 0|[a] deleted by 0.3 (line 5), an earlier operation of replica 0"),
+    ("a name twice in a view", 1, "0 ins a 0 : a|0 view : a a", "answered: [a] [a]|visible, of which a view may leave out some: a|"
+     "Named more than once|[a] inserted by 0.1 (line 3), an earlier operation of replica 0"),
+    ("a read after a view", 1, "0 ins a 0 : a|0 view :|0 read :",
+     "contents 0.3: this response does not hold exactly what is visible to it. Strong and weak list specification fail.|"
+     "answered: (nothing)|expected, in whatever order: [a]|before it: 0.2 (line 4) is still right; since then replica 0 received nothing|Missing"),
+    ("a view against an insert", 2, "0 ins a 0 : a|0 ins b 1 : a b|0 ins c 2 : a b c|1 recv 0 3|1 view : c a",
+     "refused 2: two responses can't be right together. Strong and weak list specification fail.|"
+     "[a] before [c]: line 5, 0.3: replica 0 inserted c at position 2, answered [a] b [c]|"
+     "[c] before [a]: line 7, 1.1: replica 1 showed a part of the list, answered [c] [a]"),
+    ("accepted, with a view", 2, "0 ins a 0 : a|0 ins b 1 : a b|1 recv 0 2|1 view : b",
+     "accepted: well done, all 3 responses fit one order of the elements. Strong and weak list specification hold.|a b"),
     ("past the end, elsewhere", 1, "0 ins a 0 : a|0 ins b 4294967295 : b a",
      "position 0.2: b does not stand where it was asked for. Strong and weak list specification fail.|"
      "line 4, 0.2: replica 0 inserted b at position 4294967295|answered: [b] [a]|"
@@ -121,11 +138,16 @@ WORDS = [
 FAULTS = [
     (b"", "line 1: header", "line 1 is missing"),
     (b"trace 1\r\nreplicas 1\r\n", "line 1: header", "the line ends with CR LF, where a trace has LF alone"),
+    (b"trace 3\nreplicas 1\n", "line 1: header", "the first line of a trace is `trace 1`, or `trace 2` where it may have views, and nothing else"),
+    (b"trace 1\nreplicas 1\n0 view :\n", "line 3: shape",
+     "a trace of version 1 has no views: line 1 is `trace 2` where there are some"),
+    (b"trace 2\nreplicas 1\n0 view\n", "line 3: shape",
+     "the colon between the operation and its response is missing, or not a word by itself"),
     (b"trace 1\nreplicas 17\n", "line 2: replicas", "the second line is `replicas R`, with R from 1 to 16"),
     (b"trace 1\nreplicas 1\n0 read :", "line 3: cut", "line 3 is: 0 read :"),
     (b"trace 1\nreplicas 1\n0 read\n", "line 3: shape",
      "the colon between the operation and its response is missing, or not a word by itself"),
-    (b"trace 1\nreplicas 1\n0 add a 0 : a\n", "line 3: shape", "`add`, the second word, is not `ins`, `del`, `read` or `recv`"),
+    (b"trace 1\nreplicas 1\n0 add a 0 : a\n", "line 3: shape", "`add`, the second word, is not `ins`, `del`, `read`, `view` or `recv`"),
     (b"trace 1\nreplicas 1\n0  read :\n", "line 3: shape", "there is a blank too many: two together, or one at an end of the line"),
     (b"trace 1\nreplicas 1\n01 read :\n", "line 3: shape",
      "`01`, the first word, is not a number (digits without leading zeros, at most 4294967295)"),
@@ -153,7 +175,7 @@ HOSTILE = ["ins", "del", "read", "recv", "5", "line", "0", "-", ".", "--", "..",
 
 
 def text_of(replicas: int, entries: str) -> str:
-    return "".join(line + "\n" for line in ["trace 1", f"replicas {replicas}", *entries.split("|")] if line)
+    return written("".join(line + "\n" for line in ["trace 1", f"replicas {replicas}", *entries.split("|")] if line))
 
 
 def explain(program: str, words: list, trace: bytes = b"") -> Ended:
@@ -339,6 +361,8 @@ def small(tally: Tally, program: str, folder: str) -> None:
     numbers = Counter(report["k"] for _, report in cases if "k" in report)
     print(", ".join(f"{kinds[kind]} {kind}" for kind in SMALL), "small traces; refused", dict(sorted(numbers.items())))
     tally.check("small: of all kinds", kinds == SMALL and {2, 3, 4} <= set(numbers), (kinds, numbers))
+    viewing = sum(has_view(whole) for whole, _ in cases)
+    tally.check("small: with views and without", 50 <= viewing <= len(cases) - 50, viewing)
 
     def make(at: int) -> tuple:
         path = f"{folder}/small{at}"
@@ -352,6 +376,7 @@ def small(tally: Tally, program: str, folder: str) -> None:
             same = [judged.get(key) == report.get(key) for key in ("verdict", "k")]
             tally.check("small: the same verdict and number", all(same) and got.status == 1, f"{whole}\nto\n{text}{got}")
             tally.check("small: no longer", len(text.splitlines()) <= len(whole.splitlines()), f"{whole}\nto\n{text}")
+            tally.check("small: as it is written", text == written(text), text)
             if report["verdict"] == "refused":
                 cycle = {step["from"] for step in report["steps"]}
                 names = {line.split()[2] for line in text.splitlines()[2:] if line.split()[1] == "ins"}

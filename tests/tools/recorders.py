@@ -57,6 +57,9 @@ SAID = [
     ("wrong lists and doubled names are for the judge",
      "new 1 -> ok\ninsert 0 a 0 b b -> ok 1\ninsert 0 a 0 -> ok 2\ndelete 0 c c -> ok 3\n",
      ["0 ins a 0 : b b", "0 ins a 0 :", "0 del c : c"]),
+    ("views", "new 2 -> ok\ninsert 0 a 0 a -> ok 1\ninsert 0 b 1 a b -> ok 2\nview 0 -> ok 3\nreceived 1 0 3 -> ok\nview 1 b -> ok 1\nread 1 a b -> ok 2\n",
+     ["0 ins a 0 : a", "0 ins b 1 : a b", "0 view :", "1 recv 0 3", "1 view : b", "1 read : a b"]),
+    ("one replica's log with a view", "new 3 1 -> ok\nview 1 a -> ok 1\n", ["1 view : a"]),
     ("one replica's log", "new 3 1 -> ok\nreceived 1 0 9 -> ok\nread 1 a -> ok 1\nreceived 1 2 4 -> ok\n",
      ["1 recv 0 9", "1 read : a", "1 recv 2 4"]),
 ]
@@ -76,6 +79,9 @@ REFUSED = [
      "received 1 0 0 -> refused operation number 0 is not a whole number from 1 to 4294967295\n"),
     ("an own operation that is not there", "new 2 -> ok\n"
      "received 0 0 5 -> refused replica 0 receives no operation of its own\n"),
+    ("a view at replica 2 of 2, a name that is none in one, and then none",
+     f"new 2 -> ok\nview 2 -> refused no replica 2 among 0 to 1\nview 0 a,b -> refused name \"a,b\" {NAME}\n"),
+    ("a view in another's log", "new 3 1 -> ok\nview 0 -> refused this log is of replica 1 alone, not of 0\n"),
     ("another replica in one's log",
      "new 3 1 -> ok\nread 0 -> refused this log is of replica 1 alone, not of 0\n"
      "received 2 1 1 -> refused this log is of replica 1 alone, not of 2\n"
@@ -114,6 +120,8 @@ LIMITS = [
      "0 read :", "entries full"),
     ("entries and a receipt", ["read 0"] * 4095 + ["read 1"], "received 0 1 1 -> ok", "received 0 1 1",
      f"replica 0 has 4096 entries, {FULL}", "0 recv 1 1", "entries full"),
+    ("entries that are views", ["view 0"] * 4095, "view 0 -> ok 4096", "view 0", f"replica 0 has 4096 entries, {FULL}",
+     "0 view :", "entries full"),
     ("inserts", [f"insert 0 {name} 0" for name in ELEMENTS[:255]], "insert 0 z 0 -> ok 256", "insert 0 y 0",
      f"replica 0 has 256 inserts, {FULL}", "0 ins y 0 :", "inserts full"),
     ("names of a response", ["read 0"], f"read 0 {' '.join(ELEMENTS[:4096])} -> ok 2", f"read 0 {' '.join(ELEMENTS)}",
@@ -174,7 +182,8 @@ def check_table(tally: Tally, recorder: Recorder) -> None:
         replicas = script.split("\n")[0].split(" ")[1]
         calls += [fields(call) for call, _ in pairs] + ["text"]
         wanted[name] = [reply for _, reply in pairs]
-        wanted[name] += ["| trace 1", f"| replicas {replicas}", *[f"| {line}" for line in lines], "ok"]
+        version = 2 if any(line.split(" ")[1] == "view" for line in lines) else 1
+        wanted[name] += [f"| trace {version}", f"| replicas {replicas}", *[f"| {line}" for line in lines], "ok"]
     got = recorder.answers(calls)
     tally.check(f"{recorder.language}: lines", len(got) == sum(map(len, wanted.values())), len(got))
     for name, lines in wanted.items():
@@ -276,7 +285,9 @@ UNMERGED = [
 UNREADABLE = [
     ("trace 1\nreplicas 3\n0 read :", "log 2 is no text of a recorder, or was cut off"),
     ("trace 1\nreplicas 3", "log 2 is no text of a recorder, or was cut off"),
-    ("trace 2\nreplicas 3\n", "the logs begin"),
+    ("trace 3\nreplicas 3\n", "log 2 is no text of a recorder, or was cut off"),
+    ("trace 1\nreplicas 3\n0 view :\n", "line 3 of log 2 is no entry: 0 view :"),
+    ("trace 2\nreplicas 2\n", "the logs begin"),
     ("", "the logs begin"),
     ("trace 1\nreplicas 3\n0 read :\n1 read :\n", "line 4 of log 2 is of another replica than line 3"),
     ("trace 1\nreplicas 3\n0 recv 1\n", "line 3 of log 2 is no entry: 0 recv 1"),
@@ -293,6 +304,9 @@ def check_merge(tally: Tally, program: str, folder: Path) -> None:
     from merge import Unmerged, merge
     logs = [log_text(log) for log in LOGS]
     tally.check("merge", merge(logs) == log_text(MERGED), merge(logs))
+    viewing = log_text(f"{LOGS[1]}|1 view : x").replace("trace 1", "trace 2")
+    wanted = log_text(MERGED.replace("|2 recv 0 1", "|1 view : x|2 recv 0 1", 1)).replace("trace 1", "trace 2")
+    tally.check("merge with a view", merge([logs[0], viewing, logs[2]]) == wanted, merge([logs[0], viewing, logs[2]]))
     tally.check("merge with an empty log", merge([*logs, "trace 1\nreplicas 3\n"]) == log_text(MERGED))
     cycle = run(program, ["verdict", "--json", str(EXAMPLES / "libinfinity_three_way_cycle.trace")])
     for order in ([0, 1, 2], [2, 1, 0], [1, 2, 0]):
@@ -330,16 +344,19 @@ def blocks(page: Path) -> list:
 
 
 def check_guide(tally: Tally, program: str) -> None:
-    """The guide's editor prints what the guide says, and its traces have the reports beside them."""
+    """The guide's editor and its window print what the guide says, and its traces have the reports beside them."""
     shown = blocks(ROOT / "docs" / "recording.md")
     code = [block for block in shown if block.startswith("from ")]
     surroundings = {**os.environ, "DOMEPEELER": program, "PYTHONDONTWRITEBYTECODE": "1",
                     "PYTHONPATH": f"{ROOT / 'recorders'}:{ROOT / 'recorders' / 'engines'}"}
-    done = subprocess.run([sys.executable, "-c", "\n".join(code)], capture_output=True, env=surroundings)
-    printed = [block for block in shown if block.startswith("trace 1") and block.endswith("\naccepted\n")]
-    tally.check("guide: the editor", len(code) == 2 and [done.stdout.decode()] == printed, done)
-    judged = [block.split("\n\n") for block in shown if block.startswith("trace 1") and block not in printed]
-    tally.check("guide: has traces with reports", len(judged) == 3, judged)
+    editor, window = (subprocess.run([sys.executable, "-c", "\n".join(part)], capture_output=True, env=surroundings)
+                      for part in (code[:2], code[2:]))
+    traces = [block for block in shown if block.startswith("trace ")]
+    printed = [block for block in traces if "\n\n" not in block]
+    tally.check("guide: the editor", len(code) == 3 and [editor.stdout.decode()] == printed, editor)
+    judged = [block.split("\n\n") for block in traces if block not in printed]
+    tally.check("guide: has traces with reports", len(judged) == 4, judged)
+    tally.check("guide: the window", [trace + "\n" for trace, _ in judged if " view :" in trace] == [window.stdout.decode()], window)
     for trace, wanted in judged:
         ended = run(program, ["verdict", "-"], trace.encode() + b"\n")
         tally.check(f"guide: {trace}", ended.out == wanted.encode(), ended)

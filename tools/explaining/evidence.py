@@ -57,7 +57,7 @@ class Evidence:
     def _contents(self) -> None:
         operation = self.recording.operation(self.report["at"])
         answered, expected = operation.response, self.recording.expected(operation)
-        missing = expected.difference(answered)
+        missing = set() if operation.kind == "view" else expected.difference(answered)
         self.repeated = [name for name, count in Counter(answered).items() if count > 1]
         self.surplus = [name for name in dict.fromkeys(answered) if name not in expected]
         self.missing = [name for name in self.recording.inserts if name in missing]

@@ -10,6 +10,7 @@ ENTRIES = ["an entry is one of these, with one blank between two words and none 
            "  r ins a k : Names    replica r inserted a at position k, and answered Names",
            "  r del a : Names      replica r deleted a",
            "  r read : Names       replica r read the list",
+           "  r view : Names       replica r showed a part of the list; where line 1 is `trace 2` alone",
            "  r recv q n           operation n of replica q has arrived at r"]
 LIMITS = {
     "entries full": "a replica has at most 4,096 entries, receipts counted: record shorter sessions, or fewer reads",
@@ -17,7 +18,7 @@ LIMITS = {
     "long response": "a response has at most 4,096 names: record shorter documents, or a line or paragraph as one element",
     "places full": "the responses of a replica have at most 262,144 names together: read less often, or record shorter sessions",
 }
-KINDS = {"ins": 4, "del": 3, "read": 2}  # how many words stand before the colon
+KINDS = {"ins": 4, "del": 3, "read": 2, "view": 2}  # how many words stand before the colon
 
 
 def about_fault(error: str, trace: bytes) -> list:
@@ -44,7 +45,7 @@ def right(cause: str, have: str | None, line: bytes, lines: list) -> list:
     if cause in LIMITS:
         return [LIMITS[cause]]
     if cause == "header":
-        return ["the first line of a trace is `trace 1`, and nothing else", *ending(line)]
+        return ["the first line of a trace is `trace 1`, or `trace 2` where it may have views, and nothing else", *ending(line)]
     if cause == "replicas":
         return ["the second line is `replicas R`, with R from 1 to 16", *ending(line)]
     if cause == "cut":
@@ -58,14 +59,14 @@ def right(cause: str, have: str | None, line: bytes, lines: list) -> list:
         return [f"replica {words[2]} has {have} operations in the lines before, and operation {words[3]} is not among them",
                 "a receipt stands after the operation that it names, also where logs of several machines are merged;",
                 "operations count from 1, and receipts are not counted"]
-    return [*what_is_wrong(line), *ENTRIES]
+    return [*what_is_wrong(line, lines[0]), *ENTRIES]
 
 
 def ending(line: bytes) -> list:
     return ["the line ends with CR LF, where a trace has LF alone"] if line.endswith(b"\r") else []
 
 
-def what_is_wrong(line: bytes) -> list:
+def what_is_wrong(line: bytes, header: bytes) -> list:
     """What keeps a line from being an entry, where that can be told."""
     if not line:
         return ["an empty line is no entry"]
@@ -78,6 +79,8 @@ def what_is_wrong(line: bytes) -> list:
     if "" in words:
         return ["there is a blank too many: two together, or one at an end of the line"]
     wrong = wrong_word(words)
+    if wrong is None and words[1] == "view" and header == b"trace 1":
+        return ["a trace of version 1 has no views: line 1 is `trace 2` where there are some"]
     return [wrong] if wrong else []
 
 
@@ -90,9 +93,9 @@ def wrong_word(words: list) -> str | None:
         is_right = len(words) == 4 and is_number(words[2]) and is_number(words[3]) and words[3] != "0"
         return None if is_right else "after `recv` stand a replica's number and that of its operation, from 1, and nothing else"
     if kind not in KINDS:
-        return f"`{kind}`, the second word, is not `ins`, `del`, `read` or `recv`"
+        return f"`{kind}`, the second word, is not `ins`, `del`, `read`, `view` or `recv`"
     colon = KINDS[kind]
-    if kind != "read" and not (len(words) > 2 and is_name(words[2])):
+    if kind in ("ins", "del") and not (len(words) > 2 and is_name(words[2])):
         return f"`{words[2] if len(words) > 2 else ''}`, after `{kind}`, is not {NAME}"
     if kind == "ins" and not (len(words) > 3 and is_number(words[3])):
         return f"`{words[3] if len(words) > 3 else ''}`, after the element, is not {NUMBER}"

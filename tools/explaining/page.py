@@ -136,7 +136,7 @@ def cycle_of(evidence: Evidence) -> str:
 def session_of(evidence: Evidence) -> str:
     """The session, or of a long one the lines that matter, and the rest folded."""
     entries = evidence.recording.entries
-    legend = ('<p class="legend">Time runs downwards, with a lane for each replica: + an insert, \u2212 a delete, = a read, and an '
+    legend = ('<p class="legend">Time runs downwards, with a lane for each replica: + an insert, \u2212 a delete, = a read, ~ a view of a part, and an '
               "arrow for each receipt. Point at a line, or go to it by the Tab key, for the whole response.</p>")
     if len(entries) <= MOST_ROWS:
         return f"<h2>The session</h2>\n{legend}\n{Rows(evidence, entries, 'line-').html()}"

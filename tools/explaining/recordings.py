@@ -15,7 +15,7 @@ class Operation:
         self.replica, self.n, self.line, self.text, self.clock = replica, n, line, text, clock
         asked = text.partition(":")[0].split()
         self.kind = asked[1]
-        self.element = asked[2] if self.kind != "read" else ""
+        self.element = asked[2] if self.kind in ("ins", "del") else ""
         self.at = int(asked[3]) if self.kind == "ins" else 0
 
     @property
@@ -74,7 +74,7 @@ class Recording:
             clock[replica] += 1
             entry = Operation(replica, clock[replica], number, line, list(clock))
             stream.append(entry)
-            if entry.kind != "read":
+            if entry.element:
                 (self.inserts if entry.kind == "ins" else self.deletes)[entry.element].append(entry)
         self.entries.append(entry)
 
@@ -83,7 +83,8 @@ class Recording:
         return self.streams[replica][n - 1]
 
     def expected(self, operation: Operation) -> set:
-        """The elements that the operation's response must hold: inserted and not deleted by what it has seen."""
+        """The elements that are visible to the operation: inserted and not deleted by what it has seen. Its response must hold them
+        all, where it is no view."""
         live = set()
         for element, inserts in self.inserts.items():
             if any(map(operation.has_seen, inserts)) and not any(map(operation.has_seen, self.deletes.get(element, ()))):

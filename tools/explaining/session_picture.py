@@ -13,7 +13,7 @@ LANES = 130  # how wide the lanes are together, where each is not too narrow or 
 NARROWEST, WIDEST = 24, 56  # lanes
 NODE = 9  # the radius of an operation
 BOW = 0.7  # how far arrows bend towards their ends: straight ones of one operation would lie on one another
-SIGNS = {"ins": "+", "del": "\u2212", "read": "="}
+SIGNS = {"ins": "+", "del": "\u2212", "read": "=", "view": "~"}
 MOST_NAMES = 300  # of a response on the page
 
 
@@ -59,7 +59,7 @@ class Rows:
 
     def who(self, operation: Operation) -> str:
         did = {"ins": f"inserted {operation.element} at position {operation.at}", "del": f"deleted {operation.element}",
-               "read": "read"}[operation.kind]
+               "read": "read", "view": "showed a part"}[operation.kind]
         count = len(operation.response)
         return f"replica {operation.replica} {did}; the response has {count} name{'' if count == 1 else 's'}"
 

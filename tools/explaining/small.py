@@ -3,7 +3,8 @@ that bear on it.
 
 What is visible to which operation stays as it was, so what was right stays right: of the elements that are kept, all inserts
 and all deletes that anything kept has seen are kept too. Receipts are made anew, since one may have named an operation that
-is gone. Replicas keep their numbers; operations are counted anew, and one that changed another element is a read."""
+is gone. Replicas keep their numbers; operations are counted anew, and one that changed another element is a read. The text is
+that of version 2 of the trace exactly where a view is kept, as the program's own writer has it."""
 from collections.abc import Callable
 from typing import NamedTuple
 
@@ -32,7 +33,8 @@ class Projection:
                 counts[n] += counts[n - 1]
 
     def small(self) -> Small:
-        lines = ["trace 1", f"replicas {self.recording.replicas}"]
+        has_view = any(operation.kind == "view" for operation in self.kept)
+        lines = ["trace 2" if has_view else "trace 1", f"replicas {self.recording.replicas}"]
         clocks = [[0] * self.recording.replicas for _ in range(self.recording.replicas)]
         named = []
         for operation in self.kept:
@@ -64,10 +66,14 @@ class Projection:
     def entry(self, operation: Operation) -> str:
         """The line of an operation; what inserts or deletes another element is a read of those that are kept."""
         response = [name for name in operation.response if name in self.elements]
-        words = [operation.kind, operation.element] if operation.element in self.elements else ["read"]
+        words = [operation.kind, operation.element] if operation.element in self.elements else [self.looking(operation)]
         if words[0] == "ins":
             words.append(str(self.place(operation, response)))
         return " ".join([str(operation.replica), *words, ":", *response])
+
+    def looking(self, operation: Operation) -> str:
+        """The kind of an operation that changes none of the elements that are kept."""
+        return "view" if operation.kind == "view" else "read"
 
     def place(self, operation: Operation, response: list) -> int:
         """Where the element stands now; of one that is misplaced, where that stands which it ought to have stood before."""

@@ -117,12 +117,10 @@ def doubled(evidence: Evidence) -> Explanation:
 
 def contents(evidence: Evidence) -> Explanation:
     operation = evidence.operations[0]
-    wrong = set(evidence.missing)
-    wanted = [name for name in dict.fromkeys(operation.response) if name not in evidence.surplus] + evidence.missing
     sections = [Section("The response", [
         did(operation),
         f"answered: {answer(evidence, operation)}",
-        f"expected, in whatever order: {marked(wanted, wrong)}",
+        expected(evidence, operation),
         since(evidence, operation),
     ])]
     for title, names in ("Missing", evidence.missing), ("Too many", evidence.surplus), ("Named more than once", evidence.repeated):
@@ -131,8 +129,17 @@ def contents(evidence: Evidence) -> Explanation:
             left = sum(name not in evidence.elements for name in names)
             sections.append(Section(title, lines + ([f"and {left} more"] if left else [])))
     sections.append(Section("Where to look", [LOOK["contents"]]))
-    return Explanation(f"contents {operation.name}: this response does not hold exactly what is visible to it. "
-                       "Strong and weak list specification fail.", sections)
+    said = "this view does not hold a part of" if operation.kind == "view" else "this response does not hold exactly"
+    return Explanation(f"contents {operation.name}: {said} what is visible to it. Strong and weak list specification fail.", sections)
+
+
+def expected(evidence: Evidence, operation: Operation) -> str:
+    """What the response must hold, or of a view what it may hold."""
+    if operation.kind == "view":
+        visible = evidence.recording.expected(operation)
+        return f"visible, of which a view may leave out some: {marked([a for a in evidence.recording.inserts if a in visible], set())}"
+    wanted = [name for name in dict.fromkeys(operation.response) if name not in evidence.surplus] + evidence.missing
+    return f"expected, in whatever order: {marked(wanted, set(evidence.missing))}"
 
 
 def since(evidence: Evidence, operation: Operation) -> str:
@@ -231,7 +238,7 @@ def at(operation: Operation) -> str:
 def did(operation: Operation) -> str:
     """Who did what, in which line."""
     what = {"ins": f"inserted {operation.element} at position {operation.at}", "del": f"deleted {operation.element}",
-            "read": "read the list"}[operation.kind]
+            "read": "read the list", "view": "showed a part of the list"}[operation.kind]
     return f"line {operation.line}, {operation.name}: replica {operation.replica} {what}"
 
 

@@ -17,6 +17,10 @@ none-in n d x c = elim (cases_lt d n) [
     nothing : (x : ℕ) → Contains {X = ℕ} [] x → ⊥
     nothing x (i, lt, is) = omega (arith, lt)
 
+module _ (layers : List (Vec ℕ Global)) (n : ℕ) (empty : map (λ (layer : Vec ℕ Global). layer.items) layers ≡ replicate n []) where
+  pub empty-none : (d x : ℕ) → Contains (layer_at layers d) x → ⊥
+  empty-none d x h = none-in n d x (subst (λ (ls : List (List ℕ)). Contains (get_or ls d []) x) empty h)
+
 single : (q x : ℕ) → Contains (q ∷ []) x → x ≡ q
 single q x (zero, lt, is) = sym is
 single q x (suc i, lt, is) = absurd (let low : suc i < 1 = lt in omega arith)

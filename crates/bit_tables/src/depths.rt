@@ -6,20 +6,9 @@ ghost use Rattle.bit_tables.specs.Lists.{HaveWidth, IsTableOf};
 ghost use Rattle.bit_tables.specs.Rule.{MeetsRule, layer_at};
 
 use super::layers::meets_rule;
+use super::lists::empty_lists;
 use super::table::AfterTable;
 use std::alloc::{AllocError, Global};
-
-/// So many empty layers.
-fn empty_layers(alloc: Global, count: u32) -> Result<Vec<Vec<u32>>, AllocError>
-    ensures count { IfOk result (λ layers. vec_len layers ≡ count) }
-    ensures empty { IfOk result (λ layers. (d x : ℕ) → ¬ Contains (layer_at layers.items d) x) }
-{
-    let mut layers = Vec::new(alloc);
-    for _ in 0..count {
-        layers.push(Vec::new(alloc))?;
-    }
-    Ok(layers)
-}
 
 /// Puts a number into the layer of its depth, if there is one.
 fn put(layers: &mut Vec<Vec<u32>>, depth: u32, number: u32) -> Result<(), AllocError>
@@ -40,7 +29,7 @@ fn layers_by_depth(alloc: Global, depths: &[u32], count: u32) -> Result<Vec<Vec<
     ensures layers { IfOk result (λ layers. (d x : ℕ) → d < count → Contains (layer_at layers.items d) x
         ↔ ((x < length depths.now) × (slice_index depths.now x ≡ d))) }
 {
-    let mut layers = empty_layers(alloc, count)?;
+    let mut layers = empty_lists(alloc, count as usize)?;
     for x in 0..depths.len() as u32 {
         put(&mut layers, depths[x as usize], x)?;
     }

@@ -5,12 +5,14 @@
 mod bits;
 mod depths;
 mod layers;
+mod lists;
 mod table;
 mod words;
 
 pub use bits::BitSet;
 pub use depths::are_deep;
 pub use layers::meets_rule;
+pub use lists::empty_lists;
 pub use table::{AfterTable, empty_rows};
 
 #[cfg(test)]

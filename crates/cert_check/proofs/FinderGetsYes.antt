@@ -3,7 +3,6 @@ use Rattle.std.proofs.Common.{◌≡◌, zero, suc, refl, ap, ◌∙◌}
 use Rattle.events.specs.History.{History}
 use Rattle.specification.specs.Faults as fault
 use Rattle.specification.specs.Verdict.{Verdict, faulty, accepted, refused}
-use Rattle.specification.specs.TraceText.{trace_text}
 use Rattle.specification.specs.CertificateText.{Certificate, certificate_text}
 use Rattle.specification.specs.ExactRows.{IsCertificateOf}
 use Rattle.certificate_text.proofs.VerdictCertificates.{certificates_are_valid}
@@ -24,10 +23,10 @@ kind-of h (refused (suc (suc zero)) steps) c is = ap kind_of is
 kind-of h (refused (suc (suc (suc n))) steps) c is = ap kind_of is.1
 
 pub finder_gets_yes : VerdictsCertificatesGetYes
-finder_gets_yes h v c legal verdict is =
-    let good = certificates_are_valid h v c legal verdict is in
-    let reads : Reads (trace_text h) (certificate_text c) h c = ((legal, refl), (good.1, refl)) in
+finder_gets_yes h v c text spelled verdict is =
+    let good = certificates_are_valid h v c spelled.1.0 verdict is in
+    let reads : Reads text (certificate_text c) h c = (spelled, (good.1, refl)) in
     let kind = kind-of h v c is in (
       (h, c, reads, good.0, kind),
-      (λ a answer. get_yes one-certificate (trace_text h) (certificate_text c) h c reads good.0 a answer ∙ ap Yes kind),
+      (λ a answer. get_yes one-certificate text (certificate_text c) h c reads good.0 a answer ∙ ap Yes kind),
     )

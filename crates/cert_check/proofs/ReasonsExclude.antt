@@ -81,7 +81,7 @@ no_reason : SpelledOnce → (trace cert : List ℕ) (h : History) (c : Certifica
 no_reason once trace cert h c why reads valid r =
     let g : h ≡ r.0 = one-recording trace h r.0 reads.0 r.2.0 in
     let d : c ≡ r.1 = once cert c r.1 reads.1 r.2.1 in
-    valid_or_reason r.0 r.1 why r.2.0.0 (subst (IsValid r.0) d (subst (λ (z : History). IsValid z c) g valid)) r.3
+    valid_or_reason r.0 r.1 why r.2.0.1.0 (subst (IsValid r.0) d (subst (λ (z : History). IsValid z c) g valid)) r.3
 
 -- where texts spell certificates once, a valid one gets a yes
 pub get_yes : SpelledOnce → ValidCertificatesGetYes

@@ -4,7 +4,7 @@ use Rattle.events.specs.History.{History, IsLegal}
 use Rattle.specification.specs.Laws as laws
 use Rattle.specification.specs.Faults as fault
 use Rattle.specification.specs.Verdict.{Verdict, faulty, accepted, refused, IsVerdict}
-use Rattle.specification.specs.TraceText.{trace_text}
+use Rattle.specification.specs.TraceText.{Spells}
 use Rattle.specification.specs.CertificateText.{Certificate, IsSpellable, certificate_text}
 use Rattle.specification.specs.ExactRows.{IsCertificateOf}
 use Rattle.specification.specs.ValidCertificate.{IsValid, IsFirstReason, Reason}
@@ -37,12 +37,12 @@ kind_of_verdict (faulty (fault.position at)) = kind.Position
 kind_of_verdict (accepted order) = kind.Accepted
 kind_of_verdict (refused k steps) = kind.Refused
 
--- the spelling of the certificate of a recording's verdict, checked against the recording's spelling, has the answer yes, of
--- the verdict's kind, and no other
+-- the spelling of the certificate of a recording's verdict, checked against any spelling of the recording, has the answer
+-- yes, of the verdict's kind, and no other
 abbrev pub VerdictsCertificatesGetYes : Type 0
-VerdictsCertificatesGetYes = (h : History) (v : Verdict) (c : Certificate) → IsLegal h → IsVerdict h v → IsCertificateOf h v c →
-    IsAnswer (trace_text h) (certificate_text c) (Yes (kind_of_verdict v))
-    × ((a : Answer) → IsAnswer (trace_text h) (certificate_text c) a → a ≡ Yes (kind_of_verdict v))
+VerdictsCertificatesGetYes = (h : History) (v : Verdict) (c : Certificate) (text : List ℕ) → Spells text h → IsVerdict h v → IsCertificateOf h v c →
+    IsAnswer text (certificate_text c) (Yes (kind_of_verdict v))
+    × ((a : Answer) → IsAnswer text (certificate_text c) a → a ≡ Yes (kind_of_verdict v))
 
 -- two texts have one right answer at most
 abbrev pub AnswersAreUnique : Type 0

@@ -7,7 +7,7 @@ ghost use Rattle.specification.specs.Verdict.{IsVerdict, DecidesSpecifications, 
 ghost use Rattle.certificate.specs.VerdictOf.{verdict_of, IsRefusalOf};
 
 use super::verdict::Verdict;
-use contents_check::first_fault;
+use contents_check::first_fault_by;
 use events::Recording;
 use level_search::{Conflict, Gate, MOST_WORKERS, SearchFault, least_conflict};
 use order_graph::OrderGraph;
@@ -18,10 +18,10 @@ use witness_order::order;
 
 /// The verdict on a recording.
 ///
-/// The number of workers, 1 to 64, is tested before the recording is looked at. The contents are checked on
-/// all processors, whatever that number is. The search for the conflict number is made only where no order
-/// follows every response; the gate is called round each of its searches. The least cycle is then found in
-/// the caller's thread.
+/// The number of workers, 1 to 64, is tested before the recording is looked at. With more than one the
+/// contents are checked on all processors, with one in the caller's thread. The search for the conflict number
+/// is made only where no order follows every response; the gate is called round each of its searches. The
+/// least cycle is then found in the caller's thread.
 ///
 /// Without conflicts its cost is that of `first_fault` and linear in the places of all responses; where there
 /// are, `least_conflict` has the cost of the search. Memory is linear in the places, and where there are
@@ -44,7 +44,7 @@ pub fn judge<H: Threads + Sync, G: Gate>(
     // Its contract has that the recording is legal.
     let _ = recording.replicas();
     let sight = Sight::of(alloc, recording)?;
-    if let Some(fault) = first_fault(rt, alloc, recording, &sight)? {
+    if let Some(fault) = first_fault_by(rt, alloc, workers, recording, &sight)? {
         return Ok(Verdict::of_fault(fault));
     }
     judge_sound(rt, alloc, recording, workers, gate)

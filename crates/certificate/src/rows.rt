@@ -1,11 +1,12 @@
 //! The rows of layers that show that no cycle is shorter.
 
 ghost use Rattle.std.specs.Prelude.{◌≡◌, ℕ, ◌==◌, ◌<◌, ◌≤◌, ◌++◌, if◌then◌else◌, IfOk, OnOk, [], ◌∷◌, length};
-ghost use Rattle.std.specs.Prelude.{map, replicate, slice_index_or, vec_len};
+ghost use Rattle.std.specs.Prelude.{map, slice_index_or, vec_len};
 ghost use Rattle.specification.specs.ExactRows.{IsExactRow, AreExactRows};
 ghost use Rattle.level_search.specs.ScratchView.{Fits};
 ghost use Rattle.certificate.specs.Depths.{names_deep};
 
+use bit_tables::empty_lists;
 use certificate_text::{Layer, Row};
 use events::{Memory, Name};
 use level_search::{Scratch, distances};
@@ -53,17 +54,6 @@ fn row_of_layers(
     Ok(Row::from_layers(layers))
 }
 
-/// As many empty lists of names.
-fn no_names(alloc: Global, count: u32) -> Result<Vec<Vec<Name>>, Memory>
-    ensures { IfOk result (λ v. map (λ names. names.items) v.items ≡ replicate count []) }
-{
-    let mut out = Vec::new(alloc);
-    for _ in 0..count {
-        out.push(Vec::new(alloc))?;
-    }
-    Ok(out)
-}
-
 /// Adds a name at its depth, if there is a list of this depth.
 fn add_at_depth(names: &mut Vec<Vec<Name>>, depth: u32, name: Name) -> Result<(), Memory>
     ensures count { vec_len names.new ≡ vec_len names.old }
@@ -91,7 +81,7 @@ fn names_by_depth(
         → slice_index_or (map (λ names. names.items) v.items) d []
         ≡ names_deep d graph.now.elements depths.now) }
 {
-    let mut names = no_names(alloc, limit)?;
+    let mut names = empty_lists(alloc, limit as usize)?;
     for x in 0..graph.elements() {
         let Some(name) = graph.name(x) else {
             unreachable!()

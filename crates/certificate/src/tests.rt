@@ -1,6 +1,7 @@
 //! Tests of verdicts on worked recordings.
 
 mod certificates;
+mod views;
 
 use super::{Gate, NoGate, SearchFault, Verdict, judge};
 use events::Recording;
@@ -20,14 +21,8 @@ enum Said {
     NoText,
 }
 
-fn judged<H: Threads + Sync, G: Gate>(
-    rt: &H,
-    alloc: Global,
-    recording: &Recording,
-    workers: u32,
-    gate: &G,
-) -> Said {
-    match judge(rt, alloc, recording, workers, gate) {
+fn in_short(verdict: Result<Verdict, SearchFault>) -> Said {
+    match verdict {
         Ok(Verdict::Accepted(order)) => Said::Accepted(order.len()),
         Ok(Verdict::Refused { k, steps }) => Said::Refused(k, steps.len()),
         Ok(_) => Said::Faulty,
@@ -36,7 +31,21 @@ fn judged<H: Threads + Sync, G: Gate>(
     }
 }
 
-/// What is said of the recording that the text spells; where memory is wanted, what the second call says.
+/// What is said of a recording; where memory is wanted, what the second call says.
+fn said_of<H: Threads + Sync, G: Gate>(
+    rt: &H,
+    alloc: Global,
+    recording: &Recording,
+    workers: u32,
+    gate: &G,
+) -> Said {
+    match in_short(judge(rt, alloc, recording, workers, gate)) {
+        Said::Memory => in_short(judge(rt, alloc, recording, workers, gate)),
+        answer => answer,
+    }
+}
+
+/// What is said of the recording that the text spells.
 fn answered<H: Threads + Sync, G: Gate>(
     rt: &H,
     alloc: Global,
@@ -47,10 +56,7 @@ fn answered<H: Threads + Sync, G: Gate>(
     let Ok(recording) = recording(alloc, text) else {
         return Said::NoText;
     };
-    match judged(rt, alloc, &recording, workers, gate) {
-        Said::Memory => judged(rt, alloc, &recording, workers, gate),
-        answer => answer,
-    }
+    said_of(rt, alloc, &recording, workers, gate)
 }
 
 /// What is said of texts by four workers.

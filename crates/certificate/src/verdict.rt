@@ -11,8 +11,8 @@ pub enum Verdict {
     /// inserts too, and `first` is the least operation that inserts that name. Such a recording is judged no
     /// further: neither list specification speaks of it.
     Doubled { first: OpName, again: OpName },
-    /// The response of `at` repeats a name, or does not hold exactly what is visible. No lesser operation
-    /// has a fault.
+    /// The response of `at` repeats a name, or does not hold exactly what is visible; a view's may hold a
+    /// part of that. No lesser operation has a fault.
     Contents { at: OpName },
     /// The name that `at` inserts does not stand where it was asked for. No lesser operation has a fault.
     Position { at: OpName },

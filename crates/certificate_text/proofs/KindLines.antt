@@ -1,5 +1,5 @@
 -- Second lines: the words of a kind's line, read as that kind, and no other words as one.
-use Rattle.std.proofs.Common.{◌≡◌, Bool, true, false, cond, nat_le, List, [], ◌∷◌, ◌++◌, codes, decimal, Option, Some, None, ◌⊎◌, inl, inr, refl, sym, ap, ◌∙◌, subst}
+use Rattle.std.proofs.Common.{◌≡◌, Bool, true, false, cond, nat_le, List, [], ◌∷◌, ◌++◌, codes, decimal, Option, Some, None, option_map, ◌⊎◌, inl, inr, refl, sym, ap, ◌∙◌, subst}
 use Rattle.std.specs.List.{All}
 use Rattle.std.specs.Str.{bytes_eq}
 use Rattle.std.proofs.lemmas.List.{append-nil}
@@ -17,7 +17,7 @@ use Rattle.format_words.proofs.Operations.{operation-at-is, operation-at-again}
 use Rattle.format_words.proofs.Spaced.{IsPlain, plain-number, plain-operation, plain-literal, spaced, words-of-spaced, spaced-by-words}
 use Rattle.certificate_text.specs.declared.kind.Kind.{Kind}
 use Rattle.certificate_text.specs.declared.kind.Kind.TheVariants.{Doubled, Contents, Position, Accepted, Refused}
-use Rattle.certificate_text.specs.Reading.{doubled_at, contents_at, position_at, accepted_at, refused_at, kind_by, kind_at}
+use Rattle.certificate_text.specs.Reading.{last_operation_at, doubled_at, accepted_at, refused_at, kind_by, kind_at}
 use Rattle.certificate_text.specs.Progress.{IsKind, kind_line}
 
 abbrev pub kind_word : Kind → Word
@@ -60,13 +60,18 @@ kind-more-plain Accepted h = All-nil IsPlain
 kind-more-plain (Refused k) h = one-plain (decimal k) (plain-number k h.1)
 
 -- one operation, and nothing after it
-alone-is : (make : Operation → Kind) (ws : List Word) (kind : Kind) →
-    (operation_at ws >>= λ at. no_more at.1 >>= λ none. Some (make at.0)) ≡ Some kind → (o : Operation) × IsOperationName o × (ws ≡ operation_text o ∷ []) × (make o ≡ kind)
-alone-is make ws kind e =
-    let at = bind-some (operation_at ws) (λ at. no_more at.1 >>= λ none. Some (make at.0)) kind e in
-    let none = bind-some (no_more at.0.1) (λ none. Some (make at.0.0)) kind at.2 in
+last-is : (ws : List Word) (o : Operation) → last_operation_at ws ≡ Some o → IsOperationName o × (ws ≡ operation_text o ∷ [])
+unfolding last_operation_at
+last-is ws o e =
+    let at = bind-some (operation_at ws) (λ at. no_more at.1 >>= λ none. Some at.0) o e in
+    let none = bind-some (no_more at.0.1) (λ none. Some at.0.0) o at.2 in
     let is = operation-at-is ws at.0.0 at.0.1 at.1 in
-    (at.0.0, is.0, is.1 ∙ ap (λ l. operation_text at.0.0 ∷ l) (no-more-is at.0.1 none.0 none.1), same_Some (make at.0.0) kind none.2)
+    subst (λ p. IsOperationName p × (ws ≡ operation_text p ∷ [])) (same_Some at.0.0 o none.2)
+    (is.0, is.1 ∙ ap (λ l. operation_text at.0.0 ∷ l) (no-more-is at.0.1 none.0 none.1))
+
+mapped-some : (make : Operation → Kind) (o : Option Operation) (kind : Kind) → option_map make o ≡ Some kind → (x : Operation) × (o ≡ Some x) × (make x ≡ kind)
+mapped-some make None kind e = absurd (cc)
+mapped-some make (Some x) kind e = (x, refl, same_Some (make x) kind e)
 
 abbrev Are : Word → List Word → Kind → Type 0
 Are w ws kind = IsKind kind × (w ∷ ws ≡ kind_word kind ∷ kind_more kind)
@@ -74,27 +79,20 @@ Are w ws kind = IsKind kind × (w ∷ ws ≡ kind_word kind ∷ kind_more kind)
 doubled-are : (ws : List Word) (kind : Kind) → doubled_at ws ≡ Some kind → Are (codes "doubled") ws kind
 unfolding doubled_at
 doubled-are ws kind e =
-    let first = bind-some (operation_at ws) (λ first. operation_at first.1 >>= λ again. no_more again.1 >>= λ none. Some (Doubled first.0 again.0)) kind e in
-    let again = bind-some (operation_at first.0.1) (λ again. no_more again.1 >>= λ none. Some (Doubled first.0.0 again.0)) kind first.2 in
-    let none = bind-some (no_more again.0.1) (λ none. Some (Doubled first.0.0 again.0.0)) kind again.2 in
-    let same = same_Some (Doubled first.0.0 again.0.0) kind none.2 in
+    let first = bind-some (operation_at ws) (λ first. last_operation_at first.1 >>= λ again. Some (Doubled first.0 again)) kind e in
+    let again = bind-some (last_operation_at first.0.1) (λ again. Some (Doubled first.0.0 again)) kind first.2 in
     let one = operation-at-is ws first.0.0 first.0.1 first.1 in
-    let two = operation-at-is first.0.1 again.0.0 again.0.1 again.1 in
-    let words : ws ≡ operation_text first.0.0 ∷ operation_text again.0.0 ∷ [] =
-    one.1 ∙ ap (λ l. operation_text first.0.0 ∷ l) (two.1 ∙ ap (λ l. operation_text again.0.0 ∷ l) (no-more-is again.0.1 none.0 none.1)) in
-    subst (Are (codes "doubled") ws) same ((one.0, two.0), ap (λ l. codes "doubled" ∷ l) words)
+    let two = last-is first.0.1 again.0 again.1 in
+    subst (Are (codes "doubled") ws) (same_Some (Doubled first.0.0 again.0) kind again.2)
+    ((one.0, two.0), ap (λ l. codes "doubled" ∷ l) (one.1 ∙ ap (λ l. operation_text first.0.0 ∷ l) two.1))
 
-contents-are : (ws : List Word) (kind : Kind) → contents_at ws ≡ Some kind → Are (codes "contents") ws kind
-unfolding contents_at
-contents-are ws kind e =
-    let p = alone-is (λ at. Contents at) ws kind e in
-    subst (Are (codes "contents") ws) p.3 (p.1, ap (λ l. codes "contents" ∷ l) p.2)
-
-position-are : (ws : List Word) (kind : Kind) → position_at ws ≡ Some kind → Are (codes "position") ws kind
-unfolding position_at
-position-are ws kind e =
-    let p = alone-is (λ at. Position at) ws kind e in
-    subst (Are (codes "position") ws) p.3 (p.1, ap (λ l. codes "position" ∷ l) p.2)
+-- a kind of one operation
+alone-are : (word : Word) (make : Operation → Kind) → ((o : Operation) → IsOperationName o → Are word (operation_text o ∷ []) (make o)) → (ws : List Word) (kind : Kind) →
+    option_map make (last_operation_at ws) ≡ Some kind → Are word ws kind
+alone-are word make each ws kind e =
+    let p = mapped-some make (last_operation_at ws) kind e in
+    let is = last-is ws p.0 p.1 in
+    subst (λ l. Are word l kind) (sym is.1) (subst (Are word (operation_text p.0 ∷ [])) p.2 (each p.0 is.0))
 
 accepted-are : (ws : List Word) (kind : Kind) → accepted_at ws ≡ Some kind → Are (codes "accepted") ws kind
 unfolding accepted_at
@@ -123,9 +121,9 @@ unfolding kind_by
 by-are w ws kind e = elim (chosen (bytes_eq w (codes "doubled")) _ _ kind e) [
   | inl h ↦ by-word w (codes "doubled") ws kind h.0 (doubled-are ws kind h.1)
   | inr e1 ↦ elim (chosen (bytes_eq w (codes "contents")) _ _ kind e1) [
-    | inl h ↦ by-word w (codes "contents") ws kind h.0 (contents-are ws kind h.1)
+    | inl h ↦ by-word w (codes "contents") ws kind h.0 (alone-are (codes "contents") (λ at. Contents at) (λ o is. (is, refl)) ws kind h.1)
     | inr e2 ↦ elim (chosen (bytes_eq w (codes "position")) _ _ kind e2) [
-      | inl h ↦ by-word w (codes "position") ws kind h.0 (position-are ws kind h.1)
+      | inl h ↦ by-word w (codes "position") ws kind h.0 (alone-are (codes "position") (λ at. Position at) (λ o is. (is, refl)) ws kind h.1)
       | inr e3 ↦ elim (chosen (bytes_eq w (codes "accepted")) _ _ kind e3) [
         | inl h ↦ by-word w (codes "accepted") ws kind h.0 (accepted-are ws kind h.1)
         | inr e4 ↦ elim (chosen (bytes_eq w (codes "refused")) _ _ kind e4) [
@@ -143,7 +141,7 @@ kind-are [] kind e = absurd (cc)
 kind-are (w ∷ ws) kind e = by-are w ws kind e
 
 kind-words-again : (kind : Kind) → IsKind kind → kind_at (kind_word kind ∷ kind_more kind) ≡ Some kind
-unfolding kind_at kind_by doubled_at contents_at position_at accepted_at refused_at
+unfolding kind_at kind_by doubled_at last_operation_at accepted_at refused_at
 kind-words-again (Doubled first again) h =
     rw (operation-at-again first (operation_text again ∷ []) h.0, operation-at-again again [] h.1) refl
 kind-words-again (Contents at) h = rw (operation-at-again at [] h) refl

@@ -12,7 +12,7 @@ use Rattle.events.specs.Operations.{operations, count, nth, operation, IsOperati
 use Rattle.events.specs.declared.TheConstants.{MOST_REPLICAS, MOST_ENTRIES}
 use Rattle.events.specs.declared.recording.Entry.{Entry}
 use Rattle.events.specs.declared.recording.Body.{Body}
-use Rattle.events.specs.declared.recording.Body.TheVariants.{Ins, Del, Read, Recv}
+use Rattle.events.specs.declared.recording.Body.TheVariants.{Ins, Del, Read, View, Recv}
 use Rattle.specification.specs.Elements.{elements}
 use Rattle.specification.specs.Responses.{Returned, responses_of}
 use Rattle.specification.specs.Conflict.{HasConflictNumber}
@@ -35,6 +35,7 @@ body-name : (b : Body) (a : NameBytes) → IsWellFormed b → inserted_name b �
 body-name (Ins name at w) a is e = let same : name ≡ a = Prim.cc in subst IsName same is.0
 body-name (Del name w) a is e = absurd Prim.cc
 body-name (Read w) a is e = absurd Prim.cc
+body-name (View w) a is e = absurd Prim.cc
 body-name (Recv seen) a is e = absurd Prim.cc
 
 pub element-name : (h : History) → IsLegal h → (a : NameBytes) → In a (elements h) → IsName a

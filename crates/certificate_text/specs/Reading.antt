@@ -1,6 +1,7 @@
 -- What the words of a certificate's lines say. Nothing, where they say nothing of the kind.
 use Rattle.std.specs.Prelude.{◌≡◌, ℕ, ◌+◌, nat_le, Bool, slice_index_or, if◌then◌else◌, Option, Some, None, option_map, List, [], ◌∷◌, ◌++◌, ◌==◌, ◌&&◌, length, codes, bytes_eq}
 use Rattle.events.specs.Names.{NameBytes}
+use Rattle.events.specs.Operation.{Operation}
 use Rattle.specification.specs.Conflict.{Step}
 use Rattle.specification.specs.LayerRule.{Row}
 use Rattle.format_words.specs.Words.{Word}
@@ -8,27 +9,19 @@ use Rattle.format_words.specs.Reading.{◌>>=◌, number_at, name_of, name_at, n
 use Rattle.certificate_text.specs.declared.kind.Kind.{Kind}
 use Rattle.certificate_text.specs.declared.kind.Kind.TheVariants.{Doubled, Contents, Position, Accepted, Refused}
 
+-- an operation that ends the line
+unfoldable pub last_operation_at : List Word → Option Operation
+last_operation_at ws = do
+  at ← operation_at ws
+  none ← no_more at.1
+  Some at.0
+
 -- what follows `doubled`
 unfoldable pub doubled_at : List Word → Option Kind
 doubled_at ws = do
   first ← operation_at ws
-  again ← operation_at first.1
-  none ← no_more again.1
-  Some (Doubled first.0 again.0)
-
--- what follows `contents`
-unfoldable pub contents_at : List Word → Option Kind
-contents_at ws = do
-  at ← operation_at ws
-  none ← no_more at.1
-  Some (Contents at.0)
-
--- what follows `position`
-unfoldable pub position_at : List Word → Option Kind
-position_at ws = do
-  at ← operation_at ws
-  none ← no_more at.1
-  Some (Position at.0)
+  again ← last_operation_at first.1
+  Some (Doubled first.0 again)
 
 -- what follows `accepted`
 unfoldable pub accepted_at : List Word → Option Kind
@@ -46,8 +39,8 @@ refused_at ws = do
 unfoldable pub kind_by : Word → List Word → Option Kind
 kind_by word ws =
     if bytes_eq word (codes "doubled") then doubled_at ws
-    else (if bytes_eq word (codes "contents") then contents_at ws
-    else (if bytes_eq word (codes "position") then position_at ws
+    else (if bytes_eq word (codes "contents") then option_map (λ at. Contents at) (last_operation_at ws)
+    else (if bytes_eq word (codes "position") then option_map (λ at. Position at) (last_operation_at ws)
     else (if bytes_eq word (codes "accepted") then accepted_at ws
     else (if bytes_eq word (codes "refused") then refused_at ws else None))))
 

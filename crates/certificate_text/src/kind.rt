@@ -2,7 +2,7 @@
 
 ghost use Rattle.format_words.specs.Words.{words_of, words_behind};
 ghost use Rattle.format_words.specs.Reading.{Says};
-ghost use Rattle.certificate_text.specs.Reading.{doubled_at, contents_at, position_at, accepted_at};
+ghost use Rattle.certificate_text.specs.Reading.{last_operation_at, doubled_at, accepted_at};
 ghost use Rattle.certificate_text.specs.Reading.{refused_at, kind_by, kind_at};
 
 use events::OpName;
@@ -23,6 +23,17 @@ pub enum Kind {
     Refused { k: u32 },
 }
 
+/// An operation that ends the line.
+#[tactic(auto, unfolding(crate::specs::Reading::last_operation_at, format_words::specs::Reading::operation_at))]
+fn last_operation(rest: &[u8]) -> Result<OpName, Shape>
+    ensures { Says (λ at. at) result (last_operation_at (words_behind rest.now)) }
+{
+    let (word, rest) = next_word(rest)?;
+    let at = operation_of(word)?;
+    end(rest)?;
+    Ok(at)
+}
+
 /// What follows `doubled`.
 #[tactic(auto, unfolding(crate::specs::Reading::doubled_at, format_words::specs::Reading::operation_at))]
 fn doubled(rest: &[u8]) -> Result<Kind, Shape>
@@ -30,32 +41,8 @@ fn doubled(rest: &[u8]) -> Result<Kind, Shape>
 {
     let (word, rest) = next_word(rest)?;
     let first = operation_of(word)?;
-    let (word, rest) = next_word(rest)?;
-    let again = operation_of(word)?;
-    end(rest)?;
+    let again = last_operation(rest)?;
     Ok(Kind::Doubled { first, again })
-}
-
-/// What follows `contents`.
-#[tactic(auto, unfolding(crate::specs::Reading::contents_at, format_words::specs::Reading::operation_at))]
-fn contents(rest: &[u8]) -> Result<Kind, Shape>
-    ensures { Says (λ kind. kind) result (contents_at (words_behind rest.now)) }
-{
-    let (word, rest) = next_word(rest)?;
-    let at = operation_of(word)?;
-    end(rest)?;
-    Ok(Kind::Contents { at })
-}
-
-/// What follows `position`.
-#[tactic(auto, unfolding(crate::specs::Reading::position_at, format_words::specs::Reading::operation_at))]
-fn position(rest: &[u8]) -> Result<Kind, Shape>
-    ensures { Says (λ kind. kind) result (position_at (words_behind rest.now)) }
-{
-    let (word, rest) = next_word(rest)?;
-    let at = operation_of(word)?;
-    end(rest)?;
-    Ok(Kind::Position { at })
 }
 
 /// What follows `accepted`.
@@ -91,10 +78,12 @@ pub fn kind_of(line: &[u8]) -> Result<Kind, Shape>
         return doubled(rest);
     }
     if word == b"contents".as_slice() {
-        return contents(rest);
+        let at = last_operation(rest)?;
+        return Ok(Kind::Contents { at });
     }
     if word == b"position".as_slice() {
-        return position(rest);
+        let at = last_operation(rest)?;
+        return Ok(Kind::Position { at });
     }
     if word == b"accepted".as_slice() {
         return accepted(rest);

@@ -1,7 +1,6 @@
 -- What is noted as shown goes on with each name that is new or gone.
-use Rattle.std.proofs.Common.{◌≡◌, ◌≢◌, ◌⊎◌, ◌↔◌, inl, inr, ℕ, zero, suc, ◌+◌, ◌<◌, ◌≤◌, Bool, true, false, cond, Option, Some, None, List, [], ◌∷◌, ◌++◌, length, take, drop, refl, sym, ◌∙◌, ap, subst, arith, append_assoc}
-use Rattle.std.specs.Prelude.{slice_get, option_map, count_by, nat_eq, not}
-use Rattle.std.proofs.Math.Bool.{beq}
+use Rattle.std.proofs.Common.{◌≡◌, ◌⊎◌, ◌↔◌, inl, inr, ℕ, zero, suc, ◌+◌, ◌<◌, ◌≤◌, Bool, true, false, cond, Option, Some, None, List, [], ◌∷◌, ◌++◌, length, take, drop, refl, sym, ◌∙◌, ap, subst, arith, append_assoc}
+use Rattle.std.specs.Prelude.{slice_get, option_map, count_by, nat_eq, not, ◌&&◌}
 use Rattle.std.proofs.lemmas.Bool.{eq-eqb, eqb-true, false≢true}
 use Rattle.std.proofs.lemmas.List.Sums.{sum_by-cons}
 use Rattle.std.proofs.lemmas.List.{drop_all, drop-drop, take_all, take-append-drop}
@@ -19,8 +18,8 @@ use Rattle.contents_check.specs.declared.standings.Standing.{Standing}
 use Rattle.contents_check.specs.declared.standings.Standings.{Standings}
 use Rattle.contents_check.specs.Known.{number_of, AreNumbered}
 use Rattle.contents_check.proofs.Fronts.{twice}
-use Rattle.contents_check.specs.Shown.{joined, AreOfElements, Fits, IsShown, ShowJust, ShowsLive}
-use Rattle.contents_check.specs.Standings.{is_apart, is_live, noted_after, AreBehind, IsDeletedBy, IsInsertedBy, KeepsShown, Notes}
+use Rattle.contents_check.specs.Shown.{joined, AreOfElements, Fits, HasWhatItMust, IsShown, ShowJust, ShowsLive}
+use Rattle.contents_check.specs.Standings.{is_missing, is_extra, is_live, noted_after, AreBehind, IsDeletedBy, IsInsertedBy, KeepsShown, Notes}
 
 -- one more in a list, and one less
 module _ {X : Type 0} where
@@ -92,7 +91,7 @@ module _ (elements : Elements) (numbers : AreNumbered elements) (number : ℕ) (
   was i y at = was_there number b i y (slice_get old.list.items i) (sym at ∙ notes.each i)
 
   pub fits_noted : Fits elements old → Fits elements new
-  fits_noted fits = record { size = notes.size ∙ fits.size; apart = notes.apart }
+  fits_noted fits = record { size = notes.size ∙ fits.size; missing = notes.missing; extra = notes.extra }
 
   -- what was told of the counted operations is told still
   told_noted : (part : Standing → Bool) → ((v : Bool) (z : Standing) → part (note v z) ≡ part z) → (Tells : List ℕ → NameBytes → Type 0)
@@ -109,7 +108,8 @@ module _ (elements : Elements) (numbers : AreNumbered elements) (number : ℕ) (
   pub behind_noted : (h : History) → AreBehind h elements old → AreBehind h elements new
   behind_noted h behind = record {
     size = notes.size ∙ behind.size;
-    apart = notes.apart;
+    missing = notes.missing;
+    extra = notes.extra;
     inserted = told_noted (λ (s : Standing). s.inserted) (λ v z. refl) (IsInsertedBy h) behind.inserted;
     deleted = told_noted (λ (s : Standing). s.deleted) (λ v z. refl) (IsDeletedBy h) behind.deleted;
   }
@@ -198,56 +198,51 @@ just_kept elements old new w keeps just = record {
       ((λ e. told.0 (sym z.2 ∙ e)), (λ m. z.2 ∙ told.1 m));
 }
 
--- where none is apart, what is shown is live; and one that is apart is found
-none-apart : (ss : List Standing) → count_by is_apart ss ≡ 0 → (i : ℕ) (s : Standing) → slice_get ss i ≡ Some s → is_apart s ≡ false
-none-apart [] z i s at = absurd cc
-none-apart (t ∷ ss) z i s at = go (λ e j at. none-apart ss e j s at) (is_apart t) refl i at
+-- where none is counted the test fails of each; and where some are counted one is found
+none-counted : (test : Standing → Bool) (ss : List Standing) → count_by test ss ≡ 0 → (i : ℕ) (s : Standing) → slice_get ss i ≡ Some s → test s ≡ false
+none-counted test [] z i s at = absurd cc
+none-counted test (t ∷ ss) z i s at = go (λ e j at. none-counted test ss e j s at) (test t) refl i at
   where
-    count : count_by is_apart (t ∷ ss) ≡ cond (is_apart t) 1 0 + count_by is_apart ss
-    count = sum_by-cons (λ u. cond (is_apart u) 1 0) t ss
+    count : count_by test (t ∷ ss) ≡ cond (test t) 1 0 + count_by test ss
+    count = sum_by-cons (λ u. cond (test u) 1 0) t ss
 
-    go : (count_by is_apart ss ≡ 0 → (j : ℕ) → slice_get ss j ≡ Some s → is_apart s ≡ false) → (b : Bool) → is_apart t ≡ b → (i : ℕ) → slice_get (t ∷ ss) i ≡ Some s → is_apart s ≡ false
-    go rest true is i at = let one : ◌≡◌ {A = ℕ} (cond (is_apart t) 1 0) 1 = ap (λ b. cond b 1 0) is in absurd (omega (arith, count, one, z))
-    go rest false is zero at = let same : t ≡ s = cc in sym (ap is_apart same) ∙ is
+    go : (count_by test ss ≡ 0 → (j : ℕ) → slice_get ss j ≡ Some s → test s ≡ false) → (b : Bool) → test t ≡ b → (i : ℕ) → slice_get (t ∷ ss) i ≡ Some s → test s ≡ false
+    go rest true is i at = let one : ◌≡◌ {A = ℕ} (cond (test t) 1 0) 1 = ap (λ b. cond b 1 0) is in absurd (omega (arith, count, one, z))
+    go rest false is zero at = let same : t ≡ s = cc in sym (ap test same) ∙ is
     go rest false is (suc i) at = rest (omega (arith, count, z)) i at
 
-some-apart : (ss : List Standing) → (count_by is_apart ss ≡ 0 → ⊥) → (i : ℕ) × (s : Standing) × (slice_get ss i ≡ Some s) × (is_apart s ≡ true)
-some-apart [] n = absurd (n refl)
-some-apart (t ∷ ss) n = go (λ m. some-apart ss m) (is_apart t) refl
+some-counted : (test : Standing → Bool) (ss : List Standing) → (count_by test ss ≡ 0 → ⊥) → (i : ℕ) × (s : Standing) × (slice_get ss i ≡ Some s) × (test s ≡ true)
+some-counted test [] n = absurd (n refl)
+some-counted test (t ∷ ss) n = go (λ m. some-counted test ss m) (test t) refl
   where
-    go : ((count_by is_apart ss ≡ 0 → ⊥) → (i : ℕ) × (s : Standing) × (slice_get ss i ≡ Some s) × (is_apart s ≡ true)) → (b : Bool) → is_apart t ≡ b
-        → (i : ℕ) × (s : Standing) × (slice_get (t ∷ ss) i ≡ Some s) × (is_apart s ≡ true)
+    go : ((count_by test ss ≡ 0 → ⊥) → (i : ℕ) × (s : Standing) × (slice_get ss i ≡ Some s) × (test s ≡ true)) → (b : Bool) → test t ≡ b
+        → (i : ℕ) × (s : Standing) × (slice_get (t ∷ ss) i ≡ Some s) × (test s ≡ true)
     go rest true is = (0, t, refl, is)
     go rest false is =
-        let none : ◌≡◌ {A = ℕ} (cond (is_apart t) 1 0) 0 = ap (λ b. cond b 1 0) is in
-        let r = rest (λ z. n (sum_by-cons (λ u. cond (is_apart u) 1 0) t ss ∙ omega (arith, none, z))) in
+        let none : ◌≡◌ {A = ℕ} (cond (test t) 1 0) 0 = ap (λ b. cond b 1 0) is in
+        let r = rest (λ z. n (sum_by-cons (λ u. cond (test u) 1 0) t ss ∙ omega (arith, none, z))) in
         (suc r.0, r.1, r.2, r.3)
 
-together : (s : Standing) → is_apart s ≡ false → is_live s ≡ s.shown
-together s e = go (is_live s) s.shown e
-  where
-    go : (l m : Bool) → not (beq l m) ≡ false → l ≡ m
-    go true true e = refl
-    go true false e = absurd cc
-    go false true e = absurd cc
-    go false false e = refl
+-- what is so and not lacking of another is so of it too
+both_so : (l m : Bool) → (l && not m) ≡ false → l ≡ true → m ≡ true
+both_so true true e q = refl
+both_so true false e q = absurd cc
+both_so false m e q = absurd cc
 
-asunder : (s : Standing) → is_apart s ≡ true → is_live s ≡ s.shown → ⊥
-asunder s e q = go (is_live s) s.shown e q
-  where
-    go : (l m : Bool) → not (beq l m) ≡ true → l ≡ m → ⊥
-    go true true e q = absurd cc
-    go true false e q = absurd cc
-    go false true e q = absurd cc
-    go false false e q = absurd cc
+one_so : (l m : Bool) → (l && not m) ≡ true → (l ≡ true) × (m ≡ true → ⊥)
+one_so true true e = absurd cc
+one_so true false e = (refl, (λ q. let bad : false ≡ true = q in cc))
+one_so false m e = absurd cc
 
-module _ (elements : Elements) (numbers : AreNumbered elements) (standings : Standings) (fits : Fits elements standings) (w : List NameBytes) where
-  pub shows_all : ShowJust elements standings.list.items w → standings.apart ≡ 0 → ShowsLive elements standings.list.items w
-  shows_all just none = (just.once, λ a. (to a, from a))
+-- where no more is known than what the test found, it is 0
+zero_of : (n : ℕ) → ((n ≡ 0 → ⊥) → ⊥) → n ≡ 0
+zero_of zero n = refl
+zero_of (suc i) n = absurd (n (λ e. cc))
+
+module _ (elements : Elements) (numbers : AreNumbered elements) (standings : Standings) (fits : Fits elements standings) (w : List NameBytes) (MayLeaveOut : Type 0) where
+  pub shows_live : ShowJust elements standings.list.items w → HasWhatItMust MayLeaveOut standings → ShowsLive MayLeaveOut elements standings.list.items w
+  shows_live just must = (just.once, λ a. (to a, from a))
     where
-      even : (i : ℕ) (s : Standing) → slice_get standings.list.items i ≡ Some s → is_live s ≡ s.shown
-      even i s at = together s (none-apart standings.list.items (sym fits.apart ∙ none) i s at)
-
       to : (a : NameBytes) → In a w → IsShown elements standings.list.items a
       to a i =
           let k = just.known a i in
@@ -255,36 +250,41 @@ module _ (elements : Elements) (numbers : AreNumbered elements) (standings : Sta
           let within = slice_get_within elements.list.items k.0 l.0 l.1 in
           let y = slice_get-there standings.list.items k.0 (omega (arith, within, fits.size)) in
           let told = (just.shown k.0 l.0 y.0 l.1 y.1).1 (subst (λ (z : NameBytes). In z w) (sym l.2) i) in
-          record { number = k.0; standing = y.0; numbered = k.1; stands = y.1; live = even k.0 y.0 y.1 ∙ told }
+          let even = none-counted is_extra standings.list.items (sym fits.extra ∙ must.0) k.0 y.0 y.1 in
+          record { number = k.0; standing = y.0; numbered = k.1; stands = y.1; live = both_so y.0.shown (is_live y.0) even told }
 
-      from : (a : NameBytes) → IsShown elements standings.list.items a → In a w
-      from a s =
+      from : (a : NameBytes) → (MayLeaveOut → ⊥) → IsShown elements standings.list.items a → In a w
+      from a whole s =
           let l = numbers.listed a s.number s.numbered in
-          subst (λ (z : NameBytes). In z w) l.2 ((just.shown s.number l.0 s.standing l.1 s.stands).0 (sym (even s.number s.standing s.stands) ∙ s.live))
+          let even = none-counted is_missing standings.list.items (sym fits.missing ∙ must.1 whole) s.number s.standing s.stands in
+          subst (λ (z : NameBytes). In z w) l.2 ((just.shown s.number l.0 s.standing l.1 s.stands).0 (both_so (is_live s.standing) s.standing.shown even s.live))
 
-  pub shows_apart : ShowJust elements standings.list.items w → (standings.apart ≡ 0 → ⊥) → ShowsLive elements standings.list.items w → ⊥
-  shows_apart just some shows =
-      let at = some-apart standings.list.items (λ z. some (fits.apart ∙ z)) in
-      let within = slice_get_within standings.list.items at.0 at.1 at.2 in
-      let x = slice_get-there elements.list.items at.0 (omega (arith, within, fits.size)) in
-      let numbered = numbers.numbered at.0 x.0 x.1 in
-      let told = just.shown at.0 x.0 at.1 x.1 at.2 in
-      let to_live : at.1.shown ≡ true → is_live at.1 ≡ true = λ e.
-      (let s = (shows.1 x.0.name).0 (told.0 e) in
-      let place : s.number ≡ at.0 = same_Some s.number at.0 (sym s.numbered ∙ numbered) in
-      let both : Some s.standing ≡ Some at.1 = sym s.stands ∙ ap (slice_get standings.list.items) place ∙ at.2 in
-      let same : s.standing ≡ at.1 = cc in
-      sym (ap is_live same) ∙ s.live) in
-      let to_shown : is_live at.1 ≡ true → at.1.shown ≡ true = λ e.
-      told.1 ((shows.1 x.0.name).1 (record { number = at.0; standing = at.1; numbered = numbered; stands = at.2; live = e })) in
-      asunder at.1 at.3 (both_ways (is_live at.1) at.1.shown to_shown to_live)
+  pub has_what_it_must : ShowJust elements standings.list.items w → ShowsLive MayLeaveOut elements standings.list.items w → HasWhatItMust MayLeaveOut standings
+  has_what_it_must just shows = (zero_of standings.extra none_extra, λ whole. zero_of standings.missing (none_missing whole))
     where
-      both_ways : (l m : Bool) → (l ≡ true → m ≡ true) → (m ≡ true → l ≡ true) → l ≡ m
-      both_ways true m f g = sym (f refl)
-      both_ways false true f g = g refl
-      both_ways false false f g = refl
+      element_at : (i : ℕ) (s : Standing) → slice_get standings.list.items i ≡ Some s → (x : Element) × (slice_get elements.list.items i ≡ Some x)
+      element_at i s at = let within = slice_get_within standings.list.items i s at in slice_get-there elements.list.items i (omega (arith, within, fits.size))
 
-  pub shows_known : ShowsLive elements standings.list.items w → AreOfElements elements w
+      none_extra : (standings.extra ≡ 0 → ⊥) → ⊥
+      none_extra some =
+          let at = some-counted is_extra standings.list.items (λ z. some (fits.extra ∙ z)) in
+          let x = element_at at.0 at.1 at.2 in
+          let is = one_so at.1.shown (is_live at.1) at.3 in
+          let s = (shows.1 x.0.name).0 ((just.shown at.0 x.0 at.1 x.1 at.2).0 is.0) in
+          let place : s.number ≡ at.0 = same_Some s.number at.0 (sym s.numbered ∙ numbers.numbered at.0 x.0 x.1) in
+          let both : Some s.standing ≡ Some at.1 = sym s.stands ∙ ap (slice_get standings.list.items) place ∙ at.2 in
+          let same : s.standing ≡ at.1 = cc in
+          is.1 (sym (ap is_live same) ∙ s.live)
+
+      none_missing : (MayLeaveOut → ⊥) → (standings.missing ≡ 0 → ⊥) → ⊥
+      none_missing whole some =
+          let at = some-counted is_missing standings.list.items (λ z. some (fits.missing ∙ z)) in
+          let x = element_at at.0 at.1 at.2 in
+          let is = one_so (is_live at.1) at.1.shown at.3 in
+          let s : IsShown elements standings.list.items x.0.name = record { number = at.0; standing = at.1; numbered = numbers.numbered at.0 x.0 x.1; stands = at.2; live = is.0 } in
+          is.1 ((just.shown at.0 x.0 at.1 x.1 at.2).1 ((shows.1 x.0.name).1 whole s))
+
+  pub shows_known : ShowsLive MayLeaveOut elements standings.list.items w → AreOfElements elements w
   shows_known shows = (shows.0, λ a i. let s = (shows.1 a).0 i in (s.number, s.numbered))
 
 -- the number of a name is that of an element

@@ -9,7 +9,7 @@ use Rattle.contents_check.specs.declared.shown.Step.TheVariants.{End, New, Gone,
 use Rattle.contents_check.specs.declared.standings.Standing.{Standing}
 use Rattle.contents_check.specs.declared.standings.Standings.{Standings}
 use Rattle.contents_check.specs.Known.{number_of}
-use Rattle.contents_check.specs.Standings.{is_apart, is_live}
+use Rattle.contents_check.specs.Standings.{is_missing, is_extra, is_live}
 
 -- the name has a live element
 pub record IsShown (elements : Elements) (standings : List Standing) (a : NameBytes) : Type 0 where
@@ -19,9 +19,10 @@ pub record IsShown (elements : Elements) (standings : List Standing) (a : NameBy
   pub stands : slice_get standings number ≡ Some standing
   pub live : is_live standing ≡ true
 
--- no name stands twice, and the names are just those of live elements
-abbrev pub ShowsLive : Elements → List Standing → List NameBytes → Type 0
-ShowsLive elements standings w = Once w × ((a : NameBytes) → In a w ↔ IsShown elements standings a)
+-- no name stands twice, each is that of a live element, and all of theirs are there unless some may be left out
+abbrev pub ShowsLive : Type 0 → Elements → List Standing → List NameBytes → Type 0
+ShowsLive MayLeaveOut elements standings w =
+    Once w × ((a : NameBytes) → (In a w → IsShown elements standings a) × (¬ MayLeaveOut → IsShown elements standings a → In a w))
 
 -- the names differ and are elements' names, and just these elements are noted as shown
 pub record ShowJust (elements : Elements) (standings : List Standing) (w : List NameBytes) : Type 0 where
@@ -29,10 +30,15 @@ pub record ShowJust (elements : Elements) (standings : List Standing) (w : List 
   pub known : (a : NameBytes) → In a w → (i : ℕ) × (number_of elements a ≡ Some i)
   pub shown : (i : ℕ) (x : Element) (s : Standing) → slice_get elements.list.items i ≡ Some x → slice_get standings i ≡ Some s → (s.shown ≡ true) ↔ In x.name w
 
--- there is a standing for each element, and those apart are counted
+-- there is a standing for each element, and those missing and those too many are counted
 pub record Fits (elements : Elements) (standings : Standings) : Type 0 where
   pub size : length standings.list.items ≡ length elements.list.items
-  pub apart : standings.apart ≡ count_by is_apart standings.list.items
+  pub missing : standings.missing ≡ count_by is_missing standings.list.items
+  pub extra : standings.extra ≡ count_by is_extra standings.list.items
+
+-- none is shown that is not live, and none is missing unless some may be left out
+abbrev pub HasWhatItMust : Type 0 → Standings → Type 0
+HasWhatItMust MayLeaveOut standings = (standings.extra ≡ 0) × (¬ MayLeaveOut → standings.missing ≡ 0)
 
 -- the names differ and are elements' names
 abbrev pub AreOfElements : Elements → List NameBytes → Type 0

@@ -1,15 +1,19 @@
-//! Whether a response shows just what is live, by what it has changed since the response before it.
+//! Whether a response shows just what is live, or a part of it where it may, by what it has changed since the
+//! response before it.
 
 ghost use Rattle.std.specs.Prelude.{◌≡◌, ◌↔◌, ◌+◌, ◌<◌, ◌++◌, IsTrue, List, true, false, drop, length};
 ghost use Rattle.events.specs.Names.{NameBytes};
 ghost use Rattle.events.specs.History.{History};
+ghost use Rattle.specification.specs.Faults.{IsView};
 ghost use Rattle.contents_check.specs.Known.{AreNumbered};
-ghost use Rattle.contents_check.specs.Shown.{joined, AreOfElements, Fits, IsStep, ShowJust, ShowsLive};
+ghost use Rattle.contents_check.specs.Shown.{joined, AreOfElements, Fits, HasWhatItMust, IsStep, ShowJust};
+ghost use Rattle.contents_check.specs.Shown.{ShowsLive};
 ghost use Rattle.contents_check.specs.Standings.{AreBehind};
 
 use super::elements::Elements;
+use super::rightness::is_view;
 use super::standings::Standings;
-use events::Response;
+use events::{OpName, Recording, Response};
 
 /// What happens at places of two responses where their names differ.
 #[derive(Clone, Copy)]
@@ -25,21 +29,38 @@ pub enum Step {
 }
 
 impl Standings {
-    /// Whether a response repeats no name and has just the names of the live elements. What the response
-    /// before it shows, `last`, is noted; now it is noted of this one, where the answer is yes.
+    /// Whether the response of `e` repeats no name and has just the names of the live elements, or some of
+    /// them where `e` is a view. What the response before it shows, `last`, is noted; now it is noted of this
+    /// one, where the answer is yes.
     ///
     /// Names are compared with those of `last` in runs, as far as both go on alike, and only where they
     /// differ is a name looked up. It takes time linear in both.
-    pub fn shows_live(&mut self, elements: &Elements, last: &Response, w: &Response) -> bool
+    pub fn shows_live(
+        &mut self,
+        elements: &Elements,
+        last: &Response,
+        w: &Response,
+        recording: &Recording,
+        e: OpName,
+    ) -> bool
         requires numbers { AreNumbered elements.now }
         requires fits { Fits elements.now self.old }
         requires shown { ShowJust elements.now self.old.list.items last.now }
         ensures counts { self.new.counts ≡ self.old.counts }
-        ensures behind { (h : History) → AreBehind h elements.now self.old → AreBehind h elements.now self.new }
+        ensures behind { (h : History)
+            → AreBehind h elements.now self.old → AreBehind h elements.now self.new }
         ensures shown { result ≡ true → ShowJust elements.now self.new.list.items w.now }
-        ensures shows { IsTrue result ↔ ShowsLive elements.now self.new.list.items w.now }
+        ensures shows { IsTrue result
+            ↔ ShowsLive (IsView recording.now e) elements.now self.new.list.items w.now }
     {
-        self.show(elements, last, w) && self.apart == 0
+        self.show(elements, last, w) && self.has_what_it_must(recording, e)
+    }
+
+    /// Whether none is shown that is not live, and no live element is left out unless `e` is a view.
+    fn has_what_it_must(&self, recording: &Recording, e: OpName) -> bool
+        ensures { IsTrue result ↔ HasWhatItMust (IsView recording.now e) self.now }
+    {
+        self.extra == 0 && (self.missing == 0 || is_view(recording, e))
     }
 
     /// Notes what a response shows, where `last` is noted; false where it repeats a name or has one that is
@@ -50,7 +71,8 @@ impl Standings {
         requires shown { ShowJust elements.now self.old.list.items last.now }
         ensures fits { Fits elements.now self.new }
         ensures counts { self.new.counts ≡ self.old.counts }
-        ensures behind { (h : History) → AreBehind h elements.now self.old → AreBehind h elements.now self.new }
+        ensures behind { (h : History)
+            → AreBehind h elements.now self.old → AreBehind h elements.now self.new }
         ensures shown { result ≡ true → ShowJust elements.now self.new.list.items w.now }
         ensures wrong { result ≡ false → ¬ AreOfElements elements.now w.now }
     {
@@ -87,7 +109,8 @@ impl Standings {
         requires shown { ShowJust elements.now self.old.list.items (joined w.now i last.now j) }
         ensures fits { Fits elements.now self.new }
         ensures counts { self.new.counts ≡ self.old.counts }
-        ensures behind { (h : History) → AreBehind h elements.now self.old → AreBehind h elements.now self.new }
+        ensures behind { (h : History)
+            → AreBehind h elements.now self.old → AreBehind h elements.now self.new }
         ensures step { IsStep elements.now last.now j w.now i self.new result }
     {
         let Some(name) = w.get(i) else {
@@ -114,7 +137,8 @@ impl Standings {
         requires inside { j < length last.now }
         ensures fits { Fits elements.now self.new }
         ensures counts { self.new.counts ≡ self.old.counts }
-        ensures behind { (h : History) → AreBehind h elements.now self.old → AreBehind h elements.now self.new }
+        ensures behind { (h : History)
+            → AreBehind h elements.now self.old → AreBehind h elements.now self.new }
         ensures shown { (front : List NameBytes)
             → ShowJust elements.now self.old.list.items (front ++ drop j last.now)
             → ShowJust elements.now self.new.list.items (front ++ drop (j + 1) last.now) }
@@ -132,7 +156,8 @@ impl Standings {
         requires fits { Fits elements.now self.old }
         ensures fits { Fits elements.now self.new }
         ensures counts { self.new.counts ≡ self.old.counts }
-        ensures behind { (h : History) → AreBehind h elements.now self.old → AreBehind h elements.now self.new }
+        ensures behind { (h : History)
+            → AreBehind h elements.now self.old → AreBehind h elements.now self.new }
         ensures shown { (front : List NameBytes)
             → ShowJust elements.now self.old.list.items (front ++ drop j last.now)
             → ShowJust elements.now self.new.list.items front }

@@ -29,6 +29,7 @@ impl Recording {
             Body::Ins { response, .. } => Some(response),
             Body::Del { response, .. } => Some(response),
             Body::Read { response } => Some(response),
+            Body::View { response } => Some(response),
             Body::Recv { .. } => None,
         }
     }

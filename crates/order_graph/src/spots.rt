@@ -1,26 +1,16 @@
 //! The spots of each element.
 
 ghost use Rattle.std.specs.Prelude.{◌≡◌, ℕ, ◌<◌, ◌≤◌, ◌^◌, ◌++◌, [], All, IfOk, OnOk, length, map};
-ghost use Rattle.std.specs.Prelude.{slice_index_or, vec_len, replicate};
+ghost use Rattle.std.specs.Prelude.{slice_index_or, vec_len};
 ghost use Rattle.order_graph.specs.Cuts.{rows_of, IsCut};
 ghost use Rattle.order_graph.specs.Lists.{row};
 ghost use Rattle.order_graph.specs.Spots.{spots_in, spots_of};
 
 use super::rows::Rows;
 use super::spot::Spot;
+use bit_tables::empty_lists;
 use events::Memory;
 use std::alloc::Global;
-
-/// As many empty lists of spots.
-fn no_spots(alloc: Global, elements: usize) -> Result<Vec<Vec<Spot>>, Memory>
-    ensures { IfOk result (λ v. map (λ s. s.items) v.items ≡ replicate elements []) }
-{
-    let mut out = Vec::new(alloc);
-    for _ in 0..elements {
-        out.push(Vec::new(alloc))?;
-    }
-    Ok(out)
-}
 
 /// Adds the spots of one list.
 fn row_spots(list: u32, row: &[u32], spots: &mut Vec<Vec<Spot>>) -> Result<(), Memory>
@@ -50,7 +40,7 @@ fn all_spots(alloc: Global, elements: usize, places: &Rows<u32>) -> Result<Vec<V
     ensures spots { IfOk result (λ v. (x : ℕ) → x < elements
         → slice_index_or (map (λ s. s.items) v.items) x [] ≡ spots_of (rows_of places.now) x) }
 {
-    let mut spots = no_spots(alloc, elements)?;
+    let mut spots = empty_lists(alloc, elements)?;
     for list in 0..places.ends.len() {
         row_spots(list as u32, places.row(list), &mut spots)?;
     }

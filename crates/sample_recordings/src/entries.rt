@@ -10,6 +10,7 @@ pub enum Act {
     Ins(&'static str, u32),
     Del(&'static str),
     Read,
+    View,
     Recv(u32, u32),
 }
 
@@ -53,6 +54,7 @@ pub fn body(act: Act, response: Response) -> Result<Body, Fail> {
             response,
         }),
         Act::Read => Ok(Body::Read { response }),
+        Act::View => Ok(Body::View { response }),
         Act::Recv(replica, n) => Ok(Body::Recv {
             seen: operation(replica, n)?,
         }),

@@ -1,8 +1,10 @@
-//! Sound recordings of up to 12 operations of 3 replicas, which insert up to six elements.
+//! Sound recordings of up to 12 operations of 3 replicas, which insert up to six elements. Some operations
+//! are views, each of some part of what its replica sees.
 ghost use Rattle.std.specs.Prelude.{◌<◌};
 
 use super::entries::{Act, add, body, empty, operation, place_of, push};
 use super::random::Random;
+use super::views::part_of;
 use events::{Name, OpName, Recording, Response};
 use std::alloc::Global;
 use std::test::Fail;
@@ -73,8 +75,8 @@ impl Letters {
         Ok(response)
     }
 
-    /// Notes an operation, and says what it does: it inserts the next letter, deletes one that it sees or
-    /// reads.
+    /// Notes an operation, and says what it does: it inserts the next letter, deletes one that it sees,
+    /// views or reads.
     fn act(&mut self, random: &mut Random, bit: u32, bits: u32) -> Act {
         let kind = random.below(6);
         if kind < 3 {
@@ -89,6 +91,9 @@ impl Letters {
         if kind == 3 && self.is_shown(letter, bits) {
             self.deleted[letter] |= bit;
             return Act::Del(text(letter));
+        }
+        if kind == 4 {
+            return Act::View;
         }
         Act::Read
     }
@@ -145,10 +150,14 @@ impl Growing {
         let replica = random.below(REPLICAS);
         let bits = self.known[replica] | bit;
         let act = self.letters.act(random, bit, bits);
-        let response = self.letters.response(alloc, random, bits)?;
+        let whole = self.letters.response(alloc, random, bits)?;
         let placed = match act {
-            Act::Ins(text, _) => Act::Ins(text, place_or_first(&response, text)?),
+            Act::Ins(text, _) => Act::Ins(text, place_or_first(&whole, text)?),
             act => act,
+        };
+        let response = match act {
+            Act::View => part_of(alloc, random, &whole)?,
+            _ => whole,
         };
         add(&mut self.recording, replica as u32, body(placed, response)?)?;
         self.known[replica] = bits;

@@ -10,6 +10,7 @@ mod reading;
 mod soundness;
 mod standing;
 mod texts;
+mod views;
 
 pub use entries::{add, place_of, push};
 pub use growing::{MOST_ELEMENTS, generated, mostly_ordered};
@@ -20,3 +21,4 @@ pub use standing::stands_before;
 pub use texts::{
     EMPTY, OPPOSITE_PAIR, PAST_A_NEIGHBOUR, READ_THE_OTHER_WAY, RING_OF_FOUR, THREE_WAY_CYCLE,
 };
+pub use views::views_of;

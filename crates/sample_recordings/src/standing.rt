@@ -9,6 +9,7 @@ fn has_in_order(body: &Body, a: Name, b: Name) -> bool {
         Body::Ins { response, .. } => response,
         Body::Del { response, .. } => response,
         Body::Read { response } => response,
+        Body::View { response } => response,
         Body::Recv { .. } => return false,
     };
     match (place_of(response, a), place_of(response, b)) {

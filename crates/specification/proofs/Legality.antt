@@ -11,7 +11,7 @@ use Rattle.events.specs.Operations.{numbers_from}
 use Rattle.events.specs.declared.TheConstants.{MOST_REPLICAS, MOST_ENTRIES, MOST_INSERTS, MOST_NAMES, MOST_PLACES}
 use Rattle.events.specs.declared.recording.Entry.{Entry}
 use Rattle.events.specs.declared.recording.Body.{Body}
-use Rattle.events.specs.declared.recording.Body.TheVariants.{Ins, Del, Read, Recv}
+use Rattle.events.specs.declared.recording.Body.TheVariants.{Ins, Del, Read, View, Recv}
 use Rattle.specification.proofs.Members.{All-from_members}
 use Rattle.specification.proofs.OperationNames.{In-numbers_from, stream_of-none}
 use Rattle.specification.proofs.Tests.{Decides-each}
@@ -33,6 +33,7 @@ abbrev is_well_formed : Body → Bool
 is_well_formed (Ins name at w) = is_name name && (nat_lt at (2 ^ 32) && list_all is_name w)
 is_well_formed (Del name w) = is_name name && list_all is_name w
 is_well_formed (Read w) = list_all is_name w
+is_well_formed (View w) = list_all is_name w
 is_well_formed (Recv seen) = nat_lt seen.replica (2 ^ 32) && (nat_le 1 seen.n && nat_lt seen.n (2 ^ 32))
 
 well_formed-from : (b : Body) → is_well_formed b ≡ true → IsWellFormed b
@@ -44,6 +45,7 @@ well_formed-from (Del name w) e =
     let p : (is_name name ≡ true) × (list_all is_name w ≡ true) = and_parts _ _ e in
     (name-from name p.0, all_passing is_name IsName name-from w p.1)
 well_formed-from (Read w) e = all_passing is_name IsName name-from w e
+well_formed-from (View w) e = all_passing is_name IsName name-from w e
 well_formed-from (Recv seen) e =
     let p : (nat_lt seen.replica (2 ^ 32) ≡ true) × ((nat_le 1 seen.n && nat_lt seen.n (2 ^ 32)) ≡ true) = and_parts _ _ e in
     let q : (nat_le 1 seen.n ≡ true) × (nat_lt seen.n (2 ^ 32) ≡ true) = and_parts _ _ p.1 in
@@ -70,6 +72,7 @@ abbrev is_in_order_by : ℕ → List Entry → ℕ → Body → Bool
 is_in_order_by replicas earlier r (Ins name at w) = true
 is_in_order_by replicas earlier r (Del name w) = true
 is_in_order_by replicas earlier r (Read w) = true
+is_in_order_by replicas earlier r (View w) = true
 is_in_order_by replicas earlier r (Recv seen) = nat_lt seen.replica replicas && (not (seen.replica == r) && nat_le seen.n (count_of seen.replica earlier))
 
 in_order-from : (replicas : ℕ) (earlier : List Entry) (e : Entry) → is_in_order_by replicas earlier e.replica e.body ≡ true → IsInOrder replicas earlier e

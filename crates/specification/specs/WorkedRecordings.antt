@@ -19,7 +19,7 @@ use Rattle.specification.specs.TraceText.{trace_text}
 use Rattle.specification.specs.Lines.{Line, text_of}
 use Rattle.specification.specs.Laws.{HasOppositePair}
 use Rattle.events.specs.declared.recording.Entry.{Entry}
-use Rattle.events.specs.declared.recording.Body.TheVariants.{Ins, Del, Read, Recv}
+use Rattle.events.specs.declared.recording.Body.TheVariants.{Ins, Del, Read, View, Recv}
 use Rattle.events.specs.declared.refusal.Refusal.TheVariants.{NotYet, OwnReceipt}
 
 -- how recordings and steps are written down here
@@ -34,6 +34,9 @@ del r name w = record { replica = r; body = Del name w }
 
 abbrev pub read : ℕ → List NameBytes → Entry
 read r w = record { replica = r; body = Read w }
+
+abbrev pub view : ℕ → List NameBytes → Entry
+view r w = record { replica = r; body = View w }
 
 abbrev pub recv : ℕ → ℕ → ℕ → Entry
 recv r q n = record { replica = r; body = Recv (at q n) }
@@ -222,3 +225,39 @@ abbrev pub LeastOfSeveralOrders : Type 0
 LeastOfSeveralOrders =
     Judged both_inserts (accepted (a ∷ b ∷ [])) (codes "replicas 2 operations 2 inserts 2" ∷ codes "accepted" ∷ codes "strong yes" ∷ codes "weak yes" ∷ codes "order : a b" ∷ [])
     × Judged both_inserts_read (accepted (b ∷ a ∷ [])) (codes "replicas 2 operations 3 inserts 2" ∷ codes "accepted" ∷ codes "strong yes" ∷ codes "weak yes" ∷ codes "order : b a" ∷ [])
+
+-- a view may leave elements out, the last of all too
+abbrev pub view_leaves_out : History
+view_leaves_out = recording 2 (ins 0 a 0 (a ∷ []) ∷ ins 0 b 1 (a ∷ b ∷ []) ∷ recv 1 0 2 ∷ view 1 (b ∷ []) ∷ [])
+
+abbrev pub empty_view : History
+empty_view = recording 1 (ins 0 a 0 (a ∷ []) ∷ view 0 [] ∷ [])
+
+-- each shows two of three elements, and no order has all three
+abbrev pub three_views : History
+three_views =
+    recording 3 (ins 0 a 0 (a ∷ []) ∷ ins 1 b 0 (b ∷ []) ∷ ins 2 c 0 (c ∷ []) ∷ recv 0 1 1 ∷ recv 0 2 1
+    ∷ view 0 (a ∷ b ∷ []) ∷ view 0 (b ∷ c ∷ []) ∷ view 0 (c ∷ a ∷ []) ∷ [])
+
+abbrev pub three_view_steps : List Step
+three_view_steps = step a b (at 0 2) ∷ step b c (at 0 3) ∷ step c a (at 0 4) ∷ []
+
+-- it holds no element that is deleted, and none twice
+abbrev pub view_shows_deleted : History
+view_shows_deleted = recording 1 (ins 0 a 0 (a ∷ []) ∷ del 0 a [] ∷ view 0 (a ∷ []) ∷ [])
+
+abbrev pub view_repeats : History
+view_repeats = recording 1 (ins 0 a 0 (a ∷ []) ∷ view 0 (a ∷ a ∷ []) ∷ [])
+
+abbrev pub Views : Type 0
+Views =
+    Judged view_leaves_out (accepted (a ∷ b ∷ [])) (codes "replicas 2 operations 3 inserts 2" ∷ codes "accepted" ∷ codes "strong yes" ∷ codes "weak yes" ∷ codes "order : a b" ∷ [])
+    × MeetsBoth view_leaves_out
+    × (trace_text view_leaves_out ≡ text_of (codes "trace 2" ∷ codes "replicas 2" ∷ codes "0 ins a 0 : a" ∷ codes "0 ins b 1 : a b" ∷ codes "1 recv 0 2" ∷ codes "1 view : b" ∷ []))
+    × Judged empty_view (accepted (a ∷ [])) (codes "replicas 1 operations 2 inserts 1" ∷ codes "accepted" ∷ codes "strong yes" ∷ codes "weak yes" ∷ codes "order : a" ∷ [])
+    × Judged three_views (refused 3 three_view_steps) (codes "replicas 3 operations 6 inserts 3" ∷ codes "refused 3" ∷ codes "strong no" ∷ codes "weak yes"
+    ∷ codes "step a b 0.2 : a b" ∷ codes "step b c 0.3 : b c" ∷ codes "step c a 0.4 : c a" ∷ [])
+    × MeetsWeakAlone three_views
+    × Judged view_shows_deleted (faulty (contents (at 0 3))) (codes "replicas 1 operations 3 inserts 1" ∷ codes "contents 0.3" ∷ codes "strong no" ∷ codes "weak no" ∷ [])
+    × Judged view_repeats (faulty (contents (at 0 2))) (codes "replicas 1 operations 2 inserts 1" ∷ codes "contents 0.2" ∷ codes "strong no" ∷ codes "weak no" ∷ [])
+    × FailsBoth view_repeats

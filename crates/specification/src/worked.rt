@@ -4,7 +4,7 @@ ghost use Rattle.specification.specs.WorkedRecordings.{EmptyRecording, InsertDel
 ghost use Rattle.specification.specs.WorkedRecordings.{OppositePair, RingOfFour, ReadShowsDeleted};
 ghost use Rattle.specification.specs.WorkedRecordings.{RepeatedName, ChainOfReceipts, InsertPastTheEnd};
 ghost use Rattle.specification.specs.WorkedRecordings.{DeletedBeforeInserted, DoubledName, Receipts};
-ghost use Rattle.specification.specs.WorkedRecordings.{LeastOfSeveralOrders};
+ghost use Rattle.specification.specs.WorkedRecordings.{LeastOfSeveralOrders, Views};
 ghost use Rattle.specification.specs.WorkedCertificates.{ValidCertificates, WrittenRows, WrongCertificates};
 ghost use Rattle.specification.specs.WorkedCertificates.{ForgedLayers};
 ghost use Rattle.specification.specs.WorkedTexts.{MalformedLines};
@@ -26,6 +26,7 @@ pub fn worked_recordings()
     ensures doubled_name { DoubledName }
     ensures receipts { Receipts }
     ensures least_of_several_orders { LeastOfSeveralOrders }
+    ensures views { Views }
 {}
 
 /// Certificates for these recordings: which are valid, the first reason against others, the rows that are

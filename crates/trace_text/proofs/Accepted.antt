@@ -10,13 +10,14 @@ use Rattle.events.specs.Session.{first_refusal, received, passes}
 use Rattle.events.specs.declared.TheConstants.{MOST_ENTRIES, MOST_INSERTS, MOST_NAMES, MOST_PLACES}
 use Rattle.events.specs.declared.recording.Entry.{Entry}
 use Rattle.events.specs.declared.recording.Body.{Body}
-use Rattle.events.specs.declared.recording.Body.TheVariants.{Ins, Del, Read, Recv}
+use Rattle.events.specs.declared.recording.Body.TheVariants.{Ins, Del, Read, View, Recv}
 use Rattle.events.proofs.Streams.{stream_of-append, stream_of-own}
 
 passes-none : (test : Operation → Bool) (b : Body) → ((seen : Operation) → b ≡ Recv seen → test seen ≡ false) → passes test (received b) ≡ false
 passes-none test (Ins name at response) h = refl
 passes-none test (Del name response) h = refl
 passes-none test (Read response) h = refl
+passes-none test (View response) h = refl
 passes-none test (Recv seen) h = h seen refl
 
 neither : (a b : Bool) → a ≡ false → b ≡ false → (a || b) ≡ false

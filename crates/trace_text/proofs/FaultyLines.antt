@@ -1,7 +1,14 @@
 -- Which lines are faulty after right lines, and what begins a spelling.
-use Rattle.std.proofs.Common.{ℕ, ◌≡◌, ◌≢◌, ◌<◌, ◌≤◌, List, [], ◌∷◌, ◌++◌, length, map, refl, sym, ap, ◌∙◌, arith, Option, Some, None, Ok, IfSome}
+use Rattle.std.proofs.Common.{ℕ, ◌≡◌, ◌≢◌, ◌<◌, ◌≤◌, List, [], ◌∷◌, ◌++◌, length, map, refl, sym, ap, ◌∙◌, subst, codes, arith, Option, Some, None, Ok, IfSome}
 use Rattle.std.proofs.lemmas.List.{append-nil, map_push}
-use Rattle.std.proofs.lemmas.List.Elements.{All-nil}
+use Rattle.std.proofs.lemmas.List.Elements.{All-nil, All-cons, All-append}
+use Rattle.std.proofs.lemmas.Bool.{false≢true}
+use Rattle.std.proofs.lemmas.Slice.Eq.{bytes_eq-Decides}
+use Rattle.events.proofs.Legal.{legal_more}
+use Rattle.format_words.specs.Words.{words_of}
+use Rattle.trace_text.specs.Reading.{entry_at}
+use Rattle.trace_text.specs.Versions.{has_views, version_in}
+use Rattle.trace_text.proofs.Spelled.{line-spells-none}
 use Rattle.events.specs.History.{History, IsLegal, IsWellFormed, with_entry, response_of}
 use Rattle.events.specs.Session.{first_refusal, reply_by}
 use Rattle.events.specs.declared.TheConstants.{MOST_REPLICAS, MOST_NAMES}
@@ -10,34 +17,50 @@ use Rattle.events.specs.declared.recording.Body.{Body}
 use Rattle.events.specs.declared.refusal.Refusal.{Refusal}
 use Rattle.events.specs.declared.refusal.Refusal.TheVariants.{NoReplica, OwnReceipt, NotYet, EntriesFull, InsertsFull, LongResponse, PlacesFull, Memory}
 use Rattle.specification.specs.Lines.{Line}
-use Rattle.specification.specs.TraceText.{HEADER, entry_line, replicas_line, trace_lines, IsEntry, IsFaultyLine, BeginsSpelling}
+use Rattle.specification.specs.TraceText.{Version, one, two, header_line, entry_line, replicas_line, trace_lines, IsEntry, IsOfVersion, IsSpelledIn, IsFaultyLine, BeginsSpelling}
 use Rattle.trace_text.specs.Causes.{refusal_cause}
 use Rattle.trace_text.specs.Progress.{good, IsLegalSoFar}
 use Rattle.trace_text.specs.declared.reading.Reading.{Reading}
 use Rattle.trace_text.specs.declared.reading.Reading.TheVariants.{Start, Headed, Entries}
 
 -- one entry more is one line more
-pub one-line-more : (h : History) (e : Entry) (line : Line) → line ≡ entry_line e → trace_lines (with_entry h e) ≡ trace_lines h ++ line ∷ []
-one-line-more h e line is = ap (λ ls. HEADER ∷ replicas_line h.replicas ∷ ls) (map_push entry_line h.entries e ∙ ap (λ l. map entry_line h.entries ++ l ∷ []) (sym is))
+pub one-line-more : (version : Version) (h : History) (e : Entry) (line : Line) → line ≡ entry_line e → trace_lines version (with_entry h e) ≡ trace_lines version h ++ line ∷ []
+one-line-more version h e line is = ap (λ ls. header_line version ∷ replicas_line h.replicas ∷ ls) (map_push entry_line h.entries e ∙ ap (λ l. map entry_line h.entries ++ l ∷ []) (sym is))
 
 -- a line whose entry is refused
-pub refused-line : (h : History) (line : Line) (e : Entry) (why : Refusal) → IsLegal h → IsEntry e → line ≡ entry_line e →
-    (why ≢ Memory → first_refusal h.replicas h.entries e ≡ Some why) → IfSome (refusal_cause why) (IsFaultyLine (trace_lines h) line)
-refused-line h line e NoReplica legal k is first = (h, legal, refl, e, k, is, first (λ p. cc))
-refused-line h line e OwnReceipt legal k is first = (h, legal, refl, e, k, is, first (λ p. cc))
-refused-line h line e (NotYet have) legal k is first = (h, legal, refl, e, k, is, first (λ p. cc))
-refused-line h line e EntriesFull legal k is first = (h, legal, refl, e, k, is, first (λ p. cc))
-refused-line h line e InsertsFull legal k is first = (h, legal, refl, e, k, is, first (λ p. cc))
-refused-line h line e LongResponse legal k is first = (h, legal, refl, e, k, is, first (λ p. cc))
-refused-line h line e PlacesFull legal k is first = (h, legal, refl, e, k, is, first (λ p. cc))
-refused-line h line e Memory legal k is first = tt
+pub refused-line : (version : Version) (h : History) (line : Line) (e : Entry) (why : Refusal) → IsSpelledIn version h → IsEntry version e → line ≡ entry_line e →
+    (why ≢ Memory → first_refusal h.replicas h.entries e ≡ Some why) → IfSome (refusal_cause why) (IsFaultyLine (trace_lines version h) line)
+refused-line version h line e NoReplica spelled k is first = (version, h, spelled, refl, e, k, is, first (λ p. cc))
+refused-line version h line e OwnReceipt spelled k is first = (version, h, spelled, refl, e, k, is, first (λ p. cc))
+refused-line version h line e (NotYet have) spelled k is first = (version, h, spelled, refl, e, k, is, first (λ p. cc))
+refused-line version h line e EntriesFull spelled k is first = (version, h, spelled, refl, e, k, is, first (λ p. cc))
+refused-line version h line e InsertsFull spelled k is first = (version, h, spelled, refl, e, k, is, first (λ p. cc))
+refused-line version h line e LongResponse spelled k is first = (version, h, spelled, refl, e, k, is, first (λ p. cc))
+refused-line version h line e PlacesFull spelled k is first = (version, h, spelled, refl, e, k, is, first (λ p. cc))
+refused-line version h line e Memory spelled k is first = tt
+
+-- a version's first line is its own
+pub one-header : (v w : Version) → header_line v ≡ header_line w → v ≡ w
+one-header one one is = refl
+one-header one two is = absurd (false≢true ((bytes_eq-Decides (codes "trace 1") (codes "trace 2")).1 is))
+one-header two one is = absurd (false≢true ((bytes_eq-Decides (codes "trace 2") (codes "trace 1")).1 is))
+one-header two two is = refl
+
+-- a line that is not read is no entry's in the version of the first line
+pub shape-of : (version : Version) (line : Line) → entry_at (has_views version) (words_of line) ≡ None → (other : Version) (e : Entry) → header_line version ≡ header_line other → IsEntry other e → line ≢ entry_line e
+shape-of version line none other e same k is = line-spells-none version line none e (subst (λ v. IsEntry v e) (sym (one-header version other same)) k) is
+
+-- with an entry that is not refused, the version spells the recording still
+pub spelled-more : (version : Version) (h : History) (e : Entry) → IsSpelledIn version h → IsEntry version e → first_refusal h.replicas h.entries e ≡ None → IsSpelledIn version (with_entry h e)
+spelled-more version h e (legal, of_version) k none =
+    (legal_more h e legal k.1 none, All-append (IsOfVersion version) h.entries (e ∷ []) of_version (All-cons (IsOfVersion version) e [] k.2 (All-nil (IsOfVersion version))))
 
 no-split : (earlier later : List Entry) (e : Entry) → [] ≡ earlier ++ e ∷ later → ⊥
 no-split [] later e h = cc
 no-split (d ∷ earlier) later e h = cc
 
 -- a recording without entries
-pub empty-legal : (n : ℕ) → 1 ≤ n → n ≤ MOST_REPLICAS → IsLegal (record { replicas = n; entries = [] })
+empty-legal : (n : ℕ) → 1 ≤ n → n ≤ MOST_REPLICAS → IsLegal (record { replicas = n; entries = [] })
 empty-legal n low high = record {
   some_replica = low;
   few_replicas = high;
@@ -47,26 +70,29 @@ empty-legal n low high = record {
   receipts = λ earlier later e h. absurd (no-split earlier later e h);
 }
 
+pub empty-spelled : (version : Version) (n : ℕ) → 1 ≤ n → n ≤ MOST_REPLICAS → IsSpelledIn version (record { replicas = n; entries = [] })
+empty-spelled version n low high = (empty-legal n low high, All-nil (IsOfVersion version))
+
 abbrev smallest : History
 smallest = record { replicas = 1; entries = [] }
 
-smallest-legal : IsLegal smallest
-smallest-legal = empty-legal 1 (omega arith) (omega arith)
+smallest-spelled : (version : Version) → IsSpelledIn version smallest
+smallest-spelled version = empty-spelled version 1 (omega arith) (omega arith)
 
 -- no line, and the first line, begin a spelling
 pub nothing-begins : BeginsSpelling []
-nothing-begins = (smallest, smallest-legal, trace_lines smallest, refl)
+nothing-begins = (one, smallest, smallest-spelled one, trace_lines one smallest, refl)
 
-pub header-begins : BeginsSpelling (HEADER ∷ [])
-header-begins = (smallest, smallest-legal, replicas_line 1 ∷ [], refl)
+pub header-begins : (version : Version) → BeginsSpelling (header_line version ∷ [])
+header-begins version = (version, smallest, smallest-spelled version, replicas_line 1 ∷ [], refl)
 
-pub lines-begin : (h : History) → IsLegal h → BeginsSpelling (trace_lines h)
-lines-begin h legal = (h, legal, [], append-nil (trace_lines h))
+pub lines-begin : (version : Version) (h : History) → IsSpelledIn version h → BeginsSpelling (trace_lines version h)
+lines-begin version h spelled = (version, h, spelled, [], append-nil (trace_lines version h))
 
 pub so-far-begins : (r : Reading) → IsLegalSoFar r → BeginsSpelling (good r)
 so-far-begins Start legal = nothing-begins
-so-far-begins Headed legal = header-begins
-so-far-begins (Entries h) legal = lines-begin h legal
+so-far-begins (Headed version) legal = header-begins (version_in version)
+so-far-begins (Entries recording) legal = lines-begin recording.0 recording.1 legal
 
 -- what is recorded is not refused
 pub none-refused : (why : Option Refusal) (n m : ℕ) → reply_by why n ≡ Ok m → why ≡ None

@@ -1,12 +1,12 @@
 -- What is kept of a line stands for it: the line itself, the line without some of its names, or one space.
-use Rattle.std.proofs.Common.{◌≡◌, ◌≢◌, ℕ, ◌+◌, ◌<◌, ◌≤◌, ◌^◌, ◌==◌, false, List, [], ◌∷◌, ◌++◌, length, length-append, map, refl, sym, ap, ◌∙◌, subst, arith, decimal, codes, Option, Some, None, IfSome, Result, Ok, Err, ◌↔◌, true, inl, inr}
+use Rattle.std.proofs.Common.{◌≡◌, ◌≢◌, ℕ, ◌+◌, ◌<◌, ◌≤◌, ◌^◌, ◌==◌, false, List, [], ◌∷◌, ◌++◌, get_or, length, length-append, map, refl, sym, ap, ◌∙◌, subst, arith, decimal, codes, Option, Some, None, IfSome, Result, Ok, Err, ◌↔◌, true, inl, inr}
 use Rattle.std.specs.Result.{is_ok}
 use Rattle.std.specs.List.{All}
 use Rattle.std.proofs.lemmas.List.{append_assoc, append-nil}
 use Rattle.std.proofs.lemmas.List.Elements.{All-head, All-tail, All-cons, All-nil, All-append}
 use Rattle.std.proofs.lemmas.Bool.{ltb-false}
 use Rattle.std.proofs.lemmas.Fmt.{length-decimal-le, decimal_nonempty}
-use Rattle.events.specs.History.{History, IsLegal, response_of}
+use Rattle.events.specs.History.{History, response_of}
 use Rattle.events.specs.Names.{NameBytes, IsName}
 use Rattle.events.specs.Session.{first_refusal}
 use Rattle.events.specs.declared.TheConstants.{MOST_REPLICAS, MOST_NAMES}
@@ -15,7 +15,7 @@ use Rattle.events.specs.declared.refusal.Refusal.{Refusal}
 use Rattle.events.proofs.Refusals.{is_taken}
 use Rattle.specification.specs.Lines.{Line}
 use Rattle.specification.specs.TraceText as format
-use Rattle.specification.specs.TraceText.{HEADER, IsEntry, IsFaultyLine, BeginsSpelling, entry_line, replicas_line, trace_lines}
+use Rattle.specification.specs.TraceText.{Version, one, two, header_line, IsEntry, IsSpelledIn, IsFaultyLine, BeginsSpelling, entry_line, replicas_line, trace_lines}
 use Rattle.format_words.specs.Words.{Word, words_of}
 use Rattle.format_words.specs.Reading.{Says, name_of}
 use Rattle.format_words.specs.declared.stop.Shape as unsaid
@@ -66,17 +66,17 @@ stands-right kept line lines h begins = h.right lines [] (subst (λ (l : Line). 
 
 -- whatever follows, the line is not right
 pub record IsNever (line : Line) : Type 0 where
-  pub first : (more : Line) → line ++ more ≢ HEADER
+  pub first : (more : Line) (version : Version) → line ++ more ≢ header_line version
   pub second : (more : Line) (n : ℕ) → n ≤ MOST_REPLICAS → line ++ more ≢ replicas_line n
-  pub entry : (more : Line) (e : Entry) → IsEntry e → line ++ more ≢ entry_line e
+  pub entry : (more : Line) (version : Version) (e : Entry) → IsEntry version e → line ++ more ≢ entry_line e
 
-never-right : (lines : List Line) (line more : Line) → IsNever line → (h : History) → IsLegal h → (rest : List Line) → trace_lines h ≡ lines ++ (line ++ more) ∷ rest → ⊥
-never-right [] line more k h legal rest is = line-right h [] (line ++ more) rest format.header legal is (k.first more)
-never-right (a ∷ []) line more k h legal rest is = line-right h (a ∷ []) (line ++ more) rest format.replicas legal is (λ n low high. k.second more n high)
-never-right (a ∷ b ∷ lines) line more k h legal rest is = line-right h (a ∷ b ∷ lines) (line ++ more) rest format.shape legal is (k.entry more)
+never-right : (lines : List Line) (line more : Line) → IsNever line → (version : Version) (h : History) → IsSpelledIn version h → (rest : List Line) → trace_lines version h ≡ lines ++ (line ++ more) ∷ rest → ⊥
+never-right [] line more k version h spelled rest is = line-right version h [] (line ++ more) rest format.header spelled is (k.first more)
+never-right (a ∷ []) line more k version h spelled rest is = line-right version h (a ∷ []) (line ++ more) rest format.replicas spelled is (λ n low high. k.second more n high)
+never-right (a ∷ b ∷ lines) line more k version h spelled rest is = line-right version h (a ∷ b ∷ lines) (line ++ more) rest format.shape spelled is (λ v e first. k.entry more v e)
 
 never-begins : (lines : List Line) (line more : Line) → IsNever line → BeginsSpelling (lines ++ (line ++ more) ∷ []) → ⊥
-never-begins lines line more k (h, legal, rest, is) = never-right lines line more k h legal rest (sym is ∙ append_assoc lines ((line ++ more) ∷ []) rest)
+never-begins lines line more k (version, h, spelled, rest, is) = never-right lines line more k version h spelled rest (sym is ∙ append_assoc lines ((line ++ more) ∷ []) rest)
 
 never-faults : (a b : Line) → IsNever a → IsNever b → (lines : List Line) (more : Line) (cause : format.Cause) → IsFaultyLine lines (a ++ more) cause → IsFaultyLine lines (b ++ more) cause
 never-faults a b h k [] more format.header f = k.first more
@@ -91,9 +91,9 @@ never-faults a b h k (x ∷ []) more format.cut f = absurd f
 never-faults a b h k (x ∷ []) more (format.refused why) f = absurd f
 never-faults a b h k (x ∷ y ∷ lines) more format.header f = absurd f
 never-faults a b h k (x ∷ y ∷ lines) more format.replicas f = absurd f
-never-faults a b h k (x ∷ y ∷ lines) more format.shape f = k.entry more
+never-faults a b h k (x ∷ y ∷ lines) more format.shape f = λ v e first. k.entry more v e
 never-faults a b h k (x ∷ y ∷ lines) more format.cut f = absurd f
-never-faults a b h k (x ∷ y ∷ lines) more (format.refused why) (g, legal, is, e, well, spelled, refused) = absurd (h.entry more e well spelled)
+never-faults a b h k (x ∷ y ∷ lines) more (format.refused why) (v, g, legal, is, e, well, spelled, refused) = absurd (h.entry more v e well spelled)
 
 -- of two lines that are never right, each stands for the other
 never-stands : (a b : Line) → IsNever a → IsNever b → 1 ≤ length a → 1 ≤ length b → StandsFor a b
@@ -107,17 +107,22 @@ never-stands a b h k some others = record {
 -- one space
 space-never : IsNever (32 ∷ [])
 space-never = record {
-  first = λ more is. cc;
+  first = λ more version is. no-header more version is;
   second = λ more n low is. cc;
-  entry = λ more e h is. no-word more e h (ap words_of is ∙ words-of-line e h);
+  entry = λ more version e h is. no-word more version e h (ap words_of is ∙ words-of-line version e h);
 }
   where
-    no-word : (more : Line) (e : Entry) → IsEntry e → [] ∷ words_of more ≡ entry_words e → ⊥
-    no-word more e h is = let empty : [] ≡ decimal e.replica = cc in absurd (omega (arith, ap length empty, decimal_nonempty e.replica (omega (arith, h.0))))
+    no-header : (more : Line) (version : Version) → 32 ∷ more ≢ header_line version
+    no-header more one is = absurd (omega (arith, ap (λ l. get_or l 0 0) is))
+    no-header more two is = absurd (omega (arith, ap (λ l. get_or l 0 0) is))
+
+    no-word : (more : Line) (version : Version) (e : Entry) → IsEntry version e → [] ∷ words_of more ≡ entry_words e → ⊥
+    no-word more version e h is = let empty : [] ≡ decimal e.replica = cc in absurd (omega (arith, ap length empty, decimal_nonempty e.replica (omega (arith, h.0))))
 
 -- a line that is long before a space
-long-never-first : (front rest : Line) → 135333 ≤ length front → front ++ 32 ∷ rest ≢ HEADER
-long-never-first front rest long is = absurd (omega (arith, long, ap length is, length-append front (32 ∷ rest)))
+long-never-first : (front rest : Line) → 135333 ≤ length front → (version : Version) → front ++ 32 ∷ rest ≢ header_line version
+long-never-first front rest long one is = absurd (omega (arith, long, ap length is, length-append front (32 ∷ rest)))
+long-never-first front rest long two is = absurd (omega (arith, long, ap length is, length-append front (32 ∷ rest)))
 
 long-never-second : (front rest : Line) (n : ℕ) → 135333 ≤ length front → n ≤ MOST_REPLICAS → front ++ 32 ∷ rest ≢ replicas_line n
 long-never-second front rest n long high is =
@@ -128,8 +133,8 @@ one-name : All IsName (words_of (codes "a"))
 one-name = All-cons IsName (codes "a") [] (record { some_byte = omega arith; few_bytes = omega arith; each_byte = refl }) (All-nil IsName)
 
 -- what stands behind a long front in an entry's line
-names-behind : (e : Entry) → IsEntry e → (front back : Line) → front ++ 32 ∷ back ≡ entry_line e → 135333 ≤ length front → All IsName (words_of back)
-names-behind e h front back is long = (long-entry e h front back (codes "a") is long one-name).names
+names-behind : (version : Version) (e : Entry) → IsEntry version e → (front back : Line) → front ++ 32 ∷ back ≡ entry_line e → 135333 ≤ length front → All IsName (words_of back)
+names-behind version e h front back is long = (long-entry version e h front back (codes "a") is long one-name).names
 
 word-in : (front word more : Line) → (((front ++ 32 ∷ []) ++ word) ++ 32 ∷ []) ++ more ≡ front ++ 32 ∷ (word ++ 32 ∷ more)
 word-in front word more = append_assoc ((front ++ 32 ∷ []) ++ word) (32 ∷ []) more ∙ append_assoc (front ++ 32 ∷ []) word (32 ∷ more) ∙ append_assoc front (32 ∷ []) (word ++ 32 ∷ more)
@@ -137,26 +142,26 @@ word-in front word more = append_assoc ((front ++ 32 ∷ []) ++ word) (32 ∷ []
 word-out : (front more : Line) → (front ++ 32 ∷ []) ++ more ≡ front ++ 32 ∷ more
 word-out front more = append_assoc front (32 ∷ []) more
 
-names-in : (e : Entry) → IsEntry e → (front word more : Line) → front ++ 32 ∷ (word ++ 32 ∷ more) ≡ entry_line e → 135333 ≤ length front → HasNoSpace word → All IsName (word ∷ words_of more)
-names-in e h front word more is long one = subst (All IsName) (word-then word more one) (names-behind e h front (word ++ 32 ∷ more) is long)
+names-in : (version : Version) (e : Entry) → IsEntry version e → (front word more : Line) → front ++ 32 ∷ (word ++ 32 ∷ more) ≡ entry_line e → 135333 ≤ length front → HasNoSpace word → All IsName (word ∷ words_of more)
+names-in version e h front word more is long alone = subst (All IsName) (word-then word more alone) (names-behind version e h front (word ++ 32 ∷ more) is long)
 
 -- a word that is no name, behind a long front
 bad-name-never : (front word : Line) → 135333 ≤ length front → HasNoSpace word → (IsName word → ⊥) → IsNever (((front ++ 32 ∷ []) ++ word) ++ 32 ∷ [])
-bad-name-never front word long one bad = record {
-  first = λ more is. long-never-first front (word ++ 32 ∷ more) long (sym (word-in front word more) ∙ is);
+bad-name-never front word long alone bad = record {
+  first = λ more version is. long-never-first front (word ++ 32 ∷ more) long version (sym (word-in front word more) ∙ is);
   second = λ more n high is. long-never-second front (word ++ 32 ∷ more) n long high (sym (word-in front word more) ∙ is);
-  entry = λ more e h is. bad (All-head IsName word (words_of more) (names-in e h front word more (sym (word-in front word more) ∙ is) long one));
+  entry = λ more version e h is. bad (All-head IsName word (words_of more) (names-in version e h front word more (sym (word-in front word more) ∙ is) long alone));
 }
 
 -- a word that is too long
 long-word : (whole word more : Line) → EndsWithWord whole → HasNoSpace word → 33 ≤ length word → All IsShort (words_of ((whole ++ word) ++ more)) → ⊥
-long-word whole word more (inl none) one long short =
-    let p = word-grows word more one in
+long-word whole word more (inl none) alone long short =
+    let p = word-grows word more alone in
     let words : words_of ((whole ++ word) ++ more) ≡ (word ++ p.0) ∷ p.1 = ap (λ l. words_of ((l ++ word) ++ more)) none ∙ p.2 in
     let few : length (word ++ p.0) ≤ 32 = All-head IsShort (word ++ p.0) p.1 (subst (All IsShort) words short) in
     absurd (omega (arith, few, long, length-append word p.0))
-long-word whole word more (inr (front, is)) one long short =
-    let p = word-grows word more one in
+long-word whole word more (inr (front, is)) alone long short =
+    let p = word-grows word more alone in
     let text : (whole ++ word) ++ more ≡ front ++ 32 ∷ (word ++ more) =
     ap (λ l. (l ++ word) ++ more) is ∙ append_assoc (front ++ 32 ∷ []) word more ∙ append_assoc front (32 ∷ []) (word ++ more) in
     let words : words_of ((whole ++ word) ++ more) ≡ words_of front ++ ((word ++ p.0) ∷ p.1) = ap words_of text ∙ words-apart front (word ++ more) ∙ ap (λ l. words_of front ++ l) p.2 in
@@ -167,31 +172,32 @@ long-word whole word more (inr (front, is)) one long short =
     back [] ys h = h
     back (x ∷ xs) ys h = back xs ys (All-tail IsShort x (xs ++ ys) h)
 
-header-short : All IsShort (words_of HEADER)
-header-short = All-cons IsShort (codes "trace") (codes "1" ∷ []) (omega arith) (All-cons IsShort (codes "1") [] (omega arith) (All-nil IsShort))
+header-short : (version : Version) → All IsShort (words_of (header_line version))
+header-short one = All-cons IsShort (codes "trace") (codes "1" ∷ []) (omega arith) (All-cons IsShort (codes "1") [] (omega arith) (All-nil IsShort))
+header-short two = All-cons IsShort (codes "trace") (codes "2" ∷ []) (omega arith) (All-cons IsShort (codes "2") [] (omega arith) (All-nil IsShort))
 
 second-short : (n : ℕ) → n < 2 ^ 32 → All IsShort (words_of (replicas_line n))
 second-short n small =
     subst (All IsShort) (sym (replicas-words n small)) (All-cons IsShort (codes "replicas") (decimal n ∷ []) (omega arith) (All-cons IsShort (decimal n) [] (number-short n small) (All-nil IsShort)))
 
 long-word-never : (whole word : Line) → EndsWithWord whole → HasNoSpace word → 33 ≤ length word → IsNever (whole ++ word)
-long-word-never whole word ends one long = record {
-  first = λ more is. long-word whole word more ends one long (subst (λ (l : Line). All IsShort (words_of l)) (sym is) header-short);
-  second = λ more n high is. long-word whole word more ends one long (subst (λ (l : Line). All IsShort (words_of l)) (sym is) (second-short n (omega (arith, high))));
-  entry = λ more e h is. long-word whole word more ends one long (subst (All IsShort) (sym (ap words_of is ∙ words-of-line e h)) (entry-short e h));
+long-word-never whole word ends alone long = record {
+  first = λ more version is. long-word whole word more ends alone long (subst (λ (l : Line). All IsShort (words_of l)) (sym is) (header-short version));
+  second = λ more n high is. long-word whole word more ends alone long (subst (λ (l : Line). All IsShort (words_of l)) (sym is) (second-short n (omega (arith, high))));
+  entry = λ more version e h is. long-word whole word more ends alone long (subst (All IsShort) (sym (ap words_of is ∙ words-of-line version e h)) (entry-short version e h));
 }
 
 -- no right line is so long
-long-not-right : (h : History) (lines : List Line) (front back : Line) (rest : List Line) → IsLegal h → trace_lines h ≡ lines ++ (front ++ 32 ∷ back) ∷ rest → 135333 ≤ length front → ⊥
-long-not-right h [] front back rest legal is long = line-right h [] (front ++ 32 ∷ back) rest format.header legal is (long-never-first front back long)
-long-not-right h (a ∷ []) front back rest legal is long = line-right h (a ∷ []) (front ++ 32 ∷ back) rest format.replicas legal is (λ n low high. long-never-second front back n long high)
-long-not-right h (a ∷ b ∷ lines) front back rest legal is long =
+long-not-right : (version : Version) (h : History) (lines : List Line) (front back : Line) (rest : List Line) → IsSpelledIn version h → trace_lines version h ≡ lines ++ (front ++ 32 ∷ back) ∷ rest → 135333 ≤ length front → ⊥
+long-not-right version h [] front back rest spelled is long = line-right version h [] (front ++ 32 ∷ back) rest format.header spelled is (long-never-first front back long)
+long-not-right version h (a ∷ []) front back rest spelled is long = line-right version h (a ∷ []) (front ++ 32 ∷ back) rest format.replicas spelled is (λ n low high. long-never-second front back n long high)
+long-not-right version h (a ∷ b ∷ lines) front back rest spelled is long =
     let others : map entry_line h.entries ≡ lines ++ (front ++ 32 ∷ back) ∷ rest = cc in
     let p = entry-there h.entries lines rest (front ++ 32 ∷ back) others in
-    let k = (all-of IsEntry p.0 p.1 p.2 (subst (All IsEntry) p.3 (legal-entries h legal))).1 in
-    let taken = is_taken h.replicas p.0 p.2 (accepted h p.0 p.1 p.2 legal p.3) in
+    let k = (all-of (IsEntry version) p.0 p.1 p.2 (subst (All (IsEntry version)) p.3 (legal-entries version h spelled))).1 in
+    let taken = is_taken h.replicas p.0 p.2 (accepted h p.0 p.1 p.2 spelled.0 p.3) in
     let few : length (response_of p.2.body) ≤ MOST_NAMES = ltb-false MOST_NAMES (length (response_of p.2.body)) taken.long in
-    let le = long-entry p.2 k front back (codes "a") p.5 long one-name in
+    let le = long-entry version p.2 k front back (codes "a") p.5 long one-name in
     absurd (omega (arith, few, le.many))
 
 left-out-faults : (front word : Line) → 135333 ≤ length front → IsName word → (lines : List Line) (more : Line) (cause : format.Cause) → IsFaultyLine lines (front ++ 32 ∷ more) cause → IsFaultyLine lines (front ++ 32 ∷ (word ++ 32 ∷ more)) cause
@@ -207,15 +213,15 @@ left-out-faults front word long name (x ∷ []) more format.cut f = absurd f
 left-out-faults front word long name (x ∷ []) more (format.refused why) f = absurd f
 left-out-faults front word long name (x ∷ y ∷ lines) more format.header f = absurd f
 left-out-faults front word long name (x ∷ y ∷ lines) more format.replicas f = absurd f
-left-out-faults front word long name (x ∷ y ∷ lines) more format.shape f = λ e h is.
-    let names = names-in e h front word more is long (name-lacks word name) in
-    let le = long-entry e h front (word ++ 32 ∷ more) more is long (All-tail IsName word (words_of more) names) in
-    f le.other le.is_entry le.spelled
+left-out-faults front word long name (x ∷ y ∷ lines) more format.shape f = λ version e first h is.
+    let names = names-in version e h front word more is long (name-lacks word name) in
+    let le = long-entry version e h front (word ++ 32 ∷ more) more is long (All-tail IsName word (words_of more) names) in
+    f version le.other first le.is_entry le.spelled
 left-out-faults front word long name (x ∷ y ∷ lines) more format.cut f = absurd f
-left-out-faults front word long name (x ∷ y ∷ lines) more (format.refused why) (g, legal, is, e, h, spelled, refused) =
-    let names = All-cons IsName word (words_of more) name (names-behind e h front more spelled long) in
-    let le = long-entry e h front more (word ++ 32 ∷ more) spelled long (subst (All IsName) (sym (word-then word more (name-lacks word name))) names) in
-    (g, legal, is, le.other, le.is_entry, le.spelled, le.same g.replicas g.entries ∙ refused)
+left-out-faults front word long name (x ∷ y ∷ lines) more (format.refused why) (version, g, legal, is, e, h, spelled, refused) =
+    let names = All-cons IsName word (words_of more) name (names-behind version e h front more spelled long) in
+    let le = long-entry version e h front more (word ++ 32 ∷ more) spelled long (subst (All IsName) (sym (word-then word more (name-lacks word name))) names) in
+    (version, g, legal, is, le.other, le.is_entry, le.spelled, le.same g.replicas g.entries ∙ refused)
 
 -- a name may be left out behind a long front
 left-out : (front word : Line) → 135333 ≤ length front → IsName word → StandsFor (front ++ 32 ∷ []) (((front ++ 32 ∷ []) ++ word) ++ 32 ∷ [])
@@ -227,16 +233,16 @@ left-out front word long name = record {
 }
   where
     not-right : (lines : List Line) (more : Line) → BeginsSpelling (lines ++ ((front ++ 32 ∷ []) ++ more) ∷ []) → ⊥
-    not-right lines more (h, legal, rest, is) =
-        long-not-right h lines front more rest legal
+    not-right lines more (version, h, spelled, rest, is) =
+        long-not-right version h lines front more rest spelled
         (sym is ∙ append_assoc lines (((front ++ 32 ∷ []) ++ more) ∷ []) rest ∙ ap (λ l. lines ++ l ∷ rest) (word-out front more)) long
 
 -- what was kept, with one step more
 pub part-kept : (kept : Kept) (part : Line) → HasNoSpace part → length kept.word + length part ≤ 32 → Keeps kept part (record { whole = kept.whole; word = kept.word ++ part })
-part-kept kept part one few line k = record {
+part-kept kept part alone few line k = record {
   stands = subst (λ (l : Line). StandsFor l (line ++ part)) (append_assoc kept.whole kept.word part) (stands-on (kept.whole ++ kept.word) line part k.stands);
   ends = k.ends;
-  one_word = All-append (λ b. (b == 32) ≡ false) kept.word part k.one_word one;
+  one_word = All-append (λ b. (b == 32) ≡ false) kept.word part k.one_word alone;
   few_whole = k.few_whole;
   few_word = omega (arith, few, length-append kept.word part);
 }
@@ -251,10 +257,10 @@ given-up line other never some stands = record {
 }
 
 pub part-given-up : (kept : Kept) (part : Line) → HasNoSpace part → 32 < length kept.word + length part → Keeps kept part GIVEN_UP
-part-given-up kept part one many line k =
+part-given-up kept part alone many line k =
     let long : 33 ≤ length (kept.word ++ part) = omega (arith, many, length-append kept.word part) in
     given-up (line ++ part) (kept.whole ++ (kept.word ++ part))
-    (long-word-never kept.whole (kept.word ++ part) k.ends (All-append (λ b. (b == 32) ≡ false) kept.word part k.one_word one) long)
+    (long-word-never kept.whole (kept.word ++ part) k.ends (All-append (λ b. (b == 32) ≡ false) kept.word part k.one_word alone) long)
     (omega (arith, long, length-append kept.whole (kept.word ++ part)))
     (subst (λ (l : Line). StandsFor l (line ++ part)) (append_assoc kept.whole kept.word part) (stands-on (kept.whole ++ kept.word) line part k.stands))
 
@@ -310,9 +316,9 @@ says-name (Err x) w e = (λ h. absurd (cc), λ h. absurd (none-some w (sym e ∙
 
 never-still : (line bytes : Line) → IsNever line → IsNever (line ++ bytes)
 never-still line bytes h = record {
-  first = λ more is. h.first (bytes ++ more) (sym (append_assoc line bytes more) ∙ is);
+  first = λ more version is. h.first (bytes ++ more) version (sym (append_assoc line bytes more) ∙ is);
   second = λ more n high is. h.second (bytes ++ more) n high (sym (append_assoc line bytes more) ∙ is);
-  entry = λ more e k is. h.entry (bytes ++ more) e k (sym (append_assoc line bytes more) ∙ is);
+  entry = λ more version e k is. h.entry (bytes ++ more) version e k (sym (append_assoc line bytes more) ∙ is);
 }
 
 -- what begins with a space is not right, whatever follows
@@ -330,6 +336,13 @@ one-part-more a b c d bytes front part behind rest whole cut h k m = (
   whole ∙ ap (λ l. front ++ l) cut ∙ sym (append_assoc front part (32 ∷ behind)) ∙ sym (append_assoc (front ++ part) (32 ∷ []) behind),
   keeps-both a c d (front ++ part) (32 ∷ []) (keeps-both a b c front part h k) m,
 )
+
+-- where one space stands for the line then, the rest of the bytes changes nothing
+pub given-up-on : (a b c d : Kept) (bytes front part behind rest : Line) → bytes ≡ front ++ rest → rest ≡ part ++ 32 ∷ behind → Keeps a front b → Keeps b part c → Keeps c (32 ∷ []) d →
+    d ≡ GIVEN_UP → Keeps a bytes d
+given-up-on a b c d bytes front part behind rest whole cut h k m is =
+    let so_far = one-part-more a b c d bytes front part behind rest whole cut h k m in
+    subst (λ (l : Line). Keeps a l d) (sym so_far.1) (keeps-both a d d so_far.0 behind so_far.2 (subst (λ (z : Kept). Keeps z behind z) (sym is) (still-given-up behind)))
 
 no-bytes : (word : Line) → length word ≡ 0 → word ≡ []
 no-bytes [] h = refl

@@ -7,9 +7,9 @@ use Rattle.events.specs.History.{IsWellFormed}
 use Rattle.events.specs.Names.{NameBytes, IsName}
 use Rattle.events.specs.declared.recording.Entry.{Entry}
 use Rattle.events.specs.declared.recording.Body.{Body}
-use Rattle.events.specs.declared.recording.Body.TheVariants.{Ins, Del, Read, Recv}
+use Rattle.events.specs.declared.recording.Body.TheVariants.{Ins, Del, Read, View, Recv}
 use Rattle.specification.specs.Lines.{names_text}
-use Rattle.specification.specs.TraceText.{entry_line, body_text, IsEntry}
+use Rattle.specification.specs.TraceText.{Version, entry_line, body_text, IsEntry}
 use Rattle.format_words.specs.Words.{Word, words_of}
 use Rattle.format_words.proofs.Bytes.{lacks-literal}
 use Rattle.format_words.proofs.LineWords.{LacksSpace, join-names, name-lacks, names-lack, number-lacks, word-then, last-word, names-words}
@@ -18,6 +18,7 @@ abbrev pub body_words : Body → List Word
 body_words (Ins name at response) = codes "ins" ∷ name ∷ decimal at ∷ codes ":" ∷ response
 body_words (Del name response) = codes "del" ∷ name ∷ codes ":" ∷ response
 body_words (Read response) = codes "read" ∷ codes ":" ∷ response
+body_words (View response) = codes "view" ∷ codes ":" ∷ response
 body_words (Recv seen) = codes "recv" ∷ decimal seen.replica ∷ decimal seen.n ∷ []
 
 abbrev pub entry_words : Entry → List Word
@@ -34,6 +35,7 @@ body-join r (Del name response) =
     ap (λ l. r ++ (codes " del " ++ (name ++ 32 ∷ l))) (join-names (codes ":") response)
     ∙ ap (λ l. r ++ (codes " del " ++ l)) (sym (append_assoc name (codes " :") (names_text response)))
 body-join r (Read response) = ap (λ l. r ++ (codes " read " ++ l)) (join-names (codes ":") response)
+body-join r (View response) = ap (λ l. r ++ (codes " view " ++ l)) (join-names (codes ":") response)
 body-join r (Recv seen) = refl
 
 -- a line with an entry's words is the entry's line
@@ -60,11 +62,13 @@ body-words r (Del name response) h k =
     ∙ ap (λ l. name ∷ l) (response-words response k.1))
 body-words r (Read response) h k =
     word-then r (codes "read " ++ 58 ∷ names_text response) h ∙ ap (λ l. r ∷ codes "read" ∷ l) (response-words response k)
+body-words r (View response) h k =
+    word-then r (codes "view " ++ 58 ∷ names_text response) h ∙ ap (λ l. r ∷ codes "view" ∷ l) (response-words response k)
 body-words r (Recv seen) h k =
     word-then r (codes "recv " ++ (decimal seen.replica ++ 32 ∷ decimal seen.n)) h
     ∙ ap (λ l. r ∷ codes "recv" ∷ l) (word-then (decimal seen.replica) (decimal seen.n) (number-lacks seen.replica k.0)
     ∙ ap (λ l. decimal seen.replica ∷ l) (last-word (decimal seen.n) (number-lacks seen.n k.2)))
 
 -- an entry's line has the entry's words
-pub words-of-line : (e : Entry) → IsEntry e → words_of (entry_line e) ≡ entry_words e
-words-of-line e h = body-words (decimal e.replica) e.body (number-lacks e.replica h.0) h.1
+pub words-of-line : (version : Version) (e : Entry) → IsEntry version e → words_of (entry_line e) ≡ entry_words e
+words-of-line version e h = body-words (decimal e.replica) e.body (number-lacks e.replica h.0) h.1

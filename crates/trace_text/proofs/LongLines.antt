@@ -8,17 +8,17 @@ use Rattle.std.proofs.lemmas.Fmt.{length-decimal-le}
 use Rattle.std.proofs.lemmas.List.{append_assoc}
 use Rattle.std.proofs.lemmas.List.Elements.{All-head, All-tail, All-cons, All-nil, All-append, All-weaker}
 use Rattle.std.proofs.lemmas.List.Splits.{length-slice_split, slice_split-cons_yes, slice_split-cons_no, join_with_byte-slice_split}
-use Rattle.events.specs.History.{IsWellFormed, response_of, is_insert, stream_of, count_of}
+use Rattle.events.specs.History.{IsWellFormed, response_of, is_insert, is_view, stream_of, count_of}
 use Rattle.events.specs.Names.{NameBytes, IsName}
 use Rattle.events.specs.Session.{first_refusal, first_that_holds, received, passes, have_of}
 use Rattle.events.specs.declared.TheConstants.{MOST_ENTRIES, MOST_INSERTS, MOST_NAMES, MOST_PLACES}
 use Rattle.events.specs.declared.recording.Entry.{Entry}
 use Rattle.events.specs.declared.recording.Body.{Body}
-use Rattle.events.specs.declared.recording.Body.TheVariants.{Ins, Del, Read, Recv}
+use Rattle.events.specs.declared.recording.Body.TheVariants.{Ins, Del, Read, View, Recv}
 use Rattle.events.specs.declared.refusal.Refusal.{Refusal}
 use Rattle.events.specs.declared.refusal.Refusal.TheVariants.{NoReplica, OwnReceipt, NotYet, EntriesFull, InsertsFull, LongResponse, PlacesFull}
 use Rattle.specification.specs.Lines.{Line}
-use Rattle.specification.specs.TraceText.{IsEntry, entry_line}
+use Rattle.specification.specs.TraceText.{Version, one, two, IsEntry, IsOfVersion, entry_line}
 use Rattle.format_words.specs.Words.{Word, words_of}
 use Rattle.format_words.proofs.TextLines.{all-front}
 use Rattle.trace_text.proofs.LineWords.{body_words, entry_words, line-by-words, words-of-line}
@@ -54,11 +54,11 @@ IsShort w = length w ≤ 32
 -- short words make a short line
 joined-length : (ws : List Word) → All IsShort ws → length (join_with_byte 32 ws) ≤ 33 * length ws
 joined-length [] h = omega arith
-joined-length (w ∷ []) h = let one : length w ≤ 32 = All-head IsShort w [] h in omega (arith, one)
+joined-length (w ∷ []) h = let first : length w ≤ 32 = All-head IsShort w [] h in omega (arith, first)
 joined-length (w ∷ v ∷ ws) h =
-    let one : length w ≤ 32 = All-head IsShort w (v ∷ ws) h in
+    let first : length w ≤ 32 = All-head IsShort w (v ∷ ws) h in
     let others = joined-length (v ∷ ws) (All-tail IsShort w (v ∷ ws) h) in
-    omega (arith, one, others, length-append w (32 ∷ join_with_byte 32 (v ∷ ws)))
+    omega (arith, first, others, length-append w (32 ∷ join_with_byte 32 (v ∷ ws)))
 
 pub words-of-short : (line : Line) → All IsShort (words_of line) → length line ≤ 33 * length (words_of line)
 words-of-short line h = subst (λ (l : Line). length l ≤ 33 * length (words_of line)) (join_with_byte-slice_split 32 line) (joined-length (words_of line) h)
@@ -79,14 +79,15 @@ body-short (Del name response) h =
     All-cons IsShort (codes "del") (name ∷ codes ":" ∷ response) (omega arith)
     (All-cons IsShort name (codes ":" ∷ response) h.0.few_bytes (All-cons IsShort (codes ":") response (omega arith) (names-short response h.1)))
 body-short (Read response) h = All-cons IsShort (codes "read") (codes ":" ∷ response) (omega arith) (All-cons IsShort (codes ":") response (omega arith) (names-short response h))
+body-short (View response) h = All-cons IsShort (codes "view") (codes ":" ∷ response) (omega arith) (All-cons IsShort (codes ":") response (omega arith) (names-short response h))
 body-short (Recv seen) h =
     All-cons IsShort (codes "recv") (decimal seen.replica ∷ decimal seen.n ∷ []) (omega arith)
     (All-cons IsShort (decimal seen.replica) (decimal seen.n ∷ []) (number-short seen.replica h.0)
     (All-cons IsShort (decimal seen.n) [] (number-short seen.n h.2) (All-nil IsShort)))
 
 -- the words of an entry are short
-pub entry-short : (e : Entry) → IsEntry e → All IsShort (entry_words e)
-entry-short e h = All-cons IsShort (decimal e.replica) (body_words e.body) (number-short e.replica h.0) (body-short e.body h.1)
+pub entry-short : (version : Version) (e : Entry) → IsEntry version e → All IsShort (entry_words e)
+entry-short version e h = All-cons IsShort (decimal e.replica) (body_words e.body) (number-short e.replica h.0) (body-short e.body h.1)
 
 -- what the longer front has besides the shorter
 cut-front : (ws xs hs rs : List Word) → ws ++ xs ≡ hs ++ rs → length hs ≤ length ws → (ns : List Word) × (ws ≡ hs ++ ns) × (rs ≡ ns ++ xs)
@@ -128,17 +129,17 @@ refused-so-far n entries e many =
     (lt-ltb MOST_NAMES (length (response_of e.body)) many)
 
 -- another entry, with the same words in front, that is refused for the same cause as this one
-pub record IsRefusedAs (e : Entry) (words : List Word) : Type 0 where
+pub record IsRefusedAs (version : Version) (e : Entry) (words : List Word) : Type 0 where
   pub other : Entry
-  pub is_entry : IsEntry other
+  pub is_entry : IsEntry version other
   pub words_are : words ≡ entry_words other
   pub many : MOST_NAMES < length (response_of other.body)
   pub same : (n : ℕ) (entries : List Entry) → first_refusal n entries other ≡ first_refusal n entries e
 
-pub record HasManyNames (e : Entry) (front back others : List Word) : Type 0 where
+pub record HasManyNames (version : Version) (e : Entry) (front back others : List Word) : Type 0 where
   pub many : MOST_NAMES < length (response_of e.body)
   pub names : All IsName back
-  pub refused_as : IsRefusedAs e (front ++ others)
+  pub refused_as : IsRefusedAs version e (front ++ others)
 
 all-back : (xs ys : List Word) → All IsName (xs ++ ys) → All IsName ys
 all-back [] ys h = h
@@ -159,74 +160,92 @@ names-apart hs response front back others is few long some more names other_name
       All-append IsName p.0 others (all-front IsName p.0 back whole) other_names,
     )
 
-swapped-body : (r : ℕ) (b : Body) (front back others : List Word) → r < 2 ^ 32 → IsWellFormed b → front ++ back ≡ decimal r ∷ body_words b → 4101 ≤ length front → 1 ≤ length back → 1 ≤ length others → All IsName others →
-    HasManyNames (record { replica = r; body = b }) front back others
-swapped-body r (Ins name at response) front back others small h is long some more names =
+-- an entry of the version, with a view where the other has one
+same-version : (version : Version) (d e : Entry) → is_view d.body ≡ is_view e.body → IsOfVersion version d → IsOfVersion version e
+same-version one d e same plain = sym same ∙ plain
+same-version two d e same of = tt
+
+swapped-body : (version : Version) (r : ℕ) (b : Body) (front back others : List Word) → r < 2 ^ 32 → IsWellFormed b → IsOfVersion version (record { replica = r; body = b }) → front ++ back ≡ decimal r ∷ body_words b → 4101 ≤ length front → 1 ≤ length back → 1 ≤ length others → All IsName others →
+    HasManyNames version (record { replica = r; body = b }) front back others
+swapped-body version r (Ins name at response) front back others small h of is long some more names =
     let q = names-apart (decimal r ∷ codes "ins" ∷ name ∷ decimal at ∷ codes ":" ∷ []) response front back others is (omega arith) long some more h.2 names in
     record {
       many = q.2;
       names = q.4;
       refused_as = record {
         other = record { replica = r; body = Ins name at (q.0 ++ others) };
-        is_entry = (small, (h.0, h.1, q.5));
+        is_entry = (small, (h.0, h.1, q.5), same-version version (record { replica = r; body = Ins name at response }) (record { replica = r; body = Ins name at (q.0 ++ others) }) refl of);
         words_are = q.1;
         many = q.3;
         same = λ n entries. refused-so-far n entries (record { replica = r; body = Ins name at (q.0 ++ others) }) q.3 ∙ sym (refused-so-far n entries (record { replica = r; body = Ins name at response }) q.2);
       };
     }
-swapped-body r (Del name response) front back others small h is long some more names =
+swapped-body version r (Del name response) front back others small h of is long some more names =
     let q = names-apart (decimal r ∷ codes "del" ∷ name ∷ codes ":" ∷ []) response front back others is (omega arith) long some more h.1 names in
     record {
       many = q.2;
       names = q.4;
       refused_as = record {
         other = record { replica = r; body = Del name (q.0 ++ others) };
-        is_entry = (small, (h.0, q.5));
+        is_entry = (small, (h.0, q.5), same-version version (record { replica = r; body = Del name response }) (record { replica = r; body = Del name (q.0 ++ others) }) refl of);
         words_are = q.1;
         many = q.3;
         same = λ n entries. refused-so-far n entries (record { replica = r; body = Del name (q.0 ++ others) }) q.3 ∙ sym (refused-so-far n entries (record { replica = r; body = Del name response }) q.2);
       };
     }
-swapped-body r (Read response) front back others small h is long some more names =
+swapped-body version r (Read response) front back others small h of is long some more names =
     let q = names-apart (decimal r ∷ codes "read" ∷ codes ":" ∷ []) response front back others is (omega arith) long some more h names in
     record {
       many = q.2;
       names = q.4;
       refused_as = record {
         other = record { replica = r; body = Read (q.0 ++ others) };
-        is_entry = (small, q.5);
+        is_entry = (small, q.5, same-version version (record { replica = r; body = Read response }) (record { replica = r; body = Read (q.0 ++ others) }) refl of);
         words_are = q.1;
         many = q.3;
         same = λ n entries. refused-so-far n entries (record { replica = r; body = Read (q.0 ++ others) }) q.3 ∙ sym (refused-so-far n entries (record { replica = r; body = Read response }) q.2);
       };
     }
-swapped-body r (Recv seen) front back others small h is long some more names =
+swapped-body version r (View response) front back others small h of is long some more names =
+    let q = names-apart (decimal r ∷ codes "view" ∷ codes ":" ∷ []) response front back others is (omega arith) long some more h names in
+    record {
+      many = q.2;
+      names = q.4;
+      refused_as = record {
+        other = record { replica = r; body = View (q.0 ++ others) };
+        is_entry = (small, q.5, same-version version (record { replica = r; body = View response }) (record { replica = r; body = View (q.0 ++ others) }) refl of);
+        words_are = q.1;
+        many = q.3;
+        same = λ n entries. refused-so-far n entries (record { replica = r; body = View (q.0 ++ others) }) q.3 ∙ sym (refused-so-far n entries (record { replica = r; body = View response }) q.2);
+      };
+    }
+swapped-body version r (Recv seen) front back others small h of is long some more names =
     let q = names-apart (decimal r ∷ codes "recv" ∷ decimal seen.replica ∷ decimal seen.n ∷ []) [] front back others is (omega arith) long some more (All-nil IsName) names in
     absurd (omega (arith, q.2))
 
 -- a line that is long before a space
-pub record LongEntry (e : Entry) (front back others : Line) : Type 0 where
+pub record LongEntry (version : Version) (e : Entry) (front back others : Line) : Type 0 where
   pub many : MOST_NAMES < length (response_of e.body)
   pub names : All IsName (words_of back)
   pub other : Entry
-  pub is_entry : IsEntry other
+  pub is_entry : IsEntry version other
   pub spelled : front ++ 32 ∷ others ≡ entry_line other
   pub other_many : MOST_NAMES < length (response_of other.body)
   pub same : (n : ℕ) (entries : List Entry) → first_refusal n entries other ≡ first_refusal n entries e
 
-words-of-parts : (e : Entry) → IsEntry e → (front back : Line) → front ++ 32 ∷ back ≡ entry_line e → words_of front ++ words_of back ≡ entry_words e
-words-of-parts e h front back is = sym (words-apart front back) ∙ ap words_of is ∙ words-of-line e h
+words-of-parts : (version : Version) (e : Entry) → IsEntry version e → (front back : Line) → front ++ 32 ∷ back ≡ entry_line e → words_of front ++ words_of back ≡ entry_words e
+words-of-parts version e h front back is = sym (words-apart front back) ∙ ap words_of is ∙ words-of-line version e h
 
-many-words : (e : Entry) → IsEntry e → (front back : Line) → front ++ 32 ∷ back ≡ entry_line e → 135333 ≤ length front → 4101 ≤ length (words_of front)
-many-words e h front back is long =
-    let short = all-front IsShort (words_of front) (words_of back) (subst (All IsShort) (sym (words-of-parts e h front back is)) (entry-short e h)) in
+many-words : (version : Version) (e : Entry) → IsEntry version e → (front back : Line) → front ++ 32 ∷ back ≡ entry_line e → 135333 ≤ length front → 4101 ≤ length (words_of front)
+many-words version e h front back is long =
+    let short = all-front IsShort (words_of front) (words_of back) (subst (All IsShort) (sym (words-of-parts version e h front back is)) (entry-short version e h)) in
     let few = words-of-short front short in
     omega (arith, few, long)
 
 -- where it spells an entry, other names behind the space spell one that is refused for the same cause
-pub long-entry : (e : Entry) → IsEntry e → (front back others : Line) → front ++ 32 ∷ back ≡ entry_line e → 135333 ≤ length front → All IsName (words_of others) → LongEntry e front back others
-long-entry e h front back others is long names =
-    let swapped = swapped-body e.replica e.body (words_of front) (words_of back) (words_of others) h.0 h.1 (words-of-parts e h front back is) (many-words e h front back is long) (some-word back) (some-word others) names in
+pub long-entry : (version : Version) (e : Entry) → IsEntry version e → (front back others : Line) → front ++ 32 ∷ back ≡ entry_line e → 135333 ≤ length front → All IsName (words_of others) → LongEntry version e front back others
+long-entry version e h front back others is long names =
+    let swapped = swapped-body version e.replica e.body (words_of front) (words_of back) (words_of others) h.0 h.1 h.2 (words-of-parts version e h front back is) (many-words version e h front back is long) (some-word back) (some-word others) names in
     let found = swapped.refused_as in
     record {
       many = swapped.many;

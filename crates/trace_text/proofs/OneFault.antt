@@ -2,13 +2,13 @@
 use Rattle.std.proofs.Common.{◌≡◌, ℕ, List, [], ◌∷◌, ◌++◌, refl, sym, ap, ◌∙◌, Some, inl, inr}
 use Rattle.std.proofs.lemmas.List.{append_assoc}
 use Rattle.std.proofs.lemmas.Option.{same_Some}
-use Rattle.events.specs.History.{History, IsLegal}
+use Rattle.events.specs.History.{History}
 use Rattle.events.specs.Session.{first_refusal}
 use Rattle.events.specs.declared.refusal.Refusal.{Refusal}
 use Rattle.events.specs.declared.recording.Entry.{Entry}
 use Rattle.specification.specs.Lines.{Line}
 use Rattle.specification.specs.TraceText as format
-use Rattle.specification.specs.TraceText.{entry_line, trace_lines, IsEntry, IsFaultyLine, IsMissingLine, BeginsSpelling, HasWholeFault, IsCutAt, LacksLine, IsFirstLineFault}
+use Rattle.specification.specs.TraceText.{Version, header_line, entry_line, trace_lines, IsEntry, IsSpelledIn, IsFaultyLine, IsMissingLine, BeginsSpelling, HasWholeFault, IsCutAt, LacksLine, IsFirstLineFault}
 use Rattle.format_words.proofs.OneFault as shared
 use Rattle.trace_text.proofs.TextLines.{beginning-lacks}
 use Rattle.trace_text.proofs.Spelled.{one-spelling}
@@ -40,15 +40,15 @@ shows-fault text number (format.refused why) f = shows-whole text number (format
 
 -- a line of a spelling is right
 never-faulty : (good : List Line) (line : Line) (between : List Line) (cause : format.Cause) → BeginsSpelling (good ++ line ∷ between) → IsFaultyLine good line cause → ⊥
-never-faulty good line between cause (h, legal, more, is) faulty =
-    line-right h good line (between ++ more) cause legal (sym is ∙ append_assoc good (line ∷ between) more) faulty
+never-faulty good line between cause (version, h, spelled, more, is) faulty =
+    line-right version h good line (between ++ more) cause spelled (sym is ∙ append_assoc good (line ∷ between) more) faulty
 
 -- a line is faulty for one cause
-same-refusal : (lines : List Line) (line : Line) (cause why : Refusal) (g h : History) → IsLegal g → IsLegal h → trace_lines g ≡ lines → trace_lines h ≡ lines → (d e : Entry) → IsEntry d → IsEntry e →
+same-refusal : (lines : List Line) (line : Line) (cause why : Refusal) (v w : Version) (g h : History) → IsSpelledIn v g → IsSpelledIn w h → trace_lines v g ≡ lines → trace_lines w h ≡ lines → (d e : Entry) → IsEntry v d → IsEntry w e →
     line ≡ entry_line d → line ≡ entry_line e → first_refusal g.replicas g.entries d ≡ Some cause → first_refusal h.replicas h.entries e ≡ Some why → cause ≡ why
-same-refusal lines line cause why g h legal well is so d e k l spelled again first second =
-    let history : g ≡ h = same-history g h legal well (is ∙ sym so) in
-    let entry : d ≡ e = one-spelling d e k l (sym spelled ∙ again) in
+same-refusal lines line cause why v w g h legal well is so d e k l spelled again first second =
+    let history : g ≡ h = same-history v w g h legal well (is ∙ sym so) in
+    let entry : d ≡ e = one-spelling v w d e k l (sym spelled ∙ again) in
     same_Some cause why (sym first ∙ ap (λ (x : History). first_refusal x.replicas x.entries d) history ∙ ap (first_refusal h.replicas h.entries) entry ∙ second)
 
 same-cause : (good : List Line) (line : Line) (cause why : format.Cause) → IsFaultyLine good line cause → IsFaultyLine good line why → cause ≡ why
@@ -74,10 +74,10 @@ same-cause (a ∷ b ∷ lines) line format.shape format.shape f g = refl
 same-cause (a ∷ b ∷ lines) line format.shape format.header f g = absurd g
 same-cause (a ∷ b ∷ lines) line format.shape format.replicas f g = absurd g
 same-cause (a ∷ b ∷ lines) line format.shape format.cut f g = absurd g
-same-cause (a ∷ b ∷ lines) line format.shape (format.refused y) f (h, legal, is, e, k, spelled, refused) = absurd (f e k spelled)
-same-cause (a ∷ b ∷ lines) line (format.refused x) format.shape (h, legal, is, e, k, spelled, refused) g = absurd (g e k spelled)
-same-cause (a ∷ b ∷ lines) line (format.refused x) (format.refused y) (g, legal, is, d, k, spelled, refused) (h, well, so, e, l, again, other) =
-    ap format.refused (same-refusal (a ∷ b ∷ lines) line x y g h legal well is so d e k l spelled again refused other)
+same-cause (a ∷ b ∷ lines) line format.shape (format.refused y) f (v, h, legal, is, e, k, spelled, refused) = let first : a ≡ header_line v = cc in absurd (f v e first k spelled)
+same-cause (a ∷ b ∷ lines) line (format.refused x) format.shape (v, h, legal, is, e, k, spelled, refused) g = let first : a ≡ header_line v = cc in absurd (g v e first k spelled)
+same-cause (a ∷ b ∷ lines) line (format.refused x) (format.refused y) (v, g, legal, is, d, k, spelled, refused) (w, h, well, so, e, l, again, other) =
+    ap format.refused (same-refusal (a ∷ b ∷ lines) line x y v w g h legal well is so d e k l spelled again refused other)
 same-cause (a ∷ b ∷ lines) line (format.refused x) format.header f g = absurd g
 same-cause (a ∷ b ∷ lines) line (format.refused x) format.replicas f g = absurd g
 same-cause (a ∷ b ∷ lines) line (format.refused x) format.cut f g = absurd g

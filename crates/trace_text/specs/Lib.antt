@@ -1,4 +1,5 @@
 pub mod Reading
+pub mod Versions
 pub mod Causes
 pub mod Progress
 pub mod Place

@@ -1,10 +1,10 @@
 -- What words say: a number, a name, a response, an entry. Nothing, where they say none.
-use Rattle.std.specs.Prelude.{ℕ, nat_le, if◌then◌else◌, Option, Some, None, List, [], ◌∷◌, codes, bytes_eq}
+use Rattle.std.specs.Prelude.{ℕ, nat_le, Bool, ◌&&◌, if◌then◌else◌, Option, Some, None, List, [], ◌∷◌, codes, bytes_eq}
 use Rattle.events.specs.Names.{NameBytes}
 use Rattle.events.specs.History.{response_of}
 use Rattle.events.specs.declared.recording.Entry.{Entry}
 use Rattle.events.specs.declared.recording.Body.{Body}
-use Rattle.events.specs.declared.recording.Body.TheVariants.{Ins, Del, Read, Recv}
+use Rattle.events.specs.declared.recording.Body.TheVariants.{Ins, Del, Read, View, Recv}
 use Rattle.format_words.specs.Words.{Word}
 use Rattle.format_words.specs.Reading.{◌>>=◌, HasSome, number_of, name_of, word_at, number_at, after_word, no_more, names_at}
 
@@ -41,6 +41,11 @@ read_at ws = do
   response ← response_at ws
   Some (Read response)
 
+unfoldable pub view_at : List Word → Option Body
+view_at ws = do
+  response ← response_at ws
+  Some (View response)
+
 -- operations count from 1
 unfoldable pub receipt_at : List Word → Option Body
 receipt_at ws = do
@@ -49,24 +54,26 @@ receipt_at ws = do
   none ← no_more n.1
   if nat_le 1 n.0 then Some (Recv (record { replica = replica.0; n = n.0 })) else None
 
-unfoldable pub body_of_kind : Word → List Word → Option Body
-body_of_kind kind ws =
+-- a view is read where there are views
+unfoldable pub body_of_kind : Bool → Word → List Word → Option Body
+body_of_kind views kind ws =
     if bytes_eq kind (codes "ins") then insert_at ws
     else (if bytes_eq kind (codes "del") then delete_at ws
     else (if bytes_eq kind (codes "read") then read_at ws
-    else (if bytes_eq kind (codes "recv") then receipt_at ws else None)))
+    else (if bytes_eq kind (codes "recv") then receipt_at ws
+    else (if views && bytes_eq kind (codes "view") then view_at ws else None))))
 
-unfoldable pub body_at : List Word → Option Body
-body_at ws = do
+unfoldable pub body_at : Bool → List Word → Option Body
+body_at views ws = do
   kind ← word_at ws
-  body_of_kind kind.0 kind.1
+  body_of_kind views kind.0 kind.1
 
 -- a whole line
-unfoldable pub entry_at : List Word → Option Entry
-entry_at [] = None
-entry_at (w ∷ ws) = do
+unfoldable pub entry_at : Bool → List Word → Option Entry
+entry_at views [] = None
+entry_at views (w ∷ ws) = do
   replica ← number_of w
-  body ← body_at ws
+  body ← body_at views ws
   Some (record { replica = replica; body = body })
 
 -- `replicas R`

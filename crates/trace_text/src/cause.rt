@@ -6,13 +6,13 @@ use thiserror::Error;
 /// What is wrong with a line of a trace text.
 #[derive(Clone, Copy, Debug, PartialEq, Eq, Error)]
 pub enum Cause {
-    /// The first line is missing, or is not `trace 1`.
+    /// The first line is missing, or is neither `trace 1` nor `trace 2`.
     #[error("header")]
     Header,
     /// The second line is missing, or is not `replicas R` with R from 1 to 16.
     #[error("replicas")]
     Replicas,
-    /// A later line spells no entry.
+    /// A later line spells no entry: in a text that begins with `trace 1`, a view too is none.
     #[error("shape")]
     Shape,
     /// The last line has no LF.

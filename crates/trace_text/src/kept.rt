@@ -177,7 +177,7 @@ impl KeptLine {
         self.add_words(bytes)
     }
 
-    /// Adds bytes of the line, word by word.
+    /// Adds bytes of the line, word by word, until one space stands for the line.
     fn add_words(&mut self, bytes: &[u8]) -> Result<(), Memory>
         ensures { OnOk result (Keeps self.old bytes.now self.new) }
     {
@@ -185,6 +185,9 @@ impl KeptLine {
         while let Some((part, behind)) = split_word(rest) {
             self.add_part(part)?;
             self.end_word()?;
+            if self.is_given_up() {
+                return Ok(());
+            }
             rest = behind;
         }
         self.add_part(rest)

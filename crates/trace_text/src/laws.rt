@@ -2,11 +2,16 @@
 
 ghost use Rattle.specification.specs.TraceText.{EachTextSpellsOrHasFault};
 ghost use Rattle.trace_text.specs.Laws.{TextsSpellOneRecording, SpelledTextsHaveNoFault};
-ghost use Rattle.trace_text.specs.Laws.{TextsHaveOneFirstFault};
+ghost use Rattle.trace_text.specs.Laws.{TextsHaveOneFirstFault, WrittenTextsSpell};
 
 /// A text spells at most one recording.
 pub fn texts_spell_one_recording()
     ensures { TextsSpellOneRecording }
+{}
+
+/// What `write` gives for a recording spells it.
+pub fn written_texts_spell()
+    ensures { WrittenTextsSpell }
 {}
 
 /// A text that spells a recording has no fault.

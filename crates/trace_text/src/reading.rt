@@ -2,7 +2,8 @@
 
 ghost use Rattle.std.specs.Prelude.{◌≡◌, ◌≢◌, ◌+◌, ◌≤◌, ℕ, [], ◌∷◌, ◌++◌, length, IfOk, IfErr, IfSome, OnOk};
 ghost use Rattle.events.specs.History.{IsLegal};
-ghost use Rattle.specification.specs.TraceText.{HEADER, replicas_line, trace_lines, IsFaultyLine};
+ghost use Rattle.specification.specs.TraceText as format;
+ghost use Rattle.specification.specs.TraceText.{replicas_line, trace_lines, IsFaultyLine, IsSpelledIn};
 ghost use Rattle.specification.specs.TraceText.{IsMissingLine, BeginsSpelling};
 ghost use Rattle.format_words.specs.Words.{words_of};
 ghost use Rattle.format_words.specs.Reading.{Says};
@@ -11,7 +12,8 @@ ghost use Rattle.trace_text.specs.Causes.{cause_of};
 ghost use Rattle.trace_text.specs.Place.{TakesMemory};
 
 use crate::cause::{Cause, LineFault};
-use crate::entry::entry_of;
+use crate::version::Version;
+use crate::versioned::Versioned;
 use events::{MOST_REPLICAS, NewFault, Recording, Refusal};
 use format_words::{Shape, Stop, end, first_word, next_number};
 use std::alloc::Global;
@@ -22,17 +24,9 @@ pub enum Reading {
     /// There is no line yet.
     Start,
     /// The first line is there.
-    Headed,
+    Headed(Version),
     /// The first two lines are there, and the entries of this recording.
-    Entries(Recording),
-}
-
-/// The number of the line after a recording's lines.
-fn number_behind(recording: &Recording) -> u32
-    ensures number { result ≡ length (trace_lines recording.now) + 1 }
-    ensures legal { IsLegal recording.now }
-{
-    recording.len() + 3
+    Entries(Versioned),
 }
 
 /// The number of `replicas R`.
@@ -67,27 +61,6 @@ fn recording_of(alloc: Global, line: &[u8]) -> Result<Recording, Stop>
     }
 }
 
-/// Records the entry of a line after the recording's lines.
-fn add_entry(alloc: Global, recording: &mut Recording, line: &[u8]) -> Result<(), Cause>
-    requires { IsLegal recording.old }
-    ensures ok { OnOk result (trace_lines recording.new ≡ trace_lines recording.old ++ line.now ∷ []) }
-    ensures legal { OnOk result (IsLegal recording.new) }
-    ensures fault { IfErr result (λ cause. IfSome (cause_of cause)
-        (IsFaultyLine (trace_lines recording.old) line.now)) }
-    ensures memory { IfErr result (λ cause. cause ≡ Cause.Refused Refusal.Memory
-        → TakesMemory (trace_lines recording.old) line.now) }
-{
-    let entry = match entry_of(alloc, line, recording) {
-        Ok(entry) => entry,
-        Err(Stop::Shape) => return Err(Cause::Shape),
-        Err(Stop::Memory) => return Err(Cause::Refused(Refusal::Memory)),
-    };
-    match recording.record(entry) {
-        Ok(_) => Ok(()),
-        Err(refused) => Err(Cause::Refused(refused.why)),
-    }
-}
-
 impl Reading {
     ghost use Rattle.trace_text.specs.Progress.{good, IsLegalSoFar};
 
@@ -99,8 +72,8 @@ impl Reading {
     {
         match self {
             Reading::Start => 1,
-            Reading::Headed => 2,
-            Reading::Entries(recording) => number_behind(recording),
+            Reading::Headed(_) => 2,
+            Reading::Entries(recording) => recording.next_line(),
         }
     }
 
@@ -136,28 +109,29 @@ impl Reading {
             → TakesMemory (good self.old) line.now) }
     {
         match self {
-            Reading::Start => {
-                if line != b"trace 1".as_slice() {
-                    return Err(Cause::Header);
+            Reading::Start => match Version::of_line(line) {
+                Some(version) => {
+                    *self = Reading::Headed(version);
+                    Ok(())
                 }
-                *self = Reading::Headed;
-                Ok(())
-            }
-            Reading::Headed => match recording_of(alloc, line) {
+                None => Err(Cause::Header),
+            },
+            Reading::Headed(version) => match recording_of(alloc, line) {
                 Ok(recording) => {
-                    *self = Reading::Entries(recording);
+                    *self = Reading::Entries(Versioned::new(*version, recording));
                     Ok(())
                 }
                 Err(Stop::Shape) => Err(Cause::Replicas),
                 Err(Stop::Memory) => Err(Cause::Refused(Refusal::Memory)),
             },
-            Reading::Entries(recording) => add_entry(alloc, recording, line),
+            Reading::Entries(recording) => recording.add_entry(alloc, line),
         }
     }
 
     /// The recording, where both first lines are there.
     pub fn end(self) -> Result<Recording, LineFault>
-        ensures ok { IfOk result (λ h. IsLegal h × (good self ≡ trace_lines h)) }
+        ensures ok { IfOk result (λ h. (version : format.Version) × IsSpelledIn version h
+            × (good self ≡ trace_lines version h)) }
         ensures number { IfErr result (λ fault. fault.line ≡ length (good self) + 1) }
         ensures begins { BeginsSpelling (good self) }
         ensures fault { IfErr result (λ fault. IfSome (cause_of fault.cause) (IsMissingLine (good self))) }
@@ -169,11 +143,11 @@ impl Reading {
                 line,
                 cause: Cause::Header,
             }),
-            Reading::Headed => Err(LineFault {
+            Reading::Headed(_) => Err(LineFault {
                 line,
                 cause: Cause::Replicas,
             }),
-            Reading::Entries(recording) => Ok(recording),
+            Reading::Entries(recording) => Ok(recording.end()),
         }
     }
 }

@@ -59,6 +59,7 @@ int main(void) {
         if (is("insert")) answer(d, domepeeler_insert(d, replica, words[2], atoll(words[3]), list + 4, count - 4), 1);
         if (is("delete")) answer(d, domepeeler_delete(d, replica, words[2], list + 3, count - 3), 1);
         if (is("read")) answer(d, domepeeler_read(d, replica, list + 2, count - 2), 1);
+        if (is("view")) answer(d, domepeeler_view(d, replica, list + 2, count - 2), 1);
         if (is("received")) answer(d, domepeeler_received(d, replica, atoi(words[2]), atoll(words[3])), 0);
         if (is("judge")) judge(d);
         if (is("text")) show(domepeeler_text(d));

@@ -25,6 +25,7 @@
                                                    (string-to-number (nth 3 words)) (nthcdr 4 words))))
       ("delete" (format "ok %d" (domepeeler-delete driver-recording number (nth 2 words) (nthcdr 3 words))))
       ("read" (format "ok %d" (domepeeler-read driver-recording number (nthcdr 2 words))))
+      ("view" (format "ok %d" (domepeeler-view driver-recording number (nthcdr 2 words))))
       ("received" (domepeeler-received driver-recording number (string-to-number (nth 2 words))
                                        (string-to-number (nth 3 words)))
        "ok")

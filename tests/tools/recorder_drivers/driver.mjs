@@ -29,6 +29,8 @@ async function call(words) {
       return `ok ${recording.delete(number, words[2], words.slice(3))}`
     case "read":
       return `ok ${recording.read(number, words.slice(2))}`
+    case "view":
+      return `ok ${recording.view(number, words.slice(2))}`
     case "received":
       recording.received(number, Number(words[2]), Number(words[3]))
       return "ok"

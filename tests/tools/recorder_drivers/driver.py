@@ -28,6 +28,8 @@ def call(recording: Recording, words: list) -> str:
         return f"ok {recording.delete(number, words[2], words[3:])}"
     if kind == "read":
         return f"ok {recording.read(number, words[2:])}"
+    if kind == "view":
+        return f"ok {recording.view(number, words[2:])}"
     if kind == "received":
         recording.received(number, int(words[2]), int(words[3]))
         return "ok"

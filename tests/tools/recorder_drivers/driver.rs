@@ -25,6 +25,7 @@ fn call(recording: &mut Recording, words: &[&str]) -> Result<String, Refused> {
         "insert" => recording.insert(number(words[1]), words[2], number(words[3]), &words[4..]).map(done),
         "delete" => recording.delete(number(words[1]), words[2], &words[3..]).map(done),
         "read" => recording.read(number(words[1]), &words[2..]).map(done),
+        "view" => recording.view(number(words[1]), &words[2..]).map(done),
         "received" => {
             recording.received(number(words[1]), number(words[2]), number(words[3])).map(|()| "ok".to_string())
         }

@@ -71,7 +71,7 @@ fn has_certificate<H: Threads + Sync>(rt: &H, alloc: Global, text: &str, wanted:
 }
 
 /// Recordings with their certificates.
-static ROWS: [(&str, &str); 9] = [
+static ROWS: [(&str, &str); 11] = [
     (
         THREE_WAY_CYCLE,
         "cert 1\nrefused 3\nstep x b 2.1\nstep b a 0.3\nstep a x 1.1\nlayers x / b\nlayers a / x\nlayers b / a\n",
@@ -87,6 +87,16 @@ static ROWS: [(&str, &str); 9] = [
     (
         PAST_A_NEIGHBOUR,
         "cert 1\nrefused 3\nstep a c 4.1\nstep c d 5.1\nstep d a 6.1\nlayers a / b c\nlayers b / c\nlayers c / d\nlayers d / a\n",
+    ),
+    // Three views, of which any two fit one order.
+    (
+        "trace 2\nreplicas 3\n0 ins a 0 : a\n1 ins b 0 : b\n2 ins c 0 : c\n0 recv 1 1\n0 recv 2 1\n0 view : a b\n0 view : b c\n0 view : c a\n",
+        "cert 1\nrefused 3\nstep a b 0.2\nstep b c 0.3\nstep c a 0.4\nlayers a / b\nlayers b / c\nlayers c / a\n",
+    ),
+    // A view of the second of two elements.
+    (
+        "trace 2\nreplicas 2\n0 ins a 0 : a\n0 ins b 1 : a b\n1 recv 0 2\n1 view : b\n",
+        "cert 1\naccepted\norder : a b\n",
     ),
     (READ_THE_OTHER_WAY, "cert 1\naccepted\norder : b a\n"),
     (EMPTY, "cert 1\naccepted\norder :\n"),

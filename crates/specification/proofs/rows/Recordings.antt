@@ -97,3 +97,17 @@ receipts = (refl, refl, judged refl refl refl)
 pub least_of_several_orders : worked.LeastOfSeveralOrders
 unfolding digits
 least_of_several_orders = (judged refl refl refl, judged refl refl refl)
+
+pub views : worked.Views
+unfolding digits
+views = (
+  judged refl refl refl,
+  decides worked.view_leaves_out (accepted (worked.a ∷ worked.b ∷ [])) refl refl,
+  refl,
+  judged refl refl refl,
+  judged refl refl refl,
+  meets_weak_alone worked.three_views 3 worked.three_view_steps (lit< tt) refl refl,
+  judged refl refl refl,
+  judged refl refl refl,
+  decides worked.view_repeats (faulty (contents (worked.at 0 2))) refl refl,
+)

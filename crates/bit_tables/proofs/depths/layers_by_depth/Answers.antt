@@ -1,11 +1,11 @@
 use Rattle.std.proofs.Common.{ℕ, arith}
-use Rattle.bit_tables.proofs.DepthLemmas.{more-numbers}
+use Rattle.bit_tables.proofs.DepthLemmas.{empty-none, more-numbers}
 use Rattle.bit_tables.proofs.depths.layers_by_depth.Goals as goal
 
 pub loop-x-init : goal.loop-x-init
 loop-x-init c = record {
   count = c.in_ok-layers.ensures.count;
-  layers = λ d x lt. (λ h. absurd (c.in_ok-layers.ensures.empty d x h), λ p. absurd (omega (arith, p.0)));
+  layers = λ d x lt. (λ h. absurd (empty-none c.in_ok-layers.layers.items c.args.count c.in_ok-layers.ensures.empty d x h), λ p. absurd (omega (arith, p.0)));
 }
 
 pub loop-x-preserved : goal.loop-x-preserved

@@ -12,7 +12,7 @@ returns-else-is_out_of_memory-clause-answer g c = λ h spells. false≢true (c.i
 pub returns-clause-implies : goal.returns-clause-implies
 returns-clause-implies g c =
     implied_texts c.args.trace.now c.args.cert.now c.in-Ok.recording (certificate_of c.in-Ok-read.certificate) c.judge.result
-    c.in-Ok.ensures.ok.0 c.in-Ok-read.ensures.ok.0 c.in-Ok.ensures.spelled c.in-Ok-read.ensures.spelled c.judge.ensures
+    c.in-Ok.ensures.ok.1.0 c.in-Ok-read.ensures.ok.0 c.in-Ok.ensures.spelled c.in-Ok-read.ensures.spelled c.judge.ensures
 
 pub returns-then-is_out_of_memory-clause-memory : goal.returns-then-is_out_of_memory-clause-memory
 returns-then-is_out_of_memory-clause-memory g c = inl (c.in-Err.fault.line, c.in-Err.ensures.memory (c.if-is_out_of_memory.ensures.0 refl))

@@ -39,3 +39,6 @@ returns-clause-receipts c = row.receipts
 
 pub returns-clause-least_of_several_orders : goal.returns-clause-least_of_several_orders
 returns-clause-least_of_several_orders c = row.least_of_several_orders
+
+pub returns-clause-views : goal.returns-clause-views
+returns-clause-views c = row.views

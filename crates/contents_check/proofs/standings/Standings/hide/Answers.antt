@@ -1,9 +1,7 @@
 -- The name at the place is gone.
-use Rattle.std.proofs.Common.{◌≡◌, ◌∙◌, ℕ, ◌+◌, ◌<◌, ◌++◌, ◌∷◌, List, [], Some, None, length, drop, sym, ap, subst, arith}
-use Rattle.std.specs.Prelude.{slice_get}
+use Rattle.std.proofs.Common.{◌≡◌, ◌∙◌, ◌+◌, ◌++◌, ◌∷◌, List, [], drop, sym, subst, arith}
 use Rattle.std.proofs.lemmas.Option.{slice_get-get_or, none-some}
 use Rattle.events.specs.Names.{NameBytes}
-use Rattle.contents_check.specs.Known.{number_of}
 use Rattle.contents_check.specs.Shown.{ShowJust}
 use Rattle.contents_check.proofs.Noting.{number_within, drop_here, in_drop, note_gone}
 use Rattle.contents_check.proofs.standings.Standings.hide.Goals as goal

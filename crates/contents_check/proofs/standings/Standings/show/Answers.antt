@@ -1,7 +1,6 @@
 -- Both go on alike for a run, and then one name of either is noted.
-use Rattle.std.proofs.Common.{◌≡◌, ◌∙◌, ℕ, ◌+◌, ◌≤◌, List, length, sym, ap, subst, arith, length-drop}
-use Rattle.events.specs.Names.{NameBytes}
-use Rattle.contents_check.specs.Shown.{joined, ShowJust}
+use Rattle.std.proofs.Common.{◌∙◌, sym, subst, arith, length-drop}
+use Rattle.contents_check.specs.Shown.{ShowJust}
 use Rattle.contents_check.proofs.Noting.{joined_run}
 use Rattle.contents_check.proofs.standings.Standings.show.Goals as goal
 

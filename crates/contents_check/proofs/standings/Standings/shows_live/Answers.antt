@@ -1,27 +1,22 @@
--- Once it is noted what the response shows, it shows just what is live where none is apart.
-use Rattle.std.proofs.Common.{◌≡◌, ◌↔◌, ◌∙◌, ℕ, Bool, true, false, sym, subst, ap, refl}
-use Rattle.std.specs.Prelude.{nat_eq, IsTrue}
-use Rattle.std.proofs.lemmas.Bool.{eq-eqb, eqb-true, false≢true}
+-- Once it is noted what the response shows, it shows what is live where it has what it must.
+use Rattle.std.proofs.Common.{sym, subst}
+use Rattle.std.specs.Prelude.{◌↔◌, IsTrue}
+use Rattle.specification.specs.Faults.{IsView}
 use Rattle.contents_check.specs.Shown.{ShowsLive}
-use Rattle.contents_check.proofs.Fronts.{yes_iff, no_iff}
-use Rattle.contents_check.proofs.Noting.{shows_all, shows_apart, shows_known}
+use Rattle.contents_check.proofs.Fronts.{no_iff}
+use Rattle.contents_check.proofs.Noting.{shows_live, has_what_it_must, shows_known}
 use Rattle.contents_check.proofs.standings.Standings.shows_live.Goals as goal
-
-is_zero : (n : ℕ) (P : Type 0) → (n ≡ 0 → P) → ((n ≡ 0 → ⊥) → P → ⊥) → IsTrue (nat_eq n 0) ↔ P
-is_zero n P yes_of no_of = go (nat_eq n 0) refl
-  where
-    go : (b : Bool) → nat_eq n 0 ≡ b → IsTrue b ↔ P
-    go true e = yes_iff (yes_of (eqb-true n 0 e))
-    go false e = no_iff (no_of (λ z. false≢true (sym e ∙ eq-eqb n 0 z)))
 
 pub returns-then-show-clause-shows : goal.returns-then-show-clause-shows
 returns-then-show-clause-shows c =
     let just = c.show.ensures.shown c.if-show.true in
-    is_zero c.show.new.self.apart (ShowsLive c.args.elements.now c.show.new.self.list.items c.args.w.now)
-    (shows_all c.args.elements.now c.requires.numbers c.show.new.self c.show.ensures.fits c.args.w.now just)
-    (shows_apart c.args.elements.now c.requires.numbers c.show.new.self c.show.ensures.fits c.args.w.now just)
+    let Part = IsView c.args.recording.now c.args.e in (
+      (λ yes. shows_live c.args.elements.now c.requires.numbers c.show.new.self c.show.ensures.fits c.args.w.now Part just (c.has_what_it_must.ensures.0 yes)),
+      (λ shows. c.has_what_it_must.ensures.1 (has_what_it_must c.args.elements.now c.requires.numbers c.show.new.self c.show.ensures.fits c.args.w.now Part just shows)),
+    )
 
 pub returns-else-show-clause-shows : goal.returns-else-show-clause-shows
 returns-else-show-clause-shows c =
-    subst (λ b. IsTrue b ↔ ShowsLive c.args.elements.now c.show.new.self.list.items c.args.w.now) (sym c.if-show.false)
-    (no_iff (λ shows. c.show.ensures.wrong c.if-show.false (shows_known c.args.elements.now c.requires.numbers c.show.new.self c.show.ensures.fits c.args.w.now shows)))
+    let Part = IsView c.args.recording.now c.args.e in
+    subst (λ b. IsTrue b ↔ ShowsLive Part c.args.elements.now c.show.new.self.list.items c.args.w.now) (sym c.if-show.false)
+    (no_iff (λ shows. c.show.ensures.wrong c.if-show.false (shows_known c.args.elements.now c.requires.numbers c.show.new.self c.show.ensures.fits c.args.w.now Part shows)))
