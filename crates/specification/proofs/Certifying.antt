@@ -9,7 +9,8 @@ use Rattle.std.proofs.lemmas.Slice.Eq.{bytes_eq-Decides}
 use Rattle.events.specs.Names.{NameBytes}
 use Rattle.specification.specs.Responses.{Responses, Returned, HasInOrder, Shows}
 use Rattle.specification.specs.Conflict.{ring, Step, AreShownSteps}
-use Rattle.specification.specs.LayerRule.{Row, row_names, depth_in, MeetsLayerRule}
+use Rattle.specification.specs.LayerRule.{Row, row_names, depth_in, row_responses, MeetsLayerRule}
+use Rattle.specification.specs.Versions.{Version}
 use Rattle.specification.specs.ValidCertificate.{HasSource, RowsMeetRule, RowIsRight, RowsRightBefore}
 use Rattle.specification.proofs.Members.{In, Before-from_places, places_of_Before, In-from_Contains, Contains-from_In, All-member, All-from_members, Once-from_AllPairs, AllPairs-from_Once}
 use Rattle.specification.proofs.Pairs.{pairs, pairs-from_Before, Before-from_pairs}
@@ -96,59 +97,59 @@ Decides-has_source source [] = (λ t. absurd (false≢true t), λ e. absurd Prim
 Decides-has_source source (layer ∷ row) = Decides-like (is_source source layer) (λ e. ap Some e) (λ e. Prim.cc) (Decides-source source layer)
 
 -- the row at a place is right
-abbrev is_right_row : Responses → ℕ → NameBytes → Row → Bool
-is_right_row v k source row = has_source source row && meets_layer_rule v k source row
+abbrev is_right_row : Version → Responses → ℕ → NameBytes → Row → Bool
+is_right_row version v k source row = has_source source row && meets_layer_rule (row_responses version v source) k source row
 
-abbrev row_is_right : Responses → ℕ → List Row → ℕ → NameBytes → Bool
-row_is_right v k [] i source = false
-row_is_right v k (row ∷ rows) zero source = is_right_row v k source row
-row_is_right v k (row ∷ rows) (suc i) source = row_is_right v k rows i source
+abbrev row_is_right : Version → Responses → ℕ → List Row → ℕ → NameBytes → Bool
+row_is_right version v k [] i source = false
+row_is_right version v k (row ∷ rows) zero source = is_right_row version v k source row
+row_is_right version v k (row ∷ rows) (suc i) source = row_is_right version v k rows i source
 
-right_row-from : (v : Responses) (k : ℕ) (rows : List Row) (i : ℕ) (source : NameBytes) → row_is_right v k rows i source ≡ true → RowIsRight v k rows i source
-right_row-from v k [] i source t = absurd (false≢true t)
-right_row-from v k (row ∷ rows) zero source t =
-    let p : (has_source source row ≡ true) × (meets_layer_rule v k source row ≡ true) = and_parts _ _ t in
-    (row, refl, (Decides-has_source source row).0 p.0, (Decides-layer_rule v k source row).0 p.1)
-right_row-from v k (row ∷ rows) (suc i) source t = right_row-from v k rows i source t
+right_row-from : (version : Version) (v : Responses) (k : ℕ) (rows : List Row) (i : ℕ) (source : NameBytes) → row_is_right version v k rows i source ≡ true → RowIsRight version v k rows i source
+right_row-from version v k [] i source t = absurd (false≢true t)
+right_row-from version v k (row ∷ rows) zero source t =
+    let p : (has_source source row ≡ true) × (meets_layer_rule (row_responses version v source) k source row ≡ true) = and_parts _ _ t in
+    (row, refl, (Decides-has_source source row).0 p.0, (Decides-layer_rule (row_responses version v source) k source row).0 p.1)
+right_row-from version v k (row ∷ rows) (suc i) source t = right_row-from version v k rows i source t
 
 -- of the elements from a number on, the rows of the first so many
-abbrev pub are_right_rows : Responses → ℕ → List NameBytes → List Row → ℕ → Bool
-are_right_rows v k sources rows zero = true
-are_right_rows v k [] rows (suc n) = true
-are_right_rows v k (source ∷ sources) [] (suc n) = false
-are_right_rows v k (source ∷ sources) (row ∷ rows) (suc n) = is_right_row v k source row && are_right_rows v k sources rows n
+abbrev pub are_right_rows : Version → Responses → ℕ → List NameBytes → List Row → ℕ → Bool
+are_right_rows version v k sources rows zero = true
+are_right_rows version v k [] rows (suc n) = true
+are_right_rows version v k (source ∷ sources) [] (suc n) = false
+are_right_rows version v k (source ∷ sources) (row ∷ rows) (suc n) = is_right_row version v k source row && are_right_rows version v k sources rows n
 
-right_rows-from : (v : Responses) (k : ℕ) (sources : List NameBytes) (rows : List Row) (n : ℕ) → are_right_rows v k sources rows n ≡ true →
-    (j : ℕ) (source : NameBytes) → j < n → slice_get sources j ≡ Some source → RowIsRight v k rows j source
-right_rows-from v k sources rows zero t j source lt e = absurd (omega arith)
-right_rows-from v k [] rows (suc n) t j source lt e = absurd Prim.cc
-right_rows-from v k (s ∷ sources) [] (suc n) t j source lt e = absurd (false≢true t)
-right_rows-from v k (s ∷ sources) (row ∷ rows) (suc n) t zero source lt e =
-    let p : (is_right_row v k s row ≡ true) × (are_right_rows v k sources rows n ≡ true) = and_parts _ _ t in
+right_rows-from : (version : Version) (v : Responses) (k : ℕ) (sources : List NameBytes) (rows : List Row) (n : ℕ) → are_right_rows version v k sources rows n ≡ true →
+    (j : ℕ) (source : NameBytes) → j < n → slice_get sources j ≡ Some source → RowIsRight version v k rows j source
+right_rows-from version v k sources rows zero t j source lt e = absurd (omega arith)
+right_rows-from version v k [] rows (suc n) t j source lt e = absurd Prim.cc
+right_rows-from version v k (s ∷ sources) [] (suc n) t j source lt e = absurd (false≢true t)
+right_rows-from version v k (s ∷ sources) (row ∷ rows) (suc n) t zero source lt e =
+    let p : (is_right_row version v k s row ≡ true) × (are_right_rows version v k sources rows n ≡ true) = and_parts _ _ t in
     let same : s ≡ source = Prim.cc in
-    right_row-from v k (row ∷ rows) zero source (subst (λ z. is_right_row v k z row ≡ true) same p.0)
-right_rows-from v k (s ∷ sources) (row ∷ rows) (suc n) t (suc j) source lt e =
-    let p : (is_right_row v k s row ≡ true) × (are_right_rows v k sources rows n ≡ true) = and_parts _ _ t in
-    right_rows-from v k sources rows n p.1 j source (omega arith) e
+    right_row-from version v k (row ∷ rows) zero source (subst (λ z. is_right_row version v k z row ≡ true) same p.0)
+right_rows-from version v k (s ∷ sources) (row ∷ rows) (suc n) t (suc j) source lt e =
+    let p : (is_right_row version v k s row ≡ true) × (are_right_rows version v k sources rows n ≡ true) = and_parts _ _ t in
+    right_rows-from version v k sources rows n p.1 j source (omega arith) e
 
-pub rows_right_before-from : (v : Responses) (k : ℕ) (rows : List Row) (i : ℕ) → are_right_rows v k v.elements rows i ≡ true → RowsRightBefore v k rows i
-rows_right_before-from v k rows i t j source lt e = right_rows-from v k v.elements rows i t j source lt e
+pub rows_right_before-from : (version : Version) (v : Responses) (k : ℕ) (rows : List Row) (i : ℕ) → are_right_rows version v k v.elements rows i ≡ true → RowsRightBefore version v k rows i
+rows_right_before-from version v k rows i t j source lt e = right_rows-from version v k v.elements rows i t j source lt e
 
 -- as many rows as elements, each right
-abbrev pub rows_meet_rule : Responses → ℕ → List NameBytes → List Row → Bool
-rows_meet_rule v k [] [] = true
-rows_meet_rule v k [] (row ∷ rows) = false
-rows_meet_rule v k (source ∷ sources) [] = false
-rows_meet_rule v k (source ∷ sources) (row ∷ rows) = is_right_row v k source row && rows_meet_rule v k sources rows
+abbrev pub rows_meet_rule : Version → Responses → ℕ → List NameBytes → List Row → Bool
+rows_meet_rule version v k [] [] = true
+rows_meet_rule version v k [] (row ∷ rows) = false
+rows_meet_rule version v k (source ∷ sources) [] = false
+rows_meet_rule version v k (source ∷ sources) (row ∷ rows) = is_right_row version v k source row && rows_meet_rule version v k sources rows
 
-pub rows_meet_rule-from : (v : Responses) (k : ℕ) (sources : List NameBytes) (rows : List Row) → rows_meet_rule v k sources rows ≡ true → RowsMeetRule v k sources rows
-rows_meet_rule-from v k [] [] t = tt
-rows_meet_rule-from v k [] (row ∷ rows) t = absurd (false≢true t)
-rows_meet_rule-from v k (source ∷ sources) [] t = absurd (false≢true t)
-rows_meet_rule-from v k (source ∷ sources) (row ∷ rows) t =
-    let p : (is_right_row v k source row ≡ true) × (rows_meet_rule v k sources rows ≡ true) = and_parts _ _ t in
-    let q : (has_source source row ≡ true) × (meets_layer_rule v k source row ≡ true) = and_parts _ _ p.0 in
-    ((Decides-has_source source row).0 q.0, (Decides-layer_rule v k source row).0 q.1, rows_meet_rule-from v k sources rows p.1)
+pub rows_meet_rule-from : (version : Version) (v : Responses) (k : ℕ) (sources : List NameBytes) (rows : List Row) → rows_meet_rule version v k sources rows ≡ true → RowsMeetRule version v k sources rows
+rows_meet_rule-from version v k [] [] t = tt
+rows_meet_rule-from version v k [] (row ∷ rows) t = absurd (false≢true t)
+rows_meet_rule-from version v k (source ∷ sources) [] t = absurd (false≢true t)
+rows_meet_rule-from version v k (source ∷ sources) (row ∷ rows) t =
+    let p : (is_right_row version v k source row ≡ true) × (rows_meet_rule version v k sources rows ≡ true) = and_parts _ _ t in
+    let q : (has_source source row ≡ true) × (meets_layer_rule (row_responses version v source) k source row ≡ true) = and_parts _ _ p.0 in
+    ((Decides-has_source source row).0 q.0, (Decides-layer_rule (row_responses version v source) k source row).0 q.1, rows_meet_rule-from version v k sources rows p.1)
 
 -- the steps of a certificate
 abbrev pub are_shown_steps : Responses → List Step → Bool

@@ -10,10 +10,12 @@ use Rattle.events.specs.Names.{NameBytes}
 use Rattle.events.specs.Operations.{numbers_from}
 use Rattle.specification.specs.Elements.{numbers_in}
 use Rattle.specification.specs.Responses.{Responses, StandsBefore, AreProper}
-use Rattle.specification.specs.LayerRule.{Row}
+use Rattle.specification.specs.LayerRule.{Row, row_responses}
+use Rattle.specification.specs.Versions.{Version}
 use Rattle.specification.specs.ExactRows.{Way, IsDistance, IsLayer, AreExactRows}
 use Rattle.specification.proofs.Members.{In, Before-first, In-from_Contains, Contains-from_In}
 use Rattle.specification.proofs.Shown.{ShowsIn, ShowsIn-from_Shows, names-elements}
+use Rattle.specification.proofs.Narrowed.{row-proper}
 use Rattle.specification.proofs.OperationNames.{In-numbers_from, numbers_from-bounds}
 use Rattle.specification.proofs.Tests.{Decides-each, Decides-some, Decides-implies, is_in, Decides-in}
 use Rattle.specification.proofs.Judging.{stands_before, Decides-stands_before}
@@ -36,11 +38,11 @@ abbrev are_layers : Responses → NameBytes → ℕ → Row → Bool
 are_layers v source n [] = true
 are_layers v source n (layer ∷ row) = is_layer v source n layer && are_layers v source (suc n) row
 
-abbrev pub are_exact_rows : Responses → ℕ → List NameBytes → List Row → Bool
-are_exact_rows v k [] [] = true
-are_exact_rows v k [] (row ∷ rows) = false
-are_exact_rows v k (source ∷ sources) [] = false
-are_exact_rows v k (source ∷ sources) (row ∷ rows) = ((length row + 1 == k) && are_layers v source 0 row) && are_exact_rows v k sources rows
+abbrev pub are_exact_rows : Version → Responses → ℕ → List NameBytes → List Row → Bool
+are_exact_rows version v k [] [] = true
+are_exact_rows version v k [] (row ∷ rows) = false
+are_exact_rows version v k (source ∷ sources) [] = false
+are_exact_rows version v k (source ∷ sources) (row ∷ rows) = ((length row + 1 == k) && are_layers (row_responses version v source) source 0 row) && are_exact_rows version v k sources rows
 
 module _ (v : Responses) (proper : AreProper v) where
   before-element : (a b : NameBytes) → StandsBefore v a b → In a v.elements
@@ -92,14 +94,20 @@ module _ (v : Responses) (proper : AreProper v) where
       let at : suc from + n ≡ from + suc n = omega arith in
       subst (λ m. IsLayer v source m layer) at (layers-from source (suc from) row (and_parts _ _ t).1 n layer e)
 
-  pub exact_rows-from : (k : ℕ) (sources : List NameBytes) (rows : List Row) → are_exact_rows v k sources rows ≡ true → AreExactRows v k sources rows
-  exact_rows-from k [] [] t = tt
-  exact_rows-from k [] (row ∷ rows) t = absurd (false≢true t)
-  exact_rows-from k (source ∷ sources) [] t = absurd (false≢true t)
-  exact_rows-from k (source ∷ sources) (row ∷ rows) t =
-      let p : (((length row + 1 == k) && are_layers v source 0 row) ≡ true) × (are_exact_rows v k sources rows ≡ true) = and_parts _ _ t in
-      let q : ((length row + 1 == k) ≡ true) × (are_layers v source 0 row ≡ true) = and_parts _ _ p.0 in
-      (record { layers = eqb-true (length row + 1) k q.0; each = λ n layer e. from_zero (layers-from source 0 row q.1 n layer e) }, exact_rows-from k sources rows p.1)
-    where
-      from_zero : {n : ℕ} {layer : List NameBytes} → IsLayer v source (0 + n) layer → IsLayer v source n layer
-      from_zero {n = n} {layer = layer} is = let at : 0 + n ≡ n = omega arith in subst (λ m. IsLayer v source m layer) at is
+pub exact_rows-from : (version : Version) (v : Responses) → AreProper v → (k : ℕ) (sources : List NameBytes) (rows : List Row) → are_exact_rows version v k sources rows ≡ true →
+    AreExactRows version v k sources rows
+exact_rows-from version v proper k [] [] t = tt
+exact_rows-from version v proper k [] (row ∷ rows) t = absurd (false≢true t)
+exact_rows-from version v proper k (source ∷ sources) [] t = absurd (false≢true t)
+exact_rows-from version v proper k (source ∷ sources) (row ∷ rows) t =
+    let p : (((length row + 1 == k) && are_layers (row_responses version v source) source 0 row) ≡ true) × (are_exact_rows version v k sources rows ≡ true) = and_parts _ _ t in
+    let q : ((length row + 1 == k) ≡ true) × (are_layers (row_responses version v source) source 0 row ≡ true) = and_parts _ _ p.0 in (
+      record {
+        layers = eqb-true (length row + 1) k q.0;
+        each = λ n layer e. from_zero (layers-from (row_responses version v source) (row-proper version v source proper) source 0 row q.1 n layer e);
+      },
+      exact_rows-from version v proper k sources rows p.1,
+    )
+  where
+    from_zero : {n : ℕ} {layer : List NameBytes} → IsLayer (row_responses version v source) source (0 + n) layer → IsLayer (row_responses version v source) source n layer
+    from_zero {n = n} {layer = layer} is = let at : 0 + n ≡ n = omega arith in subst (λ m. IsLayer (row_responses version v source) source m layer) at is

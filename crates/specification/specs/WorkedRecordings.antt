@@ -16,6 +16,7 @@ use Rattle.specification.specs.LayerRule.{Row}
 use Rattle.specification.specs.CertificateText.{gives_order, gives_cycle, certificate_text}
 use Rattle.specification.specs.ReportText.{report_text}
 use Rattle.specification.specs.TraceText.{trace_text}
+use Rattle.specification.specs.Versions.{one, two}
 use Rattle.specification.specs.Lines.{Line, text_of}
 use Rattle.specification.specs.Laws.{HasOppositePair}
 use Rattle.events.specs.declared.recording.Entry.{Entry}
@@ -95,7 +96,8 @@ abbrev pub InsertDeleteRead : Type 0
 InsertDeleteRead =
     Judged insert_delete_read (accepted (a ∷ [])) (codes "replicas 1 operations 3 inserts 1" ∷ codes "accepted" ∷ codes "strong yes" ∷ codes "weak yes" ∷ codes "order : a" ∷ [])
     × MeetsBoth insert_delete_read
-    × (certificate_text (gives_order (a ∷ [])) ≡ text_of (codes "cert 1" ∷ codes "accepted" ∷ codes "order : a" ∷ []))
+    × (certificate_text one (gives_order (a ∷ [])) ≡ text_of (codes "cert 1" ∷ codes "accepted" ∷ codes "order : a" ∷ []))
+    × (certificate_text two (gives_order (a ∷ [])) ≡ text_of (codes "cert 2" ∷ codes "accepted" ∷ codes "order : a" ∷ []))
 
 -- a before x, x before b, b before a, each shown by another operation: strong fails and weak doesn't
 abbrev pub three_way_cycle : History
@@ -109,6 +111,10 @@ three_steps = step x b (at 2 1) ∷ step b a (at 0 3) ∷ step a x (at 1 1) ∷ 
 abbrev pub three_rows : List Row
 three_rows = ((x ∷ []) ∷ (b ∷ []) ∷ []) ∷ ((a ∷ []) ∷ (x ∷ []) ∷ []) ∷ ((b ∷ []) ∷ (a ∷ []) ∷ []) ∷ []
 
+-- of elements that are not numbered below the source
+abbrev pub three_rows_of_two : List Row
+three_rows_of_two = ((x ∷ []) ∷ (b ∷ []) ∷ []) ∷ ((a ∷ []) ∷ [] ∷ []) ∷ ((b ∷ []) ∷ [] ∷ []) ∷ []
+
 abbrev pub ThreeWayCycle : Type 0
 ThreeWayCycle =
     Judged three_way_cycle (refused 3 three_steps) (codes "replicas 3 operations 5 inserts 3" ∷ codes "refused 3" ∷ codes "strong no" ∷ codes "weak yes"
@@ -117,8 +123,10 @@ ThreeWayCycle =
     × (elements three_way_cycle ≡ x ∷ a ∷ b ∷ [])
     × (trace_text three_way_cycle ≡ text_of (codes "trace 1" ∷ codes "replicas 3" ∷ codes "0 ins x 0 : x" ∷ codes "1 recv 0 1" ∷ codes "2 recv 0 1"
     ∷ codes "1 ins a 0 : a x" ∷ codes "2 ins b 1 : x b" ∷ codes "0 del x :" ∷ codes "0 recv 1 1" ∷ codes "0 recv 2 1" ∷ codes "0 read : b a" ∷ []))
-    × (certificate_text (gives_cycle 3 three_steps three_rows) ≡ text_of (codes "cert 1" ∷ codes "refused 3" ∷ codes "step x b 2.1" ∷ codes "step b a 0.3"
+    × (certificate_text one (gives_cycle 3 three_steps three_rows) ≡ text_of (codes "cert 1" ∷ codes "refused 3" ∷ codes "step x b 2.1" ∷ codes "step b a 0.3"
     ∷ codes "step a x 1.1" ∷ codes "layers x / b" ∷ codes "layers a / x" ∷ codes "layers b / a" ∷ []))
+    × (certificate_text two (gives_cycle 3 three_steps three_rows_of_two) ≡ text_of (codes "cert 2" ∷ codes "refused 3" ∷ codes "step x b 2.1" ∷ codes "step b a 0.3"
+    ∷ codes "step a x 1.1" ∷ codes "layers x / b" ∷ codes "layers a /" ∷ codes "layers b /" ∷ []))
 
 -- two operations show a and b in opposite orders: both specifications fail
 abbrev pub opposite_pair : History
@@ -133,7 +141,7 @@ OppositePair =
     ∷ codes "step a b 0.2 : a b" ∷ codes "step b a 1.2 : b a" ∷ [])
     × FailsBoth opposite_pair
     × HasOppositePair (responses_of opposite_pair)
-    × (certificate_text (gives_cycle 2 two_steps []) ≡ text_of (codes "cert 1" ∷ codes "refused 2" ∷ codes "step a b 0.2" ∷ codes "step b a 1.2" ∷ []))
+    × (certificate_text one (gives_cycle 2 two_steps []) ≡ text_of (codes "cert 1" ∷ codes "refused 2" ∷ codes "step a b 0.2" ∷ codes "step b a 1.2" ∷ []))
 
 -- four operations, each three of which one order follows
 abbrev pub ring_of_four : History
@@ -149,13 +157,20 @@ four_rows =
     ((a ∷ []) ∷ (b ∷ []) ∷ (c ∷ []) ∷ []) ∷ ((b ∷ []) ∷ (c ∷ []) ∷ (d ∷ []) ∷ []) ∷ ((c ∷ []) ∷ (d ∷ []) ∷ (a ∷ []) ∷ [])
     ∷ ((d ∷ []) ∷ (a ∷ []) ∷ (b ∷ []) ∷ []) ∷ []
 
+abbrev pub four_rows_of_two : List Row
+four_rows_of_two =
+    ((a ∷ []) ∷ (b ∷ []) ∷ (c ∷ []) ∷ []) ∷ ((b ∷ []) ∷ (c ∷ []) ∷ (d ∷ []) ∷ []) ∷ ((c ∷ []) ∷ (d ∷ []) ∷ [] ∷ [])
+    ∷ ((d ∷ []) ∷ [] ∷ [] ∷ []) ∷ []
+
 abbrev pub RingOfFour : Type 0
 RingOfFour =
     Judged ring_of_four (refused 4 four_steps) (codes "replicas 6 operations 8 inserts 4" ∷ codes "refused 4" ∷ codes "strong no" ∷ codes "weak yes"
     ∷ codes "step a b 2.1 : a b" ∷ codes "step b c 3.1 : b c" ∷ codes "step c d 4.2 : c d" ∷ codes "step d a 5.2 : d a" ∷ [])
     × MeetsWeakAlone ring_of_four
-    × (certificate_text (gives_cycle 4 four_steps four_rows) ≡ text_of (codes "cert 1" ∷ codes "refused 4" ∷ codes "step a b 2.1" ∷ codes "step b c 3.1"
+    × (certificate_text one (gives_cycle 4 four_steps four_rows) ≡ text_of (codes "cert 1" ∷ codes "refused 4" ∷ codes "step a b 2.1" ∷ codes "step b c 3.1"
     ∷ codes "step c d 4.2" ∷ codes "step d a 5.2" ∷ codes "layers a / b / c" ∷ codes "layers b / c / d" ∷ codes "layers c / d / a" ∷ codes "layers d / a / b" ∷ []))
+    × (certificate_text two (gives_cycle 4 four_steps four_rows_of_two) ≡ text_of (codes "cert 2" ∷ codes "refused 4" ∷ codes "step a b 2.1" ∷ codes "step b c 3.1"
+    ∷ codes "step c d 4.2" ∷ codes "step d a 5.2" ∷ codes "layers a / b / c" ∷ codes "layers b / c / d" ∷ codes "layers c / d /" ∷ codes "layers d / /" ∷ []))
 
 -- wrong contents: a deleted element, a repeated name, an element hidden after two receipts
 abbrev pub read_shows_deleted : History

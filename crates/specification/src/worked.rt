@@ -6,7 +6,7 @@ ghost use Rattle.specification.specs.WorkedRecordings.{RepeatedName, ChainOfRece
 ghost use Rattle.specification.specs.WorkedRecordings.{DeletedBeforeInserted, DoubledName, Receipts};
 ghost use Rattle.specification.specs.WorkedRecordings.{LeastOfSeveralOrders, Views};
 ghost use Rattle.specification.specs.WorkedCertificates.{ValidCertificates, WrittenRows, WrongCertificates};
-ghost use Rattle.specification.specs.WorkedCertificates.{ForgedLayers};
+ghost use Rattle.specification.specs.WorkedCertificates.{OtherVersions, ForgedLayers};
 ghost use Rattle.specification.specs.WorkedTexts.{MalformedLines};
 
 /// Small recordings with their verdicts, by the definitions themselves: each is legal, the verdict given is
@@ -29,12 +29,14 @@ pub fn worked_recordings()
     ensures views { Views }
 {}
 
-/// Certificates for these recordings: which are valid, the first reason against others, the rows that are
-/// written for a refusal, and forged layers that a checker must not believe.
+/// Certificates of both versions for these recordings: which are valid, the first reason against others, the
+/// rows that are written for a refusal, rows of the other version, and forged layers that a checker must not
+/// believe.
 pub fn worked_certificates()
     ensures valid_certificates { ValidCertificates }
     ensures written_rows { WrittenRows }
     ensures wrong_certificates { WrongCertificates }
+    ensures other_versions { OtherVersions }
     ensures forged_layers { ForgedLayers }
 {}
 

@@ -13,7 +13,8 @@ use Rattle.events.specs.declared.recording.Entry.{Entry}
 use Rattle.events.specs.declared.refusal.Refusal.{Refusal}
 use Rattle.specification.specs.Lines.{Line, text_of, IsOneLine}
 use Rattle.specification.specs.TraceText as format
-use Rattle.specification.specs.TraceText.{Version, one, two, header_line, entry_line, replicas_line, trace_lines, Spells, IsEntry, IsSpelledIn, IsFaultyLine, BeginsSpelling, IsFirstLineFault}
+use Rattle.specification.specs.TraceText.{header_line, entry_line, replicas_line, trace_lines, Spells, IsEntry, IsSpelledIn, IsFaultyLine, BeginsSpelling, IsFirstLineFault}
+use Rattle.specification.specs.Versions.{Version, one, two}
 use Rattle.format_words.proofs.CutText.{cut-text, line-off, line-on}
 use Rattle.format_words.specs.Words.{words_of}
 use Rattle.trace_text.specs.Reading.{entry_at, replicas_at}

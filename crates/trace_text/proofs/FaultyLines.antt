@@ -17,7 +17,8 @@ use Rattle.events.specs.declared.recording.Body.{Body}
 use Rattle.events.specs.declared.refusal.Refusal.{Refusal}
 use Rattle.events.specs.declared.refusal.Refusal.TheVariants.{NoReplica, OwnReceipt, NotYet, EntriesFull, InsertsFull, LongResponse, PlacesFull, Memory}
 use Rattle.specification.specs.Lines.{Line}
-use Rattle.specification.specs.TraceText.{Version, one, two, header_line, entry_line, replicas_line, trace_lines, IsEntry, IsOfVersion, IsSpelledIn, IsFaultyLine, BeginsSpelling}
+use Rattle.specification.specs.TraceText.{header_line, entry_line, replicas_line, trace_lines, IsEntry, IsOfVersion, IsSpelledIn, IsFaultyLine, BeginsSpelling}
+use Rattle.specification.specs.Versions.{Version, one, two}
 use Rattle.trace_text.specs.Causes.{refusal_cause}
 use Rattle.trace_text.specs.Progress.{good, IsLegalSoFar}
 use Rattle.trace_text.specs.declared.reading.Reading.{Reading}

@@ -5,6 +5,7 @@ use Rattle.events.specs.History.{History}
 use Rattle.events.specs.declared.refusal.Refusal.{Refusal}
 use Rattle.specification.specs.Lines.{Line, text_of, IsOneLine}
 use Rattle.specification.specs.TraceText as format
+use Rattle.specification.specs.Versions as versions
 use Rattle.specification.specs.TraceText.{BeginsSpelling, HasWholeFault, IsFaultyLine, IsFirstLineFault, IsMissingLine, IsCutAt, IsSpelledIn, Spells, trace_lines}
 use Rattle.trace_text.specs.Causes.{cause_of}
 use Rattle.trace_text.specs.Fed.{EndsIn, HoldsFault, IsAdded, IsOpenAt, ReaderState, UNFED, WasFed, WasFedTo}
@@ -109,7 +110,7 @@ fed-lines : (reader : ReaderState) (text : List ℕ) → reader.fault ≡ None �
 fed-lines reader text none empty fed = ends-at reader.lines reader.begun text (open-of reader text none fed).1 empty
 
 -- a text that ends with its right lines is spelled
-pub ended-right : {E : Type 0} (r : Result History E) (reader : ReaderState) → reader.fault ≡ None → reader.begun ≡ Some EMPTY → IfOk r (λ h. (version : format.Version) × IsSpelledIn version h × (reader.lines ≡ trace_lines version h)) → IfOk r (λ h. (text : List ℕ) → WasFed reader text → Spells text h)
+pub ended-right : {E : Type 0} (r : Result History E) (reader : ReaderState) → reader.fault ≡ None → reader.begun ≡ Some EMPTY → IfOk r (λ h. (version : versions.Version) × IsSpelledIn version h × (reader.lines ≡ trace_lines version h)) → IfOk r (λ h. (text : List ℕ) → WasFed reader text → Spells text h)
 ended-right (Ok h) reader none empty right = λ text fed. (right.0, right.1, fed-lines reader text none empty fed ∙ ap text_of right.2)
 ended-right (Err e) reader none empty right = tt
 

@@ -15,7 +15,8 @@ use Rattle.events.specs.declared.refusal.Refusal.{Refusal}
 use Rattle.events.proofs.Refusals.{is_taken}
 use Rattle.specification.specs.Lines.{Line}
 use Rattle.specification.specs.TraceText as format
-use Rattle.specification.specs.TraceText.{Version, one, two, header_line, IsEntry, IsSpelledIn, IsFaultyLine, BeginsSpelling, entry_line, replicas_line, trace_lines}
+use Rattle.specification.specs.TraceText.{header_line, IsEntry, IsSpelledIn, IsFaultyLine, BeginsSpelling, entry_line, replicas_line, trace_lines}
+use Rattle.specification.specs.Versions.{Version, one, two}
 use Rattle.format_words.specs.Words.{Word, words_of}
 use Rattle.format_words.specs.Reading.{Says, name_of}
 use Rattle.format_words.specs.declared.stop.Shape as unsaid

@@ -9,7 +9,8 @@ use Rattle.events.specs.declared.recording.Entry.{Entry}
 use Rattle.events.specs.declared.recording.Body.{Body}
 use Rattle.events.specs.declared.recording.Body.TheVariants.{Ins, Del, Read, View, Recv}
 use Rattle.specification.specs.Lines.{names_text}
-use Rattle.specification.specs.TraceText.{Version, entry_line, body_text, IsEntry}
+use Rattle.specification.specs.TraceText.{entry_line, body_text, IsEntry}
+use Rattle.specification.specs.Versions.{Version}
 use Rattle.format_words.specs.Words.{Word, words_of}
 use Rattle.format_words.proofs.Bytes.{lacks-literal}
 use Rattle.format_words.proofs.LineWords.{LacksSpace, join-names, name-lacks, names-lack, number-lacks, word-then, last-word, names-words}

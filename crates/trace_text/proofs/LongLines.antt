@@ -18,7 +18,8 @@ use Rattle.events.specs.declared.recording.Body.TheVariants.{Ins, Del, Read, Vie
 use Rattle.events.specs.declared.refusal.Refusal.{Refusal}
 use Rattle.events.specs.declared.refusal.Refusal.TheVariants.{NoReplica, OwnReceipt, NotYet, EntriesFull, InsertsFull, LongResponse, PlacesFull}
 use Rattle.specification.specs.Lines.{Line}
-use Rattle.specification.specs.TraceText.{Version, one, two, IsEntry, IsOfVersion, entry_line}
+use Rattle.specification.specs.TraceText.{IsEntry, IsOfVersion, entry_line}
+use Rattle.specification.specs.Versions.{Version, one, two}
 use Rattle.format_words.specs.Words.{Word, words_of}
 use Rattle.format_words.proofs.TextLines.{all-front}
 use Rattle.trace_text.proofs.LineWords.{body_words, entry_words, line-by-words, words-of-line}

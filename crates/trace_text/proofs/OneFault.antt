@@ -8,7 +8,8 @@ use Rattle.events.specs.declared.refusal.Refusal.{Refusal}
 use Rattle.events.specs.declared.recording.Entry.{Entry}
 use Rattle.specification.specs.Lines.{Line}
 use Rattle.specification.specs.TraceText as format
-use Rattle.specification.specs.TraceText.{Version, header_line, entry_line, trace_lines, IsEntry, IsSpelledIn, IsFaultyLine, IsMissingLine, BeginsSpelling, HasWholeFault, IsCutAt, LacksLine, IsFirstLineFault}
+use Rattle.specification.specs.TraceText.{header_line, entry_line, trace_lines, IsEntry, IsSpelledIn, IsFaultyLine, IsMissingLine, BeginsSpelling, HasWholeFault, IsCutAt, LacksLine, IsFirstLineFault}
+use Rattle.specification.specs.Versions.{Version}
 use Rattle.format_words.proofs.OneFault as shared
 use Rattle.trace_text.proofs.TextLines.{beginning-lacks}
 use Rattle.trace_text.proofs.Spelled.{one-spelling}

@@ -10,7 +10,8 @@ use Rattle.events.specs.declared.refusal.Refusal.{Refusal}
 use Rattle.events.specs.declared.recording.Entry.{Entry}
 use Rattle.specification.specs.Lines.{Line, text_of, IsOneLine}
 use Rattle.specification.specs.TraceText as format
-use Rattle.specification.specs.TraceText.{Version, header_line, entry_line, replicas_line, trace_lines, Spells, IsEntry, IsSpelledIn, IsFaultyLine, IsMissingLine, BeginsSpelling, HasWholeFault, IsCutAt, LacksLine, IsFirstLineFault}
+use Rattle.specification.specs.TraceText.{header_line, entry_line, replicas_line, trace_lines, Spells, IsEntry, IsSpelledIn, IsFaultyLine, IsMissingLine, BeginsSpelling, HasWholeFault, IsCutAt, LacksLine, IsFirstLineFault}
+use Rattle.specification.specs.Versions.{Version}
 use Rattle.format_words.proofs.TextLines.{lines_of, lacks-lf, lines-then, one-line, line-then}
 use Rattle.trace_text.proofs.TextLines.{lines-lack, beginning-lacks, legal-entries}
 use Rattle.trace_text.proofs.Spelled.{one-spelling}

@@ -10,7 +10,8 @@ use Rattle.events.specs.History.{IsWellFormed, is_view}
 use Rattle.events.specs.declared.recording.Entry.{Entry}
 use Rattle.events.specs.declared.recording.Body.{Body}
 use Rattle.events.specs.declared.recording.Body.TheVariants.{Ins, Del, Read, View, Recv}
-use Rattle.specification.specs.TraceText.{Version, one, two, entry_line, IsEntry, IsOfVersion}
+use Rattle.specification.specs.TraceText.{entry_line, IsEntry, IsOfVersion}
+use Rattle.specification.specs.Versions.{Version, one, two}
 use Rattle.format_words.specs.Words.{Word, words_of}
 use Rattle.format_words.specs.Reading.{◌>>=◌, word_at, no_more, number_of, name_of, number_at, after_word, names_at}
 use Rattle.trace_text.specs.Reading.{response_at, insert_at, delete_at, read_at, view_at, receipt_at, body_of_kind, body_at, entry_at}

@@ -8,7 +8,8 @@ use Rattle.events.specs.declared.refusal.Refusal.TheVariants as refusal
 use Rattle.events.specs.declared.recording.NewFault.{NewFault}
 use Rattle.events.specs.declared.recording.NewFault.TheVariants as fault
 use Rattle.specification.specs.Lines.{Line}
-use Rattle.specification.specs.TraceText.{Version, IsEntry, IsSpelledIn, entry_line, trace_lines}
+use Rattle.specification.specs.TraceText.{IsEntry, IsSpelledIn, entry_line, trace_lines}
+use Rattle.specification.specs.Versions.{Version}
 use Rattle.format_words.specs.Words.{words_of}
 use Rattle.format_words.specs.Reading.{GivesOne}
 use Rattle.trace_text.specs.Reading.{entry_at, HasEntryNames}

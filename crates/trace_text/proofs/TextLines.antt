@@ -7,7 +7,8 @@ use Rattle.events.specs.declared.recording.Entry.{Entry}
 use Rattle.events.specs.declared.recording.Body.{Body}
 use Rattle.events.specs.declared.recording.Body.TheVariants.{Ins, Del, Read, View, Recv}
 use Rattle.specification.specs.Lines.{Line, names_text}
-use Rattle.specification.specs.TraceText.{Version, one, two, header_line, body_text, entry_line, replicas_line, trace_lines, IsEntry, IsSpelledIn, BeginsSpelling}
+use Rattle.specification.specs.TraceText.{header_line, body_text, entry_line, replicas_line, trace_lines, IsEntry, IsSpelledIn, BeginsSpelling}
+use Rattle.specification.specs.Versions.{Version, one, two}
 use Rattle.format_words.proofs.Bytes.{lacks-name, lacks-number, lacks-literal, lacks-both}
 use Rattle.format_words.proofs.TextLines.{LacksLf, names-one, all-front}
 

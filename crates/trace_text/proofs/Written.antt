@@ -9,7 +9,8 @@ use Rattle.events.specs.History.{History, IsLegal, is_view}
 use Rattle.events.specs.declared.recording.Entry.{Entry}
 use Rattle.specification.specs.Lines.{Line, text_of}
 use Rattle.format_words.proofs.NameList.{front-more, not-past}
-use Rattle.specification.specs.TraceText.{Version, one, two, header_line, replicas_line, entry_line, version_of, IsOfVersion, Spells, trace_text}
+use Rattle.specification.specs.TraceText.{header_line, replicas_line, entry_line, version_of, IsOfVersion, Spells, trace_text}
+use Rattle.specification.specs.Versions.{Version, one, two}
 
 -- the lines of a recording's first entries
 abbrev pub first_lines : Version → History → ℕ → List Line

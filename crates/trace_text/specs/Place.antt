@@ -5,7 +5,8 @@ use Rattle.events.specs.Session.{first_refusal}
 use Rattle.events.specs.declared.TheConstants.{MOST_REPLICAS}
 use Rattle.events.specs.declared.recording.Entry.{Entry}
 use Rattle.specification.specs.Lines.{Line}
-use Rattle.specification.specs.TraceText.{Version, BeginsSpelling, IsEntry, IsSpelledIn, entry_line, replicas_line, trace_lines}
+use Rattle.specification.specs.TraceText.{BeginsSpelling, IsEntry, IsSpelledIn, entry_line, replicas_line, trace_lines}
+use Rattle.specification.specs.Versions.{Version}
 use Rattle.trace_text.specs.Reading.{HasEntryNames}
 use Rattle.format_words.specs.Place as place
 

@@ -2,7 +2,7 @@
 
 ghost use Rattle.std.specs.Prelude.{◌≡◌, ◌≢◌, ◌+◌, ◌≤◌, ℕ, [], ◌∷◌, ◌++◌, length, IfOk, IfErr, IfSome, OnOk};
 ghost use Rattle.events.specs.History.{IsLegal};
-ghost use Rattle.specification.specs.TraceText as format;
+ghost use Rattle.specification.specs.Versions as versions;
 ghost use Rattle.specification.specs.TraceText.{replicas_line, trace_lines, IsFaultyLine, IsSpelledIn};
 ghost use Rattle.specification.specs.TraceText.{IsMissingLine, BeginsSpelling};
 ghost use Rattle.format_words.specs.Words.{words_of};
@@ -130,7 +130,7 @@ impl Reading {
 
     /// The recording, where both first lines are there.
     pub fn end(self) -> Result<Recording, LineFault>
-        ensures ok { IfOk result (λ h. (version : format.Version) × IsSpelledIn version h
+        ensures ok { IfOk result (λ h. (version : versions.Version) × IsSpelledIn version h
             × (good self ≡ trace_lines version h)) }
         ensures number { IfErr result (λ fault. fault.line ≡ length (good self) + 1) }
         ensures begins { BeginsSpelling (good self) }

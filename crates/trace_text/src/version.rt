@@ -1,7 +1,7 @@
 //! The two versions of the trace text.
 
 ghost use Rattle.std.specs.Prelude.{◌≡◌, ◌≢◌, MatchOption};
-ghost use Rattle.specification.specs.TraceText as format;
+ghost use Rattle.specification.specs.Versions as versions;
 ghost use Rattle.specification.specs.TraceText.{header_line};
 ghost use Rattle.trace_text.specs.Versions.{has_views, version_in};
 
@@ -17,7 +17,7 @@ pub enum Version {
 impl Version {
     /// The version whose first line this is.
     pub fn of_line(line: &[u8]) -> Option<Version>
-        ensures { MatchOption result ((version : format.Version) → line.now ≢ header_line version)
+        ensures { MatchOption result ((version : versions.Version) → line.now ≢ header_line version)
             (λ version. line.now ≡ header_line (version_in version)) }
     {
         if line == b"trace 1".as_slice() {

@@ -24,11 +24,11 @@ pub struct Versioned {
 impl Model for Versioned {
     ghost use Rattle.std.specs.Prelude.{All};
     ghost use Rattle.events.specs.History.{History};
-    ghost use Rattle.specification.specs.TraceText as format;
+    ghost use Rattle.specification.specs.Versions as versions;
     ghost use Rattle.specification.specs.TraceText.{IsOfVersion};
     ghost use Rattle.trace_text.specs.Versions.{version_in};
 
-    ghost Value = { format.Version × History };
+    ghost Value = { versions.Version × History };
 
     ghost view = { λ s. (version_in s.version, s.recording) };
 

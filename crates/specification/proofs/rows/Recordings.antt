@@ -34,11 +34,11 @@ empty_recording = (judged refl refl refl, decides worked.empty_recording (accept
 
 pub insert_delete_read : worked.InsertDeleteRead
 unfolding digits
-insert_delete_read = (judged refl refl refl, decides worked.insert_delete_read (accepted (worked.a ∷ [])) refl refl, refl)
+insert_delete_read = (judged refl refl refl, decides worked.insert_delete_read (accepted (worked.a ∷ [])) refl refl, refl, refl)
 
 pub three_way_cycle : worked.ThreeWayCycle
 unfolding digits
-three_way_cycle = (judged refl refl refl, meets_weak_alone worked.three_way_cycle 3 worked.three_steps (lit< tt) refl refl, refl, refl, refl)
+three_way_cycle = (judged refl refl refl, meets_weak_alone worked.three_way_cycle 3 worked.three_steps (lit< tt) refl refl, refl, refl, refl, refl)
 
 pub opposite_pair : worked.OppositePair
 unfolding digits
@@ -56,7 +56,7 @@ opposite_pair = (
 
 pub ring_of_four : worked.RingOfFour
 unfolding digits
-ring_of_four = (judged refl refl refl, meets_weak_alone worked.ring_of_four 4 worked.four_steps (lit< tt) refl refl, refl)
+ring_of_four = (judged refl refl refl, meets_weak_alone worked.ring_of_four 4 worked.four_steps (lit< tt) refl refl, refl, refl)
 
 pub read_shows_deleted : worked.ReadShowsDeleted
 unfolding digits

@@ -9,7 +9,8 @@ use Rattle.std.proofs.lemmas.Bool.Decides.{Decides-eqb}
 use Rattle.std.proofs.lemmas.Slice.Eq.{bytes_eq-Decides}
 use Rattle.events.specs.History.{History, is_view}
 use Rattle.specification.specs.Lines.{Line, text_of, IsOneLine}
-use Rattle.specification.specs.TraceText.{Version, one, two, header_line, trace_lines, body_text, entry_line, IsOfVersion, IsSpelledIn, IsFaultyLine, IsFirstLineFault, header, replicas, shape, cut, refused}
+use Rattle.specification.specs.TraceText.{header_line, trace_lines, body_text, entry_line, IsOfVersion, IsSpelledIn, IsFaultyLine, IsFirstLineFault, header, replicas, shape, cut, refused}
+use Rattle.specification.specs.Versions.{Version, one, two}
 use Rattle.events.specs.declared.recording.Entry.{Entry}
 use Rattle.events.specs.declared.recording.Body.{Body}
 use Rattle.events.specs.declared.recording.Body.TheVariants.{Ins, Del, Read, View, Recv}

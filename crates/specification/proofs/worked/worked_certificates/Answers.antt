@@ -12,3 +12,6 @@ returns-clause-wrong_certificates c = row.wrong_certificates
 
 pub returns-clause-forged_layers : goal.returns-clause-forged_layers
 returns-clause-forged_layers c = row.forged_layers
+
+pub returns-clause-other_versions : goal.returns-clause-other_versions
+returns-clause-other_versions c = row.other_versions
