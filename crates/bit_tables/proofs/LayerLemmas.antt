@@ -11,11 +11,11 @@ use Rattle.bit_tables.specs.Rule.{StandsBelow, AreDepths, MeetsRule}
 abbrev pub IsAmongFirst : ℕ → List ℕ → ℕ → Type 0
 IsAmongFirst i w x = (k : ℕ) × (k < i) × (get_or w k x ≡ x)
 
--- what is known of the first m layers
-pub record IsTested (m : ℕ) (layers rows : List (List ℕ)) (standing shown : List ℕ) : Type 0 where
-  pub standing_is : (y : ℕ) → Has standing y ↔ StandsBelow m layers y
+-- what is known of the first m layers, where the numbers below the first one that counts stand in no layer
+pub record IsTested (first m : ℕ) (layers rows : List (List ℕ)) (standing shown : List ℕ) : Type 0 where
+  pub standing_is : (y : ℕ) → Has standing y ↔ ((y < first) ⊎ StandsBelow m layers y)
   pub shown_is : (y : ℕ) → Has shown y ↔ ((x : ℕ) × StandsBelow m layers x × Has (row_of rows x) y)
-  pub gradual : (j x y : ℕ) → j < m → StandsBelow j layers x → Has (row_of rows x) y → StandsBelow (j + 1) layers y
+  pub gradual : (j x y : ℕ) → j < m → StandsBelow j layers x → Has (row_of rows x) y → first ≤ y → StandsBelow (j + 1) layers y
 
 -- the row of one number more
 pub successors_step : (rows : List (List ℕ)) (w : List ℕ) (i : ℕ) (old into new row : List ℕ) → i < length w → row ≡ row_of rows (get_or w i 0)
@@ -66,34 +66,56 @@ stands_within n layers ok m x (i, low, (k, inside, at)) =
           absurd (omega arith)
     ]
 
+-- and in no layer stands a number below one that none of its numbers is below
+stands_from : (first : ℕ) (layers : List (List ℕ)) → All (λ layer. All (λ x. first ≤ x) layer) layers → (m x : ℕ) → StandsBelow m layers x → first ≤ x
+stands_from first layers ok m x (i, low, (k, inside, at)) =
+    elim (cases_lt i (length layers)) [
+      | inl within ↦ let high : first ≤ get_or (get_or layers i []) k x = ok i [] within k x inside in omega arith
+      | inr past ↦
+          let none : length (get_or layers i []) ≡ 0 = ap length (get_or_past layers i [] past) in
+          absurd (omega arith)
+    ]
+
 -- before the first layer
-pub tested_none : (layers rows : List (List ℕ)) (standing shown : List ℕ) → ((y : ℕ) → ¬ Has standing y) → ((y : ℕ) → ¬ Has shown y)
-    → IsTested 0 layers rows standing shown
-tested_none layers rows standing shown none_standing none_shown = record {
-  standing_is = λ y. (λ has. absurd (none_standing y has), λ s. absurd (let low : s.0 < 0 = s.1 in omega arith));
+pub tested_none : (first : ℕ) (layers rows : List (List ℕ)) (standing shown : List ℕ) → ((y : ℕ) → Has standing y ↔ (y < first)) → ((y : ℕ) → ¬ Has shown y)
+    → IsTested first 0 layers rows standing shown
+tested_none first layers rows standing shown below none_shown = record {
+  standing_is = λ y. (
+    λ has. inl ((below y).0 has),
+    λ s. elim s [
+      | inl low ↦ (below y).1 low
+      | inr stands ↦ absurd (let none : stands.0 < 0 = stands.1 in omega arith)
+    ],
+  );
   shown_is = λ y. (λ has. absurd (none_shown y has), λ s. absurd (let low : s.1.0 < 0 = s.1.1 in omega arith));
   gradual = λ j x y low. absurd (omega arith);
 }
 
-module _ (m : ℕ) (layers rows : List (List ℕ)) (standing shown standing' : List ℕ) (is : IsTested m layers rows standing shown)
+module _ (first m : ℕ) (layers rows : List (List ℕ)) (standing shown standing' : List ℕ) (is : IsTested first m layers rows standing shown)
     (grown : (y : ℕ) → Has standing' y ↔ (Has standing y ⊎ Contains (get_or layers m []) y)) where
-  standing_more : (y : ℕ) → Has standing' y ↔ StandsBelow (m + 1) layers y
+  standing_more : (y : ℕ) → Has standing' y ↔ ((y < first) ⊎ StandsBelow (m + 1) layers y)
   standing_more y = (
     λ has. elim ((grown y).0 has) [
-      | inl was ↦ stands_before m (m + 1) layers y (omega arith) ((is.standing_is y).0 was)
-      | inr here ↦ (m, (omega arith), here)
+      | inl was ↦ elim ((is.standing_is y).0 was) [
+        | inl low ↦ inl low
+        | inr stands ↦ inr (stands_before m (m + 1) layers y (omega arith) stands)
+      ]
+      | inr here ↦ inr (m, (omega arith), here)
     ],
     λ s. (grown y).1
-        (elim (stands_more m layers y s) [
-          | inl before ↦ inl ((is.standing_is y).1 before)
-          | inr here ↦ inr here
+        (elim s [
+          | inl low ↦ inl ((is.standing_is y).1 (inl low))
+          | inr stands ↦ elim (stands_more m layers y stands) [
+            | inl before ↦ inl ((is.standing_is y).1 (inr before))
+            | inr here ↦ inr here
+          ]
         ]),
   )
 
   -- one layer more
   pub tested_step : (shown' : List ℕ) → ((y : ℕ) → Has shown y → Has standing' y)
       → ((y : ℕ) → Has shown' y ↔ (Has shown y ⊎ ((x : ℕ) × Contains (get_or layers m []) x × Has (row_of rows x) y)))
-      → IsTested (m + 1) layers rows standing' shown'
+      → IsTested first (m + 1) layers rows standing' shown'
   tested_step shown' subset more = record {
     standing_is = standing_more;
     shown_is = λ y. (
@@ -107,60 +129,71 @@ module _ (m : ℕ) (layers rows : List (List ℕ)) (standing shown standing' : L
             | inr here ↦ inr (s.0, here, s.2)
           ]),
     );
-    gradual = λ j x y low stands has.
+    gradual = λ j x y low stands has from.
         elim (cases_eq j m) [
           | inl last ↦
               let by_m : StandsBelow m layers x = rw last at stands in
-              let next : StandsBelow (m + 1) layers y = (standing_more y).0 (subset y ((is.shown_is y).1 (x, by_m, has))) in
+              let next : StandsBelow (m + 1) layers y =
+              elim ((standing_more y).0 (subset y ((is.shown_is y).1 (x, by_m, has)))) [
+                | inl less ↦ absurd (omega (arith, less, from))
+                | inr s ↦ s
+              ] in
               rw last next
-          | inr before ↦ is.gradual j x y (omega arith) stands has
+          | inr before ↦ is.gradual j x y (omega arith) stands has from
         ];
   }
 
   -- layers that meet the rule pass the test
-  pub tested_subset : (n source : ℕ) (lists : List (List ℕ)) (depth : ℕ → ℕ) → m < length layers → All (λ layer. All (λ x. x < n) layer) layers
-      → IsTableOf n lists rows → AreDepths layers depth → MeetsRule lists source (length layers) depth
+  pub tested_subset : (n source : ℕ) (lists : List (List ℕ)) (depth : ℕ → ℕ) → m < length layers → All (λ layer. All (λ x. first ≤ x) layer) layers
+      → All (λ layer. All (λ x. x < n) layer) layers → IsTableOf n lists rows → AreDepths first layers depth → MeetsRule lists first source (length layers) depth
       → (y : ℕ) → Has shown y → Has standing' y
-  tested_subset n source lists depth within ok table depths meets y has =
+  tested_subset n source lists depth within ahead ok table depths meets y has =
       let s = (is.shown_is y).0 has in
       let low : s.0 < n = stands_within n layers ok m s.0 s.1 in
-      let shallow : depth s.0 < m = (depths.below m s.0 (omega arith)).1 s.1 in
-      let step : depth y ≤ depth s.0 + 1 = meets.gradual s.0 y ((table.shown s.0 y low).0 s.2) in
-      (standing_more y).1 ((depths.below (m + 1) y (omega arith)).0 (omega arith))
+      let high : first ≤ s.0 = stands_from first layers ahead m s.0 s.1 in
+      let shallow : depth s.0 < m = (depths.below m s.0 high (omega arith)).1 s.1 in
+      (standing_more y).1 (elim (cases_lt y first) [
+        | inl less ↦ inl less
+        | inr from ↦
+            let step : depth y ≤ depth s.0 + 1 = meets.gradual s.0 y high from ((table.shown s.0 y low).0 s.2) in
+            inr ((depths.below (m + 1) y from (omega arith)).0 (omega arith))
+      ])
 
 -- after the last layer
-module _ (n source : ℕ) (layers rows lists : List (List ℕ)) (standing shown : List ℕ) (depth : ℕ → ℕ) (ok : All (λ layer. All (λ x. x < n) layer) layers)
-    (is : IsTested (length layers) layers rows standing shown) (table : IsTableOf n lists rows) (depths : AreDepths layers depth) where
-  tested_gradual : (x y : ℕ) → IsShown lists x y → depth y ≤ depth x + 1
-  tested_gradual x y s =
+module _ (n first source : ℕ) (layers rows lists : List (List ℕ)) (standing shown : List ℕ) (depth : ℕ → ℕ) (ahead : All (λ layer. All (λ x. first ≤ x) layer) layers)
+    (ok : All (λ layer. All (λ x. x < n) layer) layers) (is : IsTested first (length layers) layers rows standing shown) (table : IsTableOf n lists rows)
+    (depths : AreDepths first layers depth) where
+  tested_gradual : (x y : ℕ) → first ≤ x → first ≤ y → IsShown lists x y → depth y ≤ depth x + 1
+  tested_gradual x y high from s =
       elim (cases_lt (depth x + 1) (length layers)) [
-        | inr deep ↦ omega (arith, depths.most y)
+        | inr deep ↦ omega (arith, depths.most y from)
         | inl below ↦
-            let stands : StandsBelow (depth x + 1) layers x = (depths.below (depth x + 1) x (omega arith)).0 (omega arith) in
+            let stands : StandsBelow (depth x + 1) layers x = (depths.below (depth x + 1) x high (omega arith)).0 (omega arith) in
             let low : x < n = stands_within n layers ok (depth x + 1) x stands in
-            let next : StandsBelow (depth x + 1 + 1) layers y = is.gradual (depth x + 1) x y below stands ((table.shown x y low).1 s) in
-            let shallow : depth y < depth x + 1 + 1 = (depths.below (depth x + 1 + 1) y (omega arith)).1 next in
+            let next : StandsBelow (depth x + 1 + 1) layers y = is.gradual (depth x + 1) x y below stands ((table.shown x y low).1 s) from in
+            let shallow : depth y < depth x + 1 + 1 = (depths.below (depth x + 1 + 1) y from (omega arith)).1 next in
             omega arith
       ]
 
-  tested_deep : (¬ Has shown source) → (x : ℕ) → IsShown lists x source → length layers ≤ depth x
-  tested_deep none x s =
+  tested_deep : (¬ Has shown source) → (x : ℕ) → first ≤ x → IsShown lists x source → length layers ≤ depth x
+  tested_deep none x high s =
       elim (cases_lt (depth x) (length layers)) [
         | inr deep ↦ deep
         | inl below ↦
-            let stands : StandsBelow (length layers) layers x = (depths.below (length layers) x (omega arith)).0 below in
+            let stands : StandsBelow (length layers) layers x = (depths.below (length layers) x high (omega arith)).0 below in
             let low : x < n = stands_within n layers ok (length layers) x stands in
             absurd (none ((is.shown_is source).1 (x, stands, (table.shown x source low).1 s)))
       ]
 
-  pub tested_all : (Has shown source → ⊥) ↔ MeetsRule lists source (length layers) depth
+  pub tested_all : (Has shown source → ⊥) ↔ MeetsRule lists first source (length layers) depth
   tested_all = (
     λ none. record { gradual = tested_gradual; deep = tested_deep none },
     λ meets has.
         let s = (is.shown_is source).0 has in
         let low : s.0 < n = stands_within n layers ok (length layers) s.0 s.1 in
-        let shallow : depth s.0 < length layers = (depths.below (length layers) s.0 (omega arith)).1 s.1 in
-        let deep : length layers ≤ depth s.0 = meets.deep s.0 ((table.shown s.0 source low).0 s.2) in
+        let high : first ≤ s.0 = stands_from first layers ahead (length layers) s.0 s.1 in
+        let shallow : depth s.0 < length layers = (depths.below (length layers) s.0 high (omega arith)).1 s.1 in
+        let deep : length layers ≤ depth s.0 = meets.deep s.0 high ((table.shown s.0 source low).0 s.2) in
         omega arith,
   )
 

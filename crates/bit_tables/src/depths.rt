@@ -22,41 +22,57 @@ fn put(layers: &mut Vec<Vec<u32>>, depth: u32, number: u32) -> Result<(), AllocE
     Ok(())
 }
 
-/// The numbers by depth, as many layers as the count.
-fn layers_by_depth(alloc: Global, depths: &[u32], count: u32) -> Result<Vec<Vec<u32>>, AllocError>
-    requires { length depths.now < 2 ^ 32 }
+/// The numbers from `first` on by depth, as many layers as the count.
+fn layers_by_depth(
+    alloc: Global,
+    depths: &[u32],
+    count: u32,
+    first: u32,
+) -> Result<Vec<Vec<u32>>, AllocError>
+    requires few { length depths.now < 2 ^ 32 }
+    requires first { first ≤ length depths.now }
     ensures count { IfOk result (λ layers. length layers.items ≡ count) }
     ensures layers { IfOk result (λ layers. (d x : ℕ) → d < count → Contains (layer_at layers.items d) x
-        ↔ ((x < length depths.now) × (slice_index depths.now x ≡ d))) }
+        ↔ ((first ≤ x) × (x < length depths.now) × (slice_index depths.now x ≡ d))) }
 {
     let mut layers = empty_lists(alloc, count as usize)?;
-    for x in 0..depths.len() as u32 {
+    for x in first..depths.len() as u32 {
         put(&mut layers, depths[x as usize], x)?;
     }
     Ok(layers)
 }
 
-/// Whether the numbers below `n`, at these depths of at most the count, meet the layer rule for a source: no
-/// number is more than one deeper than one that stands before it in some list of the table, and what stands
-/// before the source is as deep as the count.
+/// Whether the numbers from `first` on, below `n`, at these depths of at most the count, meet the layer rule
+/// for a source: no number is more than one deeper than one that stands before it in some list of the table,
+/// and what stands before the source is as deep as the count. Of the numbers below `first`, and of their
+/// depths, nothing is asked: the lists are taken with these numbers left out.
 ///
-/// It takes `n / 64` steps for each number of a lesser depth than the count and each depth, and memory for
-/// these numbers and two sets.
+/// It takes `n` steps, and `n / 64` for each number of a lesser depth than the count and each depth, and
+/// memory for these numbers and two sets.
 pub fn are_deep(
     alloc: Global,
     table: &AfterTable,
     depths: &[u32],
     count: u32,
+    first: u32,
     source: u32,
 ) -> Result<bool, AllocError>
     requires few { length depths.now < 2 ^ 32 }
+    requires first { first ≤ length depths.now }
     requires most { All (λ d. d ≤ count) depths.now }
     requires len { length table.now ≡ length depths.now }
     requires width { HaveWidth (length depths.now / 64 + 1) table.now }
     ensures { IfOk result (λ deep. (lists : List (List ℕ)) → IsTableOf (length depths.now) lists table.now
-        → IsTrue deep ↔ MeetsRule lists source count (λ x. slice_index_or depths.now x count)) }
+        → IsTrue deep ↔ MeetsRule lists first source count (λ x. slice_index_or depths.now x count)) }
 {
-    let layers = layers_by_depth(alloc, depths, count)?;
-    let deep = meets_rule(alloc, table, depths.len(), &layers, source as usize)?;
+    let layers = layers_by_depth(alloc, depths, count, first)?;
+    let deep = meets_rule(
+        alloc,
+        table,
+        depths.len(),
+        &layers,
+        first as usize,
+        source as usize,
+    )?;
     Ok(deep)
 }

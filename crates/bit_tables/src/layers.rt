@@ -1,6 +1,6 @@
 //! The layer rule of a row, asked of a table.
 
-ghost use Rattle.std.specs.Prelude.{◌≡◌, ◌<◌, ◌+◌, ◌/◌, ◌⊎◌, ◌↔◌, ℕ, All, Contains, IfOk, IsTrue, List};
+ghost use Rattle.std.specs.Prelude.{◌≡◌, ◌<◌, ◌≤◌, ◌+◌, ◌/◌, ◌⊎◌, ◌↔◌, ℕ, All, Contains, IfOk, IsTrue, List};
 ghost use Rattle.std.specs.Prelude.{length, map};
 ghost use Rattle.bit_tables.specs.Sets.{Has, room};
 ghost use Rattle.bit_tables.specs.Lists.{HaveWidth, IsTableOf, row_of};
@@ -21,6 +21,17 @@ fn add_layer(into: &mut BitSet, layer: &[u32])
     }
 }
 
+/// Adds the numbers below `first`.
+fn add_below(into: &mut BitSet, first: usize)
+    requires { first ≤ room into.old }
+    ensures len { length into.new ≡ length into.old }
+    ensures has { (y : ℕ) → Has into.new y ↔ (Has into.old y ⊎ (y < first)) }
+{
+    'numbers: for x in 0..first {
+        into.insert(x);
+    }
+}
+
 /// Adds what stands after a number of the layer in some list.
 fn add_successors(into: &mut BitSet, table: &AfterTable, layer: &[u32])
     requires within { All (λ x. x < length table.now) layer.now }
@@ -34,24 +45,31 @@ fn add_successors(into: &mut BitSet, table: &AfterTable, layer: &[u32])
     }
 }
 
-/// Whether layers of numbers below `n` meet the layer rule for a source: no number is more than one layer
-/// deeper than one that stands before it in some list of the table, and what stands before the source is in
-/// no layer. It takes `n / 64` steps for each number in the layers and each layer, and two sets of memory.
+/// Whether layers of numbers from `first` on, below `n`, meet the layer rule for a source: no number is more
+/// than one layer deeper than one that stands before it in some list of the table, and what stands before the
+/// source is in no layer. Of the numbers below `first` nothing is asked, as if they stood in no list.
+///
+/// It takes a step for each number below `first`, `n / 64` steps for each number in the layers and each
+/// layer, and two sets of memory.
 pub fn meets_rule(
     alloc: Global,
     table: &AfterTable,
     n: usize,
     layers: &[Vec<u32>],
+    first: usize,
     source: usize,
 ) -> Result<bool, AllocError>
     requires len { length table.now ≡ n }
     requires width { HaveWidth (n / 64 + 1) table.now }
+    requires first { first ≤ n }
+    requires from { All (λ layer. All (λ x. first ≤ x) layer.items) layers.now }
     requires within { All (λ layer. All (λ x. x < n) layer.items) layers.now }
     ensures { IfOk result (λ meets. (lists : List (List ℕ)) (depth : ℕ → ℕ) → IsTableOf n lists table.now
-        → AreDepths (map (λ layer. layer.items) layers.now) depth
-        → IsTrue meets ↔ MeetsRule lists source (length layers.now) depth) }
+        → AreDepths first (map (λ layer. layer.items) layers.now) depth
+        → IsTrue meets ↔ MeetsRule lists first source (length layers.now) depth) }
 {
     let mut standing = BitSet::new(alloc, n)?;
+    add_below(&mut standing, first);
     let mut shown = BitSet::new(alloc, n)?;
     'layers: for layer in layers {
         add_layer(&mut standing, layer);

@@ -1,4 +1,4 @@
-use Rattle.std.proofs.Common.{◌≡◌, ℕ, ◌<◌, ◌∙◌, List, [], length, map, get_or, ap, sym, arith, true≢false}
+use Rattle.std.proofs.Common.{◌≡◌, ℕ, ◌<◌, ◌≤◌, ◌∙◌, List, [], length, map, get_or, ap, sym, arith, true≢false}
 use Rattle.std.specs.Prelude.{◌↔◌, All, IsTrue}
 use Rattle.std.proofs.lemmas.List.{get_or-map, length-map}
 use Rattle.std.proofs.lemmas.List.Elements.{All-map}
@@ -19,7 +19,7 @@ layers-preserved c =
     record {
       standing_len = c.add_layer.ensures.len ∙ inv.standing_len;
       shown_len = c.add_successors.ensures.len ∙ inv.shown_len;
-      tested = tested_step c.layers.layer-index all _ _ _ _ inv.tested grown _ (subset.0 c.if-not-is_subset.false) more;
+      tested = tested_step c.args.first c.layers.layer-index all _ _ _ _ inv.tested grown _ (subset.0 c.if-not-is_subset.false) more;
     }
 
 pub returns-then-not-is_subset : goal.returns-then-not-is_subset
@@ -29,6 +29,8 @@ returns-then-not-is_subset c lists depth table depths =
     let count : length all ≡ length c.args.layers.now = length-map c.args.layers.now (λ layer. layer.items) in
     let ok : All (λ layer. All (λ x. x < c.args.n) layer) all =
     All-map (λ layer. All (λ x. x < c.args.n) layer) (λ layer. layer.items) c.args.layers.now c.requires.within in
+    let ahead : All (λ layer. All (λ x. c.args.first ≤ x) layer) all =
+    All-map (λ layer. All (λ x. c.args.first ≤ x) layer) (λ layer. layer.items) c.args.layers.now c.requires.from in
     let here : get_or all c.layers.layer-index [] ≡ c.layer-item.result.items =
     get_or-map (λ layer. layer.items) c.args.layers.now c.layers.layer-index c.layer-item.result [] (omega arith)
     ∙ ap (λ layer. layer.items) (sym c.layer-item.is) in
@@ -39,7 +41,7 @@ returns-then-not-is_subset c lists depth table depths =
       λ meets.
           absurd
           (true≢false
-          (sym (subset.1 (tested_subset c.layers.layer-index all _ _ _ _ inv.tested grown c.args.n c.args.source lists depth (omega arith) ok table depths meets))
+          (sym (subset.1 (tested_subset c.args.first c.layers.layer-index all _ _ _ _ inv.tested grown c.args.n c.args.source lists depth (omega arith) ahead ok table depths meets))
           ∙ c.if-not-is_subset.true)),
     )
 
@@ -50,9 +52,11 @@ returns c lists depth table depths =
     let count : length all ≡ length c.args.layers.now = length-map c.args.layers.now (λ layer. layer.items) in
     let ok : All (λ layer. All (λ x. x < c.args.n) layer) all =
     All-map (λ layer. All (λ x. x < c.args.n) layer) (λ layer. layer.items) c.args.layers.now c.requires.within in
+    let ahead : All (λ layer. All (λ x. c.args.first ≤ x) layer) all =
+    All-map (λ layer. All (λ x. c.args.first ≤ x) layer) (λ layer. layer.items) c.args.layers.now c.requires.from in
     let done : length all ≡ c.layers.layer-index = omega arith in
-    let is : IsTested (length all) all c.args.table.now c.layers.standing c.layers.shown = rw done inv.tested in
+    let is : IsTested c.args.first (length all) all c.args.table.now c.layers.standing c.layers.shown = rw done inv.tested in
     let shown : IsTrue c.contains.result ↔ Has c.layers.shown c.args.source = c.contains.ensures in
     let none = negated c.contains.result (Has c.layers.shown c.args.source) shown in
-    let whole = tested_all c.args.n c.args.source all c.args.table.now lists c.layers.standing c.layers.shown depth ok is table depths in
+    let whole = tested_all c.args.n c.args.first c.args.source all c.args.table.now lists c.layers.standing c.layers.shown depth ahead ok is table depths in
     rw (← count) (λ t. whole.0 (none.0 t), λ meets. none.1 (whole.1 meets))

@@ -6,5 +6,5 @@ abbrev pub invariant-layers : goal.invariant-layers
 invariant-layers l = record {
   standing_len : length l.standing ≡ l.n / 64 + 1;
   shown_len : length l.shown ≡ l.n / 64 + 1;
-  tested : IsTested l.layer-index (map (λ layer. layer.items) l.layers) l.table l.standing l.shown;
+  tested : IsTested l.first l.layer-index (map (λ layer. layer.items) l.layers) l.table l.standing l.shown;
 }
