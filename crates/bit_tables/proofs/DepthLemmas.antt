@@ -62,21 +62,23 @@ module _ (rows : List (Vec ℕ Global)) (y : ℕ) (v w : Vec ℕ Global) (q : �
   ]
 
 -- one number more in the layer of its depth
-pub more-numbers : (depths : List ℕ) (old new : List (Vec ℕ Global)) (n d x : ℕ) → Contains (layer_at old d) x ↔ ((x < n) × (get_or depths x 0 ≡ d))
-    → Contains (layer_at new d) x ↔ (Contains (layer_at old d) x ⊎ ((d ≡ get_or depths n 0) × (x ≡ n))) → Contains (layer_at new d) x ↔ ((x < n + 1) × (get_or depths x 0 ≡ d))
-more-numbers depths old new n d x before now = (
+pub more-numbers : (depths : List ℕ) (old new : List (Vec ℕ Global)) (first n d x : ℕ) → first ≤ n
+    → Contains (layer_at old d) x ↔ ((first ≤ x) × (x < n) × (get_or depths x 0 ≡ d))
+    → Contains (layer_at new d) x ↔ (Contains (layer_at old d) x ⊎ ((d ≡ get_or depths n 0) × (x ≡ n)))
+    → Contains (layer_at new d) x ↔ ((first ≤ x) × (x < n + 1) × (get_or depths x 0 ≡ d))
+more-numbers depths old new first n d x from before now = (
   λ c. elim (now.0 c) [
-    | inl was ↦ let p = before.0 was in (let lt = p.0 in omega arith, p.1)
-    | inr p ↦ (let e = p.1 in omega arith, ap (λ i. get_or depths i 0) p.1 ∙ sym p.0)
+    | inl was ↦ let p = before.0 was in (p.0, (let lt = p.1 in omega arith), p.2)
+    | inr p ↦ ((let e = p.1 in omega arith), (let e = p.1 in omega arith), ap (λ i. get_or depths i 0) p.1 ∙ sym p.0)
   ],
   λ p. elim (ℕ_discrete x n) [
-    | yes e ↦ now.1 (inr (sym p.1 ∙ ap (λ i. get_or depths i 0) e, e))
-    | no apart ↦ now.1 (inl (before.1 (let lt = p.0 in omega arith, p.1)))
+    | yes e ↦ now.1 (inr (sym p.2 ∙ ap (λ i. get_or depths i 0) e, e))
+    | no apart ↦ now.1 (inl (before.1 (p.0, (let lt = p.1 in omega arith), p.2)))
   ],
 )
 
-module _ (depths : List ℕ) (count : ℕ) (layers : List (Vec ℕ Global)) (size : length layers ≡ count) (most : All (λ d. d ≤ count) depths)
-    (has : (d x : ℕ) → d < count → Contains (layer_at layers d) x ↔ ((x < length depths) × (get_or depths x 0 ≡ d))) where
+module _ (depths : List ℕ) (count first : ℕ) (layers : List (Vec ℕ Global)) (size : length layers ≡ count) (most : All (λ d. d ≤ count) depths)
+    (has : (d x : ℕ) → d < count → Contains (layer_at layers d) x ↔ ((first ≤ x) × (x < length depths) × (get_or depths x 0 ≡ d))) where
   abbrev depth : ℕ → ℕ
   depth x = slice_index_or depths x count
 
@@ -89,18 +91,18 @@ module _ (depths : List ℕ) (count : ℕ) (layers : List (Vec ℕ Global)) (siz
   lists-count : length (map (λ (layer : Vec ℕ Global). layer.items) layers) ≡ count
   lists-count = length-map layers (λ (layer : Vec ℕ Global). layer.items) ∙ size
 
-  below : (m x : ℕ) → m ≤ count → (depth x < m) ↔ StandsBelow m (map (λ (layer : Vec ℕ Global). layer.items) layers) x
-  below m x le = (
+  below : (m x : ℕ) → first ≤ x → m ≤ count → (depth x < m) ↔ StandsBelow m (map (λ (layer : Vec ℕ Global). layer.items) layers) x
+  below m x from le = (
     λ lt. elim (cases_lt x (length depths)) [
       | inl known ↦
           let same : depth x ≡ get_or depths x 0 = near x known in
-          (depth x, lt, (has (depth x) x (omega (arith, lt, le))).1 (known, sym same))
+          (depth x, lt, (has (depth x) x (omega (arith, lt, le))).1 (from, known, sym same))
       | inr past ↦ absurd (let e = far x past in omega arith)
     ],
     λ s.
         let p = (has s.0 x (let lt = s.1 in omega arith)).0 s.2 in
-        let same : depth x ≡ get_or depths x 0 = near x p.0 in
-        let e : get_or depths x 0 ≡ s.0 = p.1 in
+        let same : depth x ≡ get_or depths x 0 = near x p.1 in
+        let e : get_or depths x 0 ≡ s.0 = p.2 in
         let lt = s.1 in omega arith,
   )
 
@@ -110,16 +112,23 @@ module _ (depths : List ℕ) (count : ℕ) (layers : List (Vec ℕ Global)) (siz
     | inr past ↦ let e = far x past in omega arith
   ]
 
-  pub are-depths : AreDepths (map (λ (layer : Vec ℕ Global). layer.items) layers) (λ x. slice_index_or depths x count)
+  pub are-depths : AreDepths first (map (λ (layer : Vec ℕ Global). layer.items) layers) (λ x. slice_index_or depths x count)
   are-depths = record {
-    below = λ m x le. below m x (let e = lists-count in omega arith);
-    most = λ x. let h = at-most x in let e = lists-count in omega arith;
+    below = λ m x from le. below m x from (let e = lists-count in omega arith);
+    most = λ x from. let h = at-most x in let e = lists-count in omega arith;
   }
 
-  pub within-layers : All (λ (layer : Vec ℕ Global). All (λ x. x < length depths) layer.items) layers
-  within-layers i v lt j e inside =
+  in-layers : All (λ (layer : Vec ℕ Global). All (λ x. (first ≤ x) × (x < length depths)) layer.items) layers
+  in-layers i v lt j e inside =
       let layer : Vec ℕ Global = get_or layers i v in
       let x : ℕ = get_or layer.items j e in
       let same : layer_at layers i ≡ layer.items = get_or-map (λ (layer : Vec ℕ Global). layer.items) layers i v [] lt in
       let there : Contains layer.items x = (j, inside, get_or_default layer.items j x e inside) in
-      ((has i x (let s = size in omega arith)).0 (subst (λ l. Contains l x) (sym same) there)).0
+      let p = (has i x (let s = size in omega arith)).0 (subst (λ l. Contains l x) (sym same) there) in
+      (p.0, p.1)
+
+  pub within-layers : All (λ (layer : Vec ℕ Global). All (λ x. x < length depths) layer.items) layers
+  within-layers i v lt j e inside = (in-layers i v lt j e inside).1
+
+  pub from-layers : All (λ (layer : Vec ℕ Global). All (λ x. first ≤ x) layer.items) layers
+  from-layers i v lt j e inside = (in-layers i v lt j e inside).0
