@@ -4,14 +4,14 @@ ghost use Rattle.std.specs.Prelude.{IfOk};
 ghost use Rattle.specification.specs.CertificateText.{IsSpellable};
 ghost use Rattle.certificate_text.specs.CertificateOf.{certificate_of};
 
-use super::{CertCause, CertFault, Certificate, Layer, Row, Step};
+use super::{CertCause, CertFault, Certificate, Layer, Row, Step, Version};
 use events::Memory;
 use std::alloc::Global;
 use std::test::Fail;
 
 /// What reading says; where the first call finds no memory, what the second says.
-fn reading(alloc: Global, text: &[u8]) -> Result<Certificate, CertFault>
-    ensures { IfOk result (λ c. IsSpellable (certificate_of c)) }
+fn reading(alloc: Global, text: &[u8]) -> Result<(Version, Certificate), CertFault>
+    ensures { IfOk result (λ r. IsSpellable (certificate_of r.1)) }
 {
     match Certificate::read(alloc, text) {
         Err(
@@ -25,11 +25,15 @@ fn reading(alloc: Global, text: &[u8]) -> Result<Certificate, CertFault>
 }
 
 /// The certificate's text; where the first call finds no memory, what the second gives.
-fn writing(alloc: Global, certificate: &Certificate) -> Result<Vec<u8>, Memory>
+fn writing(
+    alloc: Global,
+    version: Version,
+    certificate: &Certificate,
+) -> Result<Vec<u8>, Memory>
     requires { IsSpellable (certificate_of certificate.now) }
 {
-    match certificate.write(alloc) {
-        Err(Memory) => certificate.write(alloc),
+    match certificate.write(alloc, version) {
+        Err(Memory) => certificate.write(alloc, version),
         text => text,
     }
 }
@@ -52,10 +56,10 @@ static TEXTS: [&str; 10] = [
 
 /// Whether the text is that of a certificate, which is written so again.
 fn is_written_again(alloc: Global, text: &str) -> bool {
-    let Ok(certificate) = reading(alloc, text.as_bytes()) else {
+    let Ok((version, certificate)) = reading(alloc, text.as_bytes()) else {
         return false;
     };
-    match writing(alloc, &certificate) {
+    match writing(alloc, version, &certificate) {
         Ok(again) => again.as_slice() == text.as_bytes(),
         Err(Memory) => false,
     }
@@ -120,7 +124,7 @@ fn is_cycle(certificate: &Certificate) -> bool {
 fn a_text_gives_its_cycle(rt: HostRuntime) -> Result<(), Fail> {
     let text =
         "cert 1\nrefused 4\nstep a b 0.2\nstep b c 1.2\nstep c d 3.4\nstep d a 1.2\nlayers z / / b a\n";
-    let certificate = reading(rt.alloc(), text.as_bytes())?;
+    let (_, certificate) = reading(rt.alloc(), text.as_bytes())?;
     assert!(rt; is_cycle(&certificate));
     Ok(())
 }
