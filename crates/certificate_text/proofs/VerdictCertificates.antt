@@ -51,7 +51,7 @@ module _ (version : Version) (h : History) (legal : IsLegal h) where
     names = All-from_members (λ layer. All IsName layer) row (λ layer i.
         let at : (n : ℕ) × (n < length row) × (slice_get row n ≡ Some layer) = place_of_In row layer i in
         All-from_members IsName layer (λ x j. element-name h legal x (row_elements-all version (responses_of h) source x
-            (In-from_Contains (row_responses version (responses_of h) source).elements x (((is.each at.0 layer at.2).holds x).0 (Contains-from_In layer x j)).0))));
+        (In-from_Contains (row_responses version (responses_of h) source).elements x (((is.each at.0 layer at.2).holds x).0 (Contains-from_In layer x j)).0))));
   }
 
   row-names : (k : ℕ) → 2 ≤ k → (sources : List NameBytes) (rows : List Row) → ((x : NameBytes) → In x sources → In x (elements h)) → AreExactRows version (responses_of h) k sources rows → All (IsRow k) rows

@@ -59,12 +59,7 @@ fn ordered(alloc: Global, version: Version, line: &[u8]) -> Result<Progress, Cer
 }
 
 /// The third line.
-fn third(
-    alloc: Global,
-    version: Version,
-    kind: Kind,
-    line: &[u8],
-) -> Result<Progress, CertCause>
+fn third(alloc: Global, version: Version, kind: Kind, line: &[u8]) -> Result<Progress, CertCause>
     requires { IsKind kind }
     ensures ok { IfOk result (λ p. IsRight p × (good p ≡ version_line (version_in version) ∷ kind_line kind ∷ line.now ∷ [])) }
     ensures fault { IfErr result (λ cause. IfSome (cause_of cause)
