@@ -1,8 +1,9 @@
 -- The depths of elements that are noted for a row are those of the row, and what the layer rule says of them.
-use Rattle.std.proofs.Common.{◌≡◌, ◌≢◌, ℕ, suc, ◌+◌, ◌-◌, ◌<◌, ◌≤◌, ◌⊎◌, inl, inr, Bool, true, false, cond, Some, None, List, [], ◌∷◌, ◌++◌, map, length, refl, sym, ◌∙◌, ap, subst, arith}
+use Rattle.std.proofs.Common.{◌≡◌, ◌≢◌, ℕ, suc, ◌+◌, ◌-◌, ◌<◌, ◌≤◌, ◌⊎◌, inl, inr, Bool, true, false, cond, Some, None, List, [], ◌∷◌, ◌++◌, map, length, get_or, refl, sym, ◌∙◌, ap, subst, arith}
 use Rattle.std.specs.Prelude.{All, AllPairs, Contains, unwrap_or, slice_get, slice_index, bytes_eq, nat_lt, ◌||◌}
 use Rattle.std.specs.List.{list_any, position_or_len}
-use Rattle.std.proofs.lemmas.Bool.{false_from_ne_true}
+use Rattle.std.proofs.lemmas.Bool.{cases_lt, false_from_ne_true}
+use Rattle.std.proofs.lemmas.Option.{slice_get-get_or}
 use Rattle.std.proofs.lemmas.List.{map-append}
 use Rattle.std.specs.Cmp.Lexicographic.{bytes_decides}
 use native.Mathlib.Decide.{ℕ_discrete}
@@ -11,18 +12,18 @@ use Rattle.events.specs.History.{History}
 use Rattle.events.specs.Operations.{response}
 use Rattle.specification.specs.Elements.{elements, numbers_in}
 use Rattle.specification.specs.Responses.{Returned, responses_of, HasInOrder}
-use Rattle.specification.specs.LayerRule.{Row, row_names, depth_in, MeetsLayerRule}
+use Rattle.specification.specs.LayerRule.{Row, row_names, depth_in}
 use Rattle.specification.proofs.Members.{In, Before, Once, In-map, In-append_cases, In-append_left, In-append_right, All-from_members, All-member, In-from_Contains, Contains-from_In, Once-from_AllPairs, AllPairs-from_Once, Before-from_places, places_of_Before, Before-first, Before-second, decide_In}
 use Rattle.specification.proofs.Numbers.{number, least-or-limit}
 use Rattle.specification.proofs.Shown.{same_name}
 use Rattle.specification.proofs.OperationNames.{listed-operation}
 use Rattle.specification.proofs.Strong.{returned_of}
 use Rattle.cert_check.proofs.NotedNames.{noted_name}
-use Rattle.cert_check.proofs.Listed.{In-map_back, Before-map, Before-map_back, number_of_member, once-elements, known-response, each_response, each_list}
-use Rattle.element_numbers.proofs.NameNumbers.{number-at}
+use Rattle.cert_check.proofs.Listed.{In-map_back, Before-map, Before-map_back, number_of_member, number_at_place, once-elements, known-response, each_response, each_list}
 use Rattle.cert_check.specs.Noted.{Noted, Holds, CanBeNoted, at_depth, pairs_from}
-use Rattle.cert_check.specs.Values.{IsGradual, IsDeepBefore}
+use Rattle.cert_check.specs.Values.{IsGradualFrom, IsDeepFrom, AreUnsetBelow}
 use Rattle.cert_check.specs.Numbering.{IsOf, AreDeepAt}
+use Rattle.cert_check.proofs.RulesFrom.{MeetsRuleFrom}
 use Rattle.cert_check.specs.declared.numbered.Numbered.{Numbered}
 
 names_at_depth : (d : ℕ) (layer : List NameBytes) → map (λ (p : Noted). p.0) (at_depth d layer) ≡ layer
@@ -163,82 +164,108 @@ module _ (names : List NameBytes) (k : ℕ) (row : Row) (depths : List ℕ) (siz
   value_is : (a : NameBytes) → In a w → value a ≡ depth_in k row a
   value_is a i = noted_depth names k row depths a (number names a) size holds (number_of_member names a once (known a i))
 
-  pub gradual_names : IsGradual (map (slice_index depths) (numbers_in names w)) → (x y : NameBytes) → HasInOrder w x y → depth_in k row y ≤ depth_in k row x + 1
-  gradual_names gradual x y p =
-      let h : Before x y w = Before-from_places w x y p.0 p.1 p.2 p.3 p.4 in
-      let le : value y ≤ value x + 1 = gradual (value x) (value y) (Before-map (slice_index depths) (number names x) (number names y) (numbers_in names w) (Before-map (number names) x y w h)) in
-      let ex : value x ≡ depth_in k row x = value_is x (Before-first x y w h) in
-      let ey : value y ≡ depth_in k row y = value_is y (Before-second x y w h) in
-      omega arith
-
-  pub gradual_numbers : ((x y : NameBytes) → HasInOrder w x y → depth_in k row y ≤ depth_in k row x + 1) → IsGradual (map (slice_index depths) (numbers_in names w))
-  gradual_numbers gradual c d h =
-      let s = Before-map_back (slice_index depths) c d (numbers_in names w) h in
-      let r = Before-map_back (number names) s.0 s.1 w s.2 in
-      let x : NameBytes = r.0 in
-      let y : NameBytes = r.1 in
-      let p = places_of_Before w x y r.2 in
-      let le : depth_in k row y ≤ depth_in k row x + 1 = gradual x y p in
-      let ex : value x ≡ depth_in k row x = value_is x (Before-first x y w r.2) in
-      let ey : value y ≡ depth_in k row y = value_is y (Before-second x y w r.2) in
-      let ec : value x ≡ c = ap (slice_index depths) r.3 ∙ s.3 in
-      let ed : value y ≡ d = ap (slice_index depths) r.4 ∙ s.4 in
-      omega arith
-
-  module _ (source : ℕ) (a : NameBytes) (at : slice_get names source ≡ Some a) where
-    source_number : number names a ≡ source
-    source_number = ap (λ o. unwrap_or o (length names)) (number-at names source a once at)
-
-    pub deep_names : IsDeepBefore depths source (k - 1) (numbers_in names w) → (x : NameBytes) → HasInOrder w x a → k - 1 ≤ depth_in k row x
-    deep_names deep x p =
-        let h : Before x a w = Before-from_places w x a p.0 p.1 p.2 p.3 p.4 in
-        let there : Before (number names x) source (numbers_in names w) = subst (λ (n : ℕ). Before (number names x) n (numbers_in names w)) source_number (Before-map (number names) x a w h) in
-        let le : k - 1 ≤ value x = deep (number names x) there in
-        let ex : value x ≡ depth_in k row x = value_is x (Before-first x a w h) in
+  module _ (first : ℕ) where
+    pub gradual_names : IsGradualFrom first depths (numbers_in names w) → (x y : NameBytes) → first ≤ number names x → first ≤ number names y → HasInOrder w x y → depth_in k row y ≤ depth_in k row x + 1
+    gradual_names gradual x y high from p =
+        let h : Before x y w = Before-from_places w x y p.0 p.1 p.2 p.3 p.4 in
+        let le : value y ≤ value x + 1 = gradual (number names x) (number names y) high from (Before-map (number names) x y w h) in
+        let ex : value x ≡ depth_in k row x = value_is x (Before-first x y w h) in
+        let ey : value y ≡ depth_in k row y = value_is y (Before-second x y w h) in
         omega arith
 
-    pub deep_numbers : ((x : NameBytes) → HasInOrder w x a → k - 1 ≤ depth_in k row x) → IsDeepBefore depths source (k - 1) (numbers_in names w)
-    deep_numbers deep n h =
-        let r = Before-map_back (number names) n source w h in
+    pub gradual_numbers : ((x y : NameBytes) → first ≤ number names x → first ≤ number names y → HasInOrder w x y → depth_in k row y ≤ depth_in k row x + 1) → IsGradualFrom first depths (numbers_in names w)
+    gradual_numbers gradual m n high from h =
+        let r = Before-map_back (number names) m n w h in
         let x : NameBytes = r.0 in
         let y : NameBytes = r.1 in
-        let y_at : slice_get names source ≡ Some y = subst (λ (m : ℕ). slice_get names m ≡ Some y) r.4 (number_of_member names y once (known y (Before-second x y w r.2))) in
-        let both : Some y ≡ Some a = sym y_at ∙ at in
-        let same : y ≡ a = Prim.cc in
-        let p = places_of_Before w x a (subst (λ (z : NameBytes). Before x z w) same r.2) in
-        let le : k - 1 ≤ depth_in k row x = deep x p in
+        let p = places_of_Before w x y r.2 in
+        let em : number names x ≡ m = r.3 in
+        let en : number names y ≡ n = r.4 in
+        let le : depth_in k row y ≤ depth_in k row x + 1 = gradual x y (omega (arith, em, high)) (omega (arith, en, from)) p in
         let ex : value x ≡ depth_in k row x = value_is x (Before-first x y w r.2) in
-        let en : value x ≡ slice_index depths n = ap (slice_index depths) r.3 in
+        let ey : value y ≡ depth_in k row y = value_is y (Before-second x y w r.2) in
+        let ec : value x ≡ slice_index depths m = ap (slice_index depths) em in
+        let ed : value y ≡ slice_index depths n = ap (slice_index depths) en in
         omega arith
 
+    module _ (source : ℕ) (a : NameBytes) (at : slice_get names source ≡ Some a) where
+      pub deep_names : IsDeepFrom first depths source (k - 1) (numbers_in names w) → (x : NameBytes) → first ≤ number names x → HasInOrder w x a → k - 1 ≤ depth_in k row x
+      deep_names deep x high p =
+          let h : Before x a w = Before-from_places w x a p.0 p.1 p.2 p.3 p.4 in
+          let there : Before (number names x) source (numbers_in names w) =
+          subst (λ (n : ℕ). Before (number names x) n (numbers_in names w)) (number_at_place names source a once at) (Before-map (number names) x a w h) in
+          let le : k - 1 ≤ value x = deep (number names x) high there in
+          let ex : value x ≡ depth_in k row x = value_is x (Before-first x a w h) in
+          omega arith
+
+      pub deep_numbers : ((x : NameBytes) → first ≤ number names x → HasInOrder w x a → k - 1 ≤ depth_in k row x) → IsDeepFrom first depths source (k - 1) (numbers_in names w)
+      deep_numbers deep n high h =
+          let r = Before-map_back (number names) n source w h in
+          let x : NameBytes = r.0 in
+          let y : NameBytes = r.1 in
+          let y_at : slice_get names source ≡ Some y = subst (λ (m : ℕ). slice_get names m ≡ Some y) r.4 (number_of_member names y once (known y (Before-second x y w r.2))) in
+          let both : Some y ≡ Some a = sym y_at ∙ at in
+          let same : y ≡ a = Prim.cc in
+          let p = places_of_Before w x a (subst (λ (z : NameBytes). Before x z w) same r.2) in
+          let en : number names x ≡ n = r.3 in
+          let le : k - 1 ≤ depth_in k row x = deep x (omega (arith, en, high)) p in
+          let ex : value x ≡ depth_in k row x = value_is x (Before-first x a w (subst (λ (z : NameBytes). Before x z w) same r.2)) in
+          let ev : value x ≡ slice_index depths n = ap (slice_index depths) en in
+          omega arith
+
+-- no name of a row is numbered below the first that counts where no depth is noted below it
+module _ (names : List NameBytes) (unset first : ℕ) (row : Row) (depths : List ℕ) (once : Once names) (holds : Holds names unset (pairs_from 0 row) depths) where
+  pub from_unset : AreUnsetBelow first unset depths → (x : NameBytes) → In x (row_names row) → first ≤ number names x
+  from_unset none x i =
+      let s = noted_name x (pairs_from 0 row) (subst (λ l. In x l) (sym (names_of_pairs 0 row)) i) in
+      let at : slice_get names (number names x) ≡ Some x = number_of_member names x once (holds.can.elements (x, s.0) s.1) in
+      let h = holds.here (x, s.0) (number names x) s.1 at in
+      let is : slice_index depths (number names x) ≡ s.0 = h.0 in
+      let lt : s.0 < unset = h.1 in
+      elim (cases_lt (number names x) first) [
+        | inl low ↦ let e : slice_index depths (number names x) ≡ unset = none (number names x) low in absurd (omega arith)
+        | inr high ↦ high
+      ]
+
+  pub unset_from : first ≤ length names → ((x : NameBytes) → In x (row_names row) → first ≤ number names x) → AreUnsetBelow first unset depths
+  unset_from within all x low = elim (ℕ_discrete (slice_index depths x) unset) [
+    | yes e ↦ e
+    | no n ↦
+        let b : NameBytes = get_or names x [] in
+        let at : slice_get names x ≡ Some b = slice_get-get_or names x [] (omega (arith, low, within)) in
+        let i : In b (row_names row) = subst (λ l. In b l) (names_of_pairs 0 row) (In-map (λ (p : Noted). p.0) (b, slice_index depths x) (pairs_from 0 row) (holds.others b x at n)) in
+        let high : first ≤ number names b = all b i in
+        let e : number names b ≡ x = number_at_place names x b once at in
+        absurd (omega arith)
+  ]
+
 -- along all lists the depths decide the rule
-module _ (h : History) (t : Numbered) (of : IsOf h t) (k : ℕ) (row : Row) (depths : List ℕ) (size : length row + 1 ≡ k) (holds : Holds (elements h) (k - 1) (pairs_from 0 row) depths)
+module _ (h : History) (t : Numbered) (of : IsOf h t) (k first : ℕ) (row : Row) (depths : List ℕ) (size : length row + 1 ≡ k) (holds : Holds (elements h) (k - 1) (pairs_from 0 row) depths)
     (source : ℕ) (a : NameBytes) (at : slice_get (elements h) source ≡ Some a) where
   once : Once (elements h)
   once = once-elements h of.legal of.sound
 
-  pub rule_from_lists : ((j : ℕ) → j < length t.places.items → AreDeepAt t depths source (k - 1) j) → MeetsLayerRule (responses_of h) k a row
-  rule_from_lists all = record {
+  pub rule_from_lists : AreUnsetBelow first (k - 1) depths → ((j : ℕ) → j < length t.places.items → AreDeepAt t depths first source (k - 1) j) → MeetsRuleFrom (responses_of h) first k a row
+  rule_from_lists unset all = record {
     of_elements = rule_elements (elements h) row holds.can;
+    from = from_unset (elements h) (k - 1) first row depths once holds unset;
     once = rule_once (elements h) row holds.can;
-    gradual = All-from_members (λ (r : Returned). (x y : NameBytes) → HasInOrder r.names x y → depth_in k row y ≤ depth_in k row x + 1) (responses_of h).returned (λ r i x y p.
-        let s = each_response h t of (λ (l : List ℕ). IsGradual (map (slice_index depths) l)) (λ j lt. (all j lt).0) r i in
-        gradual_names (elements h) k row depths size once holds (response h r.by) (known-response h of.legal of.sound r.by s.0) s.2 x y
-        (subst (λ (w : List NameBytes). HasInOrder w x y) s.1 p));
-    deep = All-from_members (λ (r : Returned). (x : NameBytes) → HasInOrder r.names x a → k - 1 ≤ depth_in k row x) (responses_of h).returned (λ r i x p.
-        let s = each_response h t of (IsDeepBefore depths source (k - 1)) (λ j lt. (all j lt).1) r i in
-        deep_names (elements h) k row depths size once holds (response h r.by) (known-response h of.legal of.sound r.by s.0) source a at s.2 x
-        (subst (λ (w : List NameBytes). HasInOrder w x a) s.1 p));
+    gradual = λ r i x y high from p.
+        let s = each_response h t of (IsGradualFrom first depths) (λ j lt. (all j lt).0) r i in
+        gradual_names (elements h) k row depths size once holds (response h r.by) (known-response h of.legal of.sound r.by s.0) first s.2 x y high from
+        (subst (λ (w : List NameBytes). HasInOrder w x y) s.1 p);
+    deep = λ r i x high p.
+        let s = each_response h t of (IsDeepFrom first depths source (k - 1)) (λ j lt. (all j lt).1) r i in
+        deep_names (elements h) k row depths size once holds (response h r.by) (known-response h of.legal of.sound r.by s.0) first source a at s.2 x high
+        (subst (λ (w : List NameBytes). HasInOrder w x a) s.1 p);
   }
 
-  pub lists_from_rule : MeetsLayerRule (responses_of h) k a row → (j : ℕ) → j < length t.places.items → AreDeepAt t depths source (k - 1) j
+  pub lists_from_rule : MeetsRuleFrom (responses_of h) first k a row → (j : ℕ) → j < length t.places.items → AreDeepAt t depths first source (k - 1) j
   lists_from_rule rule j lt = (
-    each_list h t of (λ (l : List ℕ). IsGradual (map (slice_index depths) l)) (λ o i.
-        gradual_numbers (elements h) k row depths size once holds (response h o) (known-response h of.legal of.sound o i)
-        (All-member (λ (r : Returned). (x y : NameBytes) → HasInOrder r.names x y → depth_in k row y ≤ depth_in k row x + 1) (responses_of h).returned
-        (record { by = o; names = response h o }) rule.gradual (returned_of h o of.legal (listed-operation h o i)))) j lt,
-    each_list h t of (IsDeepBefore depths source (k - 1)) (λ o i.
-        deep_numbers (elements h) k row depths size once holds (response h o) (known-response h of.legal of.sound o i) source a at
-        (All-member (λ (r : Returned). (x : NameBytes) → HasInOrder r.names x a → k - 1 ≤ depth_in k row x) (responses_of h).returned
-        (record { by = o; names = response h o }) rule.deep (returned_of h o of.legal (listed-operation h o i)))) j lt,
+    each_list h t of (IsGradualFrom first depths) (λ o i.
+        gradual_numbers (elements h) k row depths size once holds (response h o) (known-response h of.legal of.sound o i) first
+        (rule.gradual (record { by = o; names = response h o }) (returned_of h o of.legal (listed-operation h o i)))) j lt,
+    each_list h t of (IsDeepFrom first depths source (k - 1)) (λ o i.
+        deep_numbers (elements h) k row depths size once holds (response h o) (known-response h of.legal of.sound o i) first source a at
+        (rule.deep (record { by = o; names = response h o }) (returned_of h o of.legal (listed-operation h o i)))) j lt,
   )

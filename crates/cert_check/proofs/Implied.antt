@@ -8,7 +8,8 @@ use Rattle.events.specs.History.{History, IsLegal}
 use Rattle.specification.specs.Responses.{Responses, responses_of, StandsBefore, Shows, AreProper}
 use Rattle.specification.specs.Conflict.{IsCycle, Step, AreShownSteps, HasConflictNumber}
 use Rattle.specification.specs.Search.{IsShortestLength}
-use Rattle.specification.specs.LayerRule.{Row, MeetsLayerRule}
+use Rattle.specification.specs.LayerRule.{Row, MeetsRuleOf}
+use Rattle.specification.specs.Versions.{Version}
 use Rattle.specification.specs.Verdict.{ProvesConflict}
 use Rattle.specification.specs.CertificateText.{Certificate, names_fault, gives_order, gives_cycle, IsSpellable}
 use Rattle.specification.specs.ValidCertificate.{IsValid, RowsMeetRule, HasSource}
@@ -31,12 +32,12 @@ use Rattle.cert_check.specs.declared.answer.Answer.TheVariants.{Yes, No}
 use Rattle.cert_check.specs.AnswerOf.{Implies, ImpliesOfTexts}
 
 -- the row of an element
-row_of : (v : Responses) (k : ℕ) (sources : List NameBytes) (rows : List Row) → RowsMeetRule v k sources rows → (a : NameBytes) → In a sources → (row : Row) × HasSource row a × MeetsLayerRule v k a row
-row_of v k [] rows meet a i = absurd i
-row_of v k (source ∷ sources) [] meet a i = absurd meet
-row_of v k (source ∷ sources) (row ∷ rows) meet a (inl e) =
-    (row, subst (HasSource row) (sym e) meet.0, subst (λ (s : NameBytes). MeetsLayerRule v k s row) (sym e) meet.1)
-row_of v k (source ∷ sources) (row ∷ rows) meet a (inr i) = row_of v k sources rows meet.2 a i
+row_of : (version : Version) (v : Responses) (k : ℕ) (sources : List NameBytes) (rows : List Row) → RowsMeetRule version v k sources rows → (a : NameBytes) → In a sources → (row : Row) × HasSource row a × MeetsRuleOf version v k a row
+row_of version v k [] rows meet a i = absurd i
+row_of version v k (source ∷ sources) [] meet a i = absurd meet
+row_of version v k (source ∷ sources) (row ∷ rows) meet a (inl e) =
+    (row, subst (HasSource row) (sym e) meet.0, subst (λ (s : NameBytes). MeetsRuleOf version v k s row) (sym e) meet.1)
+row_of version v k (source ∷ sources) (row ∷ rows) meet a (inr i) = row_of version v k sources rows meet.2 a i
 
 module _ (v : Responses) (proper : AreProper v) (k : ℕ) (steps : List Step) (two : 2 ≤ k) (size : length steps ≡ k) (shown : AreShownSteps v steps) where
   -- the steps go round a cycle
@@ -49,31 +50,31 @@ module _ (v : Responses) (proper : AreProper v) (k : ℕ) (steps : List Step) (t
         subst (λ (q : NameBytes × NameBytes). StandsBefore v q.0 q.1) s.2 (s.0.shown, All-member (λ (s : Step). Shows v s.shown s.from s.to) steps s.0 shown.shown s.1)));
   }
 
-  shortest : (rows : List Row) → (3 ≤ k → RowsMeetRule v k v.elements rows) → IsShortestLength v k
-  shortest rows rule = ((map begin steps, cycle, length-map {B = NameBytes} steps begin ∙ size), (λ c is. go c is (cases_lt k 3)))
+  shortest : (version : Version) (rows : List Row) → (3 ≤ k → RowsMeetRule version v k v.elements rows) → IsShortestLength v k
+  shortest version rows rule = ((map begin steps, cycle, length-map {B = NameBytes} steps begin ∙ size), (λ c is. go c is (cases_lt k 3)))
     where
       go : (c : List NameBytes) → IsCycle v c → (k < 3) ⊎ (3 ≤ k) → k ≤ length c
       go c is (inl lt) = let n : 2 ≤ length c = two_or_more v proper c is in omega arith
       go c is (inr le) =
-          layers_bound_cycles v k proper (λ source i. row_of v k v.elements rows (rule le) source (In-from_Contains v.elements source i)) (length c) (c, is, refl)
+          layers_bound_cycles version v k proper (λ source i. row_of version v k v.elements rows (rule le) source (In-from_Contains v.elements source i)) (length c) (c, is, refl)
 
-  pub cycle_implies : (rows : List Row) → (3 ≤ k → RowsMeetRule v k v.elements rows) → HasConflictNumber v k × ProvesConflict v k steps
-  cycle_implies rows rule =
-      let short : IsShortestLength v k = shortest rows rule in
+  pub cycle_implies : (version : Version) (rows : List Row) → (3 ≤ k → RowsMeetRule version v k v.elements rows) → HasConflictNumber v k × ProvesConflict v k steps
+  cycle_implies version rows rule =
+      let short : IsShortestLength v k = shortest version rows rule in
       let has : HasConflictNumber v k = number_from_shortest v proper k short in
       let both = step_operations_conflict v steps proper shown (subst (IsShortestLength v) (sym size) short) in
       (has, record { set = both.0; size = size; inconsistent = both.1; fewer = has.least })
 
-pub implied : (h : History) (c : Certificate) → IsLegal h → IsSpellable c → IsValid h c → Implies h c
-implied h (names_fault fault) legal spellable valid = valid
-implied h (gives_order order) legal spellable valid = (strong_is_an_order h legal valid.0).1 (order, valid.1)
-implied h (gives_cycle k steps rows) legal spellable valid =
-    cycle_implies (responses_of h) (sound_responses_are_proper h legal valid.0) k steps spellable.0 valid.2 valid.1 rows valid.3
+pub implied : (version : Version) (h : History) (c : Certificate) → IsLegal h → IsSpellable c → IsValid version h c → Implies h c
+implied version h (names_fault fault) legal spellable valid = valid
+implied version h (gives_order order) legal spellable valid = (strong_is_an_order h legal valid.0).1 (order, valid.1)
+implied version h (gives_cycle k steps rows) legal spellable valid =
+    cycle_implies (responses_of h) (sound_responses_are_proper h legal valid.0) k steps spellable.0 valid.2 valid.1 version rows valid.3
 
 -- what was read is what is spelled
-pub implied_texts : (trace cert : List ℕ) (g : History) (d : Certificate) (result : Result Answer Memory) → IsLegal g → IsSpellable d → ((h : History) → Spells trace h → g ≡ h) →
-    ((c : Certificate) → SpellsCertificate cert c → d ≡ c) → IfOk result (λ a. IsJudged g d a) → IfOk result (λ a. ImpliesOfTexts trace cert a)
-implied_texts trace cert g d (Ok (Yes k)) legal spellable one_h one_c judged = λ h c reads.
-    subst (λ (z : History). Implies z c) (one_h h reads.0) (subst (λ (z : Certificate). Implies g z) (one_c c reads.1) (implied g d legal spellable judged.0))
-implied_texts trace cert g d (Ok (No why)) legal spellable one_h one_c judged = tt
-implied_texts trace cert g d (Err e) legal spellable one_h one_c judged = tt
+pub implied_texts : (trace cert : List ℕ) (given : Version) (g : History) (d : Certificate) (result : Result Answer Memory) → IsLegal g → IsSpellable d → ((h : History) → Spells trace h → g ≡ h) →
+    ((version : Version) (c : Certificate) → SpellsCertificate cert version c → (given ≡ version) × (d ≡ c)) → IfOk result (λ a. IsJudged given g d a) → IfOk result (λ a. ImpliesOfTexts trace cert a)
+implied_texts trace cert given g d (Ok (Yes k)) legal spellable one_h one_c judged = λ version h c reads.
+    subst (λ (z : History). Implies z c) (one_h h reads.0) (subst (λ (z : Certificate). Implies g z) (one_c version c reads.1).1 (implied given g d legal spellable judged.0))
+implied_texts trace cert given g d (Ok (No why)) legal spellable one_h one_c judged = tt
+implied_texts trace cert given g d (Err e) legal spellable one_h one_c judged = tt

@@ -4,6 +4,7 @@ pub mod NotedNames
 pub mod FaultReasons
 pub mod Listed
 pub mod Ranks
+pub mod RulesFrom
 pub mod Depths
 pub mod TableRule
 pub mod Rings

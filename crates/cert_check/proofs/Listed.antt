@@ -15,7 +15,7 @@ use Rattle.specification.proofs.Numbers.{number}
 use Rattle.specification.proofs.OperationNames.{listed-operation, operation-listed}
 use Rattle.specification.proofs.SoundResponses.{response-elements, elements-differ}
 use Rattle.specification.proofs.Strong.{returned_by}
-use Rattle.element_numbers.proofs.NameNumbers.{number-some}
+use Rattle.element_numbers.proofs.NameNumbers.{number-at, number-some}
 use Rattle.cert_check.specs.Numbering.{IsOf, places_at}
 use Rattle.cert_check.specs.declared.numbered.Numbered.{Numbered}
 
@@ -44,6 +44,10 @@ pub number_of_member : (names : List NameBytes) (a : NameBytes) → Once names �
 number_of_member names a once i =
     let s = number-some names a once i in
     ap (λ o. slice_get names (unwrap_or o (length names))) s.2 ∙ s.1
+
+-- the number of what stands at a place is the place
+pub number_at_place : (names : List NameBytes) (i : ℕ) (a : NameBytes) → Once names → slice_get names i ≡ Some a → number names a ≡ i
+number_at_place names i a once at = ap (λ o. unwrap_or o (length names)) (number-at names i a once at)
 
 pub numbers-within : (names w : List NameBytes) → Once names → ((a : NameBytes) → In a w → In a names) → All (λ x. x < length names) (numbers_in names w)
 numbers-within names w once known =

@@ -9,6 +9,7 @@ use Rattle.events.specs.Operations.{operation_names, response}
 use Rattle.specification.specs.Elements.{elements}
 use Rattle.specification.specs.Orders.{IsSubsequence}
 use Rattle.specification.specs.Responses.{Returned, responses_of}
+use Rattle.specification.specs.Versions.{Version}
 use Rattle.specification.specs.CertificateText.{gives_order}
 use Rattle.specification.specs.ValidCertificate.{IsValid, IsNotFollowed}
 use Rattle.specification.proofs.Members.{In, All-from_members, place_of_In, In-from_place, Before-from_places, AllPairs-Before}
@@ -33,8 +34,8 @@ module _ (h : History) (t : Numbered) (of : IsOf h t) (order : List NameBytes) (
   holds : Holds (elements h) (length (elements h)) (placed_from 0 order) ranks
   holds = subst (λ (ns : List NameBytes). Holds ns (length ns) (placed_from 0 order) ranks) of.names holds_t
 
-  pub order_valid : ((j : ℕ) → j < length t.places.items → RisesAt j) → IsValid h (gives_order order)
-  order_valid all = (
+  pub order_valid : ((j : ℕ) → j < length t.places.items → RisesAt j) → (version : Version) → IsValid version h (gives_order order)
+  order_valid all version = (
     of.sound,
     (
       perm,

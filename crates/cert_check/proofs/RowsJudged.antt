@@ -6,26 +6,27 @@ use Rattle.events.specs.History.{History}
 use Rattle.specification.specs.Faults.{IsSound}
 use Rattle.specification.specs.Responses.{Responses, responses_of}
 use Rattle.specification.specs.Conflict.{Step, AreShownSteps}
-use Rattle.specification.specs.LayerRule.{Row, MeetsLayerRule}
+use Rattle.specification.specs.LayerRule.{Row, MeetsRuleOf}
+use Rattle.specification.specs.Versions.{Version}
 use Rattle.specification.specs.CertificateText.{gives_cycle, IsRow}
 use Rattle.specification.specs.ValidCertificate.{HasSource, RowsMeetRule, RowIsRight}
 use Rattle.cert_check.specs.Judged.{AreRowsFault, IsJudgedNo}
 use Rattle.cert_check.specs.declared.answer.Reason.{Reason}
 use Rattle.cert_check.specs.declared.answer.Reason.TheVariants.{Trace, CertText, WrongFault, NotOrder, NotFollowed, NoCycle, MissingLayer, ShortLayer, ExtraLayer}
 
-pub rows_meet : (v : Responses) (k : ℕ) (sources : List NameBytes) (rows : List Row) → ((j : ℕ) (source : NameBytes) → slice_get sources j ≡ Some source → RowIsRight v k rows j source) →
-    length rows ≤ length sources → RowsMeetRule v k sources rows
-rows_meet v k [] [] right le = tt
-rows_meet v k [] (row ∷ rows) right le = absurd (omega arith)
-rows_meet v k (source ∷ sources) [] right le =
+pub rows_meet : (version : Version) (v : Responses) (k : ℕ) (sources : List NameBytes) (rows : List Row) → ((j : ℕ) (source : NameBytes) → slice_get sources j ≡ Some source → RowIsRight version v k rows j source) →
+    length rows ≤ length sources → RowsMeetRule version v k sources rows
+rows_meet version v k [] [] right le = tt
+rows_meet version v k [] (row ∷ rows) right le = absurd (omega arith)
+rows_meet version v k (source ∷ sources) [] right le =
     let r = right 0 source refl in let bad : None ≡ Some r.0 = r.1 in absurd Prim.cc
-rows_meet v k (source ∷ sources) (row ∷ rows) right le =
+rows_meet version v k (source ∷ sources) (row ∷ rows) right le =
     let r = right 0 source refl in
     let e : Some row ≡ Some r.0 = r.1 in
     let same : r.0 ≡ row = Prim.cc in (
       subst (λ (z : Row). HasSource z source) same r.2,
-      subst (λ (z : Row). MeetsLayerRule v k source z) same r.3,
-      rows_meet v k sources rows (λ j s at. right (suc j) s at) (omega arith),
+      subst (λ (z : Row). MeetsRuleOf version v k source z) same r.3,
+      rows_meet version v k sources rows (λ j s at. right (suc j) s at) (omega arith),
     )
 
 -- the first layer of a row has its source alone
@@ -42,14 +43,14 @@ row_source k (layer ∷ row) is = go layer is.source
 pub one_source : (row : Row) (a b : NameBytes) → HasSource row a → HasSource row b → a ≡ b
 one_source row a b p q = let e : Some (a ∷ []) ≡ Some (b ∷ []) = sym p ∙ q in Prim.cc
 
-pub judged_no : (h : History) (k : ℕ) (steps : List Step) (rows : List Row) (why : Reason) → IsSound h → AreShownSteps (responses_of h) steps → 3 ≤ k →
-    AreRowsFault (responses_of h) k rows why → IsJudgedNo h (gives_cycle k steps rows) why
-judged_no h k steps rows Trace sound shown le f = f
-judged_no h k steps rows CertText sound shown le f = f
-judged_no h k steps rows WrongFault sound shown le f = absurd f
-judged_no h k steps rows NotOrder sound shown le f = absurd f
-judged_no h k steps rows (NotFollowed at) sound shown le f = absurd f
-judged_no h k steps rows (NoCycle step) sound shown le f = absurd f
-judged_no h k steps rows (MissingLayer source) sound shown le f = (sound, shown, le, f.0, f.1, f.2, f.3)
-judged_no h k steps rows (ShortLayer source) sound shown le f = (sound, shown, le, f.0, f.1, f.2, f.3, f.4, f.5, f.6)
-judged_no h k steps rows (ExtraLayer source) sound shown le f = (sound, shown, le, f.0, f.1, f.2, f.3)
+pub judged_no : (version : Version) (h : History) (k : ℕ) (steps : List Step) (rows : List Row) (why : Reason) → IsSound h → AreShownSteps (responses_of h) steps → 3 ≤ k →
+    AreRowsFault version (responses_of h) k rows why → IsJudgedNo version h (gives_cycle k steps rows) why
+judged_no version h k steps rows Trace sound shown le f = f
+judged_no version h k steps rows CertText sound shown le f = f
+judged_no version h k steps rows WrongFault sound shown le f = absurd f
+judged_no version h k steps rows NotOrder sound shown le f = absurd f
+judged_no version h k steps rows (NotFollowed at) sound shown le f = absurd f
+judged_no version h k steps rows (NoCycle step) sound shown le f = absurd f
+judged_no version h k steps rows (MissingLayer source) sound shown le f = (sound, shown, le, f.0, f.1, f.2, f.3)
+judged_no version h k steps rows (ShortLayer source) sound shown le f = (sound, shown, le, f.0, f.1, f.2, f.3, f.4, f.5, f.6)
+judged_no version h k steps rows (ExtraLayer source) sound shown le f = (sound, shown, le, f.0, f.1, f.2, f.3)

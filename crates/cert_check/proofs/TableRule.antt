@@ -9,7 +9,6 @@ use Rattle.events.specs.Names.{NameBytes}
 use Rattle.specification.proofs.Members.{In, Before, All-member, Before-from_places, places_of_Before, Before-first, Before-second}
 use Rattle.bit_tables.specs.Lists.{IsShown}
 use Rattle.bit_tables.specs.Rule.{MeetsRule}
-use Rattle.cert_check.proofs.Listed.{Before-map, Before-map_back}
 use Rattle.cert_check.specs.Noted.{Noted, Holds}
 use Rattle.cert_check.specs.Numbering.{AreDeepAt, AreWithin, lists_of, places_at}
 use Rattle.cert_check.specs.declared.numbered.Numbered.{Numbered}
@@ -29,7 +28,7 @@ depths-most names unset noted values holds i d lt =
           omega (arith, same, below)
     ]
 
-module _ (t : Numbered) (depths : List ℕ) (source most : ℕ) (within : AreWithin (length depths) t) where
+module _ (t : Numbered) (depths : List ℕ) (first source most : ℕ) (within : AreWithin (length depths) t) where
   count : length (lists_of t) ≡ length t.places.items
   count = length-map t.places.items (λ (v : Vec ℕ Global). v.items)
 
@@ -41,38 +40,35 @@ module _ (t : Numbered) (depths : List ℕ) (source most : ℕ) (within : AreWit
       let low : x < length depths = All-member (λ y. y < length depths) (places_at t j) x list i in
       get_or_default depths x most 0 low
 
-  pub lists_from_table : MeetsRule (lists_of t) source most (λ x. slice_index_or depths x most) → (j : ℕ) → j < length t.places.items → AreDeepAt t depths source most j
+  pub lists_from_table : MeetsRule (lists_of t) first source most (λ x. slice_index_or depths x most) → (j : ℕ) → j < length t.places.items → AreDeepAt t depths first source most j
   lists_from_table rule j lt = (
-    λ a b h.
-        let s = Before-map_back (slice_index depths) a b (places_at t j) h in
-        let shown : IsShown (lists_of t) s.0 s.1 = (j, omega (arith, lt, count), places_of_Before (places_at t j) s.0 s.1 s.2) in
-        let le : slice_index_or depths s.1 most ≤ slice_index_or depths s.0 most + 1 = rule.gradual s.0 s.1 shown in
-        let ex = near j s.0 lt (Before-first s.0 s.1 (places_at t j) s.2) in
-        let ey = near j s.1 lt (Before-second s.0 s.1 (places_at t j) s.2) in
-        let ea = s.3 in
-        let eb = s.4 in
+    λ x y high from h.
+        let shown : IsShown (lists_of t) x y = (j, omega (arith, lt, count), places_of_Before (places_at t j) x y h) in
+        let le : slice_index_or depths y most ≤ slice_index_or depths x most + 1 = rule.gradual x y high from shown in
+        let ex = near j x lt (Before-first x y (places_at t j) h) in
+        let ey = near j y lt (Before-second x y (places_at t j) h) in
         omega arith,
-    λ x h.
-        let le : most ≤ slice_index_or depths x most = rule.deep x (j, omega (arith, lt, count), places_of_Before (places_at t j) x source h) in
+    λ x high h.
+        let le : most ≤ slice_index_or depths x most = rule.deep x high (j, omega (arith, lt, count), places_of_Before (places_at t j) x source h) in
         let ex = near j x lt (Before-first x source (places_at t j) h) in
         omega arith,
   )
 
-  pub table_from_lists : ((j : ℕ) → j < length t.places.items → AreDeepAt t depths source most j) → MeetsRule (lists_of t) source most (λ x. slice_index_or depths x most)
+  pub table_from_lists : ((j : ℕ) → j < length t.places.items → AreDeepAt t depths first source most j) → MeetsRule (lists_of t) first source most (λ x. slice_index_or depths x most)
   table_from_lists all = record {
-    gradual = λ x y shown.
+    gradual = λ x y high from shown.
         let j : ℕ = shown.0 in
         let lt : j < length t.places.items = omega (arith, shown.1, count) in
         let h : Before x y (places_at t j) = Before-from_places (places_at t j) x y shown.2.0 shown.2.1 shown.2.2 shown.2.3 shown.2.4 in
-        let le : slice_index depths y ≤ slice_index depths x + 1 = (all j lt).0 (slice_index depths x) (slice_index depths y) (Before-map (slice_index depths) x y (places_at t j) h) in
+        let le : slice_index depths y ≤ slice_index depths x + 1 = (all j lt).0 x y high from h in
         let ex = near j x lt (Before-first x y (places_at t j) h) in
         let ey = near j y lt (Before-second x y (places_at t j) h) in
         omega arith;
-    deep = λ x shown.
+    deep = λ x high shown.
         let j : ℕ = shown.0 in
         let lt : j < length t.places.items = omega (arith, shown.1, count) in
         let h : Before x source (places_at t j) = Before-from_places (places_at t j) x source shown.2.0 shown.2.1 shown.2.2 shown.2.3 shown.2.4 in
-        let le : most ≤ slice_index depths x = (all j lt).1 x h in
+        let le : most ≤ slice_index depths x = (all j lt).1 x high h in
         let ex = near j x lt (Before-first x source (places_at t j) h) in
         omega arith;
   }

@@ -6,6 +6,7 @@ use Rattle.specification.specs.Responses.{responses_of}
 use Rattle.specification.specs.Conflict.{HasConflictNumber}
 use Rattle.specification.specs.ListSpecification.{MeetsStrong}
 use Rattle.specification.specs.Verdict.{ProvesConflict}
+use Rattle.specification.specs.Versions.{Version}
 use Rattle.specification.specs.TraceText.{Spells}
 use Rattle.specification.specs.CertificateText as text
 use Rattle.specification.specs.ValidCertificate as valid
@@ -23,17 +24,17 @@ kind_of (text.names_fault (fault.position at)) = kind.Position
 kind_of (text.gives_order order) = kind.Accepted
 kind_of (text.gives_cycle k steps rows) = kind.Refused
 
--- the texts spell this recording and this certificate
-abbrev pub Reads : List ℕ → List ℕ → History → text.Certificate → Type 0
-Reads trace cert h c = Spells trace h × text.SpellsCertificate cert c
+-- the texts spell this recording and, in this version, this certificate
+abbrev pub Reads : List ℕ → List ℕ → Version → History → text.Certificate → Type 0
+Reads trace cert version h c = Spells trace h × text.SpellsCertificate cert version c
 
 abbrev pub IsReadReason : List ℕ → List ℕ → valid.Reason → Type 0
-IsReadReason trace cert why = (h : History) × (c : text.Certificate) × Reads trace cert h c × valid.IsFirstReason h c why
+IsReadReason trace cert why = (version : Version) × (h : History) × (c : text.Certificate) × Reads trace cert version h c × valid.IsFirstReason version h c why
 
 -- the first reason that holds, of two texts
 abbrev pub IsReason : List ℕ → List ℕ → Reason → Type 0
 IsReason trace cert reason.Trace = (h : History) → ¬ Spells trace h
-IsReason trace cert reason.CertText = ((h : History) × Spells trace h) × ((c : text.Certificate) → ¬ text.SpellsCertificate cert c)
+IsReason trace cert reason.CertText = ((h : History) × Spells trace h) × ((version : Version) (c : text.Certificate) → ¬ text.SpellsCertificate cert version c)
 IsReason trace cert reason.WrongFault = IsReadReason trace cert valid.wrong_fault
 IsReason trace cert reason.NotOrder = IsReadReason trace cert valid.not_order
 IsReason trace cert (reason.NotFollowed at) = IsReadReason trace cert (valid.not_followed at)
@@ -43,15 +44,15 @@ IsReason trace cert (reason.ShortLayer source) = IsReadReason trace cert (valid.
 IsReason trace cert (reason.ExtraLayer source) = IsReadReason trace cert (valid.extra_layer source)
 
 abbrev pub IsAnswer : List ℕ → List ℕ → Answer → Type 0
-IsAnswer trace cert (Yes k) = (h : History) × (c : text.Certificate) × Reads trace cert h c × valid.IsValid h c × (kind_of c ≡ k)
+IsAnswer trace cert (Yes k) = (version : Version) × (h : History) × (c : text.Certificate) × Reads trace cert version h c × valid.IsValid version h c × (kind_of c ≡ k)
 IsAnswer trace cert (No why) = IsReason trace cert why
 
--- what a valid certificate implies of its recording
+-- what a valid certificate implies of its recording, in either version
 abbrev pub Implies : History → text.Certificate → Type 0
 Implies h (text.names_fault named) = fault.IsFirstFault h named
 Implies h (text.gives_order order) = MeetsStrong h
 Implies h (text.gives_cycle k steps rows) = HasConflictNumber (responses_of h) k × ProvesConflict (responses_of h) k steps
 
 abbrev pub ImpliesOfTexts : List ℕ → List ℕ → Answer → Type 0
-ImpliesOfTexts trace cert (Yes k) = (h : History) (c : text.Certificate) → Reads trace cert h c → Implies h c
+ImpliesOfTexts trace cert (Yes k) = (version : Version) (h : History) (c : text.Certificate) → Reads trace cert version h c → Implies h c
 ImpliesOfTexts trace cert (No why) = Unit {0}

@@ -4,6 +4,7 @@ use Rattle.events.specs.History.{History, IsLegal}
 use Rattle.specification.specs.Laws as laws
 use Rattle.specification.specs.Faults as fault
 use Rattle.specification.specs.Verdict.{Verdict, faulty, accepted, refused, IsVerdict}
+use Rattle.specification.specs.Versions.{Version}
 use Rattle.specification.specs.TraceText.{Spells}
 use Rattle.specification.specs.CertificateText.{Certificate, IsSpellable, certificate_text}
 use Rattle.specification.specs.ExactRows.{IsCertificateOf}
@@ -17,17 +18,18 @@ use Rattle.cert_check.specs.declared.answer.Kind.TheVariants as kind
 abbrev pub LayersBoundCycles : Type 0
 LayersBoundCycles = laws.LayersBoundCycles
 
--- a valid certificate implies what it shows
+-- a valid certificate of either version implies what it shows
 abbrev pub ValidCertificatesImply : Type 0
-ValidCertificatesImply = (h : History) (c : Certificate) → IsLegal h → IsSpellable c → IsValid h c → Implies h c
+ValidCertificatesImply = (version : Version) (h : History) (c : Certificate) → IsLegal h → IsSpellable c → IsValid version h c → Implies h c
 
 -- a valid certificate has no reason against it
 abbrev pub ValidOrReason : Type 0
-ValidOrReason = (h : History) (c : Certificate) (why : Reason) → IsLegal h → IsValid h c → ¬ IsFirstReason h c why
+ValidOrReason = (version : Version) (h : History) (c : Certificate) (why : Reason) → IsLegal h → IsValid version h c → ¬ IsFirstReason version h c why
 
 -- a valid certificate gets a yes, of its kind
 abbrev pub ValidCertificatesGetYes : Type 0
-ValidCertificatesGetYes = (trace cert : List ℕ) (h : History) (c : Certificate) → Reads trace cert h c → IsValid h c → (a : Answer) → IsAnswer trace cert a → a ≡ Yes (kind_of c)
+ValidCertificatesGetYes = (trace cert : List ℕ) (version : Version) (h : History) (c : Certificate) → Reads trace cert version h c → IsValid version h c →
+    (a : Answer) → IsAnswer trace cert a → a ≡ Yes (kind_of c)
 
 -- what a verdict's certificate shows
 abbrev pub kind_of_verdict : Verdict → Kind
@@ -37,12 +39,12 @@ kind_of_verdict (faulty (fault.position at)) = kind.Position
 kind_of_verdict (accepted order) = kind.Accepted
 kind_of_verdict (refused k steps) = kind.Refused
 
--- the spelling of the certificate of a recording's verdict, checked against any spelling of the recording, has the answer
--- yes, of the verdict's kind, and no other
+-- the spelling, in either version, of the certificate of a recording's verdict, checked against any spelling of the
+-- recording, has the answer yes, of the verdict's kind, and no other
 abbrev pub VerdictsCertificatesGetYes : Type 0
-VerdictsCertificatesGetYes = (h : History) (v : Verdict) (c : Certificate) (text : List ℕ) → Spells text h → IsVerdict h v → IsCertificateOf h v c →
-    IsAnswer text (certificate_text c) (Yes (kind_of_verdict v))
-    × ((a : Answer) → IsAnswer text (certificate_text c) a → a ≡ Yes (kind_of_verdict v))
+VerdictsCertificatesGetYes = (version : Version) (h : History) (v : Verdict) (c : Certificate) (text : List ℕ) → Spells text h → IsVerdict h v → IsCertificateOf version h v c →
+    IsAnswer text (certificate_text version c) (Yes (kind_of_verdict v))
+    × ((a : Answer) → IsAnswer text (certificate_text version c) a → a ≡ Yes (kind_of_verdict v))
 
 -- two texts have one right answer at most
 abbrev pub AnswersAreUnique : Type 0

@@ -1,5 +1,5 @@
 -- The elements with their numbers, and the responses as lists of them.
-use Rattle.std.specs.Prelude.{◌≡◌, ℕ, ◌<◌, ◌==◌, ◌^◌, Option, List, [], All, length, map, slice_index, slice_index_or}
+use Rattle.std.specs.Prelude.{◌≡◌, ℕ, ◌<◌, ◌==◌, ◌^◌, Option, List, [], All, length, map, slice_index_or}
 use Rattle.std.specs.Cmp.Lexicographic.{pointwise}
 use Rattle.indexmap.specs.IndexMap.{get}
 use Rattle.events.specs.Names.{NameBytes}
@@ -8,7 +8,8 @@ use Rattle.events.specs.Operations.{operation_names, response}
 use Rattle.specification.specs.Faults.{IsSound}
 use Rattle.specification.specs.Elements.{elements, number_in, numbers_in}
 use Rattle.specification.specs.Members.{Once}
-use Rattle.cert_check.specs.Values.{IsGradual, IsDeepBefore}
+use Rattle.specification.specs.Versions.{Version, one, two}
+use Rattle.cert_check.specs.Values.{IsGradualFrom, IsDeepFrom}
 use Rattle.cert_check.specs.declared.numbered.Numbered.{Numbered}
 
 -- the number of a name
@@ -23,9 +24,14 @@ lists_of t = map (λ list. list.items) t.places.items
 abbrev pub places_at : Numbered → ℕ → List ℕ
 places_at t i = slice_index_or (lists_of t) i []
 
--- along these places the values are gradual, and deep before the source
-abbrev pub AreDeepAt : Numbered → List ℕ → ℕ → ℕ → ℕ → Type 0
-AreDeepAt t depths source bound j = IsGradual (map (slice_index depths) (places_at t j)) × IsDeepBefore depths source bound (places_at t j)
+-- along these places, from the first on that counts, the values are gradual, and deep before the source
+abbrev pub AreDeepAt : Numbered → List ℕ → ℕ → ℕ → ℕ → ℕ → Type 0
+AreDeepAt t depths first source bound j = IsGradualFrom first depths (places_at t j) × IsDeepFrom first depths source bound (places_at t j)
+
+-- the first number of which a row speaks: in version two its source's
+abbrev pub first_of : Version → ℕ → ℕ
+first_of one source = 0
+first_of two source = source
 
 -- the names differ, and their numbers are their places
 pub record IsNumbering (t : Numbered) : Type 0 where

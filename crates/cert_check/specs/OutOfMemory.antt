@@ -2,6 +2,7 @@
 use Rattle.std.specs.Prelude.{ℕ, ◌⊎◌, List}
 use Rattle.events.specs.History.{History}
 use Rattle.specification.specs.TraceText.{Spells}
+use Rattle.specification.specs.Versions.{Version}
 use Rattle.specification.specs.CertificateText.{Certificate, SpellsCertificate}
 use Rattle.trace_text.specs.Place as trace_place
 use Rattle.certificate_text.specs.Place as cert_place
@@ -11,4 +12,4 @@ use Rattle.certificate_text.specs.Place as cert_place
 abbrev pub TakesMemory : List ℕ → List ℕ → Type 0
 TakesMemory trace cert =
     ((line : ℕ) × trace_place.TakesMemoryAt trace line)
-    ⊎ (((h : History) × Spells trace h) × (((line : ℕ) × cert_place.TakesMemoryAt cert line) ⊎ ((c : Certificate) × SpellsCertificate cert c)))
+    ⊎ (((h : History) × Spells trace h) × (((line : ℕ) × cert_place.TakesMemoryAt cert line) ⊎ ((version : Version) × (c : Certificate) × SpellsCertificate cert version c)))

@@ -37,7 +37,8 @@ pub enum Reason {
     NoCycle { step: u32 },
     /// The row at the place of this element is missing or has another source.
     MissingLayer { source: Name },
-    /// The row of this element does not meet the layer rule.
+    /// The row of this element does not meet the layer rule. So it is in version two where the row has an
+    /// element that is numbered below.
     ShortLayer { source: Name },
     /// A row with this source stands after those of all elements.
     ExtraLayer { source: Name },

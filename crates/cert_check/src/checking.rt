@@ -12,11 +12,12 @@ use std::alloc::Global;
 use std::thread::Threads;
 use trace_text::{Cause, read};
 
-/// Whether the certificate is valid for the recording that the trace spells; where not, the first reason.
+/// Whether the certificate is valid for the recording that the trace spells, in the version that its text's
+/// first line names; where not, the first reason.
 ///
 /// It searches nothing. Beyond reading the texts and looking for a fault, a step of a certificate costs the
 /// response of its operation, and a row the n elements of the recording, and `n / 64` steps for each of its
-/// names and layers. For the rows a table is made once, in `n / 64` steps for each place of a response. Its
+/// names and layers, in both versions: a row of version two has about half the names. For the rows a table is made once, in `n / 64` steps for each place of a response. Its
 /// memory is linear in the texts but for that table, which takes `n * n / 8` bytes, about 2 MB at most. Out
 /// of memory is never answered for a text that is faulty before any line of it takes memory.
 pub fn check<H: Threads + Sync>(
@@ -41,8 +42,8 @@ pub fn check<H: Threads + Sync>(
             };
         }
     };
-    let certificate = match Certificate::read(alloc, cert) {
-        Ok(certificate) => certificate,
+    let (version, certificate) = match Certificate::read(alloc, cert) {
+        Ok(read) => read,
         Err(fault) => {
             return match fault.cause {
                 CertCause::Memory => Err(Memory),
@@ -50,7 +51,7 @@ pub fn check<H: Threads + Sync>(
             };
         }
     };
-    judge(rt, alloc, &recording, &certificate)
+    judge(rt, alloc, &recording, version, &certificate)
 }
 
 /// Whether the reading of a trace found no memory.

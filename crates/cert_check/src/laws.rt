@@ -3,15 +3,16 @@
 ghost use Rattle.cert_check.specs.Laws.{AnswersAreUnique, LayersBoundCycles, ValidCertificatesGetYes};
 ghost use Rattle.cert_check.specs.Laws.{ValidCertificatesImply, ValidOrReason, VerdictsCertificatesGetYes};
 
-/// For the responses of every sound recording and every k: where each element is the source of a row of
-/// layers that meets the layer rule for k, no cycle has fewer than k elements. So rows are tested, and
-/// nothing is searched.
+/// For the responses of every sound recording and every k, in both versions: where each element is the source
+/// of a row of layers that meets the layer rule for k, no cycle has fewer than k elements. So rows are tested,
+/// and nothing is searched.
 pub fn layers_bound_cycles()
     ensures { LayersBoundCycles }
 {}
 
-/// A valid certificate that some text spells proves its verdict on a legal recording: it names the first
-/// fault, or strong holds, or k is the conflict number and the operations of its steps are in conflict.
+/// A valid certificate of either version that some text spells proves its verdict on a legal recording: it
+/// names the first fault, or strong holds, or k is the conflict number and the operations of its steps are in
+/// conflict.
 pub fn valid_certificates_imply()
     ensures { ValidCertificatesImply }
 {}
@@ -28,9 +29,9 @@ pub fn valid_certificates_get_yes()
     ensures { ValidCertificatesGetYes }
 {}
 
-/// What the finder writes gets yes: for every legal recording, its verdict and the certificate of that
-/// verdict, the texts that spell the recording and the certificate have the answer yes, of the verdict's
-/// kind, and no other.
+/// What the finder writes, in either version, gets yes: for every legal recording, its verdict and the
+/// certificate of that verdict, the texts that spell the recording and the certificate have the answer yes,
+/// of the verdict's kind, and no other.
 pub fn verdicts_certificates_get_yes()
     ensures { VerdictsCertificatesGetYes }
 {}

@@ -4,6 +4,7 @@ ghost use Rattle.std.specs.Prelude.{◌≡◌, IfOk, IsPermutation, List, length
 ghost use Rattle.events.specs.Names.{NameBytes};
 ghost use Rattle.events.specs.History.{History};
 ghost use Rattle.specification.specs.Faults.{IsSound};
+ghost use Rattle.specification.specs.Versions.{Version};
 ghost use Rattle.specification.specs.CertificateText.{gives_order};
 ghost use Rattle.cert_check.specs.Judged.{IsJudged};
 ghost use Rattle.cert_check.specs.Noted.{Holds, placed_from};
@@ -15,10 +16,12 @@ use events::{Memory, Recording};
 use std::alloc::Global;
 use witnesses::Order;
 
-/// Whether each response of a sound recording follows the order, and that is one of all elements.
+/// Whether each response of a sound recording follows the order, and that is one of all elements. That is
+/// asked of certificates of both versions.
 pub fn judge_order(alloc: Global, recording: &Recording, order: &Order) -> Result<Answer, Memory>
     requires { IsSound recording.now }
-    ensures { IfOk result (λ answer. IsJudged recording.now (gives_order order.now) answer) }
+    ensures { IfOk result (λ answer. (version : Version)
+        → IsJudged version recording.now (gives_order order.now) answer) }
 {
     let numbered = Numbered::of(alloc, recording)?;
     let found = numbered.ranks_of(alloc, order)?;
@@ -32,10 +35,10 @@ pub fn judge_order(alloc: Global, recording: &Recording, order: &Order) -> Resul
 fn judge_ranks(numbered: &Numbered, ranks: &[u32]) -> Answer
     requires within { AreWithin (length ranks.now) numbered.now }
     requires operations { length numbered.now.operations.items ≡ length numbered.now.places.items }
-    ensures { (h : History) (order : List NameBytes) → IsOf h numbered.now
+    ensures { (version : Version) (h : History) (order : List NameBytes) → IsOf h numbered.now
         → IsPermutation numbered.now.names.items order →
         Holds numbered.now.names.items (length numbered.now.names.items) (placed_from 0 order) ranks.now
-        → IsJudged h (gives_order order) result }
+        → IsJudged version h (gives_order order) result }
 {
     match numbered.first_not_rising(ranks) {
         None => Answer::Yes(Kind::Accepted),

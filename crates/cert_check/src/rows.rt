@@ -5,12 +5,15 @@ ghost use Rattle.events.specs.Names.{NameBytes};
 ghost use Rattle.specification.specs.CertificateText.{IsRow};
 ghost use Rattle.specification.specs.ValidCertificate.{HasSource};
 ghost use Rattle.bit_tables.specs.Lists.{IsTableOf};
-ghost use Rattle.cert_check.specs.Numbering.{IsNumbering, AreWithin, lists_of};
+ghost use Rattle.certificate_text.specs.CertificateOf.{version_in};
+ghost use Rattle.cert_check.specs.Numbering.{IsNumbering, AreWithin, first_of, lists_of};
 ghost use Rattle.cert_check.specs.Judged.{TellsLayerRule, TellsRow, TellsRows};
 
 use super::answer::Reason;
 use super::numbered::Numbered;
+use super::values::are_unset_below;
 use bit_tables::{AfterTable, are_deep};
+use certificate_text::Version;
 use events::{Memory, Name};
 use std::alloc::Global;
 use witnesses::{Layers, Row};
@@ -36,12 +39,24 @@ fn has_source(row: &Row, source: &Name) -> bool
     }
 }
 
-/// Whether the row of the element with this number meets the layer rule. It costs the elements, and for each
-/// name of the row a step for 64 elements.
+/// The first number of which the row of an element speaks: in version two that of the element itself.
+fn first_of(version: Version, source: u32) -> u32
+    ensures { result ≡ first_of (version_in version) source }
+{
+    match version {
+        Version::One => 0,
+        Version::Two => source,
+    }
+}
+
+/// Whether the row of the element with this number meets the layer rule of the version. In version two it
+/// does not where it has an element that is numbered below, and nothing is asked of these elements. It costs
+/// the elements, and for each name of the row a step for 64 elements.
 fn meets_rule(
     alloc: Global,
     numbered: &Numbered,
     table: &AfterTable,
+    version: Version,
     k: u32,
     source: u32,
     row: &Row,
@@ -50,13 +65,18 @@ fn meets_rule(
     requires within { AreWithin (length numbered.now.names.items) numbered.now }
     requires table { IsTableOf (length numbered.now.names.items) (lists_of numbered.now) table.now }
     requires layers { length row.now + 1 ≡ k }
-    ensures { IfOk result (TellsLayerRule numbered.now k source row.now) }
+    requires element { source < length numbered.now.names.items }
+    ensures { IfOk result (TellsLayerRule (version_in version) numbered.now k source row.now) }
 {
+    let first = first_of(version, source);
     let found = numbered.depths_of(alloc, k, row)?;
     match found {
         None => Ok(false),
         Some(depths) => {
-            let deep = are_deep(alloc, table, &depths, k - 1, source)?;
+            if !are_unset_below(&depths, first, k - 1) {
+                return Ok(false);
+            }
+            let deep = are_deep(alloc, table, &depths, k - 1, first, source)?;
             Ok(deep)
         }
     }
@@ -67,6 +87,7 @@ fn row_fault(
     alloc: Global,
     numbered: &Numbered,
     table: &AfterTable,
+    version: Version,
     k: u32,
     rows: &Layers,
     i: u32,
@@ -76,7 +97,7 @@ fn row_fault(
     requires table { IsTableOf (length numbered.now.names.items) (lists_of numbered.now) table.now }
     requires rows { All (IsRow k) rows.now }
     requires element { i < length numbered.now.names.items }
-    ensures { IfOk result (TellsRow numbered.now k rows.now i) }
+    ensures { IfOk result (TellsRow (version_in version) numbered.now k rows.now i) }
 {
     let source = numbered.names[i as usize];
     match rows.get(i as usize) {
@@ -84,7 +105,7 @@ fn row_fault(
         Some(row) => {
             if !has_source(row, &source) {
                 Ok(Some(Reason::MissingLayer { source }))
-            } else if meets_rule(alloc, numbered, table, k, i, row)? {
+            } else if meets_rule(alloc, numbered, table, version, k, i, row)? {
                 Ok(None)
             } else {
                 Ok(Some(Reason::ShortLayer { source }))
@@ -101,16 +122,17 @@ fn row_fault(
 pub fn rows_fault(
     alloc: Global,
     numbered: &Numbered,
+    version: Version,
     k: u32,
     rows: &Layers,
 ) -> Result<Option<Reason>, Memory>
     requires numbering { IsNumbering numbered.now }
     requires within { AreWithin (length numbered.now.names.items) numbered.now }
     requires rows { All (IsRow k) rows.now }
-    ensures { IfOk result (TellsRows numbered.now k rows.now) }
+    ensures { IfOk result (TellsRows (version_in version) numbered.now k rows.now) }
 {
     let table = AfterTable::of(alloc, numbered.names.len(), &numbered.places)?;
-    first_row_fault(alloc, numbered, &table, k, rows)
+    first_row_fault(alloc, numbered, &table, version, k, rows)
 }
 
 /// The first thing that is wrong with the rows, by a table of which elements are shown after which.
@@ -118,6 +140,7 @@ fn first_row_fault(
     alloc: Global,
     numbered: &Numbered,
     table: &AfterTable,
+    version: Version,
     k: u32,
     rows: &Layers,
 ) -> Result<Option<Reason>, Memory>
@@ -125,11 +148,11 @@ fn first_row_fault(
     requires within { AreWithin (length numbered.now.names.items) numbered.now }
     requires table { IsTableOf (length numbered.now.names.items) (lists_of numbered.now) table.now }
     requires rows { All (IsRow k) rows.now }
-    ensures { IfOk result (TellsRows numbered.now k rows.now) }
+    ensures { IfOk result (TellsRows (version_in version) numbered.now k rows.now) }
 {
     let count = numbered.names.len() as u32;
     for i in 0..count {
-        if let Some(fault) = row_fault(alloc, numbered, table, k, rows, i)? {
+        if let Some(fault) = row_fault(alloc, numbered, table, version, k, rows, i)? {
             return Ok(Some(fault));
         }
     }

@@ -1,5 +1,6 @@
 -- The steps are a cycle's, and the rows decide for k of 3 and more.
 use Rattle.std.proofs.Common.{refl, arith}
+use Rattle.certificate_text.specs.CertificateOf.{version_in}
 use Rattle.cert_check.proofs.StepsRight.{all_right}
 use Rattle.cert_check.proofs.RowsJudged.{judged_no}
 use Rattle.cert_check.proofs.cycle.judge_cycle.Goals as goal
@@ -16,5 +17,5 @@ returns-in-None c =
 pub returns : goal.returns
 returns c =
     let fault = rw c.in-Some-2.is at c.in_ok-rows_fault.ensures in
-    judged_no c.args.recording.now c.args.k c.args.steps.now c.args.rows.now c.in-Some-2.why c.requires.sound
+    judged_no (version_in c.args.version) c.args.recording.now c.args.k c.args.steps.now c.args.rows.now c.in-Some-2.why c.requires.sound
     (all_right c.args.recording.now c.args.steps.now c.in_default.ensures) (omega (arith, c.if-k-lt3.false)) (fault c.args.recording.now c.in_ok-numbered.ensures)

@@ -10,10 +10,10 @@ use Rattle.certificate_text.specs.CertificateOf.{certificate_of}
 use Rattle.cert_check.proofs.faults.judge_fault.Goals as goal
 
 pub returns-then-names : goal.returns-then-names
-returns-then-names c = λ h first.
+returns-then-names c = λ version h first.
     let same : certificate_of c.args.certificate.now ≡ names_fault (fault_of c.args.fault.now) = c.if-names.ensures.0 refl in
-    (subst (IsValid h) (sym same) first, ap kind_of same ∙ sym c.kind.ensures)
+    (subst (IsValid version h) (sym same) first, ap kind_of same ∙ sym c.kind.ensures)
 
 pub returns-else-names : goal.returns-else-names
-returns-else-names c = λ h first.
+returns-else-names c = λ version h first.
     wrong_fault h (certificate_of c.args.certificate.now) (fault_of c.args.fault.now) first (λ e. false≢true (c.if-names.ensures.1 e))

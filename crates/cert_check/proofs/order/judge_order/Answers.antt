@@ -9,7 +9,7 @@ use Rattle.cert_check.proofs.Listed.{lists-count}
 use Rattle.cert_check.proofs.order.judge_order.Goals as goal
 
 pub returns-in-None : goal.returns-in-None
-returns-in-None c =
+returns-in-None c = λ version.
     let of = c.in_ok-numbered.ensures in
     (c.requires, (λ perm. (let none = rw c.in-None.is at c.in_ok-found.ensures in none) (subst (λ (ns : List NameBytes). IsPermutation ns c.args.order.now) (sym of.names) perm)))
 
@@ -26,8 +26,8 @@ judge_ranks-requires-clause-operations c =
     ap (λ (l : List Operation). length l) c.in_ok-numbered.ensures.operations ∙ sym (lists-count c.args.recording.now c.in_ok-numbered.numbered c.in_ok-numbered.ensures)
 
 pub returns : goal.returns
-returns c =
+returns c = λ version.
     let names : List NameBytes = c.in_ok-numbered.numbered.names.items in
     let both : IsPermutation names c.args.order.now × Holds names (length names) (placed_from 0 c.args.order.now) c.in-Some.ranks.items = rw c.in-Some.is at c.in_ok-found.ensures in
-    c.judge_ranks.ensures c.args.recording.now c.args.order.now c.in_ok-numbered.ensures both.0
+    c.judge_ranks.ensures version c.args.recording.now c.args.order.now c.in_ok-numbered.ensures both.0
     (subst (Holds names (length names) (placed_from 0 c.args.order.now)) (sym c.deref.ensures.value) both.1)

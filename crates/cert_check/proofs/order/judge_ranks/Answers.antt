@@ -9,10 +9,10 @@ use Rattle.cert_check.proofs.OrderJudged.{order_valid, first_not_followed}
 use Rattle.cert_check.proofs.order.judge_ranks.Goals as goal
 
 pub returns-in-None : goal.returns-in-None
-returns-in-None c = λ h order of perm holds. (order_valid h c.args.numbered.now of order c.args.ranks.now perm holds c.in-None.ensures, refl)
+returns-in-None c = λ version h order of perm holds. (order_valid h c.args.numbered.now of order c.args.ranks.now perm holds c.in-None.ensures version, refl)
 
 pub returns-in-Some : goal.returns-in-Some
-returns-in-Some c = λ h order of perm holds.
+returns-in-Some c = λ version h order of perm holds.
     let i : ℕ = c.in-Some.i in
     let o : Operation = c.index.result.now in
     let lt : i < length c.args.numbered.now.operations.items = omega (arith, c.in-Some.ensures.0, c.requires.operations) in

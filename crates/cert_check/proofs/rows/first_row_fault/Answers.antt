@@ -9,6 +9,7 @@ use Rattle.specification.specs.CertificateText.{IsRow}
 use Rattle.specification.specs.Responses.{responses_of}
 use Rattle.specification.specs.Elements.{elements}
 use Rattle.specification.proofs.Members.{All-member, In-from_place}
+use Rattle.certificate_text.specs.CertificateOf.{version_in}
 use Rattle.cert_check.proofs.RowsJudged.{rows_meet, row_source}
 use Rattle.cert_check.proofs.rows.first_row_fault.Goals as goal
 
@@ -16,7 +17,7 @@ pub returns-in-None : goal.returns-in-None
 returns-in-None c = λ h of.
     let count : length (elements h) ≡ c.len-count.result = omega (arith, c.len-count.ensures, ap (λ (l : List NameBytes). length l) of.names) in
     let size : length c.args.rows.now ≤ c.len.result = slice_get-none c.args.rows.now c.len.result (sym c.get.ensures ∙ ap option_copied c.in-None.is) in
-    rows_meet (responses_of h) c.args.k (elements h) c.args.rows.now
+    rows_meet (version_in c.args.version) (responses_of h) c.args.k (elements h) c.args.rows.now
     (λ j source at. c.loop-i.invariant h of j source (omega (arith, slice_get_within (elements h) j source at, c.loop-i-test.false)) at)
     (omega (arith, c.len.ensures, c.len-count.ensures))
 
