@@ -29,7 +29,8 @@ use Rattle.events.specs.declared.memory.Memory.{Memory}
 use Rattle.cert_check.specs.Judged.{IsJudged}
 use Rattle.cert_check.specs.declared.answer.Answer.{Answer}
 use Rattle.cert_check.specs.declared.answer.Answer.TheVariants.{Yes, No}
-use Rattle.cert_check.specs.AnswerOf.{Implies, ImpliesOfTexts}
+use Rattle.cert_check.specs.declared.answer.Reason.TheVariants.{Trace, CertText, WrongFault, NotOrder, NotFollowed, NoCycle, MissingLayer, ShortLayer, ExtraLayer}
+use Rattle.cert_check.specs.AnswerOf.{Reads, IsAnswer, Implies, ImpliesOfTexts}
 
 -- the row of an element
 row_of : (version : Version) (v : Responses) (k : ℕ) (sources : List NameBytes) (rows : List Row) → RowsMeetRule version v k sources rows → (a : NameBytes) → In a sources → (row : Row) × HasSource row a × MeetsRuleOf version v k a row
@@ -78,3 +79,18 @@ implied_texts trace cert given g d (Ok (Yes k)) legal spellable one_h one_c judg
     subst (λ (z : History). Implies z c) (one_h h reads.0) (subst (λ (z : Certificate). Implies g z) (one_c version c reads.1).1 (implied given g d legal spellable judged.0))
 implied_texts trace cert given g d (Ok (No why)) legal spellable one_h one_c judged = tt
 implied_texts trace cert given g d (Err e) legal spellable one_h one_c judged = tt
+
+-- what is judged of what was read is the answer to the texts
+pub judged_texts : (trace cert : List ℕ) (version : Version) (h : History) (c : Certificate) (result : Result Answer Memory) → Reads trace cert version h c →
+    IfOk result (λ a. IsJudged version h c a) → IfOk result (λ a. IsAnswer trace cert a)
+judged_texts trace cert version h c (Ok (Yes k)) reads judged = (version, h, c, reads, judged.0, judged.1)
+judged_texts trace cert version h c (Ok (No Trace)) reads judged = absurd judged
+judged_texts trace cert version h c (Ok (No CertText)) reads judged = absurd judged
+judged_texts trace cert version h c (Ok (No WrongFault)) reads judged = (version, h, c, reads, judged)
+judged_texts trace cert version h c (Ok (No NotOrder)) reads judged = (version, h, c, reads, judged)
+judged_texts trace cert version h c (Ok (No (NotFollowed at))) reads judged = (version, h, c, reads, judged)
+judged_texts trace cert version h c (Ok (No (NoCycle step))) reads judged = (version, h, c, reads, judged)
+judged_texts trace cert version h c (Ok (No (MissingLayer source))) reads judged = (version, h, c, reads, judged)
+judged_texts trace cert version h c (Ok (No (ShortLayer source))) reads judged = (version, h, c, reads, judged)
+judged_texts trace cert version h c (Ok (No (ExtraLayer source))) reads judged = (version, h, c, reads, judged)
+judged_texts trace cert version h c (Err e) reads judged = tt

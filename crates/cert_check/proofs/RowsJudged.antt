@@ -9,8 +9,8 @@ use Rattle.specification.specs.Conflict.{Step, AreShownSteps}
 use Rattle.specification.specs.LayerRule.{Row, MeetsRuleOf}
 use Rattle.specification.specs.Versions.{Version}
 use Rattle.specification.specs.CertificateText.{gives_cycle, IsRow}
-use Rattle.specification.specs.ValidCertificate.{HasSource, RowsMeetRule, RowIsRight}
-use Rattle.cert_check.specs.Judged.{AreRowsFault, IsJudgedNo}
+use Rattle.specification.specs.ValidCertificate.{HasSource, RowsMeetRule, RowIsRight, RowsRightBefore}
+use Rattle.cert_check.specs.Judged.{IsRowFault, AreRowsFault, IsJudgedNo}
 use Rattle.cert_check.specs.declared.answer.Reason.{Reason}
 use Rattle.cert_check.specs.declared.answer.Reason.TheVariants.{Trace, CertText, WrongFault, NotOrder, NotFollowed, NoCycle, MissingLayer, ShortLayer, ExtraLayer}
 
@@ -54,3 +54,16 @@ judged_no version h k steps rows (NoCycle step) sound shown le f = absurd f
 judged_no version h k steps rows (MissingLayer source) sound shown le f = (sound, shown, le, f.0, f.1, f.2, f.3)
 judged_no version h k steps rows (ShortLayer source) sound shown le f = (sound, shown, le, f.0, f.1, f.2, f.3, f.4, f.5, f.6)
 judged_no version h k steps rows (ExtraLayer source) sound shown le f = (sound, shown, le, f.0, f.1, f.2, f.3)
+
+-- what is wrong with a row behind right ones is wrong with the rows
+pub first_fault : (version : Version) (v : Responses) (k : ℕ) (rows : List Row) (i : ℕ) (why : Reason) → IsRowFault version v k rows i why → RowsRightBefore version v k rows i →
+    AreRowsFault version v k rows why
+first_fault version v k rows i Trace f before = absurd f
+first_fault version v k rows i CertText f before = absurd f
+first_fault version v k rows i WrongFault f before = absurd f
+first_fault version v k rows i NotOrder f before = absurd f
+first_fault version v k rows i (NotFollowed at) f before = absurd f
+first_fault version v k rows i (NoCycle step) f before = absurd f
+first_fault version v k rows i (MissingLayer source) f before = (i, f.0, before, f.1)
+first_fault version v k rows i (ShortLayer source) f before = (i, f.0, before, f.1, f.2, f.3, f.4)
+first_fault version v k rows i (ExtraLayer source) f before = absurd f

@@ -93,10 +93,15 @@ fn is_invalid<H: Threads + Sync>(rt: &H, alloc: Global, trace: &str, cert: &str,
 }
 
 /// Traces with valid certificates.
-static VALID: [(&str, &str, Kind); 7] = [
+static VALID: [(&str, &str, Kind); 12] = [
     (
         THREE_WAY,
         "cert 1\nrefused 3\nstep x b 2.1\nstep b a 0.3\nstep a x 1.1\nlayers x / b\nlayers a / x\nlayers b / a\n",
+        Kind::Refused,
+    ),
+    (
+        THREE_WAY,
+        "cert 2\nrefused 3\nstep x b 2.1\nstep b a 0.3\nstep a x 1.1\nlayers x / b\nlayers a /\nlayers b /\n",
         Kind::Refused,
     ),
     (
@@ -104,9 +109,17 @@ static VALID: [(&str, &str, Kind); 7] = [
         "cert 1\nrefused 2\nstep a b 0.2\nstep b a 1.2\n",
         Kind::Refused,
     ),
+    (
+        OPPOSITE,
+        "cert 2\nrefused 2\nstep a b 0.2\nstep b a 1.2\n",
+        Kind::Refused,
+    ),
     (READ_BACK, "cert 1\naccepted\norder : b a\n", Kind::Accepted),
+    (READ_BACK, "cert 2\naccepted\norder : b a\n", Kind::Accepted),
     (EMPTY, "cert 1\naccepted\norder :\n", Kind::Accepted),
+    (EMPTY, "cert 2\naccepted\norder :\n", Kind::Accepted),
     (SHOWS_DELETED, "cert 1\ncontents 0.3\n", Kind::Contents),
+    (SHOWS_DELETED, "cert 2\ncontents 0.3\n", Kind::Contents),
     (
         "trace 1\nreplicas 1\n0 ins a 0 : a\n0 ins b 0 : a b\n",
         "cert 1\nposition 0.2\n",
@@ -127,9 +140,10 @@ fn valid_certificates(rt: HostRuntime) {
 }
 
 /// Traces with certificates that are not valid, and why.
-static INVALID: [(&str, &str, Why); 12] = [
+static INVALID: [(&str, &str, Why); 20] = [
     ("trace 1\n", "cert 2\n", Why::Trace),
     (EMPTY, "", Why::CertText),
+    (EMPTY, "cert 3\naccepted\norder :\n", Why::CertText),
     (THREE_WAY, "cert 1\nrefused 3\n", Why::CertText),
     (EMPTY, "cert 1\ncontents 0.1\n", Why::WrongFault),
     (
@@ -163,6 +177,45 @@ static INVALID: [(&str, &str, Why); 12] = [
         OPPOSITE,
         "cert 1\nrefused 4\nstep a b 0.2\nstep b a 1.2\nstep a b 0.2\nstep b a 1.2\nlayers a / b /\nlayers b / a /\n",
         Why::ShortLayer { source: "a" },
+    ),
+    (
+        OPPOSITE,
+        "cert 2\nrefused 4\nstep a b 0.2\nstep b a 1.2\nstep a b 0.2\nstep b a 1.2\nlayers a / b /\nlayers b / a /\n",
+        Why::ShortLayer { source: "a" },
+    ),
+    // The second row has no element below its source, and the first is short.
+    (
+        OPPOSITE,
+        "cert 2\nrefused 4\nstep a b 0.2\nstep b a 1.2\nstep a b 0.2\nstep b a 1.2\nlayers a / b /\nlayers b / /\n",
+        Why::ShortLayer { source: "a" },
+    ),
+    // The rows of one version, said to be of the other. The second row of the first has an element below
+    // its source, and that of the second lacks one.
+    (
+        THREE_WAY,
+        "cert 2\nrefused 3\nstep x b 2.1\nstep b a 0.3\nstep a x 1.1\nlayers x / b\nlayers a / x\nlayers b / a\n",
+        Why::ShortLayer { source: "a" },
+    ),
+    (
+        THREE_WAY,
+        "cert 1\nrefused 3\nstep x b 2.1\nstep b a 0.3\nstep a x 1.1\nlayers x / b\nlayers a /\nlayers b /\n",
+        Why::ShortLayer { source: "a" },
+    ),
+    // The same of the last row alone.
+    (
+        THREE_WAY,
+        "cert 2\nrefused 3\nstep x b 2.1\nstep b a 0.3\nstep a x 1.1\nlayers x / b\nlayers a /\nlayers b / a\n",
+        Why::ShortLayer { source: "b" },
+    ),
+    (
+        THREE_WAY,
+        "cert 2\nrefused 3\nstep x b 2.1\nstep b a 0.3\nstep a x 1.1\nlayers x / b\nlayers a /\n",
+        Why::MissingLayer { source: "b" },
+    ),
+    (
+        THREE_WAY,
+        "cert 2\nrefused 3\nstep x b 2.1\nstep b a 0.3\nstep a x 1.1\nlayers x / b\nlayers a /\nlayers b /\nlayers b /\n",
+        Why::ExtraLayer { source: "b" },
     ),
 ];
 

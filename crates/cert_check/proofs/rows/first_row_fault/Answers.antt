@@ -10,8 +10,13 @@ use Rattle.specification.specs.Responses.{responses_of}
 use Rattle.specification.specs.Elements.{elements}
 use Rattle.specification.proofs.Members.{All-member, In-from_place}
 use Rattle.certificate_text.specs.CertificateOf.{version_in}
-use Rattle.cert_check.proofs.RowsJudged.{rows_meet, row_source}
+use Rattle.cert_check.proofs.RowsJudged.{rows_meet, row_source, first_fault}
 use Rattle.cert_check.proofs.rows.first_row_fault.Goals as goal
+
+pub returns-in-Some : goal.returns-in-Some
+returns-in-Some c = λ h of.
+    let fault = rw c.in-Some.is at c.in_ok-fault.ensures in
+    first_fault (version_in c.args.version) (responses_of h) c.args.k c.args.rows.now c.loop-i.i c.in-Some.fault (fault h of) (c.loop-i.invariant h of)
 
 pub returns-in-None : goal.returns-in-None
 returns-in-None c = λ h of.
