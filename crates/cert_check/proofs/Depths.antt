@@ -11,7 +11,7 @@ use Rattle.events.specs.Names.{NameBytes}
 use Rattle.events.specs.History.{History}
 use Rattle.events.specs.Operations.{response}
 use Rattle.specification.specs.Elements.{elements, numbers_in}
-use Rattle.specification.specs.Responses.{Returned, responses_of, HasInOrder}
+use Rattle.specification.specs.Responses.{responses_of, HasInOrder}
 use Rattle.specification.specs.LayerRule.{Row, row_names, depth_in}
 use Rattle.specification.proofs.Members.{In, Before, Once, In-map, In-append_cases, In-append_left, In-append_right, All-from_members, All-member, In-from_Contains, Contains-from_In, Once-from_AllPairs, AllPairs-from_Once, Before-from_places, places_of_Before, Before-first, Before-second, decide_In}
 use Rattle.specification.proofs.Numbers.{number, least-or-limit}

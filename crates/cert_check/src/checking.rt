@@ -17,9 +17,10 @@ use trace_text::{Cause, read};
 ///
 /// It searches nothing. Beyond reading the texts and looking for a fault, a step of a certificate costs the
 /// response of its operation, and a row the n elements of the recording, and `n / 64` steps for each of its
-/// names and layers, in both versions: a row of version two has about half the names. For the rows a table is made once, in `n / 64` steps for each place of a response. Its
-/// memory is linear in the texts but for that table, which takes `n * n / 8` bytes, about 2 MB at most. Out
-/// of memory is never answered for a text that is faulty before any line of it takes memory.
+/// names and layers. So it is in both versions; the rows of version two have about half as many names. For
+/// the rows a table is made once, in `n / 64` steps for each place of a response. Its memory is linear in the
+/// texts but for that table, which takes `n * n / 8` bytes, about 2 MB at most. Out of memory is never
+/// answered for a text that is faulty before any line of it takes memory.
 pub fn check<H: Threads + Sync>(
     rt: &H,
     alloc: Global,
