@@ -50,13 +50,13 @@ def malformed(tally: Tally, program: str) -> None:
 
 
 def prefixes(tally: Tally, program: str) -> None:
-    """Each prefix of the three-way cycle's certificate: it spells one only where just rows are missing."""
-    whole = THREE_WAY.with_suffix(".cert2").read_bytes()
-    tally.check("three-way cycle: length", len(whole) == 91, len(whole))
-    missing = {56: "x", 69: "a", 80: "b"}
-    for length in range(len(whole)):
-        said = f"no missing {missing[length]}\n" if length in missing else "no text\n"
-        tally.same(f"{length} bytes of a certificate", run(program, ["verify", str(THREE_WAY), "-"], whole[:length]), line(said))
+    """Each prefix of the three-way cycle's certificates: it spells one only where just rows are missing."""
+    for suffix, many, missing in (".cert1", 95, {56: "x", 69: "a", 82: "b"}), (".cert2", 91, {56: "x", 69: "a", 80: "b"}):
+        whole = THREE_WAY.with_suffix(suffix).read_bytes()
+        tally.check(f"three-way cycle, {suffix}: length", len(whole) == many, len(whole))
+        for length in range(len(whole)):
+            said = f"no missing {missing[length]}\n" if length in missing else "no text\n"
+            tally.same(f"{length} bytes of {suffix}", run(program, ["verify", str(THREE_WAY), "-"], whole[:length]), line(said))
 
 
 def command_line(tally: Tally, program: str, folder: str) -> None:
