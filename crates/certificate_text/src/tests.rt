@@ -135,45 +135,72 @@ fn has_fault(alloc: Global, text: &str, line: u64, cause: CertCause) -> bool {
     reading(alloc, text.as_bytes()).err() == Some(CertFault { line, cause })
 }
 
-/// Texts with a fault in one of the first two lines.
-static FIRST_LINES: [(&str, u64, CertCause); 30] = [
-    ("", 1, CertCause::Header),
-    ("\n", 1, CertCause::Header),
-    ("cert 1", 1, CertCause::Cut),
-    ("cert 2", 1, CertCause::Cut),
-    ("cert 2\n", 2, CertCause::Kind),
-    ("cert 2\ncontents\n", 2, CertCause::Kind),
-    ("cert 3\ncontents 0.1\n", 1, CertCause::Header),
-    ("cert 3\ncontents", 1, CertCause::Header),
-    ("cert 1 \ncontents 0.1\n", 1, CertCause::Header),
-    ("cert 1\r\ncontents 0.1\r\n", 1, CertCause::Header),
-    ("trace 1\ncontents 0.1\n", 1, CertCause::Header),
-    ("cert 1\n", 2, CertCause::Kind),
-    ("cert 1\n\n", 2, CertCause::Kind),
-    ("cert 1\ncontents 0.1", 2, CertCause::Cut),
-    ("cert 1\ncontents  0.1\n", 2, CertCause::Kind),
-    ("cert 1\nposition 0.1 \n", 2, CertCause::Kind),
-    ("cert 1\ncontents 0.0\n", 2, CertCause::Kind),
-    ("cert 1\ncontents 01.1\n", 2, CertCause::Kind),
-    ("cert 1\ncontents 0.1.1\n", 2, CertCause::Kind),
-    ("cert 1\ncontents 0 1\n", 2, CertCause::Kind),
-    ("cert 1\ncontents 0.4294967296\n", 2, CertCause::Kind),
-    ("cert 1\ndoubled 0.1\n", 2, CertCause::Kind),
-    ("cert 1\ndoubled 0.1 0.2 0.3\n", 2, CertCause::Kind),
-    ("cert 1\naccepted :\norder :\n", 2, CertCause::Kind),
-    ("cert 1\naccepted\r\norder :\r\n", 2, CertCause::Kind),
-    ("cert 1\nrefused 0\n", 2, CertCause::Kind),
-    ("cert 1\nrefused 1\n", 2, CertCause::Kind),
-    ("cert 1\nrefused 03\n", 2, CertCause::Kind),
-    ("cert 1\nrefused 4294967296\n", 2, CertCause::Kind),
-    ("cert 1\nrefused\n", 2, CertCause::Kind),
+/// The first of the texts that has not this fault; none where each has it.
+fn first_without(
+    alloc: Global,
+    texts: &[&'static str],
+    line: u64,
+    cause: CertCause,
+) -> Option<&'static str> {
+    for text in texts {
+        if !has_fault(alloc, text, line, cause) {
+            return Some(*text);
+        }
+    }
+    None
+}
+
+/// Texts whose first line is no certificate's.
+const NO_HEADERS: &[&str] = &[
+    "",
+    "\n",
+    "cert 3\ncontents 0.1\n",
+    "cert 3\ncontents",
+    "cert 1 \ncontents 0.1\n",
+    "cert 1\r\ncontents 0.1\r\n",
+    "trace 1\ncontents 0.1\n",
+];
+
+/// Texts whose second line names no kind of certificate.
+const NO_KINDS: &[&str] = &[
+    "cert 1\n",
+    "cert 1\n\n",
+    "cert 2\n",
+    "cert 2\ncontents\n",
+    "cert 1\ncontents  0.1\n",
+    "cert 1\nposition 0.1 \n",
+    "cert 1\ncontents 0.0\n",
+    "cert 1\ncontents 01.1\n",
+    "cert 1\ncontents 0.1.1\n",
+    "cert 1\ncontents 0 1\n",
+    "cert 1\ncontents 0.4294967296\n",
+    "cert 1\ndoubled 0.1\n",
+    "cert 1\ndoubled 0.1 0.2 0.3\n",
+    "cert 1\naccepted :\norder :\n",
+    "cert 1\naccepted\r\norder :\r\n",
+    "cert 1\nrefused 0\n",
+    "cert 1\nrefused 1\n",
+    "cert 1\nrefused 03\n",
+    "cert 1\nrefused 4294967296\n",
+    "cert 1\nrefused\n",
 ];
 
 #[test]
 fn faults_of_the_first_two_lines(rt: HostRuntime) {
-    for (text, line, cause) in FIRST_LINES.iter().copied() {
-        assert!(rt; has_fault(rt.alloc(), text, line, cause), "at {text}");
-    }
+    let alloc = rt.alloc();
+    assert_eq!(rt;
+        first_without(alloc, NO_HEADERS, 1, CertCause::Header),
+        None
+    );
+    assert_eq!(rt; first_without(alloc, NO_KINDS, 2, CertCause::Kind), None);
+    assert_eq!(rt;
+        first_without(alloc, &["cert 1", "cert 2"], 1, CertCause::Cut),
+        None
+    );
+    assert_eq!(rt;
+        first_without(alloc, &["cert 1\ncontents 0.1"], 2, CertCause::Cut),
+        None
+    );
 }
 
 /// Texts with a line after those that has no right shape.
@@ -195,7 +222,6 @@ static LATER_LINES: [(&str, u64); 21] = [
     ("cert 1\nrefused 2\nstep a b 0.2 \n", 3),
     ("cert 1\nrefused 2\nstep a b\n", 3),
     ("cert 1\nrefused 2\nstep a b 0.2 :\n", 3),
-    ("cert 1\nrefused 3\nstep a b 0.2\nlayers a / b\n", 4),
     // A cycle of two steps has no rows.
     (
         "cert 1\nrefused 2\nstep a b 0.2\nstep b a 1.2\nlayers a\n",
@@ -226,6 +252,8 @@ static LATER_LINES: [(&str, u64); 21] = [
         "cert 1\nrefused 3\nstep a b 0.2\nstep b c 1.2\nstep c a 2.2\nlayers a / b\nlayers b/ c\n",
         7,
     ),
+    // A row where a step is missing.
+    ("cert 1\nrefused 3\nstep a b 0.2\nlayers a / b\n", 4),
 ];
 
 #[test]

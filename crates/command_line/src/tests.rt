@@ -124,33 +124,39 @@ fn words_of_certificates(rt: HostRuntime) -> Result<(), Fail> {
     Ok(())
 }
 
-/// Verdicts as text, by four workers, seven, one and as many as there may be; and as JSON, by four and two.
+/// Verdicts as text by four workers and by seven, and as JSON by four.
 const TEXT: Request = Request::Workers(4, Form::Text);
 
 const BY_SEVEN: Request = Request::Workers(7, Form::Text);
 
-const BY_ONE: Request = Request::Workers(1, Form::Text);
-
-const BY_MOST: Request = Request::Workers(64, Form::Text);
-
 const JSON: Request = Request::Workers(4, Form::Json);
-
-const JSON_BY_TWO: Request = Request::Workers(2, Form::Json);
 
 const VERDICTS: &[(&str, Request, &str)] = &[
     ("", TEXT, "-"),
     ("verdict t", TEXT, "t"),
     ("verdict -", TEXT, "-"),
+    ("verdict -- --json", TEXT, "--json"),
     ("verdict --workers 7 t", BY_SEVEN, "t"),
     ("verdict --workers=7 t", BY_SEVEN, "t"),
     ("verdict t --workers 7", BY_SEVEN, "t"),
-    ("verdict --workers 1 t", BY_ONE, "t"),
-    ("verdict --workers 64 -", BY_MOST, "-"),
+    (
+        "verdict --workers 1 t",
+        Request::Workers(1, Form::Text),
+        "t",
+    ),
     ("verdict -- --workers", TEXT, "--workers"),
+    (
+        "verdict --workers 64 -",
+        Request::Workers(64, Form::Text),
+        "-",
+    ),
     ("verdict --json t", JSON, "t"),
     ("verdict t --json", JSON, "t"),
-    ("verdict --workers 2 --json -", JSON_BY_TWO, "-"),
-    ("verdict -- --json", TEXT, "--json"),
+    (
+        "verdict --workers 2 --json -",
+        Request::Workers(2, Form::Json),
+        "-",
+    ),
 ];
 
 #[test]

@@ -18,7 +18,7 @@ use Rattle.contents_check.specs.declared.standings.Standing.{Standing}
 use Rattle.contents_check.specs.declared.standings.Standings.{Standings}
 use Rattle.contents_check.specs.Known.{number_of, AreNumbered}
 use Rattle.contents_check.proofs.Fronts.{twice}
-use Rattle.contents_check.specs.Shown.{joined, AreOfElements, Fits, HasWhatItMust, IsShown, ShowJust, ShowsLive}
+use Rattle.contents_check.specs.Shown.{joined, AreOfElements, Fits, HasWhatItMust, IsShown, OnlyNotes, ShowJust, ShowsLive}
 use Rattle.contents_check.specs.Standings.{is_missing, is_extra, is_live, noted_after, AreBehind, IsDeletedBy, IsInsertedBy, KeepsShown, Notes}
 
 -- one more in a list, and one less
@@ -336,3 +336,11 @@ joined_run w i last j n e =
 -- all of the one
 pub joined_all : (w : List NameBytes) (i : ℕ) → length w ≤ i → take i w ≡ w
 joined_all w i le = take_all i w le
+
+-- notes behind notes
+pub notes-on : (elements : Elements) (old between new : Standings) → OnlyNotes elements old between → OnlyNotes elements between new → OnlyNotes elements old new
+notes-on elements old between new first later = record {
+  fits = later.fits;
+  counts = later.counts ∙ first.counts;
+  behind = λ h was. later.behind h (first.behind h was);
+}

@@ -1,6 +1,7 @@
 -- Which elements a response shows: those whose standings say so.
 use Rattle.std.specs.Prelude.{◌≡◌, ◌↔◌, ℕ, ◌+◌, ◌<◌, ◌≤◌, true, Some, List, ◌++◌, count_by, drop, length, slice_get, take}
 use Rattle.events.specs.Names.{NameBytes}
+use Rattle.events.specs.History.{History}
 use Rattle.specification.specs.Members.{In, Once}
 use Rattle.contents_check.specs.declared.element.Element.{Element}
 use Rattle.contents_check.specs.declared.elements.Elements.{Elements}
@@ -9,7 +10,7 @@ use Rattle.contents_check.specs.declared.shown.Step.TheVariants.{End, New, Gone,
 use Rattle.contents_check.specs.declared.standings.Standing.{Standing}
 use Rattle.contents_check.specs.declared.standings.Standings.{Standings}
 use Rattle.contents_check.specs.Known.{number_of}
-use Rattle.contents_check.specs.Standings.{is_missing, is_extra, is_live}
+use Rattle.contents_check.specs.Standings.{AreBehind, is_missing, is_extra, is_live}
 
 -- the name has a live element
 pub record IsShown (elements : Elements) (standings : List Standing) (a : NameBytes) : Type 0 where
@@ -35,6 +36,12 @@ pub record Fits (elements : Elements) (standings : Standings) : Type 0 where
   pub size : length standings.list.items ≡ length elements.list.items
   pub missing : standings.missing ≡ count_by is_missing standings.list.items
   pub extra : standings.extra ≡ count_by is_extra standings.list.items
+
+-- notes alone were made: the standings fit the elements, and are after the same operations as before
+pub record OnlyNotes (elements : Elements) (old new : Standings) : Type 0 where
+  pub fits : Fits elements new
+  pub counts : new.counts ≡ old.counts
+  pub behind : (h : History) → AreBehind h elements old → AreBehind h elements new
 
 -- none is shown that is not live, and none is missing unless some may be left out
 abbrev pub HasWhatItMust : Type 0 → Standings → Type 0

@@ -6,8 +6,8 @@ ghost use Rattle.events.specs.Names.{NameBytes};
 ghost use Rattle.events.specs.History.{History};
 ghost use Rattle.specification.specs.Faults.{IsView};
 ghost use Rattle.contents_check.specs.Known.{AreNumbered};
-ghost use Rattle.contents_check.specs.Shown.{joined, AreOfElements, Fits, HasWhatItMust, IsStep, ShowJust};
-ghost use Rattle.contents_check.specs.Shown.{ShowsLive};
+ghost use Rattle.contents_check.specs.Shown.{joined, AreOfElements, Fits, HasWhatItMust, IsStep, OnlyNotes};
+ghost use Rattle.contents_check.specs.Shown.{ShowJust, ShowsLive};
 ghost use Rattle.contents_check.specs.Standings.{AreBehind};
 
 use super::elements::Elements;
@@ -69,10 +69,7 @@ impl Standings {
         requires numbers { AreNumbered elements.now }
         requires fits { Fits elements.now self.old }
         requires shown { ShowJust elements.now self.old.list.items last.now }
-        ensures fits { Fits elements.now self.new }
-        ensures counts { self.new.counts ≡ self.old.counts }
-        ensures behind { (h : History)
-            → AreBehind h elements.now self.old → AreBehind h elements.now self.new }
+        ensures notes { OnlyNotes elements.now self.old self.new }
         ensures shown { result ≡ true → ShowJust elements.now self.new.list.items w.now }
         ensures wrong { result ≡ false → ¬ AreOfElements elements.now w.now }
     {
@@ -107,10 +104,7 @@ impl Standings {
         requires numbers { AreNumbered elements.now }
         requires fits { Fits elements.now self.old }
         requires shown { ShowJust elements.now self.old.list.items (joined w.now i last.now j) }
-        ensures fits { Fits elements.now self.new }
-        ensures counts { self.new.counts ≡ self.old.counts }
-        ensures behind { (h : History)
-            → AreBehind h elements.now self.old → AreBehind h elements.now self.new }
+        ensures notes { OnlyNotes elements.now self.old self.new }
         ensures step { IsStep elements.now last.now j w.now i self.new result }
     {
         let Some(name) = w.get(i) else {
@@ -135,10 +129,7 @@ impl Standings {
         requires numbers { AreNumbered elements.now }
         requires fits { Fits elements.now self.old }
         requires inside { j < length last.now }
-        ensures fits { Fits elements.now self.new }
-        ensures counts { self.new.counts ≡ self.old.counts }
-        ensures behind { (h : History)
-            → AreBehind h elements.now self.old → AreBehind h elements.now self.new }
+        ensures notes { OnlyNotes elements.now self.old self.new }
         ensures shown { (front : List NameBytes)
             → ShowJust elements.now self.old.list.items (front ++ drop j last.now)
             → ShowJust elements.now self.new.list.items (front ++ drop (j + 1) last.now) }
@@ -154,10 +145,7 @@ impl Standings {
     fn hide_from(&mut self, elements: &Elements, last: &Response, j: usize)
         requires numbers { AreNumbered elements.now }
         requires fits { Fits elements.now self.old }
-        ensures fits { Fits elements.now self.new }
-        ensures counts { self.new.counts ≡ self.old.counts }
-        ensures behind { (h : History)
-            → AreBehind h elements.now self.old → AreBehind h elements.now self.new }
+        ensures notes { OnlyNotes elements.now self.old self.new }
         ensures shown { (front : List NameBytes)
             → ShowJust elements.now self.old.list.items (front ++ drop j last.now)
             → ShowJust elements.now self.new.list.items front }

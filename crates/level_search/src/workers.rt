@@ -108,35 +108,6 @@ fn closed(bound: Bound, graph: &OrderGraph, sources: &[u32], first: Seat) -> u32
     bound.close(first)
 }
 
-/// The length of a shortest cycle, or `NO_OFFER` where there is none, by a search from each of the sources,
-/// through one of which each cycle leads.
-fn least_from<H: Threads + Sync, G: Gate>(
-    rt: &H,
-    alloc: Global,
-    graph: &OrderGraph,
-    table: &ShownTable,
-    sources: &[u32],
-    workers: u32,
-    gate: &G,
-) -> Result<u32, Memory>
-    requires table { IsShownTable (length graph.now.elements) (lists_of graph.now) table.now }
-    requires workers { (1 ≤ workers) × (workers ≤ MOST_WORKERS) }
-    requires proper { AreProper graph.now }
-    requires known { All (λ s. s < length graph.now.elements) sources.now }
-    requires count { length sources.now ≤ length graph.now.elements }
-    requires met { MeetsCycles (lists_of graph.now) (length graph.now.elements) sources.now }
-    ensures { IfOk result (IsLeastLength graph.now) }
-{
-    let (bound, first) = Bound::new(alloc, sources.len() as u32, workers)?;
-    let mut team = team(alloc, graph, sources, &bound, first, workers)?;
-    work_all(rt, graph, table, sources, gate, team.as_mut_slice());
-    let Some(last) = team.pop() else {
-        unreachable!()
-    };
-    let first = gathered(&bound, graph, sources, last.into_seat(), team);
-    Ok(closed(bound, graph, sources, first))
-}
-
 /// The length of a shortest cycle, or `NO_OFFER` where there is none, by a search from each of few elements.
 /// All memory is taken before a worker starts.
 pub fn least_length<H: Threads + Sync, G: Gate>(
@@ -153,5 +124,12 @@ pub fn least_length<H: Threads + Sync, G: Gate>(
     ensures { IfOk result (IsLeastLength graph.now) }
 {
     let sources = feedback_vertex_set(alloc, graph, table)?;
-    least_from(rt, alloc, graph, table, &sources, workers, gate)
+    let (bound, first) = Bound::new(alloc, sources.len() as u32, workers)?;
+    let mut team = team(alloc, graph, &sources, &bound, first, workers)?;
+    work_all(rt, graph, table, &sources, gate, team.as_mut_slice());
+    let Some(last) = team.pop() else {
+        unreachable!()
+    };
+    let first = gathered(&bound, graph, &sources, last.into_seat(), team);
+    Ok(closed(bound, graph, &sources, first))
 }

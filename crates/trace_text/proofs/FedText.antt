@@ -1,34 +1,29 @@
 -- What was fed has a fault, or none in a line that has its LF.
 use Rattle.std.proofs.Common.{◌≡◌, ℕ, zero, suc, ◌+◌, length, length-append, List, [], ◌∷◌, ◌++◌, Option, Some, None, IfSome, Result, Ok, Err, IfOk, IfErr, ◌⊎◌, inl, inr, refl, sym, ap, ◌∙◌, subst, arith, append_assoc}
-use Rattle.std.proofs.lemmas.Option.{same_Some}
 use Rattle.events.specs.History.{History}
 use Rattle.events.specs.declared.refusal.Refusal.{Refusal}
 use Rattle.specification.specs.Lines.{Line, text_of, IsOneLine}
 use Rattle.specification.specs.TraceText as format
 use Rattle.specification.specs.Versions as versions
 use Rattle.specification.specs.TraceText.{BeginsSpelling, HasWholeFault, IsFaultyLine, IsFirstLineFault, IsMissingLine, IsCutAt, IsSpelledIn, Spells, trace_lines}
+use Rattle.format_words.proofs.Places as places
 use Rattle.trace_text.specs.Causes.{cause_of}
 use Rattle.trace_text.specs.Fed.{EndsIn, HoldsFault, IsAdded, IsOpenAt, ReaderState, UNFED, WasFed, WasFedTo}
 use Rattle.trace_text.specs.Kept.{EMPTY, Kept}
 use Rattle.trace_text.specs.Place.{IsBehindRightLines}
 use Rattle.trace_text.specs.declared.cause.LineFault.{LineFault}
-use Rattle.trace_text.proofs.Faults.{never-cut, whole-is-first}
+use Rattle.trace_text.proofs.Faults.{line-holds, never-cut, whole-is-first}
 use Rattle.trace_text.proofs.FaultyLines.{nothing-begins}
 use Rattle.trace_text.proofs.GrowingText.{cut-there, ends-at, ends-on, no-byte}
 use Rattle.trace_text.proofs.KeptLines.{empty-kept}
 use Rattle.trace_text.proofs.OneFault.{one-fault}
 
+longer : (text more : List ℕ) (good : List Line) (line behind : List ℕ) → text ≡ text_of good ++ line ++ 10 ∷ behind → text ++ more ≡ text_of good ++ (line ++ 10 ∷ (behind ++ more))
+longer text more good line behind is = ap (λ t. t ++ more) is ∙ append_assoc (text_of good ++ line) (10 ∷ behind) more ∙ append_assoc (text_of good) line (10 ∷ (behind ++ more))
+
 whole-on : (text more : List ℕ) (line : ℕ) (cause : format.Cause) → HasWholeFault text line cause → HasWholeFault (text ++ more) line cause
-whole-on text more line cause f = record {
-  good = f.good;
-  begins = f.begins;
-  faulty = f.faulty;
-  one_line = f.one_line;
-  more = f.more ++ more;
-  text_is = ap (λ t. t ++ more) f.text_is ∙ append_assoc (text_of f.good ++ f.faulty) (10 ∷ f.more) more;
-  number = f.number;
-  is_faulty = f.is_faulty;
-}
+whole-on text more line cause f =
+    line-holds (text ++ more) line f.good f.faulty (f.faulty ++ 10 ∷ (f.more ++ more)) (f.more ++ more) (Some cause) (longer text more f.good f.faulty f.more f.text_is) refl f.one_line f.number f.begins f.is_faulty
 
 first-whole : (text more : List ℕ) (line : ℕ) (cause : Option format.Cause) → IfSome cause (HasWholeFault text line) → IfSome cause (IsFirstLineFault (text ++ more) line)
 first-whole text more line None f = tt
@@ -74,17 +69,9 @@ whole-still text more line (Some cause) f = whole-on text more line cause f
 
 -- a fault stays, whatever follows
 holds-still : (text more : List ℕ) (fault : LineFault) → HoldsFault text fault → HoldsFault (text ++ more) fault
-holds-still text more fault h = record {
-  there = (let there = h.there in record {
-    good = there.good;
-    begins = there.begins;
-    next = there.next;
-    one_line = there.one_line;
-    more = there.more ++ more;
-    text_is = ap (λ t. t ++ more) there.text_is ∙ append_assoc (text_of there.good ++ there.next) (10 ∷ there.more) more;
-    number = there.number;
-    takes = tt;
-  });
+holds-still text more fault h = let there = h.there in record {
+  there = places.ended-line BeginsSpelling (λ lines next. Unit {0}) (text ++ more) fault.line there.good there.next (there.next ++ 10 ∷ (there.more ++ more)) (there.more ++ more)
+      (longer text more there.good there.next there.more there.text_is) refl there.one_line there.number there.begins tt;
   faulty = whole-still text more fault.line (cause_of fault.cause) h.faulty;
 }
 

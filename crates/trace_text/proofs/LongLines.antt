@@ -1,8 +1,8 @@
 -- The words of long lines: one that spells an entry has more than the most names, and other names in the place of its
 -- last ones spell an entry that is refused for the same cause.
-use Rattle.std.proofs.Common.{◌≡◌, ℕ, suc, ◌+◌, ◌*◌, ◌<◌, ◌≤◌, ◌^◌, ◌==◌, ◌||◌, ◌&&◌, Bool, true, false, cond, nat_lt, nat_le, List, [], ◌∷◌, ◌++◌, length, length-append, refl, sym, ap, ◌∙◌, subst, arith, decimal, codes, Option, Some, None}
+use Rattle.std.proofs.Common.{◌≡◌, ℕ, ◌+◌, ◌*◌, ◌<◌, ◌≤◌, ◌^◌, ◌==◌, ◌||◌, ◌&&◌, Bool, true, false, cond, nat_lt, nat_le, List, [], ◌∷◌, ◌++◌, length, length-append, refl, sym, ap, ◌∙◌, subst, arith, decimal, codes}
 use Rattle.std.specs.Prelude.{count_by, sum_by}
-use Rattle.std.specs.List.{All, slice_split, onto_first, join_with_byte}
+use Rattle.std.specs.List.{All, onto_first, join_with_byte}
 use Rattle.std.proofs.lemmas.Bool.{lt-ltb}
 use Rattle.std.proofs.lemmas.Fmt.{length-decimal-le}
 use Rattle.std.proofs.lemmas.List.{append_assoc}
@@ -166,60 +166,39 @@ same-version : (version : Version) (d e : Entry) → is_view d.body ≡ is_view 
 same-version one d e same plain = sym same ∙ plain
 same-version two d e same of = tt
 
+-- an entry that is like this one up to the refusal for its many names
+swapped : (version : Version) (e other : Entry) (front back others : List Word) → MOST_NAMES < length (response_of e.body) → All IsName back → IsEntry version other → front ++ others ≡ entry_words other →
+    MOST_NAMES < length (response_of other.body) → ((n : ℕ) (entries : List Entry) → first_that_holds (refusals-so-far n entries other) ≡ first_that_holds (refusals-so-far n entries e)) → HasManyNames version e front back others
+swapped version e other front back others many names is_entry words_are other_many alike = record {
+  many = many;
+  names = names;
+  refused_as = record {
+    other = other;
+    is_entry = is_entry;
+    words_are = words_are;
+    many = other_many;
+    same = λ n entries. refused-so-far n entries other other_many ∙ alike n entries ∙ sym (refused-so-far n entries e many);
+  };
+}
+
 swapped-body : (version : Version) (r : ℕ) (b : Body) (front back others : List Word) → r < 2 ^ 32 → IsWellFormed b → IsOfVersion version (record { replica = r; body = b }) → front ++ back ≡ decimal r ∷ body_words b → 4101 ≤ length front → 1 ≤ length back → 1 ≤ length others → All IsName others →
     HasManyNames version (record { replica = r; body = b }) front back others
 swapped-body version r (Ins name at response) front back others small h of is long some more names =
     let q = names-apart (decimal r ∷ codes "ins" ∷ name ∷ decimal at ∷ codes ":" ∷ []) response front back others is (omega arith) long some more h.2 names in
-    record {
-      many = q.2;
-      names = q.4;
-      refused_as = record {
-        other = record { replica = r; body = Ins name at (q.0 ++ others) };
-        is_entry = (small, (h.0, h.1, q.5), same-version version (record { replica = r; body = Ins name at response }) (record { replica = r; body = Ins name at (q.0 ++ others) }) refl of);
-        words_are = q.1;
-        many = q.3;
-        same = λ n entries. refused-so-far n entries (record { replica = r; body = Ins name at (q.0 ++ others) }) q.3 ∙ sym (refused-so-far n entries (record { replica = r; body = Ins name at response }) q.2);
-      };
-    }
+    let other : Entry = record { replica = r; body = Ins name at (q.0 ++ others) } in
+    swapped version (record { replica = r; body = Ins name at response }) other front back others q.2 q.4 (small, (h.0, h.1, q.5), same-version version (record { replica = r; body = Ins name at response }) other refl of) q.1 q.3 (λ n entries. refl)
 swapped-body version r (Del name response) front back others small h of is long some more names =
     let q = names-apart (decimal r ∷ codes "del" ∷ name ∷ codes ":" ∷ []) response front back others is (omega arith) long some more h.1 names in
-    record {
-      many = q.2;
-      names = q.4;
-      refused_as = record {
-        other = record { replica = r; body = Del name (q.0 ++ others) };
-        is_entry = (small, (h.0, q.5), same-version version (record { replica = r; body = Del name response }) (record { replica = r; body = Del name (q.0 ++ others) }) refl of);
-        words_are = q.1;
-        many = q.3;
-        same = λ n entries. refused-so-far n entries (record { replica = r; body = Del name (q.0 ++ others) }) q.3 ∙ sym (refused-so-far n entries (record { replica = r; body = Del name response }) q.2);
-      };
-    }
+    let other : Entry = record { replica = r; body = Del name (q.0 ++ others) } in
+    swapped version (record { replica = r; body = Del name response }) other front back others q.2 q.4 (small, (h.0, q.5), same-version version (record { replica = r; body = Del name response }) other refl of) q.1 q.3 (λ n entries. refl)
 swapped-body version r (Read response) front back others small h of is long some more names =
     let q = names-apart (decimal r ∷ codes "read" ∷ codes ":" ∷ []) response front back others is (omega arith) long some more h names in
-    record {
-      many = q.2;
-      names = q.4;
-      refused_as = record {
-        other = record { replica = r; body = Read (q.0 ++ others) };
-        is_entry = (small, q.5, same-version version (record { replica = r; body = Read response }) (record { replica = r; body = Read (q.0 ++ others) }) refl of);
-        words_are = q.1;
-        many = q.3;
-        same = λ n entries. refused-so-far n entries (record { replica = r; body = Read (q.0 ++ others) }) q.3 ∙ sym (refused-so-far n entries (record { replica = r; body = Read response }) q.2);
-      };
-    }
+    let other : Entry = record { replica = r; body = Read (q.0 ++ others) } in
+    swapped version (record { replica = r; body = Read response }) other front back others q.2 q.4 (small, q.5, same-version version (record { replica = r; body = Read response }) other refl of) q.1 q.3 (λ n entries. refl)
 swapped-body version r (View response) front back others small h of is long some more names =
     let q = names-apart (decimal r ∷ codes "view" ∷ codes ":" ∷ []) response front back others is (omega arith) long some more h names in
-    record {
-      many = q.2;
-      names = q.4;
-      refused_as = record {
-        other = record { replica = r; body = View (q.0 ++ others) };
-        is_entry = (small, q.5, same-version version (record { replica = r; body = View response }) (record { replica = r; body = View (q.0 ++ others) }) refl of);
-        words_are = q.1;
-        many = q.3;
-        same = λ n entries. refused-so-far n entries (record { replica = r; body = View (q.0 ++ others) }) q.3 ∙ sym (refused-so-far n entries (record { replica = r; body = View response }) q.2);
-      };
-    }
+    let other : Entry = record { replica = r; body = View (q.0 ++ others) } in
+    swapped version (record { replica = r; body = View response }) other front back others q.2 q.4 (small, q.5, same-version version (record { replica = r; body = View response }) other refl of) q.1 q.3 (λ n entries. refl)
 swapped-body version r (Recv seen) front back others small h of is long some more names =
     let q = names-apart (decimal r ∷ codes "recv" ∷ decimal seen.replica ∷ decimal seen.n ∷ []) [] front back others is (omega arith) long some more (All-nil IsName) names in
     absurd (omega (arith, q.2))

@@ -1,12 +1,12 @@
 //! The trace text of a recording, read and written.
 //!
-//! A trace text is lines of ASCII, each ended by one LF: `trace 1` or `trace 2`, `replicas R` with R from 1 to
-//! 16, and a line for each entry: `r ins a k : names`, `r del a : names`, `r read : names`, `r recv q n`, and
-//! where the first line is `trace 2`, `r view : names`. Words stand apart by one space, numbers have no
+//! A trace text is lines of ASCII, each ended by one LF: `trace 1` or `trace 2`, `replicas R` with R from 1
+//! to 16, and a line for each entry: `r ins a k : names`, `r del a : names`, `r read : names`, `r recv q n`,
+//! and where the first line is `trace 2`, `r view : names`. Words stand apart by one space, numbers have no
 //! leading zeros and are below 2^32, operations count from 1.
 //!
-//! A recording with a view has one spelling. One without a view has two, which differ in the first line alone:
-//! both are read, and `trace 1` is written.
+//! A recording with a view has one spelling. One without a view has two, which differ in the first line
+//! alone: both are read, and `trace 1` is written.
 #![tactic(auto)]
 
 mod begun;

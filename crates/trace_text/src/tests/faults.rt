@@ -125,11 +125,11 @@ const MALFORMED: &[&str] = &[
 
 #[test]
 fn malformed_entries(rt: HostRuntime) -> Result<(), Fail> {
-    for head in [
-        b"trace 1\nreplicas 1\n".as_slice(),
-        b"trace 2\nreplicas 1\n",
-    ] {
-        assert_eq!(rt; first_well_formed(rt.alloc(), head, MALFORMED)?, None);
+    for head in ["trace 1\nreplicas 1\n", "trace 2\nreplicas 1\n"] {
+        assert_eq!(rt;
+            first_well_formed(rt.alloc(), head.as_bytes(), MALFORMED)?,
+            None
+        );
     }
     Ok(())
 }

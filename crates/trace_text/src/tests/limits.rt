@@ -32,7 +32,8 @@ const IN_ONE: &str = "trace 1\nreplicas 2\n";
 
 const IN_TWO: &str = "trace 2\nreplicas 2\n";
 
-/// Two lines, entries after them, how many of these there may be, the line behind, and why one more is refused.
+/// Two lines, entries after them, how many of these there may be, the line behind, and why one more is
+/// refused.
 const LIMITS: [(&str, &str, u32, u32, Refusal); 4] = [
     (IN_ONE, "1 ins n 0 :\n", 256, 259, Refusal::InsertsFull),
     (IN_ONE, "1 read :\n", 4096, 4099, Refusal::EntriesFull),

@@ -1,6 +1,6 @@
 //! Texts that are read, and written again as they were.
 
-use super::{RING_OF_FOUR, THREE_WAY_CYCLE, is_recording, reading};
+use super::{RING_OF_FOUR, THREE_WAY_CYCLE, is_recording, joined, reading};
 use events::{Body, Entry, Name, Recording, Response};
 use std::alloc::Global;
 use std::test::Fail;
@@ -24,10 +24,20 @@ pub const PLAIN: &[&str] = &[
     "trace 1\nreplicas 1\n0 ins view 0 : view\n0 del view :\n0 read : view trace\n",
 ];
 
-/// The first of these texts that is written as another; none where each comes back.
-pub fn first_changed(alloc: Global, texts: &[&'static str]) -> Result<Option<&'static str>, Fail> {
+/// What follows `trace 1` or `trace 2`.
+fn behind_version(text: &str) -> &[u8] {
+    text.as_bytes().get(7..).unwrap_or_default()
+}
+
+/// The first of these texts that, spelled in this version, is not written as it is here; none where each is.
+pub fn first_changed(
+    alloc: Global,
+    version: &[u8],
+    texts: &[&'static str],
+) -> Result<Option<&'static str>, Fail> {
     for text in texts {
-        if !is_recording(alloc, reading(alloc, text.as_bytes()), text.as_bytes())? {
+        let spelled = joined(alloc, version, behind_version(text))?;
+        if !is_recording(alloc, reading(alloc, &spelled), text.as_bytes())? {
             return Ok(Some(*text));
         }
     }
@@ -36,7 +46,7 @@ pub fn first_changed(alloc: Global, texts: &[&'static str]) -> Result<Option<&'s
 
 #[test]
 fn plain_texts_are_read_and_written_again(rt: HostRuntime) -> Result<(), Fail> {
-    assert_eq!(rt; first_changed(rt.alloc(), PLAIN)?, None);
+    assert_eq!(rt; first_changed(rt.alloc(), b"trace 1", PLAIN)?, None);
     Ok(())
 }
 

@@ -1,4 +1,4 @@
-use Rattle.std.proofs.Common.{◌++◌, Some, subst}
+use Rattle.std.proofs.Common.{◌++◌, subst}
 use Rattle.specification.specs.Lines.{text_of}
 use Rattle.trace_text.specs.Fed.{IsAdded}
 use Rattle.trace_text.specs.Progress.{good}

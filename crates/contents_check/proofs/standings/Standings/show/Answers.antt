@@ -1,7 +1,7 @@
 -- Both go on alike for a run, and then one name of either is noted.
-use Rattle.std.proofs.Common.{◌∙◌, sym, subst, arith, length-drop}
+use Rattle.std.proofs.Common.{sym, subst, arith, length-drop}
 use Rattle.contents_check.specs.Shown.{ShowJust}
-use Rattle.contents_check.proofs.Noting.{joined_run}
+use Rattle.contents_check.proofs.Noting.{joined_run, notes-on}
 use Rattle.contents_check.proofs.standings.Standings.show.Goals as goal
 
 pub overflow_add-j : goal.overflow_add-j
@@ -13,9 +13,7 @@ step-requires-clause-shown c =
 
 pub runs-preserved-in-End : goal.runs-preserved-in-End
 runs-preserved-in-End c = record {
-  fits = c.step.ensures.fits;
-  counts = c.step.ensures.counts ∙ c.runs.invariant.counts;
-  behind = λ h b. c.step.ensures.behind h (c.runs.invariant.behind h b);
+  notes = notes-on c.args.elements.now c.args.self.now c.runs.self c.step.new.self c.runs.invariant.notes c.step.ensures.notes;
   shown = c.in-End.ensures.step.1;
   within = omega (arith, c.runs.invariant.within, c.same_names-run.ensures.within.0, length-drop c.runs.i c.args.w.now);
   other_within = omega (arith, c.runs.invariant.other_within, c.same_names-run.ensures.within.1, length-drop c.runs.j c.args.last.now);
@@ -23,9 +21,7 @@ runs-preserved-in-End c = record {
 
 pub runs-preserved-in-New : goal.runs-preserved-in-New
 runs-preserved-in-New c = record {
-  fits = c.step.ensures.fits;
-  counts = c.step.ensures.counts ∙ c.runs.invariant.counts;
-  behind = λ h b. c.step.ensures.behind h (c.runs.invariant.behind h b);
+  notes = notes-on c.args.elements.now c.args.self.now c.runs.self c.step.new.self c.runs.invariant.notes c.step.ensures.notes;
   shown = c.in-New.ensures.step.1;
   within = omega (arith, c.in-New.ensures.step.0);
   other_within = omega (arith, c.runs.invariant.other_within, c.same_names-run.ensures.within.1, length-drop c.runs.j c.args.last.now);
@@ -36,16 +32,14 @@ overflow_add-j-in-Gone c = omega (arith, c.in-Gone.ensures.step.0, c.len.ensures
 
 pub runs-preserved : goal.runs-preserved
 runs-preserved c = record {
-  fits = c.step.ensures.fits;
-  counts = c.step.ensures.counts ∙ c.runs.invariant.counts;
-  behind = λ h b. c.step.ensures.behind h (c.runs.invariant.behind h b);
+  notes = notes-on c.args.elements.now c.args.self.now c.runs.self c.step.new.self c.runs.invariant.notes c.step.ensures.notes;
   shown = c.in-Gone.ensures.step.1;
   within = omega (arith, c.runs.invariant.within, c.same_names-run.ensures.within.0, length-drop c.runs.i c.args.w.now);
   other_within = omega (arith, c.in-Gone.ensures.step.0);
 }
 
-pub returns-in-Wrong-clause-behind : goal.returns-in-Wrong-clause-behind
-returns-in-Wrong-clause-behind c = λ h b. c.step.ensures.behind h (c.runs.invariant.behind h b)
+pub returns-in-Wrong-clause-notes : goal.returns-in-Wrong-clause-notes
+returns-in-Wrong-clause-notes c = notes-on c.args.elements.now c.args.self.now c.runs.self c.step.new.self c.runs.invariant.notes c.step.ensures.notes
 
-pub returns-clause-behind : goal.returns-clause-behind
-returns-clause-behind c = λ h b. c.hide_from.ensures.behind h (c.runs.invariant.behind h b)
+pub returns-clause-notes : goal.returns-clause-notes
+returns-clause-notes c = notes-on c.args.elements.now c.args.self.now c.runs.self c.hide_from.new.self c.runs.invariant.notes c.hide_from.ensures.notes

@@ -1,15 +1,11 @@
-use Rattle.std.proofs.Common.{◌≡◌, ◌+◌, ◌-◌, ◌≤◌, length}
-use Rattle.events.specs.History.{History}
-use Rattle.contents_check.specs.Shown.{joined, Fits, ShowJust}
-use Rattle.contents_check.specs.Standings.{AreBehind}
+use Rattle.std.proofs.Common.{◌+◌, ◌-◌, ◌≤◌, length}
+use Rattle.contents_check.specs.Shown.{joined, OnlyNotes, ShowJust}
 use Rattle.contents_check.proofs.standings.Standings.show.Given as goal
 
 -- the names of the one up to its place, and those of the other from its place on, are noted
 abbrev pub invariant-runs : goal.invariant-runs
 invariant-runs l = record {
-  fits : Fits l.elements l.self;
-  counts : l.self.counts ≡ l.fn.self.counts;
-  behind : (h : History) → AreBehind h l.elements l.fn.self → AreBehind h l.elements l.self;
+  notes : OnlyNotes l.elements l.fn.self l.self;
   shown : ShowJust l.elements l.self.list.items (joined l.w l.i l.last l.j);
   within : l.i ≤ length l.w;
   other_within : l.j ≤ length l.last;

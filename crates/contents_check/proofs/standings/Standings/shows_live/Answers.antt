@@ -11,12 +11,12 @@ pub returns-then-show-clause-shows : goal.returns-then-show-clause-shows
 returns-then-show-clause-shows c =
     let just = c.show.ensures.shown c.if-show.true in
     let Part = IsView c.args.recording.now c.args.e in (
-      (λ yes. shows_live c.args.elements.now c.requires.numbers c.show.new.self c.show.ensures.fits c.args.w.now Part just (c.has_what_it_must.ensures.0 yes)),
-      (λ shows. c.has_what_it_must.ensures.1 (has_what_it_must c.args.elements.now c.requires.numbers c.show.new.self c.show.ensures.fits c.args.w.now Part just shows)),
+      (λ yes. shows_live c.args.elements.now c.requires.numbers c.show.new.self c.show.ensures.notes.fits c.args.w.now Part just (c.has_what_it_must.ensures.0 yes)),
+      (λ shows. c.has_what_it_must.ensures.1 (has_what_it_must c.args.elements.now c.requires.numbers c.show.new.self c.show.ensures.notes.fits c.args.w.now Part just shows)),
     )
 
 pub returns-else-show-clause-shows : goal.returns-else-show-clause-shows
 returns-else-show-clause-shows c =
     let Part = IsView c.args.recording.now c.args.e in
     subst (λ b. IsTrue b ↔ ShowsLive Part c.args.elements.now c.show.new.self.list.items c.args.w.now) (sym c.if-show.false)
-    (no_iff (λ shows. c.show.ensures.wrong c.if-show.false (shows_known c.args.elements.now c.requires.numbers c.show.new.self c.show.ensures.fits c.args.w.now Part shows)))
+    (no_iff (λ shows. c.show.ensures.wrong c.if-show.false (shows_known c.args.elements.now c.requires.numbers c.show.new.self c.show.ensures.notes.fits c.args.w.now Part shows)))

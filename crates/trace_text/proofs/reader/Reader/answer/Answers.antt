@@ -1,6 +1,6 @@
 use Rattle.std.proofs.Common.{List, ℕ, IfOk, IfErr, IfSome, ◌∙◌, subst, sym}
 use Rattle.std.proofs.lemmas.Bool.{false≢true}
-use Rattle.specification.specs.TraceText.{IsCutAt, IsFirstLineFault, Spells}
+use Rattle.specification.specs.TraceText.{IsFirstLineFault, Spells}
 use Rattle.trace_text.specs.Causes.{cause_of}
 use Rattle.trace_text.specs.Fed.{ReaderState, WasFed}
 use Rattle.trace_text.proofs.FedText.{begun-cut, ended-right, ended-lacking}
