@@ -11,7 +11,7 @@ use Rattle.bit_tables.specs.Rule.{StandsBelow, AreDepths, MeetsRule}
 abbrev pub IsAmongFirst : ℕ → List ℕ → ℕ → Type 0
 IsAmongFirst i w x = (k : ℕ) × (k < i) × (get_or w k x ≡ x)
 
--- what is known of the first m layers, where the numbers below the first one that counts stand in no layer
+-- what is known of the first m layers: the numbers below the first that counts are among those that stand
 pub record IsTested (first m : ℕ) (layers rows : List (List ℕ)) (standing shown : List ℕ) : Type 0 where
   pub standing_is : (y : ℕ) → Has standing y ↔ ((y < first) ⊎ StandsBelow m layers y)
   pub shown_is : (y : ℕ) → Has shown y ↔ ((x : ℕ) × StandsBelow m layers x × Has (row_of rows x) y)
@@ -66,7 +66,7 @@ stands_within n layers ok m x (i, low, (k, inside, at)) =
           absurd (omega arith)
     ]
 
--- and in no layer stands a number below one that none of its numbers is below
+-- what stands in layers of numbers from a first one on is not below it
 stands_from : (first : ℕ) (layers : List (List ℕ)) → All (λ layer. All (λ x. first ≤ x) layer) layers → (m x : ℕ) → StandsBelow m layers x → first ≤ x
 stands_from first layers ok m x (i, low, (k, inside, at)) =
     elim (cases_lt i (length layers)) [

@@ -11,14 +11,14 @@ layer_at layers d = slice_index_or (map (λ layer. layer.items) layers) d []
 abbrev pub StandsBelow : ℕ → List (List ℕ) → ℕ → Type 0
 StandsBelow m layers x = (i : ℕ) × (i < m) × Contains (slice_index_or layers i []) x
 
--- of the numbers from the first on that counts: the depth of a number is the place of the first layer that has
--- it; the count of layers where none has
+-- of the numbers from the first on that counts: the depth of a number is the place of the first layer that
+-- has it; the count of layers where none has
 pub record AreDepths (first : ℕ) (layers : List (List ℕ)) (depth : ℕ → ℕ) : Type 0 where
   pub below : (m x : ℕ) → first ≤ x → m ≤ length layers → (depth x < m) ↔ StandsBelow m layers x
   pub most : (x : ℕ) → first ≤ x → depth x ≤ length layers
 
--- of the numbers from the first on that counts: none is more than one layer deeper than one that stands before
--- it, and what stands before the source is as deep as can be
+-- of the numbers from the first on that counts: none is more than one layer deeper than one that stands
+-- before it, and what stands before the source is as deep as can be
 pub record MeetsRule (lists : List (List ℕ)) (first source most : ℕ) (depth : ℕ → ℕ) : Type 0 where
   pub gradual : (x y : ℕ) → first ≤ x → first ≤ y → IsShown lists x y → depth y ≤ depth x + 1
   pub deep : (x : ℕ) → first ≤ x → IsShown lists x source → most ≤ depth x

@@ -1,4 +1,5 @@
--- The layer rule of either version as a rule on all responses that asks nothing of the elements numbered below a first one.
+-- The layer rule of either version as a rule on all responses that asks nothing of the elements numbered below a
+-- first one.
 use Rattle.std.proofs.Common.{◌≡◌, ◌≢◌, ℕ, true, ◌+◌, ◌-◌, ◌<◌, ◌≤◌, inl, inr, Some, List, [], ◌∷◌, ◌++◌, map, refl, sym, ◌∙◌, ap, subst, arith}
 use Rattle.std.specs.Prelude.{All, AllPairs, Contains, filter, slice_get, bytes_eq}
 use Rattle.std.specs.List.{list_any}

@@ -39,8 +39,8 @@ kind_of_verdict (faulty (fault.position at)) = kind.Position
 kind_of_verdict (accepted order) = kind.Accepted
 kind_of_verdict (refused k steps) = kind.Refused
 
--- the spelling, in either version, of the certificate of a recording's verdict, checked against any spelling of
--- the recording, has the answer yes, of the verdict's kind, and no other
+-- the spelling, in either version, of the certificate of a recording's verdict, checked against any spelling
+-- of the recording, has the answer yes, of the verdict's kind, and no other
 abbrev pub VerdictsCertificatesGetYes : Type 0
 VerdictsCertificatesGetYes = (version : Version) (h : History) (v : Verdict) (c : Certificate) (text : List ℕ) → Spells text h → IsVerdict h v → IsCertificateOf version h v c →
     IsAnswer text (certificate_text version c) (Yes (kind_of_verdict v))

@@ -1,5 +1,5 @@
--- A row that cannot be noted, or has an element below the first that counts, does not meet the rule; for the others its depths
--- decide.
+-- A row that cannot be noted, or has an element below the first that counts, does not meet the rule; for the
+-- others the depths decide.
 use Rattle.std.proofs.Common.{◌∙◌, ◌-◌, ◌≤◌, ℕ, List, length, refl, sym, subst}
 use Rattle.std.specs.Prelude.{◌↔◌, All, IsTrue, slice_index_or}
 use Rattle.std.proofs.lemmas.Bool.{false≢true}
