@@ -1,6 +1,6 @@
 -- The numbers below a bound that meet a condition, in rising order: with one number more, and past numbers that do not meet it.
 use Rattle.std.proofs.Common.{◌≡◌, ℕ, ◌+◌, ◌*◌, ◌/◌, ◌%◌, ◌-◌, ◌^◌, ◌<◌, ◌≤◌, ◌⊎◌, inl, inr, ◌∙◌, Bool, true, false, cond, eqb, List, [], ◌∷◌, ◌++◌, length, get_or, ap, sym, refl, subst, arith, min, eq-eqb, eqb-true, true≢false, w64}
-use Rattle.std.specs.Prelude.{◌↔◌, Contains, bit_and}
+use Rattle.std.specs.Prelude.{◌↔◌, All, Contains, bit_and}
 use Rattle.std.specs.Int.{bit_at, bit_not}
 use Rattle.std.specs.List.Sorted.{IsStrictlyIncreasing}
 use Rattle.std.proofs.lemmas.Bool.{cases_eq, cases_lt}
@@ -9,6 +9,7 @@ use Rattle.std.proofs.Math.Seq.{get_or-append_seam}
 use Rattle.std.proofs.lemmas.List.Elements.{Contains-push, Contains-append_left, Contains-push_cases}
 use Rattle.std.proofs.lemmas.Nat.Bits.{bit_at_and, bit_at_not, bit_at-zero, bit_at-lt, shr_and_one}
 use Rattle.bit_tables.specs.Sets.{Has}
+use Rattle.bit_tables.specs.Lists.{row_of}
 use Rattle.bit_tables.specs.Ways.{AreThoseBelow, IsOutside}
 
 pub not_in-none : (x : ℕ) → ¬ Contains {X = ℕ} [] x
@@ -85,6 +86,14 @@ module _ (P : ℕ → Type 0) where
     rising = are.rising;
   }
 
+  -- and all are below a greater bound
+  pub those_all : (n far : ℕ) (xs : List ℕ) → n ≤ far → AreThoseBelow P n xs → All (λ x. x < far) xs
+  those_all n far xs le are i d lt =
+      let x : ℕ = get_or xs i d in
+      let there : Contains xs x = (i, lt, get_or_default xs i x d lt) in
+      let low : x < n = ((are.has x).0 there).0 in
+      omega (arith, low, le)
+
 -- the bits of one word that another has not
 pub lacking-bit : (a b i : ℕ) → b < 2 ^ 64 → i < 64 → (bit_at (bit_and a (bit_not w64 b)) i ≡ 1) ↔ ((bit_at a i ≡ 1) × (bit_at b i ≡ 1 → ⊥))
 lacking-bit a b i small low =
@@ -121,3 +130,21 @@ module _ (set other : List ℕ) (word a b : ℕ) (one : a ≡ get_or set word 0)
   lacking-test i low =
       let each = lacking-has i low in
       rw (shr_and_one) (λ t. each.0 (eqb-true _ 1 t), λ h. eq-eqb _ 1 (each.1 h))
+
+-- one row more, turned
+pub turned_step : (n b x y : ℕ) (none numbers : List ℕ) (before old new : List (List ℕ)) → x < n → ((z : ℕ) → ¬ Has none z)
+    → AreThoseBelow (λ z. Has (row_of before b) z × (¬ Has none z)) n numbers
+    → Has (row_of old x) y ↔ ((y < b) × Has (row_of before y) x) → Has (row_of new x) y ↔ (Has (row_of old x) y ⊎ (Contains numbers x × (y ≡ b)))
+    → Has (row_of new x) y ↔ ((y < b + 1) × Has (row_of before y) x)
+turned_step n b x y none numbers before old new low empty are was grown = (
+  λ has. elim (grown.0 has) [
+    | inl o ↦ (let p = was.0 o in (omega (arith, p.0), p.1))
+    | inr p ↦
+        let here : Has (row_of before b) x = ((are.has x).0 p.0).1.0 in
+        (omega (arith, p.1), subst (λ c. Has (row_of before c) x) (sym p.1) here)
+  ],
+  λ p. elim (cases_eq y b) [
+    | inl e ↦ grown.1 (inr ((are.has x).1 (low, (subst (λ c. Has (row_of before c) x) e p.1, empty x)), e))
+    | inr other ↦ grown.1 (inl (was.1 (omega (arith, p.0, other), p.1)))
+  ],
+)
