@@ -51,7 +51,7 @@ def refuse_each(tally: Tally, library: str, words: list) -> int:
 
 def commands(trace: Path) -> list:
     """The words of each command on the trace."""
-    cert = trace.with_suffix(".cert")
+    cert = trace.with_suffix(".cert2")
     told = [["verdict", str(trace)], ["verdict", "--json", str(trace)], ["cert", str(trace)]]
     if trace.stem in REHEARSED:
         told.append(["live", str(trace)])

@@ -45,7 +45,7 @@ VIEWS = [
     ("three views round a ring", 3,
      "0 ins a 0 : a|1 ins b 0 : b|2 ins c 0 : c|0 recv 1 1|0 recv 2 1|0 view : a b|0 view : b c|0 view : c a",
      "replicas 3 operations 6 inserts 3|refused 3|strong no|weak yes|step a b 0.2 : a b|step b c 0.3 : b c|step c a 0.4 : c a",
-     "refused 3|step a b 0.2|step b c 0.3|step c a 0.4|layers a / b|layers b / c|layers c / a"),
+     "refused 3|step a b 0.2|step b c 0.3|step c a 0.4|layers a / b|layers b / c|layers c /"),
     ("two views in opposite orders", 2, "0 ins a 0 : a|1 ins b 0 : b|0 recv 1 1|1 recv 0 1|0 view : a b|1 view : b a",
      "replicas 2 operations 4 inserts 2|refused 2|strong no|weak no|step a b 0.2 : a b|step b a 1.2 : b a",
      "refused 2|step a b 0.2|step b a 1.2"),
@@ -184,7 +184,7 @@ def views(tally: Tally, program: str, folder: str) -> None:
         wanted = report(lines_of(lines))
         tally.same(name, run(program, ["verdict", "-"], trace), wanted)
         tally.same(f"live: {name}", run(program, ["live", "-"], trace), wanted)
-        certified = lines_of(f"cert 1|{certificate}")
+        certified = lines_of(f"cert 2|{certificate}")
         tally.same(f"cert: {name}", run(program, ["cert", "-"], trace), wanted._replace(out=certified))
         Path(path).write_bytes(certified)
         kind = certificate.split("|")[0].split(" ")[0]
@@ -194,7 +194,7 @@ def views(tally: Tally, program: str, folder: str) -> None:
         tally.same(f"verify: {name}, another certificate", run(program, ["verify", "-", path], trace), answer)
     pair = VECTORS / "all-opposite-pair.trace"
     trace = pair.read_bytes().replace(b"trace 1", b"trace 2").replace(b" read :", b" view :")
-    for words, suffix in (["verdict", "-"], ".report"), (["verdict", "--json", "-"], ".json"), (["cert", "-"], ".cert"):
+    for words, suffix in (["verdict", "-"], ".report"), (["verdict", "--json", "-"], ".json"), (["cert", "-"], ".cert2"):
         tally.same(f"{pair.name} with views, {words}", run(program, words, trace), Ended(1, pair.with_suffix(suffix).read_bytes(), b""))
 
 

@@ -24,17 +24,18 @@ def kind_in(certificate: bytes) -> str:
 
 def vectors(tally: Tally, program: str) -> None:
     for trace in sorted(VECTORS.glob("*.trace")):
-        cert = trace.with_suffix(".cert")
+        of_versions = [trace.with_suffix(suffix) for suffix in (".cert1", ".cert2")]
         status = int(trace.with_suffix(".status").read_text())
-        wanted = Ended(status, cert.read_bytes(), b"")
+        wanted = Ended(status, of_versions[1].read_bytes(), b"")
         tally.same(f"cert {trace.name}", run(program, ["cert", str(trace)]), wanted)
         tally.same(f"cert of {trace.name} from standard input", run(program, ["cert", "-"], trace.read_bytes()), wanted)
         for spelling in spellings(trace.read_text())[1:]:
-            tally.same(f"cert of {trace.name} in version 2", run(program, ["cert", "-"], spelling.encode()), wanted)
-        said = line(f"yes {kind_in(cert.read_bytes())}\n")
-        tally.same(f"verify {trace.name}", run(program, ["verify", str(trace), str(cert)]), said)
-        tally.same(f"verify - {cert.name}", run(program, ["verify", "-", str(cert)], trace.read_bytes()), said)
-        tally.same(f"verify {trace.name} -", run(program, ["verify", str(trace), "-"], cert.read_bytes()), said)
+            tally.same(f"cert of {trace.name} as trace 2", run(program, ["cert", "-"], spelling.encode()), wanted)
+        for cert in of_versions:
+            said = line(f"yes {kind_in(cert.read_bytes())}\n")
+            tally.same(f"verify {cert.name}", run(program, ["verify", str(trace), str(cert)]), said)
+            tally.same(f"verify - {cert.name}", run(program, ["verify", "-", str(cert)], trace.read_bytes()), said)
+            tally.same(f"verify {cert.name} -", run(program, ["verify", str(trace), "-"], cert.read_bytes()), said)
     for path in sorted(VECTORS.glob("forged/*.cert")):
         said = path.with_suffix(".line").read_text()
         tally.same(f"forged {path.name}", run(program, ["verify", str(path.with_suffix(".trace")), str(path)]), line(said))
@@ -49,17 +50,17 @@ def malformed(tally: Tally, program: str) -> None:
 
 
 def prefixes(tally: Tally, program: str) -> None:
-    """Each prefix of the three-way cycle's certificate: it spells one only where just rows are missing."""
-    whole = THREE_WAY.with_suffix(".cert").read_bytes()
-    tally.check("three-way cycle: length", len(whole) == 95, len(whole))
-    missing = {56: "x", 69: "a", 82: "b"}
-    for length in range(len(whole)):
-        said = f"no missing {missing[length]}\n" if length in missing else "no text\n"
-        tally.same(f"{length} bytes of a certificate", run(program, ["verify", str(THREE_WAY), "-"], whole[:length]), line(said))
+    """Each prefix of the three-way cycle's certificates: it spells one only where just rows are missing."""
+    for suffix, many, missing in (".cert1", 95, {56: "x", 69: "a", 82: "b"}), (".cert2", 91, {56: "x", 69: "a", 80: "b"}):
+        whole = THREE_WAY.with_suffix(suffix).read_bytes()
+        tally.check(f"three-way cycle, {suffix}: length", len(whole) == many, len(whole))
+        for length in range(len(whole)):
+            said = f"no missing {missing[length]}\n" if length in missing else "no text\n"
+            tally.same(f"{length} bytes of {suffix}", run(program, ["verify", str(THREE_WAY), "-"], whole[:length]), line(said))
 
 
 def command_line(tally: Tally, program: str, folder: str) -> None:
-    trace, cert = str(THREE_WAY), str(THREE_WAY.with_suffix(".cert"))
+    trace, cert = str(THREE_WAY), str(THREE_WAY.with_suffix(".cert2"))
     missing, other = os.path.join(folder, "missing"), os.path.join(folder, "other")
     for words in USAGE:
         tally.same(f"usage {words}", run(program, words), fault("usage"))

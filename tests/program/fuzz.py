@@ -60,8 +60,8 @@ def try_recording(rnd: random.Random, program: str, tally: Tally, folder: str, t
         tally.same(f"{words} of\n{text}", run(program, words, text.encode()), Ended(status, wanted.encode(), b""))
     path = os.path.join(folder, "cert")
     operations = [dotted(e) for e in recording_of(text).operations]
-    changed = forged(rnd, report.certificate, operations) if operations else report.certificate
-    for certificate in (report.certificate, changed):
+    changed = [forged(rnd, certificate, operations) for certificate in (report.certificate, report.certificate_of_one) if operations]
+    for certificate in (report.certificate, report.certificate_of_one, *changed):
         Path(path).write_text(certificate)
         got = run(program, ["verify", "-", path], text.encode())
         tally.same(f"verify of\n{text}with\n{certificate}", got, line(answer_of(text, certificate)))

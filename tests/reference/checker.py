@@ -12,8 +12,9 @@ NAMES = rf"(?: {NAME})*"
 
 
 class Certificate(NamedTuple):
-    """A certificate: its kind, and what goes with it. An operation's name is (r, n)."""
+    """A certificate: its version, its kind, and what goes with it. An operation's name is (r, n)."""
 
+    version: int
     kind: str
     fault: Fault | None = None
     order: tuple = ()
@@ -32,19 +33,20 @@ def certificate_of(text: str) -> Certificate | None:
     if not text.endswith("\n"):
         return None
     header, kind, *rest = [*text[:-1].split("\n"), "", ""][:2] + text[:-1].split("\n")[2:]
-    if header != "cert 1":
+    if header not in ("cert 1", "cert 2"):
         return None
+    version = int(header.split()[1])
     if named := re.fullmatch(rf"(doubled) ({OPERATION}) ({OPERATION})|(contents|position) ({OPERATION})", kind):
         word = named[1] or named[4]
         operations = [operation_of(text) for text in (named[2], named[3], named[5]) if text]
-        return Certificate(word, Fault(word, *operations)) if all(operations) and not rest else None
+        return Certificate(version, word, Fault(word, *operations)) if all(operations) and not rest else None
     if kind == "accepted":
         is_order = len(rest) == 1 and re.fullmatch(rf"order :{NAMES}", rest[0])
-        return Certificate(kind, order=tuple(rest[0].split()[2:])) if is_order else None
-    return refusal_of(kind, rest)
+        return Certificate(version, kind, order=tuple(rest[0].split()[2:])) if is_order else None
+    return refusal_of(version, kind, rest)
 
 
-def refusal_of(kind: str, rest: list) -> Certificate | None:
+def refusal_of(version: int, kind: str, rest: list) -> Certificate | None:
     claimed = re.fullmatch(rf"refused ({NUMBER})", kind)
     k = int(claimed[1]) if claimed else 0
     if not 2 <= k < 2**32 or len(rest) < k or (k == 2 and len(rest) > 2):
@@ -55,7 +57,7 @@ def refusal_of(kind: str, rest: list) -> Certificate | None:
     rows = [row_of(line, k) for line in rest[k:]]
     if not all(rows):
         return None
-    return Certificate("refused", k=k, steps=tuple((step[1], step[2], operation_of(step[3])) for step in steps), rows=tuple(rows))
+    return Certificate(version, "refused", k=k, steps=tuple((step[1], step[2], operation_of(step[3])) for step in steps), rows=tuple(rows))
 
 
 def row_of(line: str, k: int) -> tuple | None:
@@ -109,15 +111,17 @@ def reason_of_rows(recording: Recording, responses: Responses, certificate: Cert
     for i, source in enumerate(responses.names):
         if i >= len(rows) or rows[i][0] != (source,):
             return f"missing {source}"
-        if not meets_rule(recording, responses, certificate.k, source, rows[i]):
+        asked = responses.names[i:] if certificate.version == 2 else responses.names
+        if not meets_rule(recording, asked, certificate.k, source, rows[i]):
             return f"short {source}"
     return f"extra {rows[len(responses.names)][0][0]}" if len(rows) > len(responses.names) else None
 
 
-def meets_rule(recording: Recording, responses: Responses, k: int, source: str, row: tuple) -> bool:
+def meets_rule(recording: Recording, asked: list, k: int, source: str, row: tuple) -> bool:
+    """Whether a row shows that no cycle of the elements that are asked for is shorter than k and leads through its source."""
     names = [name for layer in row for name in layer]
-    if len(set(names)) < len(names) or not set(names) <= set(responses.names):
+    if len(set(names)) < len(names) or not set(names) <= set(asked):
         return False
     depth = {name: d for d, layer in enumerate(row) for name in layer}
-    pairs = [pair for body in recording.operations.values() for pair in combinations(body.response, 2)]
+    pairs = [pair for body in recording.operations.values() for pair in combinations(body.response, 2) if set(pair) <= set(asked)]
     return all(depth.get(b, k - 1) <= depth.get(a, k - 1) + 1 and (b != source or depth.get(a, k - 1) >= k - 1) for a, b in pairs)

@@ -186,12 +186,13 @@ def meets_weak(responses: Responses) -> bool:
 
 
 class Report(NamedTuple):
-    """The report in both forms, and the certificate."""
+    """The report in both forms, and the certificate of both versions."""
 
     kind: str  # the verdict's word, with the number of a refusal
     text: str
     json: str
-    certificate: str
+    certificate: str  # of version 2, which is written
+    certificate_of_one: str
 
 
 def dotted(e: tuple) -> str:
@@ -234,7 +235,8 @@ def report_of(text: str) -> Report:
         lines.append(with_names(shown[-1], response))
         told.append({"from": a, "to": b, "shown": dotted(e), "response": response})
     said |= {"verdict": "refused", "strong": False, "weak": weak, "k": k, "steps": told}
-    return written(f"refused {k}", lines, said, [f"refused {k}", *shown, *rows(responses, k)])
+    certificate = [f"refused {k}", *shown]
+    return written(f"refused {k}", lines, said, [*certificate, *rows(responses, k, 2)], [*certificate, *rows(responses, k, 1)])
 
 
 def yes(word: str, holds: bool) -> str:
@@ -245,16 +247,18 @@ def with_names(words: str, names: list) -> str:
     return f"{words} :" + "".join(" " + name for name in names)
 
 
-def rows(responses: Responses, k: int) -> list:
-    """For k of 3 and more a row for each element: the elements by their distance from it, up to k - 2."""
+def rows(responses: Responses, k: int, version: int) -> list:
+    """For k of 3 and more a row for each element: the elements by their distance from it, up to k - 2. In version 2 these are
+    elements, and ways through elements, that are not numbered below it."""
     if k < 3:
         return []
-    return [row_line(responses, layers(responses, source, k - 1)) for source in range(len(responses.names))]
+    return [row_line(responses, layers(responses, source, k - 1, source if version == 2 else 0)) for source in range(len(responses.names))]
 
 
-def layers(responses: Responses, source: int, many: int) -> list:
-    """The elements whose shortest way from the source, along what stands before what, has 0 steps, 1 step and so on."""
-    pairs = {pair for w in responses.returned.values() for pair in combinations(w, 2)}
+def layers(responses: Responses, source: int, many: int, least: int) -> list:
+    """The elements whose shortest way from the source, along what stands before what, has 0 steps, 1 step and so on, of
+    elements with this number and greater ones alone."""
+    pairs = {pair for w in responses.returned.values() for pair in combinations(w, 2) if min(pair) >= least}
     found = [{source}]
     while len(found) < many:
         found.append({b for a, b in pairs if a in found[-1]} - set().union(*found))
@@ -265,6 +269,8 @@ def row_line(responses: Responses, found: list) -> str:
     return "layers" + " /".join("".join(" " + responses.names[a] for a in sorted(layer)) for layer in found)
 
 
-def written(kind: str, lines: list, said: dict, certificate: list) -> Report:
-    text, certified = ("".join(line + "\n" for line in all_lines) for all_lines in (lines, ["cert 1", *certificate]))
-    return Report(kind, text, json.dumps(said, sort_keys=True, separators=(",", ":")) + "\n", certified)
+def written(kind: str, lines: list, said: dict, certificate: list, certificate_of_one: list | None = None) -> Report:
+    """The report, with the certificates of both versions, which are the same but for the first line where one is given."""
+    of_both = ["cert 2", *certificate], ["cert 1", *(certificate if certificate_of_one is None else certificate_of_one)]
+    text, certified, of_one = ("".join(line + "\n" for line in all_lines) for all_lines in (lines, *of_both))
+    return Report(kind, text, json.dumps(said, sort_keys=True, separators=(",", ":")) + "\n", certified, of_one)

@@ -34,7 +34,7 @@ def forged(rnd: random.Random, certificate: str, operations: list) -> str:
     words = lines[at].split(" ")
     places = names_in(words)
     names = sorted({lines[i].split(" ")[p] for i in range(1, len(lines)) for p in names_in(lines[i].split(" "))})
-    kind = rnd.choice(["change", "change", "exchange", "repeat", "leave out", "move", "operation", "line", "line", "text"])
+    kind = rnd.choice(["change", "change", "exchange", "repeat", "leave out", "move", "operation", "line", "line", "text", "version"])
     if kind == "change" and places:
         words[rnd.choice(places)] = rnd.choice(operations if words[0] in ("doubled", "contents", "position") else names)
     elif kind == "exchange" and len(places) > 1:
@@ -51,6 +51,8 @@ def forged(rnd: random.Random, certificate: str, operations: list) -> str:
         words[3] = rnd.choice([*operations, "7.1"])
     elif kind == "text":
         words.append(rnd.choice(["", "a", "/", ":"]))
+    elif kind == "version":
+        lines[0] = {"cert 1": "cert 2", "cert 2": "cert 1"}[lines[0]]
     lines[at] = " ".join(words)
     if kind == "line":
         alike = [i for i in range(1, len(lines)) if lines[i].split(" ")[0] == words[0]]
@@ -76,7 +78,8 @@ def from_generated(tally: Tally, program: str, cases: list) -> None:
             got = run(program, ["cert", "-"], text.encode())
             tally.same(f"cert of\n{text}", got, Ended(status, report.certificate.encode(), b""))
             operations = [dotted(e) for e in recording_of(text).operations]
-            for certificate in [report.certificate, *(forged(rnd, report.certificate, operations) for _ in range(FORGED))]:
+            of_versions = [report.certificate, report.certificate_of_one]
+            for certificate in [*of_versions, *(forged(rnd, rnd.choice(of_versions), operations) for _ in range(FORGED))]:
                 Path(path).write_text(certificate)
                 answer = answer_of(text, certificate)
                 said[" ".join(answer.split()[:2])] += 1

@@ -6,17 +6,21 @@ use Rattle.std.specs.List.{list_any}
 use Rattle.std.proofs.lemmas.Bool.{cases_lt, cases_eq}
 use Rattle.std.proofs.lemmas.Slice.Eq.{bytes_eq-Decides}
 use Rattle.std.proofs.lemmas.Option.{slice_get-get_or}
+use Rattle.std.proofs.lemmas.List.Elements.{All-weaker}
 use Rattle.events.specs.Names.{NameBytes}
 use Rattle.events.specs.Operation.{Operation}
 use Rattle.specification.specs.Responses.{Responses, Returned, StandsBefore, HasInOrder, AreProper}
-use Rattle.specification.specs.LayerRule.{Row, depth_in, row_names, MeetsLayerRule}
+use Rattle.specification.specs.LayerRule.{Row, depth_in, row_names, row_responses, MeetsLayerRule}
+use Rattle.specification.specs.Versions.{Version}
+use Rattle.specification.specs.Conflict.{IsCycle, ring}
 use Rattle.specification.specs.ValidCertificate.{HasSource, RowsMeetRule}
 use Rattle.specification.specs.Search.{IsCycleLength, IsShortestLength}
 use Rattle.specification.specs.ExactRows.{Way, IsDistance, IsLayer, IsExactRow, AreExactRows}
 use Rattle.specification.proofs.Members.{In, In-from_Contains, Contains-from_In, In-append_cases, Before-second, All-from_members}
 use Rattle.specification.proofs.Numbers.{number}
 use Rattle.specification.proofs.OperationNames.{Rising, Rising-append, AllPairs-from_Rising}
-use Rattle.specification.proofs.Shown.{ShowsIn, ShowsIn-from_Shows, names-elements}
+use Rattle.specification.proofs.Narrowed.{row-proper, row-element, row_shows-from}
+use Rattle.specification.proofs.Shown.{ShowsIn, ShowsIn-from_Shows, Shows-from_ShowsIn, names-elements}
 use Rattle.specification.proofs.Tests.{Decides-in}
 use Rattle.specification.proofs.Walks.{Walk, Walk-append}
 use Rattle.specification.proofs.Cycles.{cycle_from_closed}
@@ -100,15 +104,15 @@ pub one_row : (v : Responses) (k : ℕ) (source : NameBytes) (p q : Row) → IsE
 one_row v k source p q one other =
     same_places p q (omega (arith, one.layers, other.layers)) (λ n xs ys at there. one_layer v source n xs ys (one.each n xs at) (other.each n ys there))
 
-pub one_list_of_rows : (v : Responses) (k : ℕ) (sources : List NameBytes) (ps qs : List Row) → AreExactRows v k sources ps → AreExactRows v k sources qs → ps ≡ qs
-one_list_of_rows v k [] [] [] a b = refl
-one_list_of_rows v k [] [] (q ∷ qs) a b = absurd b
-one_list_of_rows v k [] (p ∷ ps) qs a b = absurd a
-one_list_of_rows v k (s ∷ sources) [] qs a b = absurd a
-one_list_of_rows v k (s ∷ sources) (p ∷ ps) [] a b = absurd b
-one_list_of_rows v k (s ∷ sources) (p ∷ ps) (q ∷ qs) a b =
-    let head : p ≡ q = one_row v k s p q a.0 b.0 in
-    let tail : ps ≡ qs = one_list_of_rows v k sources ps qs a.1 b.1 in
+pub one_list_of_rows : (version : Version) (v : Responses) (k : ℕ) (sources : List NameBytes) (ps qs : List Row) → AreExactRows version v k sources ps → AreExactRows version v k sources qs → ps ≡ qs
+one_list_of_rows version v k [] [] [] a b = refl
+one_list_of_rows version v k [] [] (q ∷ qs) a b = absurd b
+one_list_of_rows version v k [] (p ∷ ps) qs a b = absurd a
+one_list_of_rows version v k (s ∷ sources) [] qs a b = absurd a
+one_list_of_rows version v k (s ∷ sources) (p ∷ ps) [] a b = absurd b
+one_list_of_rows version v k (s ∷ sources) (p ∷ ps) (q ∷ qs) a b =
+    let head : p ≡ q = one_row (row_responses version v s) k s p q a.0 b.0 in
+    let tail : ps ≡ qs = one_list_of_rows version v k sources ps qs a.1 b.1 in
     λ i. head i ∷ tail i
 
 -- what stands after something is an element
@@ -171,7 +175,7 @@ module _ (v : Responses) (k : ℕ) (source : NameBytes) (row : Row) (is : IsExac
       ]) in
       at ∙ ap Some same
 
-  pub exact-rule : AreProper v → IsShortestLength v k → MeetsLayerRule v k source row
+  pub exact-rule : AreProper v → ((cycle : List NameBytes) → IsCycle v cycle → k ≤ length cycle) → MeetsLayerRule v k source row
   exact-rule proper shortest = record {
     of_elements = All-from_members (λ x. Contains v.elements x) (row_names row) (λ x i. Contains-from_In v.elements x (named-far v source 0 row layers x i).0);
     once = AllPairs-from_Rising (λ a b. a ≢ b) (row_names row) (once-layers v source 0 row layers);
@@ -194,18 +198,30 @@ module _ (v : Responses) (k : ℕ) (source : NameBytes) (row : Row) (is : IsExac
           go : (depth_in k row x < k - 1) ⊎ (k - 1 ≤ depth_in k row x) → k - 1 ≤ depth_in k row x
           go (inl lt) =
               let cycle : IsCycleLength v (suc (depth_in k row x)) = way_back-cycle v (depth_in k row x) source (x, depth-way x lt, s) in
-              let long : k ≤ length cycle.0 = shortest.1 cycle.0 cycle.1 in
+              let long : k ≤ length cycle.0 = shortest cycle.0 cycle.1 in
               absurd (omega (arith, cycle.2))
           go (inr ge) = ge
 
+-- a cycle of what a row speaks of is one of all
+row-stands : (version : Version) (v : Responses) (source a b : NameBytes) → StandsBefore (row_responses version v source) a b → StandsBefore v a b
+row-stands version v source a b s =
+    (s.0, Shows-from_ShowsIn v s.0 a b (row_shows-from version v source s.0 a b (ShowsIn-from_Shows (row_responses version v source) s.0 a b s.1)))
+
+row-cycles : (version : Version) (v : Responses) (source : NameBytes) (k : ℕ) → IsShortestLength v k → (cycle : List NameBytes) → IsCycle (row_responses version v source) cycle → k ≤ length cycle
+row-cycles version v source k shortest cycle is = shortest.1 cycle (record {
+  some = is.some;
+  shown = All-weaker (λ (p : NameBytes × NameBytes). StandsBefore (row_responses version v source) p.0 p.1) (λ (p : NameBytes × NameBytes). StandsBefore v p.0 p.1)
+      (λ p s. row-stands version v source p.0 p.1 s) (ring cycle) is.shown;
+})
+
 -- all rows
-pub exact_rows-rule : (v : Responses) (k : ℕ) → AreProper v → 2 ≤ k → IsShortestLength v k → (sources : List NameBytes) (rows : List Row) → ((x : NameBytes) → In x sources → In x v.elements) →
-    AreExactRows v k sources rows → RowsMeetRule v k sources rows
-exact_rows-rule v k proper two shortest [] [] elements are = tt
-exact_rows-rule v k proper two shortest [] (row ∷ rows) elements are = absurd are
-exact_rows-rule v k proper two shortest (source ∷ sources) [] elements are = absurd are
-exact_rows-rule v k proper two shortest (source ∷ sources) (row ∷ rows) elements are = (
-  exact-source v k source row are.0 two (elements source (inl refl)),
-  exact-rule v k source row are.0 proper shortest,
-  exact_rows-rule v k proper two shortest sources rows (λ x i. elements x (inr i)) are.1,
+pub exact_rows-rule : (version : Version) (v : Responses) (k : ℕ) → AreProper v → 2 ≤ k → IsShortestLength v k → (sources : List NameBytes) (rows : List Row) → ((x : NameBytes) → In x sources → In x v.elements) →
+    AreExactRows version v k sources rows → RowsMeetRule version v k sources rows
+exact_rows-rule version v k proper two shortest [] [] elements are = tt
+exact_rows-rule version v k proper two shortest [] (row ∷ rows) elements are = absurd are
+exact_rows-rule version v k proper two shortest (source ∷ sources) [] elements are = absurd are
+exact_rows-rule version v k proper two shortest (source ∷ sources) (row ∷ rows) elements are = (
+  exact-source (row_responses version v source) k source row are.0 two (row-element version v source (elements source (inl refl))),
+  exact-rule (row_responses version v source) k source row are.0 (row-proper version v source proper) (row-cycles version v source k shortest),
+  exact_rows-rule version v k proper two shortest sources rows (λ x i. elements x (inr i)) are.1,
 )

@@ -33,8 +33,8 @@ shows-fault text number format.cut f =
 
 -- a line of a spelling is right
 never-wrong : (good : List Line) (line : Line) (between : List Line) (cause : format.CertCause) → BeginsCertificate (good ++ line ∷ between) → IsWrong good line cause → ⊥
-never-wrong good line between cause (c, spellable, more, is) wrong =
-    wrong.1 (c, spellable, between ++ more, append_assoc good (line ∷ []) (between ++ more) ∙ sym (append_assoc good (line ∷ between) more) ∙ is)
+never-wrong good line between cause (version, c, spellable, more, is) wrong =
+    wrong.1 (version, c, spellable, between ++ more, append_assoc good (line ∷ []) (between ++ more) ∙ sym (append_assoc good (line ∷ between) more) ∙ is)
 
 pub one-fault : (text : List ℕ) (line other : ℕ) (cause why : format.CertCause) → IsFirstCertFault text line cause → IsFirstCertFault text other why → (line ≡ other) × (cause ≡ why)
 one-fault text line other cause why f g =

@@ -1,11 +1,14 @@
--- The public certificates and causes as the definitions' ones.
+-- The public certificates, versions and causes as the definitions' ones.
 use Rattle.std.specs.Prelude.{Option, Some, None}
 use Rattle.specification.specs.Faults as fault
 use Rattle.specification.specs.CertificateText as format
+use Rattle.specification.specs.Versions as versions
 use Rattle.format_words.specs.declared.stop.Stop.{Stop}
 use Rattle.format_words.specs.declared.stop.Stop.TheVariants as stop
 use Rattle.certificate_text.specs.declared.certificate.Certificate.{Certificate}
 use Rattle.certificate_text.specs.declared.certificate.Certificate.TheVariants.{Doubled, Contents, Position, Accepted, Refused}
+use Rattle.certificate_text.specs.declared.version.Version.{Version}
+use Rattle.certificate_text.specs.declared.version.Version.TheVariants as version
 use Rattle.certificate_text.specs.declared.fault.CertCause.{CertCause}
 use Rattle.certificate_text.specs.declared.fault.CertCause.TheVariants as cause
 
@@ -15,6 +18,10 @@ certificate_of (Contents at) = format.names_fault (fault.contents at)
 certificate_of (Position at) = format.names_fault (fault.position at)
 certificate_of (Accepted order) = format.gives_order order
 certificate_of (Refused k steps layers) = format.gives_cycle k steps layers
+
+abbrev pub version_in : Version → versions.Version
+version_in version.One = versions.one
+version_in version.Two = versions.two
 
 -- out of memory is no fault of the text
 abbrev pub cause_of : CertCause → Option format.CertCause

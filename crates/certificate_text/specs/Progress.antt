@@ -4,8 +4,9 @@ use Rattle.specification.specs.Conflict.{Step}
 use Rattle.specification.specs.LayerRule.{Row}
 use Rattle.specification.specs.Lines.{Line, operation_text}
 use Rattle.specification.specs.CertificateText as format
-use Rattle.specification.specs.CertificateText.{certificate_lines, IsOperationName, IsStep, IsRow, BeginsCertificate, IsWholeCertificate, cause_behind}
+use Rattle.specification.specs.CertificateText.{version_line, certificate_lines, IsOperationName, IsStep, IsRow, BeginsCertificate, IsWholeCertificate, cause_behind}
 use Rattle.events.specs.Names.{IsName}
+use Rattle.certificate_text.specs.CertificateOf.{version_in}
 use Rattle.certificate_text.specs.declared.kind.Kind.{Kind}
 use Rattle.certificate_text.specs.declared.kind.Kind.TheVariants as kind
 use Rattle.certificate_text.specs.declared.cycle.Cycle.{Cycle}
@@ -41,22 +42,22 @@ abbrev pub IsRightCycle : Cycle → Type 0
 IsRightCycle c = IsPartOfCycle c.k c.steps.items c.rows.items
 
 abbrev pub cycle_lines : Cycle → List Line
-cycle_lines c = certificate_lines (format.gives_cycle c.k c.steps.items c.rows.items)
+cycle_lines c = certificate_lines (version_in c.version) (format.gives_cycle c.k c.steps.items c.rows.items)
 
 -- the lines so far
 abbrev pub good : Progress → List Line
 good progress.Start = []
-good progress.Headed = codes "cert 1" ∷ []
-good (progress.Kind k) = codes "cert 1" ∷ kind_line k ∷ []
-good (progress.Ordered order) = certificate_lines (format.gives_order order)
+good (progress.Headed version) = version_line (version_in version) ∷ []
+good (progress.Kind version k) = version_line (version_in version) ∷ kind_line k ∷ []
+good (progress.Ordered version order) = certificate_lines (version_in version) (format.gives_order order)
 good (progress.Cycle c) = cycle_lines c
 
 -- they are right
 abbrev pub IsRight : Progress → Type 0
 IsRight progress.Start = Unit {0}
-IsRight progress.Headed = Unit {0}
-IsRight (progress.Kind k) = IsKind k
-IsRight (progress.Ordered order) = All IsName order
+IsRight (progress.Headed version) = Unit {0}
+IsRight (progress.Kind version k) = IsKind k
+IsRight (progress.Ordered version order) = All IsName order
 IsRight (progress.Cycle c) = IsRightCycle c
 
 -- after these lines, this line goes on no spelling, for this cause

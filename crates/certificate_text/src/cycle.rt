@@ -2,19 +2,21 @@
 
 ghost use Rattle.std.specs.Prelude.{◌≡◌, ◌≢◌, ◌∷◌, [], ◌++◌, ◌<◌, ◌≤◌, ◌^◌, length, IfOk, IfErr, IfSome};
 ghost use Rattle.specification.specs.CertificateText.{IsSpellable, certificate_lines};
-ghost use Rattle.certificate_text.specs.CertificateOf.{certificate_of, cause_of};
+ghost use Rattle.certificate_text.specs.CertificateOf.{certificate_of, version_in, cause_of};
 ghost use Rattle.certificate_text.specs.Place.{TakesMemory};
 ghost use Rattle.certificate_text.specs.Progress.{IsRightCycle, IsWrongBehind, LacksMore, cycle_lines};
 
 use super::certificate::Certificate;
 use super::entries::{row_of, step_of};
 use super::fault::{CertCause, cause_of_stop};
+use super::version::Version;
 use std::alloc::Global;
 use witnesses::{Layers, Row, Step, Steps};
 
 /// The steps and rows so far of a cycle of `k` steps.
 #[derive(Drop)]
 pub struct Cycle {
+    pub version: Version,
     pub k: u32,
     pub steps: Vec<Step>,
     pub rows: Vec<Row>,
@@ -22,10 +24,11 @@ pub struct Cycle {
 
 impl Cycle {
     /// The cycle of which no step is there yet.
-    pub fn new(alloc: Global, k: u32) -> Cycle
-        ensures { (result.k ≡ k) × (result.steps.items ≡ []) × (result.rows.items ≡ []) }
+    pub fn new(alloc: Global, version: Version, k: u32) -> Cycle
+        ensures { (result.version ≡ version) × (result.k ≡ k) × (result.steps.items ≡ []) × (result.rows.items ≡ []) }
     {
         Cycle {
+            version,
             k,
             steps: Vec::new(alloc),
             rows: Vec::new(alloc),
@@ -89,21 +92,22 @@ impl Cycle {
         }
     }
 
-    /// The certificate, where no step is missing.
-    pub fn end(self) -> Result<Certificate, CertCause>
+    /// The certificate with its version, where no step is missing.
+    pub fn end(self) -> Result<(Version, Certificate), CertCause>
         requires { IsRightCycle self }
-        ensures ok { IfOk result (λ c. IsSpellable (certificate_of c)
-            × (cycle_lines self ≡ certificate_lines (certificate_of c))) }
+        ensures ok { IfOk result (λ r. IsSpellable (certificate_of r.1)
+            × (cycle_lines self ≡ certificate_lines (version_in r.0) (certificate_of r.1))) }
         ensures fault { IfErr result (λ cause. IfSome (cause_of cause) (LacksMore (cycle_lines self))) }
         ensures memory { IfErr result (λ cause. cause ≢ CertCause.Memory) }
     {
         if self.steps.len() < self.k as usize {
             return Err(CertCause::Shape);
         }
-        Ok(Certificate::Refused {
+        let certificate = Certificate::Refused {
             k: self.k,
             steps: Steps::from_steps(self.steps),
             layers: Layers::from_rows(self.rows),
-        })
+        };
+        Ok((self.version, certificate))
     }
 }

@@ -9,7 +9,7 @@ use thiserror::Error;
 /// What is wrong with a line of a certificate's text.
 #[derive(Clone, Copy, Debug, PartialEq, Eq, Error)]
 pub enum CertCause {
-    /// The first line is missing, or is not `cert 1`.
+    /// The first line is missing, or is neither `cert 1` nor `cert 2`.
     #[error("header")]
     Header,
     /// The second line is missing, or is none of the kinds.

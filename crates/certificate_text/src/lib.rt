@@ -2,7 +2,7 @@
 //!
 //! A certificate shows why a verdict is right: it names the first fault, gives an order, or gives a cycle
 //! with rows of layers that show that none is shorter. Its text is lines of ASCII, each ended by one LF:
-//! `cert 1`; then `doubled F G`, `contents E` or `position E`; or `accepted` and `order : names`; or `refused
+//! `cert 1` or `cert 2`; then `doubled F G`, `contents E` or `position E`; or `accepted` and `order : names`; or `refused
 //! k`, `k` lines `step a b E`, and for `k` of 3 and more rows `layers` with `k - 1` layers of names, ` /`
 //! between two.
 //!
@@ -17,6 +17,7 @@ mod kind;
 mod laws;
 mod progress;
 mod reading;
+mod version;
 mod writing;
 
 pub use certificate::Certificate;
@@ -26,6 +27,7 @@ pub use laws::{
     each_text_spells_or_has_a_fault, spelled_texts_have_no_fault, texts_have_one_first_fault,
     texts_spell_one_certificate,
 };
+pub use version::Version;
 pub use witnesses::{Layer, Layers, Order, Row, Step, Steps};
 
 #[cfg(test)]

@@ -1,8 +1,8 @@
 //! How far a text is read, and one line more.
 
 ghost use Rattle.std.specs.Prelude.{◌≡◌, ◌≢◌, ◌∷◌, [], ◌++◌, IfOk, IfErr, IfSome};
-ghost use Rattle.specification.specs.CertificateText.{IsSpellable, certificate_lines};
-ghost use Rattle.certificate_text.specs.CertificateOf.{certificate_of, cause_of};
+ghost use Rattle.specification.specs.CertificateText.{IsSpellable, version_line, certificate_lines};
+ghost use Rattle.certificate_text.specs.CertificateOf.{certificate_of, version_in, cause_of};
 ghost use Rattle.certificate_text.specs.Place.{TakesMemory};
 ghost use Rattle.certificate_text.specs.Progress.{IsKind, IsRight, IsWrongBehind, LacksMore, good, kind_line};
 ghost use Rattle.std.specs.Prelude.{codes};
@@ -12,6 +12,7 @@ use super::cycle::Cycle;
 use super::entries::order_of;
 use super::fault::{CertCause, cause_of_stop};
 use super::kind::{Kind, kind_of};
+use super::version::Version;
 use std::alloc::Global;
 use witnesses::Order;
 
@@ -21,54 +22,54 @@ pub enum Progress {
     /// There is no line yet.
     Start,
     /// The first line is there.
-    Headed,
+    Headed(Version),
     /// The first two lines are there.
-    Kind(Kind),
+    Kind(Version, Kind),
     /// An acceptance is there, with its order.
-    Ordered(Order),
+    Ordered(Version, Order),
     /// A refusal is there, with the first of its steps and rows.
     Cycle(Cycle),
 }
 
 /// The second line, after the first.
-fn second(line: &[u8]) -> Result<Progress, CertCause>
-    ensures ok { IfOk result (λ p. IsRight p × (good p ≡ codes "cert 1" ∷ line.now ∷ [])) }
+fn second(version: Version, line: &[u8]) -> Result<Progress, CertCause>
+    ensures ok { IfOk result (λ p. IsRight p × (good p ≡ version_line (version_in version) ∷ line.now ∷ [])) }
     ensures fault { IfErr result (λ cause. IfSome (cause_of cause)
-        (IsWrongBehind (codes "cert 1" ∷ []) line.now)) }
+        (IsWrongBehind (version_line (version_in version) ∷ []) line.now)) }
     ensures memory { IfErr result (λ cause. cause ≢ CertCause.Memory) }
 {
     match kind_of(line) {
-        Ok(kind) => Ok(Progress::Kind(kind)),
+        Ok(kind) => Ok(Progress::Kind(version, kind)),
         Err(_) => Err(CertCause::Kind),
     }
 }
 
 /// The order's line, after `accepted`.
-fn ordered(alloc: Global, line: &[u8]) -> Result<Progress, CertCause>
-    ensures ok { IfOk result (λ p. IsRight p × (good p ≡ codes "cert 1" ∷ codes "accepted" ∷ line.now ∷ [])) }
+fn ordered(alloc: Global, version: Version, line: &[u8]) -> Result<Progress, CertCause>
+    ensures ok { IfOk result (λ p. IsRight p × (good p ≡ version_line (version_in version) ∷ codes "accepted" ∷ line.now ∷ [])) }
     ensures fault { IfErr result (λ cause. IfSome (cause_of cause)
-        (IsWrongBehind (codes "cert 1" ∷ codes "accepted" ∷ []) line.now)) }
+        (IsWrongBehind (version_line (version_in version) ∷ codes "accepted" ∷ []) line.now)) }
     ensures memory { IfErr result (λ cause. cause ≡ CertCause.Memory
-        → TakesMemory (codes "cert 1" ∷ codes "accepted" ∷ []) line.now) }
+        → TakesMemory (version_line (version_in version) ∷ codes "accepted" ∷ []) line.now) }
 {
     match order_of(alloc, line) {
-        Ok(order) => Ok(Progress::Ordered(order)),
+        Ok(order) => Ok(Progress::Ordered(version, order)),
         Err(stop) => Err(cause_of_stop(CertCause::Shape, stop)),
     }
 }
 
 /// The third line.
-fn third(alloc: Global, kind: Kind, line: &[u8]) -> Result<Progress, CertCause>
+fn third(alloc: Global, version: Version, kind: Kind, line: &[u8]) -> Result<Progress, CertCause>
     requires { IsKind kind }
-    ensures ok { IfOk result (λ p. IsRight p × (good p ≡ codes "cert 1" ∷ kind_line kind ∷ line.now ∷ [])) }
+    ensures ok { IfOk result (λ p. IsRight p × (good p ≡ version_line (version_in version) ∷ kind_line kind ∷ line.now ∷ [])) }
     ensures fault { IfErr result (λ cause. IfSome (cause_of cause)
-        (IsWrongBehind (codes "cert 1" ∷ kind_line kind ∷ []) line.now)) }
+        (IsWrongBehind (version_line (version_in version) ∷ kind_line kind ∷ []) line.now)) }
     ensures memory { IfErr result (λ cause. cause ≡ CertCause.Memory
-        → TakesMemory (codes "cert 1" ∷ kind_line kind ∷ []) line.now) }
+        → TakesMemory (version_line (version_in version) ∷ kind_line kind ∷ []) line.now) }
 {
     match kind {
-        Kind::Accepted => ordered(alloc, line),
-        Kind::Refused { k } => match Cycle::new(alloc, k).with_line(alloc, line) {
+        Kind::Accepted => ordered(alloc, version, line),
+        Kind::Refused { k } => match Cycle::new(alloc, version, k).with_line(alloc, line) {
             Ok(cycle) => Ok(Progress::Cycle(cycle)),
             Err(cause) => Err(cause),
         },
@@ -78,19 +79,20 @@ fn third(alloc: Global, kind: Kind, line: &[u8]) -> Result<Progress, CertCause>
     }
 }
 
-/// The certificate of two lines.
-fn fault_alone(kind: Kind) -> Result<Certificate, CertCause>
+/// The certificate of two lines, with its version.
+fn fault_alone(version: Version, kind: Kind) -> Result<(Version, Certificate), CertCause>
     requires { IsKind kind }
-    ensures ok { IfOk result (λ c. IsSpellable (certificate_of c)
-        × (codes "cert 1" ∷ kind_line kind ∷ [] ≡ certificate_lines (certificate_of c))) }
+    ensures ok { IfOk result (λ r. IsSpellable (certificate_of r.1)
+        × (version_line (version_in version) ∷ kind_line kind ∷ []
+        ≡ certificate_lines (version_in r.0) (certificate_of r.1))) }
     ensures fault { IfErr result (λ cause. IfSome (cause_of cause)
-        (LacksMore (codes "cert 1" ∷ kind_line kind ∷ []))) }
+        (LacksMore (version_line (version_in version) ∷ kind_line kind ∷ []))) }
     ensures memory { IfErr result (λ cause. cause ≢ CertCause.Memory) }
 {
     match kind {
-        Kind::Doubled { first, again } => Ok(Certificate::Doubled { first, again }),
-        Kind::Contents { at } => Ok(Certificate::Contents { at }),
-        Kind::Position { at } => Ok(Certificate::Position { at }),
+        Kind::Doubled { first, again } => Ok((version, Certificate::Doubled { first, again })),
+        Kind::Contents { at } => Ok((version, Certificate::Contents { at })),
+        Kind::Position { at } => Ok((version, Certificate::Position { at })),
         Kind::Accepted => Err(CertCause::Shape),
         Kind::Refused { .. } => Err(CertCause::Shape),
     }
@@ -105,16 +107,13 @@ impl Progress {
         ensures memory { IfErr result (λ cause. cause ≡ CertCause.Memory → TakesMemory (good self) line.now) }
     {
         match self {
-            Progress::Start => {
-                if line == b"cert 1".as_slice() {
-                    Ok(Progress::Headed)
-                } else {
-                    Err(CertCause::Header)
-                }
-            }
-            Progress::Headed => second(line),
-            Progress::Kind(kind) => third(alloc, kind, line),
-            Progress::Ordered(_) => Err(CertCause::Shape),
+            Progress::Start => match Version::of_line(line) {
+                Some(version) => Ok(Progress::Headed(version)),
+                None => Err(CertCause::Header),
+            },
+            Progress::Headed(version) => second(version, line),
+            Progress::Kind(version, kind) => third(alloc, version, kind, line),
+            Progress::Ordered(_, _) => Err(CertCause::Shape),
             Progress::Cycle(cycle) => match cycle.with_line(alloc, line) {
                 Ok(cycle) => Ok(Progress::Cycle(cycle)),
                 Err(cause) => Err(cause),
@@ -122,19 +121,19 @@ impl Progress {
         }
     }
 
-    /// The certificate, where no line is missing.
-    pub fn end(self) -> Result<Certificate, CertCause>
+    /// The certificate with its version, where no line is missing.
+    pub fn end(self) -> Result<(Version, Certificate), CertCause>
         requires { IsRight self }
-        ensures ok { IfOk result (λ c. IsSpellable (certificate_of c)
-            × (good self ≡ certificate_lines (certificate_of c))) }
+        ensures ok { IfOk result (λ r. IsSpellable (certificate_of r.1)
+            × (good self ≡ certificate_lines (version_in r.0) (certificate_of r.1))) }
         ensures fault { IfErr result (λ cause. IfSome (cause_of cause) (LacksMore (good self))) }
         ensures memory { IfErr result (λ cause. cause ≢ CertCause.Memory) }
     {
         match self {
             Progress::Start => Err(CertCause::Header),
-            Progress::Headed => Err(CertCause::Kind),
-            Progress::Kind(kind) => fault_alone(kind),
-            Progress::Ordered(order) => Ok(Certificate::Accepted(order)),
+            Progress::Headed(_) => Err(CertCause::Kind),
+            Progress::Kind(version, kind) => fault_alone(version, kind),
+            Progress::Ordered(version, order) => Ok((version, Certificate::Accepted(order))),
             Progress::Cycle(cycle) => cycle.end(),
         }
     }

@@ -2,24 +2,26 @@
 
 ghost use Rattle.std.specs.Prelude.{◌≡◌, IfOk, IfErr, IfSome, MatchResult};
 ghost use Rattle.specification.specs.CertificateText as format;
-ghost use Rattle.certificate_text.specs.CertificateOf.{certificate_of, cause_of};
+ghost use Rattle.specification.specs.Versions as versions;
+ghost use Rattle.certificate_text.specs.CertificateOf.{certificate_of, version_in, cause_of};
 ghost use Rattle.certificate_text.specs.Place.{IsBehindRightLines, TakesMemoryAt};
 
 use super::certificate::Certificate;
 use super::fault::{CertCause, CertFault};
 use super::progress::Progress;
+use super::version::Version;
 use format_words::split_line;
 use std::alloc::Global;
 
 impl Certificate {
-    /// The certificate that the text spells, or the text's first faulty line with its cause.
+    /// The certificate that the text spells, with its version, or the text's first faulty line with its cause.
     ///
     /// `Memory` stands only at a line after right lines whose reading takes memory: a right line, the third
     /// or a later one, but for that of an order without names. So it is never answered for another fault of
     /// the text. That memory did run out, no contract can say. Nothing is reserved by a `k` that is merely
     /// claimed. It takes time and memory in proportion to the text.
-    pub fn read(alloc: Global, bytes: &[u8]) -> Result<Certificate, CertFault>
-        ensures ok { IfOk result (λ c. format.SpellsCertificate bytes.now (certificate_of c)) }
+    pub fn read(alloc: Global, bytes: &[u8]) -> Result<(Version, Certificate), CertFault>
+        ensures ok { IfOk result (λ r. format.SpellsCertificate bytes.now (version_in r.0) (certificate_of r.1)) }
         ensures fault { IfErr result (λ fault. IfSome (cause_of fault.cause)
             (λ cause. format.IsFirstCertFault bytes.now fault.line cause)) }
         // Out of memory too is answered at a line after right lines.
@@ -28,16 +30,17 @@ impl Certificate {
         ensures memory { IfErr result (λ fault. fault.cause ≡ CertCause.Memory
             → TakesMemoryAt bytes.now fault.line) }
         // What is spelled is read, unless memory runs out.
-        ensures spelled { (c : format.Certificate) → format.SpellsCertificate bytes.now c
-            → MatchResult result (λ d. certificate_of d ≡ c) (λ fault. fault.cause ≡ CertCause.Memory) }
+        ensures spelled { (version : versions.Version) (c : format.Certificate) → format.SpellsCertificate bytes.now version c
+            → MatchResult result (λ r. (version_in r.0 ≡ version) × (certificate_of r.1 ≡ c))
+            (λ fault. fault.cause ≡ CertCause.Memory) }
     {
         read_lines(alloc, bytes)
     }
 }
 
-/// The certificate that the text spells, or the first faulty line.
-fn read_lines(alloc: Global, bytes: &[u8]) -> Result<Certificate, CertFault>
-    ensures ok { IfOk result (λ c. format.SpellsCertificate bytes.now (certificate_of c)) }
+/// The certificate that the text spells, with its version, or the first faulty line.
+fn read_lines(alloc: Global, bytes: &[u8]) -> Result<(Version, Certificate), CertFault>
+    ensures ok { IfOk result (λ r. format.SpellsCertificate bytes.now (version_in r.0) (certificate_of r.1)) }
     ensures fault { IfErr result (λ fault. IfSome (cause_of fault.cause)
         (λ cause. format.IsFirstCertFault bytes.now fault.line cause)) }
     ensures place { IfErr result (λ fault. IsBehindRightLines bytes.now fault.line) }
@@ -62,7 +65,7 @@ fn read_lines(alloc: Global, bytes: &[u8]) -> Result<Certificate, CertFault>
         rest = behind;
     }
     match progress.end() {
-        Ok(certificate) => Ok(certificate),
+        Ok(read) => Ok(read),
         Err(cause) => Err(CertFault { line, cause }),
     }
 }

@@ -4,14 +4,14 @@ ghost use Rattle.std.specs.Prelude.{IfOk};
 ghost use Rattle.specification.specs.CertificateText.{IsSpellable};
 ghost use Rattle.certificate_text.specs.CertificateOf.{certificate_of};
 
-use super::{CertCause, CertFault, Certificate, Layer, Row, Step};
+use super::{CertCause, CertFault, Certificate, Layer, Row, Step, Version};
 use events::Memory;
 use std::alloc::Global;
 use std::test::Fail;
 
 /// What reading says; where the first call finds no memory, what the second says.
-fn reading(alloc: Global, text: &[u8]) -> Result<Certificate, CertFault>
-    ensures { IfOk result (λ c. IsSpellable (certificate_of c)) }
+fn reading(alloc: Global, text: &[u8]) -> Result<(Version, Certificate), CertFault>
+    ensures { IfOk result (λ r. IsSpellable (certificate_of r.1)) }
 {
     match Certificate::read(alloc, text) {
         Err(
@@ -25,17 +25,17 @@ fn reading(alloc: Global, text: &[u8]) -> Result<Certificate, CertFault>
 }
 
 /// The certificate's text; where the first call finds no memory, what the second gives.
-fn writing(alloc: Global, certificate: &Certificate) -> Result<Vec<u8>, Memory>
+fn writing(alloc: Global, version: Version, certificate: &Certificate) -> Result<Vec<u8>, Memory>
     requires { IsSpellable (certificate_of certificate.now) }
 {
-    match certificate.write(alloc) {
-        Err(Memory) => certificate.write(alloc),
+    match certificate.write(alloc, version) {
+        Err(Memory) => certificate.write(alloc, version),
         text => text,
     }
 }
 
 /// Certificates' texts.
-static TEXTS: [&str; 10] = [
+static TEXTS: [&str; 13] = [
     "cert 1\ndoubled 0.2 15.4294967295\n",
     "cert 1\ncontents 2.1\n",
     "cert 1\nposition 4294967295.2\n",
@@ -48,14 +48,18 @@ static TEXTS: [&str; 10] = [
     // Without a row, and with empty layers.
     "cert 1\nrefused 3\nstep x b 2.1\nstep b a 0.3\nstep a x 1.1\n",
     "cert 1\nrefused 4\nstep a b 0.2\nstep b a 1.2\nstep a b 0.2\nstep b a 1.2\nlayers z / /\nlayers a / / b c\n",
+    // The same of version two.
+    "cert 2\ncontents 2.1\n",
+    "cert 2\naccepted\norder : b a\n",
+    "cert 2\nrefused 3\nstep x b 2.1\nstep b a 0.3\nstep a x 1.1\nlayers x / b\nlayers a /\nlayers b /\n",
 ];
 
 /// Whether the text is that of a certificate, which is written so again.
 fn is_written_again(alloc: Global, text: &str) -> bool {
-    let Ok(certificate) = reading(alloc, text.as_bytes()) else {
+    let Ok((version, certificate)) = reading(alloc, text.as_bytes()) else {
         return false;
     };
-    match writing(alloc, &certificate) {
+    match writing(alloc, version, &certificate) {
         Ok(again) => again.as_slice() == text.as_bytes(),
         Err(Memory) => false,
     }
@@ -120,7 +124,8 @@ fn is_cycle(certificate: &Certificate) -> bool {
 fn a_text_gives_its_cycle(rt: HostRuntime) -> Result<(), Fail> {
     let text =
         "cert 1\nrefused 4\nstep a b 0.2\nstep b c 1.2\nstep c d 3.4\nstep d a 1.2\nlayers z / / b a\n";
-    let certificate = reading(rt.alloc(), text.as_bytes())?;
+    let (version, certificate) = reading(rt.alloc(), text.as_bytes())?;
+    assert!(rt; version == Version::One);
     assert!(rt; is_cycle(&certificate));
     Ok(())
 }
@@ -131,13 +136,15 @@ fn has_fault(alloc: Global, text: &str, line: u64, cause: CertCause) -> bool {
 }
 
 /// Texts with a fault in one of the first two lines.
-static FIRST_LINES: [(&str, u64, CertCause); 28] = [
+static FIRST_LINES: [(&str, u64, CertCause); 30] = [
     ("", 1, CertCause::Header),
     ("\n", 1, CertCause::Header),
     ("cert 1", 1, CertCause::Cut),
     ("cert 2", 1, CertCause::Cut),
-    ("cert 2\ncontents 0.1\n", 1, CertCause::Header),
-    ("cert 2\ncontents", 1, CertCause::Header),
+    ("cert 2\n", 2, CertCause::Kind),
+    ("cert 2\ncontents\n", 2, CertCause::Kind),
+    ("cert 3\ncontents 0.1\n", 1, CertCause::Header),
+    ("cert 3\ncontents", 1, CertCause::Header),
     ("cert 1 \ncontents 0.1\n", 1, CertCause::Header),
     ("cert 1\r\ncontents 0.1\r\n", 1, CertCause::Header),
     ("trace 1\ncontents 0.1\n", 1, CertCause::Header),

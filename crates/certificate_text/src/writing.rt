@@ -3,27 +3,39 @@
 ghost use Rattle.std.specs.Prelude.{◌≡◌, ◌==◌, ◌++◌, ◌∷◌, [], if◌then◌else◌, codes, map, IfOk, OnOk};
 ghost use Rattle.specification.specs.Lines.{text_of, names_text};
 ghost use Rattle.specification.specs.CertificateText.{IsSpellable, certificate_text, kind_lines, layers_text};
-ghost use Rattle.specification.specs.CertificateText.{row_line, step_line};
+ghost use Rattle.specification.specs.CertificateText.{row_line, step_line, version_line};
 ghost use Rattle.specification.specs.CertificateText as format;
-ghost use Rattle.certificate_text.specs.CertificateOf.{certificate_of};
+ghost use Rattle.certificate_text.specs.CertificateOf.{certificate_of, version_in};
 
 use super::certificate::Certificate;
+use super::version::Version;
 use events::Memory;
 use format_words::{push_doubled, push_faulty, push_list, push_number, push_order, push_shown};
 use std::alloc::Global;
 use witnesses::{Layer, Layers, Order, Row, Step, Steps};
 
 impl Certificate {
-    /// The text that spells the certificate.
+    /// The text that spells the certificate in a version.
     ///
     /// It takes memory and time in proportion to the text.
-    pub fn write(&self, alloc: Global) -> Result<Vec<u8>, Memory>
+    pub fn write(&self, alloc: Global, version: Version) -> Result<Vec<u8>, Memory>
         requires spellable { IsSpellable (certificate_of self.now) }
-        ensures { IfOk result (λ bytes. bytes.items ≡ certificate_text (certificate_of self.now)) }
+        ensures { IfOk result (λ bytes. bytes.items
+            ≡ certificate_text (version_in version) (certificate_of self.now)) }
     {
-        let mut text = Vec::from_slice(alloc, b"cert 1\n")?;
+        let mut text = Vec::from_slice(alloc, first_line(version))?;
         push_kind(alloc, &mut text, self)?;
         Ok(text)
+    }
+}
+
+/// The first line of a version.
+fn first_line(version: Version) -> &'static [u8]
+    ensures { result.now ≡ version_line (version_in version) ++ 10 ∷ [] }
+{
+    match version {
+        Version::One => b"cert 1\n",
+        Version::Two => b"cert 2\n",
     }
 }
 

@@ -5,6 +5,7 @@ use Rattle.events.specs.History.{History}
 use Rattle.specification.specs.Verdict.{Verdict, IsVerdict}
 use Rattle.specification.specs.TraceText.{Spells}
 use Rattle.specification.specs.CertificateText.{Certificate, certificate_text}
+use Rattle.specification.specs.Versions.{two}
 use Rattle.specification.specs.ExactRows.{IsCertificateOf}
 use Rattle.cert_check.specs.AnswerOf.{IsAnswer}
 use Rattle.cert_check.specs.declared.answer.Answer.{Answer}
@@ -15,16 +16,16 @@ use Rattle.finder_cli.specs.Runs.{status_of}
 use Rattle.finder_cli.specs.declared.status.Status.{Status}
 use Rattle.finder_cli.specs.declared.status.Status.TheVariants.{Good, Bad}
 
--- the text of the certificate of the verdict on the recording, and the status of that verdict
+-- the text of the certificate, in version two, of the verdict on the recording, and the status of that verdict
 abbrev pub IsCertificateFor : History → List ℕ → Status → Type 0
 IsCertificateFor h output status =
-    (v : Verdict) × (c : Certificate) × IsVerdict h v × IsCertificateOf h v c × (output ≡ certificate_text c) × (status ≡ status_of v)
+    (v : Verdict) × (c : Certificate) × IsVerdict h v × IsCertificateOf two h v c × (output ≡ certificate_text two c) × (status ≡ status_of v)
 
--- the text of the certificate of the verdict on the recording that the text spells, and the status of that verdict
+-- the text of the certificate, in version two, of the verdict on the recording that the text spells, and the status of that verdict
 abbrev pub IsCertificateOn : List ℕ → List ℕ → Status → Type 0
 IsCertificateOn text output status =
-    (h : History) × (v : Verdict) × (c : Certificate) × Spells text h × IsVerdict h v × IsCertificateOf h v c
-    × (output ≡ certificate_text c) × (status ≡ status_of v)
+    (h : History) × (v : Verdict) × (c : Certificate) × Spells text h × IsVerdict h v × IsCertificateOf two h v c
+    × (output ≡ certificate_text two c) × (status ≡ status_of v)
 
 -- exactly that text was appended
 abbrev pub Certifies : List ℕ → Option (List ℕ) → Option (List ℕ) → Status → Type 0

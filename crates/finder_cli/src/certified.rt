@@ -11,12 +11,13 @@ use super::status::{RunFault, Status};
 use super::trace_source::recording_from;
 use byte_streams::{Reader, Sink, Source, Writer};
 use certificate::certify;
+use certificate_text::Version;
 use command_line::WORKERS;
 use events::{Memory, Recording};
 use std::alloc::Global;
 use std::thread::Threads;
 
-/// Reads a trace to its end, and writes the certificate of its verdict. Four workers search.
+/// Reads a trace to its end, and writes the certificate of its verdict, in version two. Four workers search.
 ///
 /// Nothing is written before the whole text is made. A trace line that is refused for out of memory is
 /// `Memory`.
@@ -53,7 +54,7 @@ fn certificate_on<H: Threads + Sync>(
 {
     let verdict = verdict_on(rt, alloc, recording, WORKERS)?;
     let certificate = certify(alloc, recording, &verdict)?;
-    let bytes = certificate.write(alloc)?;
+    let bytes = certificate.write(alloc, Version::Two)?;
     Ok(Output {
         bytes,
         status: status_of(&verdict),
