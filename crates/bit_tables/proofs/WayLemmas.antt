@@ -215,12 +215,15 @@ module _ (n first source : ℕ) (rows : List (List ℕ)) (size : length rows ≡
   pub walked-layer : (m : ℕ) (layers : List (List ℕ)) (reached shown : List ℕ) → IsWalked n first source m rows layers reached shown → (d : ℕ) → d < m → IsLayerAt n rows first source d (at layers d)
   walked-layer m layers reached shown is d lt = record {
     has = λ x. (
-      λ c. ((is.sound d x lt c).0, record {
-        way = (is.sound d x lt c).1;
-        shortest = λ fewer less way.
-            let s : StandsBelow (fewer + 1) layers x = is.found fewer x (omega (arith, less, lt)) (is.sound d x lt c).0 way in
-            is.apart s.0 d x (let h = s.1 in omega (arith, h, less)) lt s.2 c;
-      }),
+      λ c. (
+        (is.sound d x lt c).0,
+        record {
+          way = (is.sound d x lt c).1;
+          shortest = λ fewer less way.
+              let s : StandsBelow (fewer + 1) layers x = is.found fewer x (omega (arith, less, lt)) (is.sound d x lt c).0 way in
+              is.apart s.0 d x (let h = s.1 in omega (arith, h, less)) lt s.2 c;
+        },
+      ),
       λ p.
           let s : StandsBelow (d + 1) layers x = is.found d x lt p.0 p.1.way in
           elim (cases_eq s.0 d) [

@@ -1,6 +1,7 @@
 //! Which numbers stand after which in some lists.
 
-ghost use Rattle.std.specs.Prelude.{◌≡◌, ◌<◌, ◌≤◌, ◌+◌, ◌/◌, ◌^◌, ◌⊎◌, ◌↔◌, ℕ, All, Contains, IfOk, List, length, map};
+ghost use Rattle.std.specs.Prelude.{◌≡◌, ◌<◌, ◌≤◌, ◌+◌, ◌/◌, ◌^◌, ◌⊎◌, ◌↔◌, ℕ, All, Contains, IfOk, List};
+ghost use Rattle.std.specs.Prelude.{length, map};
 ghost use Rattle.bit_tables.specs.Sets.{Has, room};
 ghost use Rattle.bit_tables.specs.Lists.{HasInOrder, HaveWidth, IsTableOf, row_of};
 ghost use Rattle.bit_tables.specs.Ways.{IsTurned};

@@ -1,6 +1,6 @@
 -- Ways along a table of numbers are ways among the elements from the source on, so the layers of numbers are those of an
 -- exact row.
-use Rattle.std.proofs.Common.{◌≡◌, ℕ, zero, suc, ◌+◌, ◌-◌, ◌<◌, ◌≤◌, ◌⊎◌, inl, inr, Bool, true, false, Some, List, [], ◌∷◌, Vec, Global, cond, drop, map, get_or, length, refl, sym, ◌∙◌, arith, ap, subst}
+use Rattle.std.proofs.Common.{◌≡◌, ℕ, zero, suc, ◌+◌, ◌-◌, ◌/◌, ◌<◌, ◌≤◌, ◌⊎◌, inl, inr, Bool, true, false, Some, List, [], ◌∷◌, Vec, Global, cond, drop, map, get_or, length, refl, sym, ◌∙◌, arith, ap, subst}
 use Rattle.std.specs.Prelude.{◌↔◌, All, Contains, bytes_eq, slice_get, unwrap_or}
 use Rattle.std.specs.List.Sorted.{IsStrictlyIncreasing}
 use Rattle.std.proofs.lemmas.List.{get_or-map, get_or_default, length-map}
@@ -23,13 +23,24 @@ use Rattle.order_graph.specs.Lists.{lists_of}
 use Rattle.element_numbers.proofs.NameNumbers.{number-at}
 use Rattle.level_search.specs.Graph.{Before}
 use Rattle.level_search.proofs.Joining.{name, number-name, stands-names, stands-numbers, before-known}
-use Rattle.bit_tables.specs.Lists.{row_of}
+use Rattle.bit_tables.specs.Lists.{HaveWidth, row_of}
 use Rattle.bit_tables.specs.Rule.{layer_at}
 use Rattle.bit_tables.specs.Sets.{Has}
-use Rattle.bit_tables.specs.Ways.{IsStep, Way, IsDistance, IsLayerAt}
+use Rattle.bit_tables.specs.Ways.{IsStep, Way, IsDistance, IsLayerAt, IsTurned}
 use Rattle.bit_tables.proofs.WayLemmas.{row-within}
-use Rattle.shown_table.specs.Tables.{IsShown}
+use Rattle.shown_table.specs.Tables.{IsShown, IsShownTable}
 use Rattle.certificate.specs.AfterTables.{IsAfterTable}
+
+-- a table turned
+pub after_table-turned : (v : Responses) (before after : List (List ℕ)) → IsShownTable (length v.elements) (lists_of v) before → IsTurned before after → IsAfterTable v after
+after_table-turned v before after table turned = record {
+  len = turned.len ∙ table.len;
+  width = subst (λ n. HaveWidth (n / 64 + 1) after) table.len turned.width;
+  shown = λ a b low high.
+      let t = turned.shown a b (omega (arith, low, table.len)) (omega (arith, high, table.len)) in
+      let s = table.shown a b high in
+      (λ h. s.0 (t.0 h), λ h. t.1 (s.1 h));
+}
 
 -- the elements from one of them on are those from its place on
 pub from-drop : (es : List NameBytes) (s : ℕ) → Once es → s < length es → elements_from es (get_or es s []) ≡ drop s es
@@ -218,3 +229,13 @@ module _ (v : Responses) (proper : AreProper v) (rows : List (List ℕ)) (table 
       some_layer : (all : List (Vec ℕ Global)) {i : ℕ} → i < length all → Vec ℕ Global
       some_layer [] lt = absurd (omega (arith, lt))
       some_layer (x ∷ all) lt = x
+
+-- layers at distances have only numbers below n
+pub within-layers : (n count source : ℕ) (rows : List (List ℕ)) (layers : List (Vec ℕ Global)) → length layers ≡ count
+    → ((d : ℕ) → d < count → IsLayerAt n rows source source d (layer_at layers d)) → All (λ (layer : Vec ℕ Global). All (λ x. x < n) layer.items) layers
+within-layers n count source rows layers size each i v lt j e inside =
+    let layer : Vec ℕ Global = get_or layers i v in
+    let x : ℕ = get_or layer.items j e in
+    let kept : layer_at layers i ≡ layer.items = get_or-map (λ (layer : Vec ℕ Global). layer.items) layers i v [] lt in
+    let there : Contains layer.items x = (j, inside, get_or_default layer.items j x e inside) in
+    (((each i (omega (arith, lt, size))).has x).0 (subst (λ l. Contains l x) (sym kept) there)).0

@@ -110,8 +110,8 @@ impl ShownTable {
         Ok(ShownTable { rows })
     }
 
-    /// The table of what stands after each element. It takes `n / 64` steps for each of n elements and one for
-    /// each that stands before it, and `n * n / 8` bytes.
+    /// The table of what stands after each element. It takes `n / 64` steps for each of n elements and one
+    /// for each that stands before it, and `n * n / 8` bytes.
     pub fn turned(&self, alloc: Global) -> Result<AfterTable, Memory>
         requires { length self.now < 2 ^ 32 }
         ensures { IfOk result (λ t. IsTurned self.now t) }
