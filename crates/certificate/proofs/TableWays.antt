@@ -1,7 +1,7 @@
 -- Ways along a table of numbers are ways among the elements from the source on, so the layers of numbers are those of an
 -- exact row.
 use Rattle.std.proofs.Common.{◌≡◌, ℕ, zero, suc, ◌+◌, ◌-◌, ◌/◌, ◌<◌, ◌≤◌, ◌⊎◌, inl, inr, Bool, true, false, Some, List, [], ◌∷◌, Vec, Global, cond, drop, map, get_or, length, refl, sym, ◌∙◌, arith, ap, subst}
-use Rattle.std.specs.Prelude.{◌↔◌, All, Contains, bytes_eq, slice_get, unwrap_or}
+use Rattle.std.specs.Prelude.{◌↔◌, All, Contains, bytes_eq, slice_get}
 use Rattle.std.specs.List.Sorted.{IsStrictlyIncreasing}
 use Rattle.std.proofs.lemmas.List.{get_or-map, get_or_default, length-map}
 use Rattle.std.proofs.lemmas.Option.{slice_get_within, slice_get-get_or, get_or_from_slice_get}
@@ -13,14 +13,13 @@ use Rattle.specification.specs.Responses.{Responses, AreProper, StandsBefore}
 use Rattle.specification.specs.LayerRule.{Row, elements_from, narrowed, row_responses}
 use Rattle.specification.specs.Versions.{two}
 use Rattle.specification.specs.ExactRows as names
-use Rattle.specification.proofs.Members.{In, Once, In-from_Contains, Contains-from_In, In-from_place, place_of_In, In-map}
+use Rattle.specification.proofs.Members.{In, Once, In-from_Contains, Contains-from_In, In-from_place, place_of_In, In-map, Before-from_places}
 use Rattle.specification.proofs.OperationNames.{In_map-from}
-use Rattle.specification.proofs.Numbers.{number}
+use Rattle.specification.proofs.Numbers.{number, number-rises}
 use Rattle.specification.proofs.Narrowed.{narrowed-shows, narrowed_shows-from}
 use Rattle.specification.proofs.Shown.{ShowsIn-from_Shows, Shows-from_ShowsIn, elements-once}
 use Rattle.order_graph.specs.Kept.{names_at}
 use Rattle.order_graph.specs.Lists.{lists_of}
-use Rattle.element_numbers.proofs.NameNumbers.{number-at}
 use Rattle.level_search.specs.Graph.{Before}
 use Rattle.level_search.proofs.Joining.{name, number-name, stands-names, stands-numbers, before-known}
 use Rattle.bit_tables.specs.Lists.{HaveWidth, row_of}
@@ -94,17 +93,22 @@ module _ (v : Responses) (proper : AreProper v) (rows : List (List ℕ)) (table 
   name-among x lt le = place-among x (name v x) le (slice_get-get_or v.elements x [] lt)
 
   numbered : (i : ℕ) (y : NameBytes) → slice_get v.elements i ≡ Some y → number v.elements y ≡ i
-  numbered i y at = ap (λ n. unwrap_or n (length v.elements)) (number-at v.elements i y whole at)
+  numbered i y at =
+      ap (number v.elements) (sym (get_or_from_slice_get v.elements i y [] at)) ∙ number-name v proper i (slice_get_within v.elements i y at)
 
   among-number : (y : NameBytes) → In y among → s ≤ number v.elements y
   among-number y i = let p = among-place y i in let e = numbered p.0 y p.2 in omega (arith, e, p.1)
 
-  -- their numbers among those that count
-  number-among : (x : ℕ) → x < length v.elements → s ≤ x → number among (name v x) ≡ x - s
-  number-among x lt le =
-      ap (λ l. number l (name v x)) same
-      ∙ ap (λ n. unwrap_or n (length (drop s v.elements)))
-      (number-at (drop s v.elements) (x - s) (name v x) (Once-drop s v.elements whole) (in-drop v.elements s x (name v x) le (slice_get-get_or v.elements x [] lt)))
+  -- of two that count the one with the lesser number is the lesser among them
+  number-among : (x y : ℕ) → s ≤ x → x < y → y < length v.elements → number among (name v x) < number among (name v y)
+  number-among x y le lt within =
+      let one : slice_get (drop s v.elements) (x - s) ≡ Some (name v x) =
+      in-drop v.elements s x (name v x) le (slice_get-get_or v.elements x [] (omega (arith, lt, within))) in
+      let other : slice_get (drop s v.elements) (y - s) ≡ Some (name v y) =
+      in-drop v.elements s y (name v y) (omega (arith, le, lt)) (slice_get-get_or v.elements y [] within) in
+      subst (λ l. number l (name v x) < number l (name v y)) (sym same)
+      (number-rises (drop s v.elements) (Once-drop s v.elements whole) (name v x) (name v y)
+      (Before-from_places (drop s v.elements) (name v x) (name v y) (x - s) (y - s) (omega (arith, le, lt)) one other))
 
   -- what stands before what
   narrow-stands : (x y : NameBytes) → In x among → In y among → StandsBefore v x y → StandsBefore left x y
@@ -178,19 +182,13 @@ module _ (v : Responses) (proper : AreProper v) (rows : List (List ℕ)) (table 
         } in
         subst (λ z. In z (names_at v.elements layer)) named (In-map (name v) p.0 layer (In-from_Contains layer p.0 ((is.has p.0).1 (lt, near))))
 
-    number-rises : (k : ℕ) → k < length layer → get_or (numbers_in among (names_at v.elements layer)) k 0 + s ≡ get_or layer k 0
-    number-rises k lt =
-        let x : ℕ = get_or layer k 0 in
-        let there : Contains layer x = (k, lt, get_or_same layer k lt) in
-        let p = (is.has x).0 there in
-        let le : s ≤ x = way-counts d x p.1.way in
+    number-there : (k : ℕ) → k < length layer → get_or (numbers_in among (names_at v.elements layer)) k 0 ≡ number among (name v (get_or layer k 0))
+    number-there k lt =
         let size : k < length (names_at v.elements layer) = subst (λ n. k < n) (sym (length-map layer (name v))) lt in
-        let at : get_or (numbers_in among (names_at v.elements layer)) k 0 ≡ x - s =
-        get_or-map (number among) (names_at v.elements layer) k [] 0 size ∙ ap (number among) (get_or-map (name v) layer k 0 [] lt) ∙ number-among x p.0 le in
-        omega (arith, at, le)
-      where
-        get_or_same : (ys : List ℕ) (i : ℕ) → i < length ys → get_or ys i (get_or ys i 0) ≡ get_or ys i 0
-        get_or_same ys i lt = get_or_default ys i (get_or ys i 0) 0 lt
+        get_or-map (number among) (names_at v.elements layer) k [] 0 size ∙ ap (number among) (get_or-map (name v) layer k 0 [] lt)
+
+    member : (k : ℕ) → k < length layer → Contains layer (get_or layer k 0)
+    member k lt = (k, lt, get_or_default layer k (get_or layer k 0) 0 lt)
 
     pub exact_layer : names.IsLayer left source d (names_at v.elements layer)
     exact_layer = record {
@@ -202,10 +200,13 @@ module _ (v : Responses) (proper : AreProper v) (rows : List (List ℕ)) (table 
           let size : length (numbers_in among (names_at v.elements layer)) ≡ length layer =
           length-map (names_at v.elements layer) (number among) ∙ length-map layer (name v) in
           let next : k + 1 < length layer = omega (arith, lt, size) in
-          let one = number-rises k (omega (arith, next)) in
-          let other = number-rises (k + 1) next in
-          let less : get_or layer k 0 < get_or layer (k + 1) 0 = is.rising k next in
-          omega (arith, one, other, less);
+          let here : k < length layer = omega (arith, next) in
+          let first = (is.has (get_or layer k 0)).0 (member k here) in
+          let second = (is.has (get_or layer (k + 1) 0)).0 (member (k + 1) next) in
+          let less : number among (name v (get_or layer k 0)) < number among (name v (get_or layer (k + 1) 0)) =
+          number-among (get_or layer k 0) (get_or layer (k + 1) 0) (way-counts d (get_or layer k 0) first.1.way) (is.rising k next) second.0 in
+          subst (λ n. n < get_or (numbers_in among (names_at v.elements layer)) (k + 1) 0) (sym (number-there k here))
+          (subst (λ n. number among (name v (get_or layer k 0)) < n) (sym (number-there (k + 1) next)) less);
     }
 
   -- the row with these layers
