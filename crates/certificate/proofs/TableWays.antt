@@ -163,13 +163,15 @@ module _ (v : Responses) (proper : AreProper v) (rows : List (List ℕ)) (table 
         let t : (y : ℕ) × In y layer × (x ≡ name v y) = In_map-from (name v) x layer i in
         let p = (is.has t.0).0 (Contains-from_In layer t.0 t.1) in
         let way : Way rows s d s t.0 = p.1.way in
-        subst (λ (z : NameBytes). In z among × names.IsDistance left d source z) (sym t.2)
-        (name-among t.0 p.0 (way-counts d t.0 way), (
-          way-names d t.0 p.0 way,
-          λ fewer lt shorter.
-              p.1.shortest fewer lt
-              (subst (λ y. Way rows s fewer s y) (number-name v proper t.0 p.0) (way-numbers fewer (name v t.0) shorter)),
-        ))
+        subst (λ (z : NameBytes). In z among × names.IsDistance left d source z) (sym t.2) (
+          name-among t.0 p.0 (way-counts d t.0 way),
+          (
+            way-names d t.0 p.0 way,
+            λ fewer lt shorter.
+                p.1.shortest fewer lt
+                (subst (λ y. Way rows s fewer s y) (number-name v proper t.0 p.0) (way-numbers fewer (name v t.0) shorter)),
+          ),
+        )
 
     names-layer : (x : NameBytes) → In x among → names.IsDistance left d source x → In x (names_at v.elements layer)
     names-layer x i distance =

@@ -60,11 +60,7 @@ fn row_of_layers(
 }
 
 /// The layers of the elements with these numbers.
-fn layers_of(
-    alloc: Global,
-    graph: &OrderGraph,
-    numbers: &[Vec<u32>],
-) -> Result<Vec<Layer>, Memory>
+fn layers_of(alloc: Global, graph: &OrderGraph, numbers: &[Vec<u32>]) -> Result<Vec<Layer>, Memory>
     requires { All (λ layer. All (λ x. x < length graph.now.elements) layer.items) numbers.now }
     ensures { IfOk result (λ layers. layers.items
         ≡ map (λ layer. names_at graph.now.elements layer.items) numbers.now) }
