@@ -1,8 +1,9 @@
 //! Sets of numbers, a bit each.
 
-ghost use Rattle.std.specs.Prelude.{◌≡◌, ◌<◌, ◌+◌, ◌/◌, ◌⊎◌, ◌↔◌, ℕ, IfOk, IfSome, IfNone, IsTrue, true};
-ghost use Rattle.std.specs.Prelude.{List, length, slice_index};
+ghost use Rattle.std.specs.Prelude.{◌≡◌, ◌<◌, ◌≤◌, ◌+◌, ◌*◌, ◌/◌, ◌⊎◌, ◌↔◌, ℕ, IfOk, OnOk, IfSome, IfNone};
+ghost use Rattle.std.specs.Prelude.{IsTrue, true, List, [], ◌∷◌, ◌++◌, if◌then◌else◌, length, slice_index};
 ghost use Rattle.bit_tables.specs.Sets.{Has, room};
+ghost use Rattle.bit_tables.specs.Ways.{AreThoseBelow, IsOutside};
 
 use super::words::{empty, is_within, join};
 use std::alloc::{AllocError, Global};
@@ -134,4 +135,55 @@ impl BitSet {
         }
         None
     }
+}
+
+impl BitSet {
+    /// The numbers below `n` that this set has and the other has not, in rising order. It takes 64 steps for
+    /// each word in which there is one, and one for each other.
+    pub fn outside(&self, alloc: Global, other: &BitSet, n: u32) -> Result<Vec<u32>, AllocError>
+        ensures { IfOk result (λ v. AreThoseBelow (λ x. Has self.now x × (¬ Has other.now x)) n v.items) }
+    {
+        let mut numbers = Vec::new(alloc);
+        for word in 0..n / 64 + 1 {
+            self.add_outside(other, word, n, &mut numbers)?;
+        }
+        Ok(numbers)
+    }
+
+    /// Adds those of the 64 numbers of a word.
+    fn add_outside(
+        &self,
+        other: &BitSet,
+        word: u32,
+        n: u32,
+        numbers: &mut Vec<u32>,
+    ) -> Result<(), AllocError>
+        requires within { word ≤ n / 64 }
+        requires before { AreThoseBelow (IsOutside self.now other.now n) (64 * word) numbers.old.items }
+        ensures { OnOk result (AreThoseBelow (IsOutside self.now other.now n) (64 * (word + 1))
+            numbers.new.items) }
+    {
+        let bits = self.word(word);
+        let lacking = bits & !other.word(word);
+        if lacking == 0 {
+            return Ok(());
+        }
+        for i in 0..64u32 {
+            let x = 64 * word + i;
+            let is_wanted = x < n && lacking >> i & 1 == 1;
+            push_if(numbers, x, is_wanted)?;
+        }
+        Ok(())
+    }
+}
+
+/// Adds a number where it is wanted.
+fn push_if(numbers: &mut Vec<u32>, x: u32, is_wanted: bool) -> Result<(), AllocError>
+    ensures { OnOk result (numbers.new.items
+        ≡ (if is_wanted then numbers.old.items ++ x ∷ [] else numbers.old.items)) }
+{
+    if is_wanted {
+        numbers.push(x)?;
+    }
+    Ok(())
 }

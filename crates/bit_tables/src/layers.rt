@@ -11,7 +11,7 @@ use super::table::AfterTable;
 use std::alloc::{AllocError, Global};
 
 /// Adds the numbers of a layer.
-fn add_layer(into: &mut BitSet, layer: &[u32])
+pub fn add_layer(into: &mut BitSet, layer: &[u32])
     requires { All (λ x. x < room into.old) layer.now }
     ensures len { length into.new ≡ length into.old }
     ensures has { (y : ℕ) → Has into.new y ↔ (Has into.old y ⊎ Contains layer.now y) }
@@ -33,7 +33,7 @@ fn add_below(into: &mut BitSet, first: usize)
 }
 
 /// Adds what stands after a number of the layer in some list.
-fn add_successors(into: &mut BitSet, table: &AfterTable, layer: &[u32])
+pub fn add_successors(into: &mut BitSet, table: &AfterTable, layer: &[u32])
     requires within { All (λ x. x < length table.now) layer.now }
     requires width { HaveWidth (length into.old) table.now }
     ensures len { length into.new ≡ length into.old }

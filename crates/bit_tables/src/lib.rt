@@ -7,6 +7,7 @@ mod depths;
 mod layers;
 mod lists;
 mod table;
+mod ways;
 mod words;
 
 pub use bits::BitSet;
@@ -14,6 +15,7 @@ pub use depths::are_deep;
 pub use layers::meets_rule;
 pub use lists::empty_lists;
 pub use table::{AfterTable, empty_rows};
+pub use ways::layers_from;
 
 #[cfg(test)]
 mod tests;

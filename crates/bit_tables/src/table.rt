@@ -1,8 +1,10 @@
 //! Which numbers stand after which in some lists.
 
-ghost use Rattle.std.specs.Prelude.{◌≡◌, ◌<◌, ◌≤◌, ◌+◌, ◌/◌, ◌⊎◌, ◌↔◌, ℕ, All, IfOk, List, length, map};
+ghost use Rattle.std.specs.Prelude.{◌≡◌, ◌<◌, ◌≤◌, ◌+◌, ◌/◌, ◌^◌, ◌⊎◌, ◌↔◌, ℕ, All, Contains, IfOk, List};
+ghost use Rattle.std.specs.Prelude.{length, map};
 ghost use Rattle.bit_tables.specs.Sets.{Has, room};
 ghost use Rattle.bit_tables.specs.Lists.{HasInOrder, HaveWidth, IsTableOf, row_of};
+ghost use Rattle.bit_tables.specs.Ways.{IsTurned};
 
 use super::bits::BitSet;
 use std::alloc::{AllocError, Global};
@@ -76,5 +78,38 @@ impl AfterTable {
         ensures { result.now ≡ row_of self.now a }
     {
         &self.rows[a]
+    }
+}
+
+/// Adds a number to the row of each number of the list.
+fn add_to_rows(rows: &mut [BitSet], numbers: &[u32], x: u32)
+    requires within { All (λ a. a < length rows.old) numbers.now }
+    requires room { x < length rows.old }
+    requires width { HaveWidth (length rows.old / 64 + 1) rows.old }
+    ensures len { length rows.new ≡ length rows.old }
+    ensures width { HaveWidth (length rows.old / 64 + 1) rows.new }
+    ensures has { (a b : ℕ) → a < length rows.old → Has (row_of rows.new a) b
+        ↔ (Has (row_of rows.old a) b ⊎ (Contains numbers.now a × (b ≡ x))) }
+{
+    'numbers: for a in numbers {
+        rows[*a as usize].insert(x as usize);
+    }
+}
+
+impl AfterTable {
+    /// The table of what stands after each number, from the rows of what stands before each. It takes
+    /// `n / 64` steps for each of the n rows and one for each number in it, and `n * n / 8` bytes.
+    pub fn turned(alloc: Global, before: &[BitSet]) -> Result<AfterTable, AllocError>
+        requires { length before.now < 2 ^ 32 }
+        ensures { IfOk result (λ t. IsTurned before.now t) }
+    {
+        let n = before.len();
+        let mut rows = empty_rows(alloc, n)?;
+        let none = BitSet::new(alloc, 0)?;
+        'numbers: for b in 0..n as u32 {
+            let numbers = before[b as usize].outside(alloc, &none, n as u32)?;
+            add_to_rows(&mut rows, &numbers, b);
+        }
+        Ok(AfterTable { rows })
     }
 }

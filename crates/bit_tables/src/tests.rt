@@ -2,3 +2,4 @@
 
 mod sets;
 mod tables;
+mod ways;

@@ -1,5 +1,5 @@
 pub mod Refusals
 pub mod Copies
-pub mod DeepNames
-pub mod DistanceRows
+pub mod TableWays
+pub mod ExactRows
 pub mod CoveredRows

@@ -1,2 +1,2 @@
 pub mod VerdictOf
-pub mod Depths
+pub mod AfterTables

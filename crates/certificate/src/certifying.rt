@@ -5,6 +5,7 @@ ghost use Rattle.specification.specs.CertificateText.{IsSpellable};
 ghost use Rattle.specification.specs.ExactRows.{IsCertificateOf};
 ghost use Rattle.specification.specs.ValidCertificate.{IsValid};
 ghost use Rattle.specification.specs.Verdict.{IsVerdict, refused};
+ghost use Rattle.specification.specs.Versions.{two};
 ghost use Rattle.certificate_text.specs.CertificateOf.{certificate_of};
 ghost use Rattle.certificate.specs.VerdictOf.{verdict_of};
 
@@ -16,26 +17,28 @@ use order_graph::OrderGraph;
 use std::alloc::Global;
 use witnesses::{Order, Steps};
 
-/// The certificate of a verdict: its fault, its order, or its steps, and for `k` of 3 and more one row of
-/// layers for each element, in order of numbers.
+/// The certificate of a verdict, in version two: its fault, its order, or its steps, and for `k` of 3 and
+/// more one row of layers for each element, in order of numbers.
 ///
-/// Layer j of a row, from 0, holds the elements that take j steps from the row's source and no fewer, in
-/// order of numbers; elements that take k - 1 steps or more stand in none. A certificate has one spelling, so
-/// the same recording gives the same bytes.
+/// A row speaks of the elements alone that are not numbered below its source. Its layer j, from 0, holds
+/// those that take j steps from the source, through such elements, and no fewer, in order of numbers;
+/// elements that take k - 1 steps or more stand in none. A certificate has one spelling, so the same
+/// recording gives the same bytes.
 ///
-/// A fault, an order and a cycle of two elements cost their own length. For a greater `k` each row costs time
-/// linear in the places of all responses, the elements and k, and memory for as many names as have a distance
-/// below k - 1. So the memory may be quadratic in the elements: near the limits, 4,096 rows of up to 4,096
-/// names of 33 bytes each, and it answers `Memory` where that is not to be had.
+/// A fault, an order and a cycle of two elements cost their own length. For a greater `k` a table of n * n
+/// bits for n elements is made once, and turned, in time linear in the places of all responses, at most 64
+/// steps each, and in the pairs that they show. Each row then costs n / 64 steps for each name in it and each
+/// layer, and memory for its names. So the memory may be quadratic in the elements: near the limits, 4,096
+/// rows of 2,048 names of 33 bytes each on average, and it answers `Memory` where that is not to be had.
 pub fn certify(
     alloc: Global,
     recording: &Recording,
     verdict: &Verdict,
 ) -> Result<Certificate, Memory>
     requires verdict { IsVerdict recording.now (verdict_of verdict.now) }
-    ensures exact { IfOk result (λ c. IsCertificateOf recording.now (verdict_of verdict.now)
+    ensures exact { IfOk result (λ c. IsCertificateOf two recording.now (verdict_of verdict.now)
         (certificate_of c)) }
-    ensures valid { IfOk result (λ c. IsValid recording.now (certificate_of c)
+    ensures valid { IfOk result (λ c. IsValid two recording.now (certificate_of c)
         × IsSpellable (certificate_of c)) }
 {
     // The contract of this call has that the recording is legal.
@@ -50,7 +53,8 @@ fn certificate_for(
     verdict: &Verdict,
 ) -> Result<Certificate, Memory>
     requires verdict { IsVerdict recording.now (verdict_of verdict.now) }
-    ensures { IfOk result (λ c. IsCertificateOf recording.now (verdict_of verdict.now) (certificate_of c)) }
+    ensures { IfOk result (λ c. IsCertificateOf two recording.now (verdict_of verdict.now)
+        (certificate_of c)) }
 {
     match verdict {
         Verdict::Doubled { first, again } => Ok(Certificate::Doubled {
@@ -89,7 +93,7 @@ fn refusal(
     steps: &Steps,
 ) -> Result<Certificate, Memory>
     requires { IsVerdict recording.now (refused k steps.now) }
-    ensures { IfOk result (λ c. IsCertificateOf recording.now (refused k steps.now) (certificate_of c)) }
+    ensures { IfOk result (λ c. IsCertificateOf two recording.now (refused k steps.now) (certificate_of c)) }
 {
     // The contract of this call has that the recording is legal.
     let _ = recording.replicas();

@@ -1,14 +1,15 @@
 //! Which elements stand before which in some list.
 
-ghost use Rattle.std.specs.Prelude.{◌≡◌, ◌<◌, ◌≤◌, ◌+◌, ◌/◌, ◌⊎◌, ◌↔◌, ℕ, IfOk, OnOk, List, [], length};
+ghost use Rattle.std.specs.Prelude.{◌≡◌, ◌<◌, ◌≤◌, ◌+◌, ◌/◌, ◌^◌, ◌⊎◌, ◌↔◌, ℕ, IfOk, OnOk, List, [], length};
 ghost use Rattle.order_graph.specs.Lists.{lists_of, row};
 ghost use Rattle.bit_tables.specs.Sets.{Has};
 ghost use Rattle.bit_tables.specs.Lists.{HaveWidth, row_of};
+ghost use Rattle.bit_tables.specs.Ways.{IsTurned};
 ghost use Rattle.shown_table.specs.Tables.{IsShownTable};
 ghost use Rattle.shown_table.specs.Fronts.{IsBetween, IsFront};
 
 use super::front::{Front, add_few, goes_on};
-use bit_tables::{BitSet, empty_rows};
+use bit_tables::{AfterTable, BitSet, empty_rows};
 use events::Memory;
 use order_graph::{Looked, OrderGraph, Spot};
 use std::alloc::Global;
@@ -107,6 +108,16 @@ impl ShownTable {
             note_list(graph, list, &mut rows, &mut front)?;
         }
         Ok(ShownTable { rows })
+    }
+
+    /// The table of what stands after each element. It takes `n / 64` steps for each of n elements and one
+    /// for each that stands before it, and `n * n / 8` bytes.
+    pub fn turned(&self, alloc: Global) -> Result<AfterTable, Memory>
+        requires { length self.now < 2 ^ 32 }
+        ensures { IfOk result (λ t. IsTurned self.now t) }
+    {
+        let after = AfterTable::turned(alloc, &self.rows)?;
+        Ok(after)
     }
 
     /// Those that stand before this element in some list.

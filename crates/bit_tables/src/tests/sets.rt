@@ -71,3 +71,25 @@ fn unions_and_subsets(rt: HostRuntime) -> Result<(), Fail> {
     assert!(rt; set.is_subset(&other));
     Ok(())
 }
+
+#[test]
+fn the_numbers_that_another_set_lacks(rt: HostRuntime) -> Result<(), Fail> {
+    let set = set_of(rt.alloc(), [0, 3, 63, 64, 130, 200].as_slice())?;
+    let rows = [
+        ([].as_slice(), 300, [0, 3, 63, 64, 130, 200].as_slice()),
+        ([3, 130, 131].as_slice(), 300, [0, 63, 64, 200].as_slice()),
+        ([].as_slice(), 200, [0, 3, 63, 64, 130].as_slice()),
+        ([].as_slice(), 64, [0, 3, 63].as_slice()),
+        ([].as_slice(), 0, [].as_slice()),
+        ([0, 3, 63, 64, 130, 200].as_slice(), 300, [].as_slice()),
+    ];
+    for (lacking, below, expected) in rows {
+        let other = set_of(rt.alloc(), lacking)?;
+        let outside = match set.outside(rt.alloc(), &other, below) {
+            Ok(numbers) => numbers,
+            Err(_) => set.outside(rt.alloc(), &other, below)?,
+        };
+        assert!(rt; outside.as_slice() == expected);
+    }
+    Ok(())
+}

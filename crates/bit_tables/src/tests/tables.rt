@@ -7,7 +7,7 @@ use std::alloc::Global;
 use std::test::Fail;
 
 /// The list of some of the numbers below 70, those that are less.
-fn list_of(alloc: Global, numbers: &[u32]) -> Result<Vec<u32>, Fail>
+pub fn list_of(alloc: Global, numbers: &[u32]) -> Result<Vec<u32>, Fail>
     ensures { IfOk result (λ list. All (λ x. x < 70) list.items) }
 {
     let mut list = Vec::new(alloc);

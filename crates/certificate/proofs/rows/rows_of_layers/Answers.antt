@@ -1,9 +1,10 @@
 use Rattle.std.proofs.Common.{◌≡◌, ℕ, ◌<◌, ◌≤◌, List, [], ◌∷◌, ◌++◌, get_or, take, length, sym, subst, arith}
 use Rattle.std.proofs.lemmas.List.{take_more, take_all}
 use Rattle.events.specs.Names.{NameBytes}
+use Rattle.specification.specs.Versions.{two}
 use Rattle.specification.specs.LayerRule.{Row}
 use Rattle.specification.specs.ExactRows.{AreExactRows}
-use Rattle.certificate.proofs.DistanceRows.{exact_rows_push}
+use Rattle.certificate.proofs.ExactRows.{exact_rows_push}
 use Rattle.certificate.proofs.rows.rows_of_layers.Goals as goal
 
 pub loop-source-preserved : goal.loop-source-preserved
@@ -16,16 +17,12 @@ loop-source-preserved c =
     let rows : List Row = c.loop-source.rows.items in
     let within : source < length elements = omega arith in
     let pushed : c.push.new.self.items ≡ rows ++ c.in_ok-row.row ∷ [] = c.in_ok-push.ensures.items in
-    record {
-      fits = c.in_ok-row.ensures.fits;
-      places = c.loop-source.invariant.places;
-      rows = subst (λ l. AreExactRows v k l c.push.new.self.items) (sym (take_more elements source [] within))
-          (subst (λ l. AreExactRows v k (take source elements ++ a ∷ []) l) (sym pushed)
-          (exact_rows_push v k (take source elements) rows a c.in_ok-row.row c.loop-source.invariant.rows c.in_ok-row.ensures.row));
-    }
+    subst (λ l. AreExactRows two v k l c.push.new.self.items) (sym (take_more elements source [] within))
+    (subst (λ l. AreExactRows two v k (take source elements ++ a ∷ []) l) (sym pushed)
+    (exact_rows_push two v k (take source elements) rows a c.in_ok-row.row c.loop-source.invariant c.in_ok-row.ensures))
 
 pub returns : goal.returns
 returns c =
     let v = c.args.graph.now in
     let all : length v.elements ≤ c.loop-source.source = omega arith in
-    subst (λ l. AreExactRows v c.args.k l c.loop-source.rows.items) (take_all c.loop-source.source v.elements all) c.loop-source.invariant.rows
+    subst (λ l. AreExactRows two v c.args.k l c.loop-source.rows.items) (take_all c.loop-source.source v.elements all) c.loop-source.invariant

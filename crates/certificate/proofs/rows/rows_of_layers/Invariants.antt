@@ -1,11 +1,7 @@
-use Rattle.std.proofs.Common.{◌≡◌, length, take, vec_len}
+use Rattle.std.proofs.Common.{take}
+use Rattle.specification.specs.Versions.{two}
 use Rattle.specification.specs.ExactRows.{AreExactRows}
-use Rattle.level_search.specs.ScratchView.{Fits}
 use Rattle.certificate.proofs.rows.rows_of_layers.Given as goal
 
 abbrev pub invariant-loop-source : goal.invariant-loop-source
-invariant-loop-source l = record {
-  fits : Fits l.scratch l.graph;
-  places : vec_len l.depths ≡ length l.graph.elements;
-  rows : AreExactRows l.graph l.k (take l.source l.graph.elements) l.rows.items;
-}
+invariant-loop-source l = AreExactRows two l.graph l.k (take l.source l.graph.elements) l.rows.items

@@ -1,0 +1,150 @@
+-- The numbers below a bound that meet a condition, in rising order: with one number more, and past numbers that do not meet it.
+use Rattle.std.proofs.Common.{◌≡◌, ℕ, ◌+◌, ◌*◌, ◌/◌, ◌%◌, ◌-◌, ◌^◌, ◌<◌, ◌≤◌, ◌⊎◌, inl, inr, ◌∙◌, Bool, true, false, cond, eqb, List, [], ◌∷◌, ◌++◌, length, get_or, ap, sym, refl, subst, arith, min, eq-eqb, eqb-true, true≢false, w64}
+use Rattle.std.specs.Prelude.{◌↔◌, All, Contains, bit_and}
+use Rattle.std.specs.Int.{bit_at, bit_not}
+use Rattle.std.specs.List.Sorted.{IsStrictlyIncreasing}
+use Rattle.std.proofs.lemmas.Bool.{cases_eq, cases_lt}
+use Rattle.std.proofs.lemmas.List.{get_or_append_left, get_or_default, length-append}
+use Rattle.std.proofs.Math.Seq.{get_or-append_seam}
+use Rattle.std.proofs.lemmas.List.Elements.{Contains-push, Contains-append_left, Contains-push_cases}
+use Rattle.std.proofs.lemmas.Nat.Bits.{bit_at_and, bit_at_not, bit_at-zero, bit_at-lt, shr_and_one}
+use Rattle.bit_tables.specs.Sets.{Has}
+use Rattle.bit_tables.specs.Lists.{row_of}
+use Rattle.bit_tables.specs.Ways.{AreThoseBelow, IsOutside}
+
+pub not_in-none : (x : ℕ) → ¬ Contains {X = ℕ} [] x
+not_in-none x (i, lt, is) = omega (arith, lt)
+
+-- one number more than all of them
+pub rising_more : (xs : List ℕ) (m : ℕ) → IsStrictlyIncreasing xs → ((x : ℕ) → Contains xs x → x < m) → IsStrictlyIncreasing (xs ++ m ∷ [])
+rising_more xs m rising below k lt =
+    let size : length (xs ++ m ∷ []) ≡ length xs + 1 = length-append xs (m ∷ []) in
+    let here : k < length xs = omega (arith, lt, size) in
+    let first : get_or (xs ++ m ∷ []) k 0 ≡ get_or xs k 0 = get_or_append_left xs (m ∷ []) 0 k here in
+    elim (cases_lt (k + 1) (length xs)) [
+      | inl within ↦
+          let second : get_or (xs ++ m ∷ []) (k + 1) 0 ≡ get_or xs (k + 1) 0 = get_or_append_left xs (m ∷ []) 0 (k + 1) within in
+          let less : get_or xs k 0 < get_or xs (k + 1) 0 = rising k within in
+          omega (arith, first, second, less)
+      | inr past ↦
+          let last : k + 1 ≡ length xs = omega (arith, here, past) in
+          let second : get_or (xs ++ m ∷ []) (k + 1) 0 ≡ m = ap (λ i. get_or (xs ++ m ∷ []) i 0) last ∙ get_or-append_seam xs m [] 0 in
+          let less : get_or xs k 0 < m = below (get_or xs k 0) (k, here, get_or_same xs k here) in
+          omega (arith, first, second, less)
+    ]
+  where
+    get_or_same : (ys : List ℕ) (i : ℕ) → i < length ys → get_or ys i (get_or ys i 0) ≡ get_or ys i 0
+    get_or_same ys i lt = get_or_default ys i (get_or ys i 0) 0 lt
+
+module _ (P : ℕ → Type 0) where
+  pub those_none : AreThoseBelow P 0 []
+  those_none = record {
+    has = λ x. (λ c. absurd (not_in-none x c), λ p. absurd (let lt : x < 0 = p.0 in omega (arith, lt)));
+    rising = λ k lt. absurd (omega (arith, lt));
+  }
+
+  -- none of the next numbers meets it
+  pub those_past : (m far : ℕ) (xs : List ℕ) → m ≤ far → ((x : ℕ) → m ≤ x → x < far → ¬ P x) → AreThoseBelow P m xs → AreThoseBelow P far xs
+  those_past m far xs le none are = record {
+    has = λ x. (
+      λ c. (let p = (are.has x).0 c in (omega (arith, le, p.0), p.1)),
+      λ p. elim (cases_lt x m) [
+        | inl low ↦ (are.has x).1 (low, p.1)
+        | inr high ↦ absurd (none x high p.0 p.1)
+      ],
+    );
+    rising = are.rising;
+  }
+
+  -- the next number meets it
+  pub those_more : (m : ℕ) (xs : List ℕ) → P m → AreThoseBelow P m xs → AreThoseBelow P (m + 1) (xs ++ m ∷ [])
+  those_more m xs meets are = record {
+    has = λ x. (
+      λ c. elim (Contains-push_cases xs m x c) [
+        | inl old ↦ (let p = (are.has x).0 old in (omega (arith, p.0), p.1))
+        | inr e ↦ (omega (arith, e), subst P e meets)
+      ],
+      λ p. elim (cases_eq x m) [
+        | inl e ↦ subst (λ y. Contains (xs ++ m ∷ []) y) (sym e) (Contains-push xs m)
+        | inr apart ↦ Contains-append_left xs (m ∷ []) x ((are.has x).1 (omega (arith, p.0, apart), p.1))
+      ],
+    );
+    rising = rising_more xs m are.rising (λ x c. ((are.has x).0 c).0);
+  }
+
+  -- the next number, by a test
+  pub those_step : (m : ℕ) (xs ys : List ℕ) (test : Bool) → (test ≡ true) ↔ P m → ys ≡ cond test (xs ++ m ∷ []) xs → AreThoseBelow P m xs → AreThoseBelow P (m + 1) ys
+  those_step m xs ys true tells is are = subst (AreThoseBelow P (m + 1)) (sym is) (those_more m xs (tells.0 refl) are)
+  those_step m xs ys false tells is are =
+      subst (AreThoseBelow P (m + 1)) (sym is) (those_past m (m + 1) xs (omega arith)
+      (λ x low high meets. true≢false (sym (tells.1 (subst P (let e : x ≡ m = omega (arith, low, high) in e) meets)))) are)
+
+  -- those below two bounds are those below the lesser
+  pub those_below : (n m : ℕ) (xs : List ℕ) → n ≤ m → AreThoseBelow (λ x. (x < n) × P x) m xs → AreThoseBelow P n xs
+  those_below n m xs le are = record {
+    has = λ x. (λ c. (let p = (are.has x).0 c in p.1), λ p. (are.has x).1 (omega (arith, p.0, le), p));
+    rising = are.rising;
+  }
+
+  -- and all are below a greater bound
+  pub those_all : (n far : ℕ) (xs : List ℕ) → n ≤ far → AreThoseBelow P n xs → All (λ x. x < far) xs
+  those_all n far xs le are i d lt =
+      let x : ℕ = get_or xs i d in
+      let there : Contains xs x = (i, lt, get_or_default xs i x d lt) in
+      let low : x < n = ((are.has x).0 there).0 in
+      omega (arith, low, le)
+
+-- the bits of one word that another has not
+pub lacking-bit : (a b i : ℕ) → b < 2 ^ 64 → i < 64 → (bit_at (bit_and a (bit_not w64 b)) i ≡ 1) ↔ ((bit_at a i ≡ 1) × (bit_at b i ≡ 1 → ⊥))
+lacking-bit a b i small low =
+    let both : bit_at (bit_and a (bit_not w64 b)) i ≡ min (bit_at a i) (bit_at (bit_not w64 b) i) = bit_at_and a (bit_not w64 b) i in
+    let other : bit_at (bit_not w64 b) i ≡ 1 - bit_at b i = bit_at_not w64 b i small low in
+    let bit_a : bit_at a i < 2 = bit_at-lt a i in
+    let bit_b : bit_at b i < 2 = bit_at-lt b i in (
+      λ h. (omega (arith, both, other, bit_a, bit_b, h), λ one. omega (arith, both, other, bit_a, bit_b, h, one)),
+      λ p. elim (cases_eq (bit_at b i) 1) [
+        | inl one ↦ absurd (p.1 one)
+        | inr none ↦ omega (arith, both, other, bit_a, bit_b, p.0, none)
+      ],
+    )
+
+module _ (set other : List ℕ) (word a b : ℕ) (one : a ≡ get_or set word 0) (two : b ≡ get_or other word 0) (small : b < 2 ^ 64) where
+  -- a number of the word
+  pub lacking-has : (i : ℕ) → i < 64 → (bit_at (bit_and a (bit_not w64 b)) i ≡ 1) ↔ (Has set (64 * word + i) × (¬ Has other (64 * word + i)))
+  unfolding Has
+  lacking-has i low =
+      let at : (64 * word + i) / 64 ≡ word = omega (arith, low) in
+      let place : (64 * word + i) % 64 ≡ i = omega (arith, low) in
+      rw (at, place, ← one, ← two) (lacking-bit a b i small low)
+
+  pub lacking-none : bit_and a (bit_not w64 b) ≡ 0 → (x : ℕ) → 64 * word ≤ x → x < 64 * (word + 1) → ¬ (Has set x × (¬ Has other x))
+  lacking-none zero x from to has =
+      let i : ℕ = x - 64 * word in
+      let low : i < 64 = omega (arith, from, to) in
+      let same : 64 * word + i ≡ x = omega (arith, from) in
+      let bit : bit_at (bit_and a (bit_not w64 b)) i ≡ 1 = (lacking-has i low).1 (subst (λ y. Has set y × (¬ Has other y)) (sym same) has) in
+      let none : bit_at (bit_and a (bit_not w64 b)) i ≡ 0 = ap (λ w. bit_at w i) zero ∙ bit_at-zero i in
+      omega (arith, bit, none)
+
+  pub lacking-test : (i : ℕ) → i < 64 → (eqb (bit_and (bit_and a (bit_not w64 b) / 2 ^ i) 1) 1 ≡ true) ↔ (Has set (64 * word + i) × (¬ Has other (64 * word + i)))
+  lacking-test i low =
+      let each = lacking-has i low in
+      rw (shr_and_one) (λ t. each.0 (eqb-true _ 1 t), λ h. eq-eqb _ 1 (each.1 h))
+
+-- one row more, turned
+pub turned_step : (n b x y : ℕ) (none numbers : List ℕ) (before old new : List (List ℕ)) → x < n → ((z : ℕ) → ¬ Has none z)
+    → AreThoseBelow (λ z. Has (row_of before b) z × (¬ Has none z)) n numbers
+    → Has (row_of old x) y ↔ ((y < b) × Has (row_of before y) x) → Has (row_of new x) y ↔ (Has (row_of old x) y ⊎ (Contains numbers x × (y ≡ b)))
+    → Has (row_of new x) y ↔ ((y < b + 1) × Has (row_of before y) x)
+turned_step n b x y none numbers before old new low empty are was grown = (
+  λ has. elim (grown.0 has) [
+    | inl o ↦ (let p = was.0 o in (omega (arith, p.0), p.1))
+    | inr p ↦
+        let here : Has (row_of before b) x = ((are.has x).0 p.0).1.0 in
+        (omega (arith, p.1), subst (λ c. Has (row_of before c) x) (sym p.1) here)
+  ],
+  λ p. elim (cases_eq y b) [
+    | inl e ↦ grown.1 (inr ((are.has x).1 (low, (subst (λ c. Has (row_of before c) x) e p.1, empty x)), e))
+    | inr other ↦ grown.1 (inl (was.1 (omega (arith, p.0, other), p.1)))
+  ],
+)

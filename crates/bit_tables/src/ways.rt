@@ -1,0 +1,60 @@
+//! The numbers by how many steps lead to them, along a table.
+
+ghost use Rattle.std.specs.Prelude.{◌≡◌, ◌<◌, ◌≤◌, ◌+◌, ◌/◌, ◌↔◌, ℕ, IfOk, length, vec_len};
+ghost use Rattle.bit_tables.specs.Sets.{Has};
+ghost use Rattle.bit_tables.specs.Lists.{HaveWidth};
+ghost use Rattle.bit_tables.specs.Rule.{layer_at};
+ghost use Rattle.bit_tables.specs.Ways.{IsLayerAt};
+
+use super::bits::BitSet;
+use super::layers::{add_layer, add_successors};
+use super::table::AfterTable;
+use std::alloc::{AllocError, Global};
+
+/// The set of the numbers below the first, with room for those up to `n`.
+fn numbers_below(alloc: Global, n: u32, first: u32) -> Result<BitSet, AllocError>
+    requires { first ≤ n }
+    ensures len { IfOk result (λ s. length s ≡ n / 64 + 1) }
+    ensures has { IfOk result (λ s. (x : ℕ) → Has s x ↔ (x < first)) }
+{
+    let mut numbers = BitSet::new(alloc, n as usize)?;
+    for x in 0..first {
+        numbers.insert(x as usize);
+    }
+    Ok(numbers)
+}
+
+/// So many layers of the numbers below `n`, from the first that counts on: layer d holds those that d steps
+/// lead to from the source, and no fewer, in rising order. A step leads to what the table has of a number,
+/// and all steps go through numbers that count.
+///
+/// It takes `n / 64` steps for each number in the layers and each layer, and memory for these numbers and
+/// two sets.
+pub fn layers_from(
+    alloc: Global,
+    table: &AfterTable,
+    n: u32,
+    source: u32,
+    first: u32,
+    count: u32,
+) -> Result<Vec<Vec<u32>>, AllocError>
+    requires len { length table.now ≡ n }
+    requires width { HaveWidth (n / 64 + 1) table.now }
+    requires counts { first ≤ source }
+    requires within { source < n }
+    ensures count { IfOk result (λ layers. vec_len layers ≡ count) }
+    ensures layers { IfOk result (λ layers. (d : ℕ) → d < count
+        → IsLayerAt n table.now first source d (layer_at layers.items d)) }
+{
+    let mut reached = numbers_below(alloc, n, first)?;
+    let mut shown = BitSet::new(alloc, n as usize)?;
+    shown.insert(source as usize);
+    let mut layers = Vec::new(alloc);
+    for _ in 0..count {
+        let layer = shown.outside(alloc, &reached, n)?;
+        add_layer(&mut reached, layer.as_slice());
+        add_successors(&mut shown, table, layer.as_slice());
+        layers.push(layer)?;
+    }
+    Ok(layers)
+}
