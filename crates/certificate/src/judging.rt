@@ -1,10 +1,13 @@
 //! The verdict on a recording.
 
-ghost use Rattle.std.specs.Prelude.{◌⊎◌, ◌↔◌, ◌<◌, ◌≤◌, IfOk, IsErrOf};
+ghost use Rattle.std.specs.Prelude.{◌⊎◌, ◌↔◌, ◌<◌, IfOk, IsErrOf};
 ghost use Rattle.specification.specs.Faults.{IsSound};
-ghost use Rattle.specification.specs.Orders.{HasNoOrder};
+ghost use Rattle.specification.specs.Orders.{HasNoOrder, IsLeastOrder};
+ghost use Rattle.specification.specs.Responses.{responses_of};
 ghost use Rattle.specification.specs.Verdict.{IsVerdict, DecidesSpecifications, ProvesItself};
-ghost use Rattle.certificate.specs.VerdictOf.{verdict_of, IsRefusalOf};
+ghost use Rattle.order_graph.specs.Covers.{IsCoveredBy};
+ghost use Rattle.level_search.specs.Conflicts.{IsLeastConflict};
+ghost use Rattle.certificate.specs.VerdictOf.{verdict_of};
 
 use super::verdict::Verdict;
 use contents_check::first_fault_by;
@@ -15,6 +18,7 @@ use std::alloc::Global;
 use std::thread::Threads;
 use visibility::Sight;
 use witness_order::order;
+use witnesses::Order;
 
 /// The verdict on a recording.
 ///
@@ -47,49 +51,41 @@ pub fn judge<H: Threads + Sync, G: Gate>(
     if let Some(fault) = first_fault_by(rt, alloc, workers, recording, &sight)? {
         return Ok(Verdict::of_fault(fault));
     }
-    judge_sound(rt, alloc, recording, workers, gate)
+    let graph = OrderGraph::covering(alloc, recording)?;
+    if let Some(order) = order(alloc, &graph)? {
+        return Ok(accepted(recording, &graph, order));
+    }
+    let found = least_conflict(rt, alloc, &graph, workers, gate)?;
+    Ok(refused(recording, &graph, found))
 }
 
-/// The verdict on a recording that has no fault.
-fn judge_sound<H: Threads + Sync, G: Gate>(
-    rt: &H,
-    alloc: Global,
-    recording: &Recording,
-    workers: u32,
-    gate: &G,
-) -> Result<Verdict, SearchFault>
+/// The verdict on a recording without a fault: this is the least order that all responses follow.
+fn accepted(recording: &Recording, graph: &OrderGraph, order: Order) -> Verdict
     requires sound { IsSound recording.now }
-    requires workers { (1 ≤ workers) × (workers ≤ MOST_WORKERS) }
-    ensures verdict { IfOk result (λ v. IsVerdict recording.now (verdict_of v)) }
-    ensures workers { ¬ IsErrOf result SearchFault.Workers }
+    requires covered { IsCoveredBy (responses_of recording.now) graph.now }
+    requires least { IsLeastOrder graph.now order }
+    ensures { IsVerdict recording.now (verdict_of result) }
+{
+    Verdict::Accepted(order)
+}
+
+/// The verdict on a recording without a fault, where no order follows all responses: this is their least
+/// conflict.
+fn refused(recording: &Recording, graph: &OrderGraph, found: Option<Conflict>) -> Verdict
+    requires sound { IsSound recording.now }
+    requires covered { IsCoveredBy (responses_of recording.now) graph.now }
+    requires disordered { HasNoOrder graph.now }
+    requires found { IsLeastConflict graph.now found }
+    ensures { IsVerdict recording.now (verdict_of result) }
 {
     // For their clauses: the recording is legal, and the graph's responses are proper.
     let _ = recording.replicas();
-    let graph = OrderGraph::covering(alloc, recording)?;
     let _ = graph.elements();
-    if let Some(order) = order(alloc, &graph)? {
-        return Ok(Verdict::Accepted(order));
-    }
-    refuse(rt, alloc, &graph, workers, gate)
-}
-
-/// The verdict on responses that no order follows.
-fn refuse<H: Threads + Sync, G: Gate>(
-    rt: &H,
-    alloc: Global,
-    graph: &OrderGraph,
-    workers: u32,
-    gate: &G,
-) -> Result<Verdict, SearchFault>
-    requires disordered { HasNoOrder graph.now }
-    requires workers { (1 ≤ workers) × (workers ≤ MOST_WORKERS) }
-    ensures verdict { IfOk result (λ v. IsRefusalOf graph.now (verdict_of v)) }
-    ensures workers { ¬ IsErrOf result SearchFault.Workers }
-{
-    // Its contract has that the responses are proper.
-    let _ = graph.elements();
-    match least_conflict(rt, alloc, graph, workers, gate)? {
-        Some(Conflict { k, steps }) => Ok(Verdict::Refused { k, steps }),
+    match found {
+        Some(conflict) => Verdict::Refused {
+            k: conflict.k,
+            steps: conflict.steps,
+        },
         None => unreachable!(),
     }
 }

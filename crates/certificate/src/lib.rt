@@ -9,7 +9,7 @@ mod judging;
 mod rows;
 mod verdict;
 
-pub use certificate_text::{CertCause, CertFault, Certificate, Layer, Layers, Row};
+pub use certificate_text::{CertCause, CertFault, Certificate, Layer, Layers, Row, Version};
 pub use certifying::certify;
 pub use judging::judge;
 pub use level_search::{Gate, NoGate, SearchFault};

@@ -4,7 +4,6 @@ ghost use Rattle.std.specs.Prelude.{◌≡◌, All};
 use anyhow::{Result, anyhow};
 use events::{Recording, Refusal};
 use sessions::{Pass, RefusedBody, Session};
-use std::alloc::Global;
 use std::sync::Wait;
 
 /// How often a recorder is chosen at most.
@@ -12,9 +11,8 @@ const MOST_TURNS: u32 = 1_000_000;
 
 /// Hands in the entry at this place of the pass's stream, and answers the next place. Where the stream
 /// has ended, or what is received is not there yet, nothing happens.
-fn record_next<R: Wait>(
-    rt: &R,
-    alloc: Global,
+fn record_next<H: AllocGlobal + Wait>(
+    rt: &H,
     session: &Session,
     pass: &mut Pass,
     recording: &Recording,
@@ -26,7 +24,7 @@ fn record_next<R: Wait>(
     let Some(body) = recording.stream(session.replica(pass), place) else {
         return Ok(place);
     };
-    let body = body.copy(alloc)?;
+    let body = body.copy(rt.alloc())?;
     match session.record(rt, pass, body) {
         Ok(count) => Ok(count),
         Err(
@@ -40,9 +38,8 @@ fn record_next<R: Wait>(
 }
 
 /// Hands in all streams.
-fn hand_in<R: Wait>(
-    rt: &R,
-    alloc: Global,
+fn hand_in<H: AllocGlobal + Wait>(
+    rt: &H,
     session: &Session,
     passes: &mut [Pass],
     recording: &Recording,
@@ -60,7 +57,7 @@ fn hand_in<R: Wait>(
         let next = (chance >> 33) as usize % 16;
         if next < passes.len() {
             let pass = &mut passes[next];
-            places[next] = record_next(rt, alloc, session, pass, recording, places[next])?;
+            places[next] = record_next(rt, session, pass, recording, places[next])?;
             if session.count(pass) == u64::from(recording.len()) {
                 return Ok(());
             }
@@ -70,15 +67,14 @@ fn hand_in<R: Wait>(
 }
 
 /// The recording of a session of which each pass has recorded its stream.
-pub fn interleaved<R: Wait>(
-    rt: &R,
-    alloc: Global,
+pub fn interleaved<H: AllocGlobal + Wait>(
+    rt: &H,
     recording: &Recording,
     seed: u64,
 ) -> Result<Recording> {
-    let (session, passes) = Session::open(alloc, recording.replicas())?;
+    let (session, passes) = Session::open(rt.alloc(), recording.replicas())?;
     let mut passes = passes;
-    hand_in(rt, alloc, &session, passes.as_mut_slice(), recording, seed)?;
+    hand_in(rt, &session, passes.as_mut_slice(), recording, seed)?;
     match session.close(passes) {
         Ok(merged) => Ok(merged),
         Err(_) => Err(anyhow!("not closed")),

@@ -13,7 +13,6 @@ use events::Recording;
 use interleaved::interleaved;
 use reports::{Reports, reports_of};
 use stalled::stalled_and_resumed;
-use std::alloc::Global;
 use std::io;
 use std::io::{Read, Write};
 use std::sync::Wait;
@@ -27,15 +26,15 @@ const RUNS: u32 = 10;
 
 /// How many of the orders in which entries were recorded are different, where each recording has the same
 /// reports.
-fn orders<H: Threads + Wait + Sync>(
+fn orders<H: AllocGlobal + Threads + Wait + Sync>(
     rt: &H,
-    alloc: Global,
     recording: &Recording,
     wanted: &Reports,
 ) -> Result<usize> {
+    let alloc = rt.alloc();
     let mut orders = Vec::new(alloc);
     for seed in 0..INTERLEAVINGS {
-        let merged = interleaved(rt, alloc, recording, seed)?;
+        let merged = interleaved(rt, recording, seed)?;
         if !wanted.are(&reports_of(rt, alloc, &merged)?) {
             return Err(anyhow!("an interleaving has other reports"));
         }
@@ -62,15 +61,14 @@ fn order_of(recording: &Recording) -> u64 {
 }
 
 /// Whether so many runs of threads have the same reports.
-fn threads_agree<H: Threads + Wait + Sync>(
+fn threads_agree<H: AllocGlobal + Threads + Wait + Sync>(
     rt: &H,
-    alloc: Global,
     recording: &Recording,
     wanted: &Reports,
 ) -> Result<bool> {
     for _ in 0..RUNS {
-        let merged = replayed_by_threads(rt, alloc, recording)?;
-        if !wanted.are(&reports_of(rt, alloc, &merged)?) {
+        let merged = replayed_by_threads(rt, rt.alloc(), recording)?;
+        if !wanted.are(&reports_of(rt, rt.alloc(), &merged)?) {
             return Ok(false);
         }
     }
@@ -83,11 +81,11 @@ fn main(rt: HostRuntime) -> Result<()> {
     rt.reader().read_to_end(&mut trace)?;
     let recording = trace_text::read(alloc, &trace)?;
     let wanted = reports_of(&rt, alloc, &recording)?;
-    io::writer(&rt).write_all(&stalled_and_resumed(&rt, alloc)?)?;
+    io::writer(&rt).write_all(&stalled_and_resumed(&rt)?)?;
     io::writer(&rt).write_all(wanted.text())?;
-    let orders = orders(&rt, alloc, &recording, &wanted)?;
+    let orders = orders(&rt, &recording, &wanted)?;
     println!(rt; "{orders} interleavings, the same reports")?;
-    if threads_agree(&rt, alloc, &recording, &wanted)? {
+    if threads_agree(&rt, &recording, &wanted)? {
         println!(rt; "{RUNS} runs of threads, the same reports")?;
     }
     Ok(())

@@ -19,11 +19,13 @@ impl Reports {
         self.text == others.text && self.json == others.json
     }
 
+    /// The report as text.
     pub fn text(&self) -> &[u8] {
         &self.text
     }
 }
 
+/// Both reports of the recording, on a verdict by four workers.
 pub fn reports_of<H: Threads + Sync>(
     rt: &H,
     alloc: Global,

@@ -5,7 +5,6 @@ use super::reports::reports_of;
 use anyhow::{Result, anyhow};
 use events::Recording;
 use sessions::{Pass, ReplayFault, Session};
-use std::alloc::Global;
 use std::sync::Wait;
 use std::thread::Threads;
 use trace_text::read;
@@ -14,9 +13,8 @@ const THREE_WAY: &str =
     "trace 1\nreplicas 3\n0 ins x 0 : x\n1 recv 0 1\n2 recv 0 1\n1 ins a 0 : a x\n2 ins b 1 : x b\n0 del x :\n0 recv 1 1\n0 recv 2 1\n0 read : b a\n";
 
 /// Records the rest of the first replica's stream.
-fn resume<R: Wait>(
-    rt: &R,
-    alloc: Global,
+fn resume<H: AllocGlobal + Wait>(
+    rt: &H,
     session: &Session,
     pass: &mut Pass,
     recording: &Recording,
@@ -29,7 +27,7 @@ fn resume<R: Wait>(
         let Some(body) = recording.stream(0, at) else {
             return Err(anyhow!("no entry"));
         };
-        if session.record(rt, pass, body.copy(alloc)?).ok() != Some(at + 1) {
+        if session.record(rt, pass, body.copy(rt.alloc())?).ok() != Some(at + 1) {
             return Err(anyhow!("another answer at {at}"));
         }
     }
@@ -38,7 +36,8 @@ fn resume<R: Wait>(
 
 /// The first replica's replay stalls at its third entry; the others replay theirs, and then the first one
 /// goes on. It answers the report.
-pub fn stalled_and_resumed<H: Threads + Wait + Sync>(rt: &H, alloc: Global) -> Result<Vec<u8>> {
+pub fn stalled_and_resumed<H: AllocGlobal + Threads + Wait + Sync>(rt: &H) -> Result<Vec<u8>> {
+    let alloc = rt.alloc();
     let recording = read(alloc, THREE_WAY.as_bytes())?;
     let (session, mut passes) = Session::open(alloc, 3)?;
     let Some(mut third) = passes.pop() else {
@@ -56,7 +55,7 @@ pub fn stalled_and_resumed<H: Threads + Wait + Sync>(rt: &H, alloc: Global) -> R
     }
     session.replay(rt, alloc, &mut second, &recording, 3)?;
     session.replay(rt, alloc, &mut third, &recording, 3)?;
-    resume(rt, alloc, &session, &mut first, &recording, 2)?;
+    resume(rt, &session, &mut first, &recording, 2)?;
     let Ok(merged) = session.close(vec![in alloc; third, first, second]?) else {
         return Err(anyhow!("not closed"));
     };

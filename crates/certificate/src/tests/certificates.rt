@@ -1,14 +1,6 @@
 //! Tests of certificates of worked recordings.
 
-ghost use Rattle.std.specs.Prelude.{IfOk};
-ghost use Rattle.specification.specs.CertificateText.{IsSpellable};
-ghost use Rattle.specification.specs.Verdict.{IsVerdict};
-ghost use Rattle.certificate_text.specs.CertificateOf.{certificate_of};
-ghost use Rattle.certificate.specs.VerdictOf.{verdict_of};
-
-use crate::{Certificate, NoGate, SearchFault, Verdict, certify, judge};
-use certificate_text::Version;
-use events::{Memory, Recording};
+use crate::{NoGate, Version, certify, judge};
 use sample_recordings::{
     EMPTY, OPPOSITE_PAIR, PAST_A_NEIGHBOUR, READ_THE_OTHER_WAY, RING_OF_FOUR, THREE_WAY_CYCLE,
     recording,
@@ -16,51 +8,20 @@ use sample_recordings::{
 use std::alloc::Global;
 use std::thread::Threads;
 
-/// The verdict; where the first call finds no memory, what the second gives.
-fn verdict_on<H: Threads + Sync>(
-    rt: &H,
-    alloc: Global,
-    recording: &Recording,
-) -> Result<Verdict, SearchFault>
-    ensures { IfOk result (λ v. IsVerdict recording.now (verdict_of v)) }
-{
-    match judge(rt, alloc, recording, 4, &NoGate) {
-        Err(_) => judge(rt, alloc, recording, 4, &NoGate),
-        verdict => verdict,
-    }
+/// The text of the certificate of the recording that a text spells.
+fn certified_once<H: Threads + Sync>(rt: &H, alloc: Global, text: &str) -> Option<Vec<u8>> {
+    let recording = recording(alloc, text).ok()?;
+    let verdict = judge(rt, alloc, &recording, 4, &NoGate).ok()?;
+    let certificate = certify(alloc, &recording, &verdict).ok()?;
+    certificate.write(alloc, Version::Two).ok()
 }
 
-/// The certificate; where the first call finds no memory, what the second gives.
-fn certificate_for(
-    alloc: Global,
-    recording: &Recording,
-    verdict: &Verdict,
-) -> Result<Certificate, Memory>
-    requires { IsVerdict recording.now (verdict_of verdict.now) }
-    ensures { IfOk result (λ c. IsSpellable (certificate_of c)) }
-{
-    match certify(alloc, recording, verdict) {
-        Err(Memory) => certify(alloc, recording, verdict),
+/// The same; where the first try finds no memory, by a second.
+fn certified<H: Threads + Sync>(rt: &H, alloc: Global, text: &str) -> Option<Vec<u8>> {
+    match certified_once(rt, alloc, text) {
+        None => certified_once(rt, alloc, text),
         certificate => certificate,
     }
-}
-
-/// The certificate's text; where the first call finds no memory, what the second gives.
-fn written(alloc: Global, certificate: &Certificate) -> Result<Vec<u8>, Memory>
-    requires { IsSpellable (certificate_of certificate.now) }
-{
-    match certificate.write(alloc, Version::Two) {
-        Err(Memory) => certificate.write(alloc, Version::Two),
-        text => text,
-    }
-}
-
-/// The text of the certificate of the recording that a text spells.
-fn certified<H: Threads + Sync>(rt: &H, alloc: Global, text: &str) -> Option<Vec<u8>> {
-    let recording = recording(alloc, text).ok()?;
-    let verdict = verdict_on(rt, alloc, &recording).ok()?;
-    let certificate = certificate_for(alloc, &recording, &verdict).ok()?;
-    written(alloc, &certificate).ok()
 }
 
 /// Whether the recording that the text spells has this certificate.

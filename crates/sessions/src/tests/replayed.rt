@@ -28,9 +28,8 @@ fn fault(at: u32, why: Refusal) -> ReplayFault {
 }
 
 /// Records a copy of this entry of the replica's stream, and answers how many entries the replica has.
-pub fn record_copy<R: Wait>(
-    rt: &R,
-    alloc: Global,
+pub fn record_copy<H: AllocGlobal + Wait>(
+    rt: &H,
     session: &Session,
     pass: &mut Pass,
     body: Option<&Body>,
@@ -41,16 +40,15 @@ pub fn record_copy<R: Wait>(
     let Some(body) = body else {
         return Ok(0);
     };
-    let Some(body) = copied(alloc, body) else {
+    let Some(body) = copied(rt.alloc(), body) else {
         return Err(Refusal::Memory);
     };
     recorded(rt, session, pass, body).map_err(|refused| refused.why)
 }
 
 /// Records the rest of the replica's stream, from a place on, and answers how long the stream is.
-fn resumed<R: Wait>(
-    rt: &R,
-    alloc: Global,
+fn resumed<H: AllocGlobal + Wait>(
+    rt: &H,
     session: &Session,
     pass: &mut Pass,
     recording: &Recording,
@@ -62,7 +60,7 @@ fn resumed<R: Wait>(
     let mut count = 0;
     for at in from..recording.stream_len(session.replica(pass)) {
         let body = recording.stream(session.replica(pass), at);
-        match record_copy(rt, alloc, session, pass, body) {
+        match record_copy(rt, session, pass, body) {
             Ok(now) => count = now,
             Err(why) => return Err(fault(at, why)),
         }
@@ -71,25 +69,23 @@ fn resumed<R: Wait>(
 }
 
 /// What a replay answers; where it finds no memory for an entry, it goes on from there.
-fn replayed<R: Wait>(
-    rt: &R,
-    alloc: Global,
+fn replayed<H: AllocGlobal + Wait>(
+    rt: &H,
     session: &Session,
     pass: &mut Pass,
     recording: &Recording,
     tries: u32,
 ) -> Result<u32, ReplayFault>
-    requires session { pass.old.session ≡ session.now }
-    requires tries { 1 ≤ tries }
+    requires { (pass.old.session ≡ session.now) × (1 ≤ tries) }
     ensures { pass.new.session ≡ session.now }
 {
-    match session.replay(rt, alloc, pass, recording, tries) {
+    match session.replay(rt, rt.alloc(), pass, recording, tries) {
         Err(
             ReplayFault::Refused {
                 at,
                 why: Refusal::Memory,
             },
-        ) => resumed(rt, alloc, session, pass, recording, at),
+        ) => resumed(rt, session, pass, recording, at),
         answer => answer,
     }
 }
@@ -99,11 +95,11 @@ fn stalled_replay(rt: HostRuntime) {
     let alloc = rt.alloc();
     let recording = three_way(alloc).expect(&rt, "a recording");
     let (session, mut first, mut second, _) = team(alloc).expect(&rt, "a session");
-    let stalled = replayed(&rt, alloc, &session, &mut second, &recording, 10);
+    let stalled = replayed(&rt, &session, &mut second, &recording, 10);
     assert!(rt; stalled == Err(ReplayFault::Stalled { at: 0 }));
     let body = recording.stream(0, 0);
-    assert!(rt; record_copy(&rt, alloc, &session, &mut first, body) == Ok(1));
-    assert!(rt; replayed(&rt, alloc, &session, &mut second, &recording, 10) == Ok(2));
+    assert!(rt; record_copy(&rt, &session, &mut first, body) == Ok(1));
+    assert!(rt; replayed(&rt, &session, &mut second, &recording, 10) == Ok(2));
 }
 
 #[test]
@@ -111,13 +107,13 @@ fn stalled_and_resumed(rt: HostRuntime) {
     let alloc = rt.alloc();
     let recording = three_way(alloc).expect(&rt, "a recording");
     let (session, mut first, mut second, mut third) = team(alloc).expect(&rt, "a session");
-    let stalled = replayed(&rt, alloc, &session, &mut first, &recording, 3);
+    let stalled = replayed(&rt, &session, &mut first, &recording, 3);
     assert!(rt; stalled == Err(ReplayFault::Stalled { at: 2 }) && session.count(&mut first) == 2);
-    assert!(rt; replayed(&rt, alloc, &session, &mut second, &recording, 3) == Ok(2));
-    assert!(rt; replayed(&rt, alloc, &session, &mut third, &recording, 1) == Ok(2));
+    assert!(rt; replayed(&rt, &session, &mut second, &recording, 3) == Ok(2));
+    assert!(rt; replayed(&rt, &session, &mut third, &recording, 1) == Ok(2));
     let receipt = recording.stream(0, 2);
-    assert!(rt; record_copy(&rt, alloc, &session, &mut first, receipt) == Ok(3));
-    assert!(rt; resumed(&rt, alloc, &session, &mut first, &recording, 3) == Ok(5));
+    assert!(rt; record_copy(&rt, &session, &mut first, receipt) == Ok(3));
+    assert!(rt; resumed(&rt, &session, &mut first, &recording, 3) == Ok(5));
     assert!(rt; session.count(&mut second) == 9);
 }
 
@@ -128,7 +124,7 @@ fn receipt_out_of_range(rt: HostRuntime) {
     let (session, mut passes) = opened(alloc, 1).expect(&rt, "a session");
     let mut pass = passes.pop().expect(&rt, "the pass");
     let why = Refusal::NoReplica;
-    let refused = replayed(&rt, alloc, &session, &mut pass, &recording, 1);
+    let refused = replayed(&rt, &session, &mut pass, &recording, 1);
     assert!(rt; refused == Err(ReplayFault::Refused { at: 2, why }));
     assert!(rt; session.count(&mut pass) == 2);
 }

@@ -7,14 +7,12 @@ use super::{opened, three_way};
 use crate::{Pass, SearchFault, Session, Verdict, Verdicts};
 use certificate::Order;
 use events::Recording;
-use std::alloc::Global;
 use std::ops::Range;
 use std::sync::Wait;
 
 /// Whether the entries at these places are recorded in their order, each by its replica's pass.
-fn hand_in<R: Wait>(
-    rt: &R,
-    alloc: Global,
+fn hand_in<H: AllocGlobal + Wait>(
+    rt: &H,
     session: &Session,
     passes: &mut [Pass],
     recording: &Recording,
@@ -31,7 +29,7 @@ fn hand_in<R: Wait>(
         if replica >= passes.len() {
             return false;
         }
-        if record_copy(rt, alloc, session, &mut passes[replica], Some(&entry.body)).is_err() {
+        if record_copy(rt, session, &mut passes[replica], Some(&entry.body)).is_err() {
             return false;
         }
     }
@@ -73,10 +71,10 @@ fn watched_three_way_cycle(rt: HostRuntime) {
     let first = passes.get_mut(0).expect(&rt, "a pass");
     let mut observer = session.observer(first);
     let passes = passes.as_mut_slice();
-    let before = hand_in(&rt, alloc, &session, passes, &recording, 0..8);
+    let before = hand_in(&rt, &session, passes, &recording, 0..8);
     let accepted = judged(&rt, alloc, &session, &mut observer, 1, 2);
     assert!(rt; before && steps_of(accepted) == Some(0));
-    let last = hand_in(&rt, alloc, &session, passes, &recording, 8..9);
+    let last = hand_in(&rt, &session, passes, &recording, 8..9);
     let refused = judged(&rt, alloc, &session, &mut observer, 1, 2);
     assert!(rt; last && steps_of(refused) == Some(3));
 }

@@ -1,4 +1,4 @@
-use Rattle.std.proofs.Common.{◌≡◌, ◌∙◌, length, ap, arith}
+use Rattle.std.proofs.Common.{◌∙◌, length, ap, arith}
 use Rattle.events.specs.Packed.{spaced}
 use Rattle.events.proofs.response.Response.text_len.Goals as goal
 
