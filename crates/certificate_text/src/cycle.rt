@@ -25,7 +25,8 @@ pub struct Cycle {
 impl Cycle {
     /// The cycle of which no step is there yet.
     pub fn new(alloc: Global, version: Version, k: u32) -> Cycle
-        ensures { (result.version ≡ version) × (result.k ≡ k) × (result.steps.items ≡ []) × (result.rows.items ≡ []) }
+        ensures { (result.version ≡ version) × (result.k ≡ k) × (result.steps.items ≡ [])
+            × (result.rows.items ≡ []) }
     {
         Cycle {
             version,

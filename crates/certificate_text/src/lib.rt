@@ -2,9 +2,10 @@
 //!
 //! A certificate shows why a verdict is right: it names the first fault, gives an order, or gives a cycle
 //! with rows of layers that show that none is shorter. Its text is lines of ASCII, each ended by one LF:
-//! `cert 1` or `cert 2`; then `doubled F G`, `contents E` or `position E`; or `accepted` and `order : names`; or `refused
-//! k`, `k` lines `step a b E`, and for `k` of 3 and more rows `layers` with `k - 1` layers of names, ` /`
-//! between two.
+//! `cert 1` or `cert 2`; then `doubled F G`, `contents E` or `position E`; or `accepted` and `order : names`;
+//! or `refused k`, `k` lines `step a b E`, and for `k` of 3 and more rows `layers` with `k - 1` layers of
+//! names, ` /` between two. In version 2 a row speaks of the elements alone that are not numbered below its
+//! source.
 //!
 //! No crate that searches stands below this one, so that a checker can stand on it.
 #![tactic(auto)]

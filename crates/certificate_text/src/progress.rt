@@ -46,7 +46,8 @@ fn second(version: Version, line: &[u8]) -> Result<Progress, CertCause>
 
 /// The order's line, after `accepted`.
 fn ordered(alloc: Global, version: Version, line: &[u8]) -> Result<Progress, CertCause>
-    ensures ok { IfOk result (λ p. IsRight p × (good p ≡ version_line (version_in version) ∷ codes "accepted" ∷ line.now ∷ [])) }
+    ensures ok { IfOk result (λ p. IsRight p
+        × (good p ≡ version_line (version_in version) ∷ codes "accepted" ∷ line.now ∷ [])) }
     ensures fault { IfErr result (λ cause. IfSome (cause_of cause)
         (IsWrongBehind (version_line (version_in version) ∷ codes "accepted" ∷ []) line.now)) }
     ensures memory { IfErr result (λ cause. cause ≡ CertCause.Memory
@@ -61,7 +62,8 @@ fn ordered(alloc: Global, version: Version, line: &[u8]) -> Result<Progress, Cer
 /// The third line.
 fn third(alloc: Global, version: Version, kind: Kind, line: &[u8]) -> Result<Progress, CertCause>
     requires { IsKind kind }
-    ensures ok { IfOk result (λ p. IsRight p × (good p ≡ version_line (version_in version) ∷ kind_line kind ∷ line.now ∷ [])) }
+    ensures ok { IfOk result (λ p. IsRight p
+        × (good p ≡ version_line (version_in version) ∷ kind_line kind ∷ line.now ∷ [])) }
     ensures fault { IfErr result (λ cause. IfSome (cause_of cause)
         (IsWrongBehind (version_line (version_in version) ∷ kind_line kind ∷ []) line.now)) }
     ensures memory { IfErr result (λ cause. cause ≡ CertCause.Memory

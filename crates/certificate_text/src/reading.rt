@@ -14,14 +14,15 @@ use format_words::split_line;
 use std::alloc::Global;
 
 impl Certificate {
-    /// The certificate that the text spells, with its version, or the text's first faulty line with its cause.
+    /// The certificate that the text spells, with its version, or the text's first faulty line and its cause.
     ///
     /// `Memory` stands only at a line after right lines whose reading takes memory: a right line, the third
     /// or a later one, but for that of an order without names. So it is never answered for another fault of
     /// the text. That memory did run out, no contract can say. Nothing is reserved by a `k` that is merely
     /// claimed. It takes time and memory in proportion to the text.
     pub fn read(alloc: Global, bytes: &[u8]) -> Result<(Version, Certificate), CertFault>
-        ensures ok { IfOk result (λ r. format.SpellsCertificate bytes.now (version_in r.0) (certificate_of r.1)) }
+        ensures ok { IfOk result (λ r.
+            format.SpellsCertificate bytes.now (version_in r.0) (certificate_of r.1)) }
         ensures fault { IfErr result (λ fault. IfSome (cause_of fault.cause)
             (λ cause. format.IsFirstCertFault bytes.now fault.line cause)) }
         // Out of memory too is answered at a line after right lines.
@@ -30,7 +31,8 @@ impl Certificate {
         ensures memory { IfErr result (λ fault. fault.cause ≡ CertCause.Memory
             → TakesMemoryAt bytes.now fault.line) }
         // What is spelled is read, unless memory runs out.
-        ensures spelled { (version : versions.Version) (c : format.Certificate) → format.SpellsCertificate bytes.now version c
+        ensures spelled { (version : versions.Version) (c : format.Certificate)
+            → format.SpellsCertificate bytes.now version c
             → MatchResult result (λ r. (version_in r.0 ≡ version) × (certificate_of r.1 ≡ c))
             (λ fault. fault.cause ≡ CertCause.Memory) }
     {
