@@ -12,20 +12,21 @@ PAGE = ROOT / "docs" / "names.md"
 HEAD = """# Where each name stands
 
 Search this page for a name: a definition, a law, a public function or type. The file before it is in the folder of its crate,
-`crates/`. What the definitions mean is in [definitions.md](definitions.md), what the calls promise in [proved.md](proved.md).
+`crates/`. A variant stands with its type, and private functions are not listed. What the definitions mean is in [definitions.md](definitions.md), what the calls promise in [proved.md](proved.md).
 `tests/tools/names.py --write` makes this page from the sources.
 """
 
 ITEM = re.compile(r"^\s*pub (?:const )?(?:fn|struct|enum|trait|const) (\w+)", re.MULTILINE)
 DEFINED = re.compile(r"^(?:abbrev pub|unfoldable pub|pub record|pub data|abbrev pub data|pub) ([^\s:(]+)", re.MULTILINE)
+# Words of the language that a line of a spec may have after `pub`.
 NOT_NAMES = {"mod", "use", "record", "data"}
 
 
 def names_in(path: Path) -> list[str]:
     """The names that a file has, each once, in its order."""
     text = path.read_text(encoding="utf-8")
-    found = (ITEM if path.suffix == ".rt" else DEFINED).findall(text)
-    return list(dict.fromkeys(name for name in found if name not in NOT_NAMES))
+    found = ITEM.findall(text) if path.suffix == ".rt" else [name for name in DEFINED.findall(text) if name not in NOT_NAMES]
+    return list(dict.fromkeys(found))
 
 
 def sources(crate: Path) -> list[Path]:
