@@ -26,8 +26,8 @@
 (require 'subr-x)
 
 (defconst domepeeler--replicas 16)
-(defconst domepeeler--entries 4096)
-(defconst domepeeler--inserts 256)
+(defconst domepeeler--entries 16384)
+(defconst domepeeler--inserts 4096)
 (defconst domepeeler--names 4096)
 (defconst domepeeler--places 262144)
 (defconst domepeeler--position 4294967295)

@@ -13,7 +13,7 @@
 //
 // Each call that a trace can't say throws Refused, or Full at a limit, and leaves the recording as it was.
 
-const MOST_REPLICAS = 16, MOST_ENTRIES = 4096, MOST_INSERTS = 256
+const MOST_REPLICAS = 16, MOST_ENTRIES = 16384, MOST_INSERTS = 4096
 const MOST_NAMES = 4096, MOST_PLACES = 262144, MOST_POSITION = 4294967295
 const NAME = /^[A-Za-z0-9_.-]{1,32}$/
 

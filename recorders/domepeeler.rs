@@ -22,8 +22,8 @@ use std::io::Write as _;
 use std::process::{Command, Stdio};
 
 const MOST_REPLICAS: usize = 16;
-const MOST_ENTRIES: usize = 4096;
-const MOST_INSERTS: usize = 256;
+const MOST_ENTRIES: usize = 16384;
+const MOST_INSERTS: usize = 4096;
 const MOST_NAMES: usize = 4096;
 const MOST_PLACES: usize = 262_144;
 

@@ -201,24 +201,24 @@ def views(tally: Tally, program: str, folder: str) -> None:
 def malformed(tally: Tally, program: str) -> None:
     for text, words in MALFORMED:
         tally.same(repr(text), run(program, trace=text.encode()), fault(words))
-    limit = "".join(f"0 ins n{i} 0 :\n" for i in range(257))
-    tally.same("inserts full", run(program, trace=b"trace 1\nreplicas 1\n" + limit.encode()), fault("line 259: inserts full"))
-    limit = "0 read :\n" * 4097
-    tally.same("entries full", run(program, trace=b"trace 1\nreplicas 1\n" + limit.encode()), fault("line 4099: entries full"))
+    limit = "".join(f"0 ins n{i} 0 :\n" for i in range(4097))
+    tally.same("inserts full", run(program, trace=b"trace 1\nreplicas 1\n" + limit.encode()), fault("line 4099: inserts full"))
+    limit = "0 read :\n" * 16385
+    tally.same("entries full", run(program, trace=b"trace 1\nreplicas 1\n" + limit.encode()), fault("line 16387: entries full"))
     limit = "0 read :" + " a" * 4097 + "\n"
     tally.same("long response", run(program, trace=b"trace 1\nreplicas 1\n" + limit.encode()), fault("line 3: long response"))
     limit = ("0 read :" + " a" * 4096 + "\n") * 64 + "0 read : a\n"
     tally.same("places full", run(program, trace=b"trace 1\nreplicas 1\n" + limit.encode()), fault("line 67: places full"))
     front = b"trace 2\nreplicas 1\n"
-    for what, limit, words in (("entries", "0 view :\n" * 4097, "line 4099: entries full"),
-                               ("entries, the last a read", "0 view :\n" * 4096 + "0 read :\n", "line 4099: entries full"),
+    for what, limit, words in (("entries", "0 view :\n" * 16385, "line 16387: entries full"),
+                               ("entries, the last a read", "0 view :\n" * 16384 + "0 read :\n", "line 16387: entries full"),
                                ("names", "0 view :" + " a" * 4097 + "\n", "line 3: long response"),
                                ("names of all", ("0 view :" + " a" * 4096 + "\n") * 64 + "0 view : a\n", "line 67: places full"),
                                ("names of all, reads too", ("0 view :" + " a" * 4096 + "\n0 read :" + " a" * 4096 + "\n") * 32
                                 + "0 read : a\n", "line 67: places full")):
         tally.same(f"views full: {what}", run(program, trace=front + limit.encode()), fault(words))
-    limit = "0 view :\n" * 4096
-    wanted = report(lines_of(f"replicas 1 operations 4096 inserts 0|{ACCEPTED}"))
+    limit = "0 view :\n" * 16384
+    wanted = report(lines_of(f"replicas 1 operations 16384 inserts 0|{ACCEPTED}"))
     tally.same("as many views as there can be", run(program, trace=front + limit.encode()), wanted)
 
 

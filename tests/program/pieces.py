@@ -15,8 +15,8 @@ from shared.program import Ended, Tally, fault, program_of, run  # noqa: E402
 VECTORS = ROOT / "tests" / "vectors"
 SEED = 11
 SIZES = (1, 2, 7, 4096)
-MANY = [f"{r} read :" for r in range(16) for _ in range(4096)]
-MANY_REPORT = b"replicas 16 operations 65536 inserts 0\naccepted\nstrong yes\nweak yes\norder :\n"
+MANY = [f"{r} read :" for r in range(16) for _ in range(16_384)]
+MANY_REPORT = b"replicas 16 operations 262144 inserts 0\naccepted\nstrong yes\nweak yes\norder :\n"
 
 
 def cuts(text: bytes, size: int) -> list[bytes]:
@@ -66,9 +66,9 @@ def try_vectors(program: str, tally: Tally) -> None:
 def try_many_entries(program: str, tally: Tally) -> None:
     """As many entries as there can be, in pieces that cut lines."""
     text = ("trace 1\nreplicas 16\n" + "\n".join(MANY) + "\n").encode()
-    tally.same("65,536 reads", piped(program, ["verdict", "-"], cuts(text, 1000)), Ended(0, MANY_REPORT, b""))
+    tally.same("262,144 reads", piped(program, ["verdict", "-"], cuts(text, 1000)), Ended(0, MANY_REPORT, b""))
     text = text.replace(b"trace 1", b"trace 2").replace(b"read", b"view")
-    tally.same("65,536 views", piped(program, ["verdict", "-"], cuts(text, 1000)), Ended(0, MANY_REPORT, b""))
+    tally.same("262,144 views", piped(program, ["verdict", "-"], cuts(text, 1000)), Ended(0, MANY_REPORT, b""))
 
 
 def endless(front: bytes):

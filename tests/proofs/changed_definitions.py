@@ -65,8 +65,8 @@ CHANGES = (
         "laws::limits_are_the_numbers",
         "an entry fewer",
         LIMITS,
-        "pub const MOST_ENTRIES: u32 = 4096;",
-        "pub const MOST_ENTRIES: u32 = 4095;",
+        "pub const MOST_ENTRIES: u32 = 16384;",
+        "pub const MOST_ENTRIES: u32 = 16383;",
         "laws/limits_are_the_numbers/Answers",
     ),
     change(

@@ -3,7 +3,7 @@ with the program: each line is matched whole by one expression."""
 import re
 from collections import Counter
 
-MOST_ENTRIES, MOST_INSERTS, MOST_NAMES, MOST_PLACES = 4096, 256, 4096, 262_144
+MOST_ENTRIES, MOST_INSERTS, MOST_NAMES, MOST_PLACES = 16_384, 4096, 4096, 262_144
 MOST_NUMBER = 4_294_967_295
 
 NUMBER = rb"(?:0|[1-9][0-9]*)"

@@ -1,5 +1,5 @@
 #!/usr/bin/env python3
-"""traces.py FAMILY SIZE: a legal trace near the limits on names in responses, or near those of a smaller SIZE, on
+"""traces.py FAMILY SIZE: a legal trace near the limits on names in responses (XXL: also on entries and inserts), or near those of a smaller SIZE, on
 standard output.
 
 The editors of one group keep one order of all elements: those of their own group first, then those of the next group,
@@ -21,7 +21,7 @@ class Size(NamedTuple):
 
 
 SIZES = {"S": Size(4, 160, 24, 3_000), "M": Size(8, 700, 80, 24_000), "L": Size(12, 2000, 160, 90_000),
-         "XL": Size(16, 4096, 256, 262_144)}
+         "XL": Size(16, 4096, 256, 262_144), "XXL": Size(16, 16_384, 4096, 262_144)}
 
 # A share of the entries, where replicas hear of each other.
 RECEIPTS = 0.35

@@ -167,8 +167,8 @@ FAULTS = [
      "replica 0 has 1 operations in the lines before, and operation 2 is not among them"),
     (b"trace 1\nreplicas 2\n0 ins a 0 : a\n0 recv 0 1\n", "line 4: own receipt",
      "a replica receives what others did: its own operations are visible to it without a receipt"),
-    (b"trace 1\nreplicas 1\n" + b"0 read :\n" * 4097, "line 4099: entries full",
-     "a replica has at most 4,096 entries, receipts counted: record shorter sessions, or fewer reads"),
+    (b"trace 1\nreplicas 1\n" + b"0 read :\n" * 16385, "line 16387: entries full",
+     "a replica has at most 16,384 entries, receipts counted: record shorter sessions, or fewer reads"),
 ]
 
 HOSTILE = ["ins", "del", "read", "recv", "5", "line", "0", "-", ".", "--", "..", "__proto__", "lt", "amp", "NaN", "e-1", "x" * 32]

@@ -116,14 +116,14 @@ FULL = "the most that a trace takes"
 # At each limit: the calls that fill the replica; what is still said; what is not, its answer, and the same as a line, with
 # the program's word for it.
 LIMITS = [
-    ("entries", ["read 0"] * 4095, "read 0 -> ok 4096", "read 0", f"replica 0 has 4096 entries, {FULL}",
+    ("entries", ["read 0"] * 16383, "read 0 -> ok 16384", "read 0", f"replica 0 has 16384 entries, {FULL}",
      "0 read :", "entries full"),
-    ("entries and a receipt", ["read 0"] * 4095 + ["read 1"], "received 0 1 1 -> ok", "received 0 1 1",
-     f"replica 0 has 4096 entries, {FULL}", "0 recv 1 1", "entries full"),
-    ("entries that are views", ["view 0"] * 4095, "view 0 -> ok 4096", "view 0", f"replica 0 has 4096 entries, {FULL}",
+    ("entries and a receipt", ["read 0"] * 16383 + ["read 1"], "received 0 1 1 -> ok", "received 0 1 1",
+     f"replica 0 has 16384 entries, {FULL}", "0 recv 1 1", "entries full"),
+    ("entries that are views", ["view 0"] * 16383, "view 0 -> ok 16384", "view 0", f"replica 0 has 16384 entries, {FULL}",
      "0 view :", "entries full"),
-    ("inserts", [f"insert 0 {name} 0" for name in ELEMENTS[:255]], "insert 0 z 0 -> ok 256", "insert 0 y 0",
-     f"replica 0 has 256 inserts, {FULL}", "0 ins y 0 :", "inserts full"),
+    ("inserts", [f"insert 0 {name} 0" for name in ELEMENTS[:4095]], "insert 0 z 0 -> ok 4096", "insert 0 y 0",
+     f"replica 0 has 4096 inserts, {FULL}", "0 ins y 0 :", "inserts full"),
     ("names of a response", ["read 0"], f"read 0 {' '.join(ELEMENTS[:4096])} -> ok 2", f"read 0 {' '.join(ELEMENTS)}",
      f"a response of 4097 names, {FULL} is 4096", f"0 read : {' '.join(ELEMENTS)}", "long response"),
     ("names of all responses", [f"read 0 {' '.join(ELEMENTS[:4096])}"] * 63, f"read 0 {' '.join(ELEMENTS[:4096])} -> ok 64",

@@ -13,8 +13,8 @@ ENTRIES = ["an entry is one of these, with one blank between two words and none 
            "  r view : Names       replica r showed a part of the list; where line 1 is `trace 2` alone",
            "  r recv q n           operation n of replica q has arrived at r"]
 LIMITS = {
-    "entries full": "a replica has at most 4,096 entries, receipts counted: record shorter sessions, or fewer reads",
-    "inserts full": "a replica makes at most 256 inserts: record shorter sessions",
+    "entries full": "a replica has at most 16,384 entries, receipts counted: record shorter sessions, or fewer reads",
+    "inserts full": "a replica makes at most 4,096 inserts: record shorter sessions",
     "long response": "a response has at most 4,096 names: record shorter documents, or a line or paragraph as one element",
     "places full": "the responses of a replica have at most 262,144 names together: read less often, or record shorter sessions",
 }

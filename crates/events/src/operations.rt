@@ -9,7 +9,7 @@ use std::alloc::Global;
 
 impl Recording {
     /// The names of all operations, in order: replica by replica, from 1 on. It takes memory and time in
-    /// their number, at most 65,536.
+    /// their number, at most 262,144.
     pub fn operations(&self, alloc: Global) -> Result<Vec<OpName>, Memory>
         ensures names { IfOk result (λ names. names.items ≡ operation_names self.now) }
         ensures legal { IsLegal self.now }

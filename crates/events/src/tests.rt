@@ -532,17 +532,17 @@ static RECEIPTS: [Step; 8] = [
     Step(2, Act::Insert, 1, Err(Refusal::NoReplica)),
 ];
 
-/// A replica has at most 256 inserts.
+/// A replica has at most 4,096 inserts.
 static INSERTS: [Step; 4] = [
-    Step(0, Act::Insert, 256, Ok(1)),
+    Step(0, Act::Insert, 4096, Ok(1)),
     Step(0, Act::Insert, 1, Err(Refusal::InsertsFull)),
-    Step(0, Act::Read(0), 1, Ok(257)),
+    Step(0, Act::Read(0), 1, Ok(4097)),
     Step(1, Act::Insert, 1, Ok(1)),
 ];
 
-/// A replica has at most 4,096 entries. That they are full comes before a response that is too long.
+/// A replica has at most 16,384 entries. That they are full comes before a response that is too long.
 static ENTRIES: [Step; 4] = [
-    Step(1, Act::Read(0), 4096, Ok(1)),
+    Step(1, Act::Read(0), 16384, Ok(1)),
     Step(1, Act::Read(0), 1, Err(Refusal::EntriesFull)),
     Step(1, Act::Read(4097), 1, Err(Refusal::EntriesFull)),
     Step(0, Act::Read(0), 1, Ok(1)),
@@ -560,8 +560,8 @@ static PLACES: [Step; 4] = [
 fn entries_are_taken_or_refused(rt: HostRuntime) {
     let rows = [
         ("receipts", 2, RECEIPTS.as_slice(), 3),
-        ("inserts", 2, INSERTS.as_slice(), 258),
-        ("entries", 2, ENTRIES.as_slice(), 4097),
+        ("inserts", 2, INSERTS.as_slice(), 4098),
+        ("entries", 2, ENTRIES.as_slice(), 16385),
         ("places", 1, PLACES.as_slice(), 65),
     ];
     for (title, replicas, steps, entries) in rows {

@@ -113,7 +113,7 @@ impl OrderGraph {
         })
     }
 
-    /// How many elements there are, at most 4,096.
+    /// How many elements there are, at most 65,536.
     pub fn elements(&self) -> u32
         ensures value { result ≡ length self.now.elements }
         ensures proper { AreProper self.now }
@@ -135,7 +135,7 @@ impl OrderGraph {
         self.names.get(x as usize).copied()
     }
 
-    /// How many lists there are: one for each operation whose response is kept, at most 65,536.
+    /// How many lists there are: one for each operation whose response is kept, at most 262,144.
     pub fn lists(&self) -> u32
         ensures value { result ≡ length self.now.returned }
         ensures few { AreFew self.now }

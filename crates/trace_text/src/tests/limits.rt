@@ -35,10 +35,10 @@ const IN_TWO: &str = "trace 2\nreplicas 2\n";
 /// Two lines, entries after them, how many of these there may be, the line behind, and why one more is
 /// refused.
 const LIMITS: [(&str, &str, u32, u32, Refusal); 4] = [
-    (IN_ONE, "1 ins n 0 :\n", 256, 259, Refusal::InsertsFull),
-    (IN_ONE, "1 read :\n", 4096, 4099, Refusal::EntriesFull),
-    (IN_TWO, "1 read :\n", 4096, 4099, Refusal::EntriesFull),
-    (IN_TWO, "1 view :\n", 4096, 4099, Refusal::EntriesFull),
+    (IN_ONE, "1 ins n 0 :\n", 4096, 4099, Refusal::InsertsFull),
+    (IN_ONE, "1 read :\n", 16384, 16387, Refusal::EntriesFull),
+    (IN_TWO, "1 read :\n", 16384, 16387, Refusal::EntriesFull),
+    (IN_TWO, "1 view :\n", 16384, 16387, Refusal::EntriesFull),
 ];
 
 #[test]
@@ -101,13 +101,13 @@ fn more_than_full_places(rt: HostRuntime) -> Result<(), Fail> {
     Ok(())
 }
 
-/// 4,096 lines `r read :` of each of 16 replicas, one replica after the other.
+/// 16,384 lines `r read :` of each of 16 replicas, one replica after the other.
 fn many_reads_once(alloc: Global) -> Result<Vec<u8>, Memory> {
     let mut text = Vec::from_slice(alloc, b"trace 1\nreplicas 16\n")?;
     for replica in [
         "0", "1", "2", "3", "4", "5", "6", "7", "8", "9", "10", "11", "12", "13", "14", "15",
     ] {
-        for _ in 0..4096 {
+        for _ in 0..16384 {
             text.extend_from_slice(replica.as_bytes())?;
             text.extend_from_slice(b" read :\n")?;
         }
@@ -127,10 +127,10 @@ fn many_reads(alloc: Global) -> Result<Vec<u8>, Memory> {
 fn as_many_entries_as_there_can_be(rt: HostRuntime) -> Result<(), Fail> {
     let text = many_reads(rt.alloc())?;
     let recording = fed(rt.alloc(), &text, 7)?;
-    assert_eq!(rt; (recording.replicas(), recording.len()), (16, 65536));
+    assert_eq!(rt; (recording.replicas(), recording.len()), (16, 262144));
     assert_eq!(rt;
         (recording.stream_len(0), recording.stream_len(15)),
-        (4096, 4096)
+        (16384, 16384)
     );
     Ok(())
 }
