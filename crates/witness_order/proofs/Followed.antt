@@ -10,7 +10,7 @@ use Rattle.events.specs.Operation.{Operation}
 use Rattle.specification.specs.Elements.{number_in}
 use Rattle.specification.specs.Responses.{Responses, Returned, AreProper, ShowsNumbers}
 use Rattle.specification.specs.Orders.{dictionary_lt, IsLeastOrder, HasNoOrder}
-use Rattle.specification.proofs.Members.{In, Before, Once, Before-trans, In-map, In-from_place}
+use Rattle.specification.proofs.Members.{In, Before, Once, Before-first, Before-trans, In-map, In-from_place}
 use Rattle.specification.proofs.Walks.{Closed}
 use Rattle.specification.proofs.OrderOrCycle.{Orders}
 use Rattle.specification.proofs.Numbers.{number}
@@ -61,7 +61,7 @@ module _ (rows : List (List ℕ)) where
           let r : (i : ℕ) × (q : Spot) × (slice_get spots i ≡ Some q) × (behind rows q ≡ Some y) = rest (omega (arith, total)) in
           (suc r.0, r.1, r.2, r.3)
 
-  edge_sound : (x y : ℕ) → 1 ≤ edges rows x y → AreNeighbours rows x y
+  pub edge_sound : (x y : ℕ) → 1 ≤ edges rows x y → AreNeighbours rows x y
   edge_sound x y h =
       let s : (i : ℕ) × (q : Spot) × (slice_get (spots_of rows x) i ≡ Some q) × (behind rows q ≡ Some y) = one_spot (spots_of rows x) y h in
       record { list = s.1.list; place = s.1.place; first = spots_sound rows x s.0 s.1 s.2; second = stands_at s.1.list (s.1.place + 1) y s.3 }
@@ -77,25 +77,25 @@ module _ (rows : List (List ℕ)) where
       let le : f (get_or (spots_of rows x) a.at a.spot) ≤ sum_by f (spots_of rows x) = get_or-le-sum_by f (spots_of rows x) a.at a.spot (slice_get_within (spots_of rows x) a.at a.spot a.get) in
       omega (arith, ap f is)
 
-  -- in an order in which edges go forwards, so does all that a list has in order
-  module _ (n : ℕ) (known : (l p x : ℕ) → Stands rows l p x → x < n) (order : List ℕ) (o : Orders (Leads (edges rows)) (below n) order) where
-    neighbours_forwards : (l p a b : ℕ) → Stands rows l p a → Stands rows l (p + 1) b → Before a b order
-    neighbours_forwards l p a b first second =
-        o.forwards tt a b (below-In n a (known l p a first)) (below-In n b (known l (p + 1) b second)) (edge_complete l p a b first second)
+  -- where each edge to what is in the order goes forwards, so does all that a list has before it
+  module _ (n : ℕ) (known : (l p x : ℕ) → Stands rows l p x → x < n) (order : List ℕ) (once : Once order)
+      (forwards : (a b : ℕ) → a < n → In b order → 1 ≤ edges rows a b → Before a b order) where
+    neighbours_forwards : (l p a b : ℕ) → Stands rows l p a → Stands rows l (p + 1) b → In b order → Before a b order
+    neighbours_forwards l p a b first second i = forwards a b (known l p a first) i (edge_complete l p a b first second)
 
-    gap_forwards : (d l p a b : ℕ) → Stands rows l p a → Stands rows l (p + suc d) b → Before a b order
-    gap_forwards zero l p a b first second = neighbours_forwards l p a b first (subst (λ q. Stands rows l q b) (omega arith) second)
-    gap_forwards (suc d) l p a b first second =
+    gap_forwards : (d l p a b : ℕ) → Stands rows l p a → Stands rows l (p + suc d) b → In b order → Before a b order
+    gap_forwards zero l p a b first second i = neighbours_forwards l p a b first (subst (λ q. Stands rows l q b) (omega arith) second) i
+    gap_forwards (suc d) l p a b first second i =
         let c : ℕ = get_or (row rows l) (p + suc d) 0 in
         let low : p + suc d < length (row rows l) = omega (arith, second.within) in
         let middle : Stands rows l (p + suc d) c = record { within = low; here = refl } in
-        Before-trans a c b order o.once (gap_forwards d l p a c first middle)
-        (neighbours_forwards l (p + suc d) c b middle (subst (λ q. Stands rows l q b) (omega arith) second))
+        let last : Before c b order = neighbours_forwards l (p + suc d) c b middle (subst (λ q. Stands rows l q b) (omega arith) second) i in
+        Before-trans a c b order once (gap_forwards d l p a c first middle (Before-first c b order last)) last
 
-    list_forwards : (l a b : ℕ) → BeforeIn rows l a b → Before a b order
-    list_forwards l a b h =
+    pub list_forwards : (l a b : ℕ) → BeforeIn rows l a b → In b order → Before a b order
+    list_forwards l a b h i =
         let d : (d : ℕ) × (h.later ≡ h.place + suc d) = gap h.place h.later h.in_order in
-        gap_forwards d.0 l h.place a b h.first (subst (λ q. Stands rows l q b) d.1 h.second)
+        gap_forwards d.0 l h.place a b h.first (subst (λ q. Stands rows l q b) d.1 h.second) i
       where
         gap : (p q : ℕ) → p < q → (d : ℕ) × (q ≡ p + suc d)
         gap p q lt = (q - suc p, omega arith)
@@ -155,7 +155,7 @@ name_at_number names a once i =
     ap (λ o. slice_get names (unwrap_or o (length names))) s.2 ∙ s.1
 
 module _ (v : Responses) (proper : AreProper v) where
-  known_below : (l p x : ℕ) → Stands (lists_of v) l p x → x < length v.elements
+  pub known_below : (l p x : ℕ) → Stands (lists_of v) l p x → x < length v.elements
   known_below l p x h = subst (λ z. z < length v.elements) h.here (known-numbers v proper l p 0 h.within)
 
   names_follow : (taken : List ℕ) → Orders (Leads (edges (lists_of v))) (below (length v.elements)) taken →
@@ -182,7 +182,8 @@ module _ (v : Responses) (proper : AreProper v) where
           let y : NameBytes = get_or v.elements b [] in
           let shows : ShowsNumbers v k a b = (x, y, there a i, there b j, Shows-from_ShowsIn v k x y s.1) in
           let l = list-shows v proper k a b shows in
-          list_forwards (lists_of v) (length v.elements) known_below taken o l.0 a b l.4
+          list_forwards (lists_of v) (length v.elements) known_below taken o.once
+          (λ x y lt k h. o.forwards tt x y (below-In (length v.elements) x lt) (o.only y k) h) l.0 a b l.4 (o.all b j)
 
   numbers_follow : (order : List NameBytes) → Orders (SetShows v (all_operations v)) v.elements order →
       Orders (Leads (edges (lists_of v))) (below (length v.elements)) (map (number v.elements) order)

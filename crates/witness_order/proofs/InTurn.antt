@@ -24,7 +24,8 @@ pub record IsFirst (E : ℕ → ℕ → ℕ) (xs order : List ℕ) : Type 0 wher
   pub orders : Orders (Leads E) xs order
   pub first : IsFirstOrder (Leads E) (λ z. z) xs order
 
--- some are taken and the others left. Of those left, the free ones have no edge from one left.
+-- some are taken and the others left. What leads to one that is taken was taken earlier. Of those left, the free ones have
+-- no edge from one left.
 pub record InTurn (E : ℕ → ℕ → ℕ) (n : ℕ) (taken free degrees : List ℕ) : Type 0 where
   pub left : List ℕ
   pub once : Once left
@@ -32,6 +33,9 @@ pub record InTurn (E : ℕ → ℕ → ℕ) (n : ℕ) (taken free degrees : List
   pub extends : (rest : List ℕ) → IsFirst E left rest → IsFirst E (below n) (taken ++ rest)
   pub size : length taken + length left ≡ n
   pub parts : (z : ℕ) → z < n → In z taken ⊎ In z left
+  pub taken_once : Once taken
+  pub elsewhere : (z : ℕ) → In z taken → In z left → ⊥
+  pub earlier : (y z : ℕ) → y < n → In z taken → 1 ≤ E y z → Before y z taken
   pub taken_below : (z : ℕ) → In z taken → z < n
   pub left_below : (z : ℕ) → In z left → z < n
   pub taken_zero : (z : ℕ) → In z taken → get_or degrees z 0 ≡ 0
@@ -70,6 +74,18 @@ Before-middle : (y x : ℕ) (l r : List ℕ) → In y l → Before y x (l ++ x �
 Before-middle y x [] r i = absurd i
 Before-middle y x (z ∷ l) r (inl e) = inl (e, In-middle x l r)
 Before-middle y x (z ∷ l) r (inr i) = inr (Before-middle y x l r i)
+
+Before-append : (y z : ℕ) (l r : List ℕ) → Before y z l → Before y z (l ++ r)
+Before-append y z [] r h = absurd h
+Before-append y z (w ∷ l) r (inl p) = inl (p.0, In-append_left z l r p.1)
+Before-append y z (w ∷ l) r (inr h) = inr (Before-append y z l r h)
+
+Once-push : (x : ℕ) (l : List ℕ) → Once l → (In x l → ⊥) → Once (l ++ x ∷ [])
+Once-push x [] o out = (λ i. i, tt)
+Once-push x (w ∷ l) o out = (
+  λ i. elim (In-append_cases w l (x ∷ []) i) [ inl j ↦ o.0 j | inr (inl e) ↦ out (inl (sym e)) | inr (inr j) ↦ absurd j ],
+  Once-push x l o.1 (λ j. out (inr j)),
+)
 
 In-range : (a n z : ℕ) → In z (range_with_len a n) → (a ≤ z) × (z < a + n)
 In-range a zero z i = absurd i
@@ -123,6 +139,9 @@ module _ (E : ℕ → ℕ → ℕ) (n : ℕ) where
     extends = λ rest is. is;
     size = omega (arith, length-range_with_len 0 n);
     parts = λ z lt. inr (below-In n z lt);
+    taken_once = tt;
+    elsewhere = λ z i j. i;
+    earlier = λ y z lt i h. i;
     taken_below = λ z i. absurd i;
     left_below = In-below n;
     taken_zero = λ z i. absurd i;
@@ -181,6 +200,31 @@ module _ (E : ℕ → ℕ → ℕ) (n : ℕ) where
       | inr (inr j) ↦ absurd j
     ]
 
+    taken_once_next : Once (taken ++ x ∷ [])
+    taken_once_next = Once-push x taken state.taken_once (λ i. state.elsewhere x i (state.free_left x (inl refl)))
+
+    elsewhere_next : (l r : List ℕ) → state.left ≡ l ++ x ∷ r → (z : ℕ) → In z (taken ++ x ∷ []) → In z (l ++ r) → ⊥
+    elsewhere_next l r is z i j = elim (In-append_cases z taken (x ∷ []) i) [
+      | inl k ↦ state.elsewhere z k (subst (λ zs. In z zs) (sym is) (In-wider x z l r j))
+      | inr (inl e) ↦ Once-middle x l r (subst Once is state.once) (subst (λ w. In w (l ++ r)) e j)
+      | inr (inr k) ↦ absurd k
+    ]
+
+    -- what leads to x is not left, since x is free
+    earlier_next : (y z : ℕ) → y < n → In z (taken ++ x ∷ []) → 1 ≤ E y z → Before y z (taken ++ x ∷ [])
+    earlier_next y z lt i h = elim (In-append_cases z taken (x ∷ []) i) [
+      | inl k ↦ Before-append y z taken (x ∷ []) (state.earlier y z lt k h)
+      | inr (inl e) ↦ subst (λ w. Before y w (taken ++ x ∷ [])) (sym e) (Before-middle y x taken [] (elim (state.parts y lt) [
+        | inl k ↦ k
+        | inr k ↦ (
+            let there : x < n = state.left_below x (state.free_left x (inl refl)) in
+            let le : E y x ≤ sum_by (λ w. E w x) state.left = term_le (λ w. E w x) state.left y k in
+            absurd (omega (arith, le, state.counted x there, state.free_zero x (inl refl), subst (λ w. 1 ≤ E y w) e h))
+            )
+      ]))
+      | inr (inr k) ↦ absurd k
+    ]
+
     -- what is free and not x is left
     still_left : (l r : List ℕ) → state.left ≡ l ++ x ∷ r → (z : ℕ) → In z state.left → (z ≡ x → ⊥) → In z (l ++ r)
     still_left l r is z i other = elim (In-round x z l r (subst (λ zs. In z zs) is i)) [ inl e ↦ absurd (other e) | inr j ↦ j ]
@@ -232,6 +276,9 @@ module _ (E : ℕ → ℕ → ℕ) (n : ℕ) where
             | inl i ↦ inl (In-append_left z taken (x ∷ []) i)
             | inr i ↦ elim (In-round x z s.0 s.1 (subst (λ zs. In z zs) s.2 i)) [ inl e ↦ inl (In-append_right z taken (x ∷ []) (inl e)) | inr j ↦ inr j ]
           ];
+          taken_once = taken_once_next;
+          elsewhere = elsewhere_next s.0 s.1 s.2;
+          earlier = earlier_next;
           taken_below = λ z i. (taken_next z i).0;
           left_below = λ z i. state.left_below z (subst (λ zs. In z zs) (sym s.2) (In-wider x z s.0 s.1 i));
           taken_zero = λ z i. lower_zero z (taken_next z i).0 (taken_next z i).1;
@@ -271,19 +318,20 @@ module _ (E : ℕ → ℕ → ℕ) (n : ℕ) where
       go (inl lt) = yes (tt, omega arith)
       go (inr none) = no (λ h. omega (arith, h.1))
 
-  -- where none is free any more and some are left, these have a closed walk
-  pub ends_closed : (taken degrees : List ℕ) → InTurn E n taken [] degrees → (length taken ≡ n → ⊥) → Closed (Leads E)
-  ends_closed taken degrees state some = go state.left state.size led
+  -- where none is free any more, what is left has an edge from what is left
+  pub ends_led : (taken degrees : List ℕ) (state : InTurn E n taken [] degrees) (y : ℕ) → In y state.left → HasStepTo (Leads E) state.left y
+  ends_led taken degrees state y i = at (cases_lt 0 (get_or degrees y 0))
     where
-      led : (y : ℕ) → In y state.left → HasStepTo (Leads E) state.left y
-      led y i = at (cases_lt 0 (get_or degrees y 0))
-        where
-          at : (0 < get_or degrees y 0) ⊎ (get_or degrees y 0 ≤ 0) → HasStepTo (Leads E) state.left y
-          at (inl lt) =
-              let s : (z : ℕ) × In z state.left × (1 ≤ E z y) = some_term (λ z. E z y) state.left (omega (arith, state.counted y (state.left_below y i))) in
-              (s.0, s.1, tt, s.2)
-          at (inr none) = absurd (state.zero_free y i (omega arith))
+      at : (0 < get_or degrees y 0) ⊎ (get_or degrees y 0 ≤ 0) → HasStepTo (Leads E) state.left y
+      at (inl lt) =
+          let s : (z : ℕ) × In z state.left × (1 ≤ E z y) = some_term (λ z. E z y) state.left (omega (arith, state.counted y (state.left_below y i))) in
+          (s.0, s.1, tt, s.2)
+      at (inr none) = absurd (state.zero_free y i (omega arith))
 
+  -- and where some are left, these have a closed walk
+  pub ends_closed : (taken degrees : List ℕ) → InTurn E n taken [] degrees → (length taken ≡ n → ⊥) → Closed (Leads E)
+  ends_closed taken degrees state some = go state.left state.size (ends_led taken degrees state)
+    where
       go : (left : List ℕ) → length taken + length left ≡ n → ((y : ℕ) → In y left → HasStepTo (Leads E) left y) → Closed (Leads E)
       go [] size all = absurd (some (omega arith))
       go (y ∷ ys) size all =

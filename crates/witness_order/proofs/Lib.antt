@@ -1,4 +1,5 @@
--- Lemmas: on taking free elements in turn, on counts, and from orders of numbers to orders of names.
+-- Lemmas: on taking free elements in turn, on counts, from orders of numbers to orders of names, and on what is taken.
 pub mod InTurn
 pub mod Counting
 pub mod Followed
+pub mod Earlier

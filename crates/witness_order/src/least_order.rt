@@ -7,6 +7,7 @@ ghost use Rattle.specification.specs.Orders.{IsLeastOrder, HasNoOrder};
 ghost use Rattle.order_graph.specs.Kept.{names_at};
 ghost use Rattle.order_graph.specs.Lists.{lists_of, AreFew};
 ghost use Rattle.witness_order.specs.Edges.{indegree};
+ghost use Rattle.witness_order.specs.Taken.{IsTakenInTurn, AreLed};
 
 use super::free::{free_elements, remove_edges, take_least};
 use super::indegrees::indegrees_of;
@@ -35,6 +36,8 @@ fn taken_in_turn(
     ensures all { IfOk result (λ v. vec_len v ≡ length graph.now.elements
         → IsLeastOrder graph.now (names_at graph.now.elements v.items)) }
     ensures some { IfOk result (λ v. vec_len v ≢ length graph.now.elements → HasNoOrder graph.now) }
+    ensures after { IfOk result (λ v. IsTakenInTurn (lists_of graph.now) v.items) }
+    ensures others { IfOk result (λ v. AreLed (lists_of graph.now) (length graph.now.elements) v.items) }
 {
     let mut taken = Vec::with_capacity(alloc, graph.elements() as usize)?;
     while let Some(x) = take_least(&mut free) {
@@ -65,6 +68,28 @@ fn names_of(alloc: Global, graph: &OrderGraph, numbers: &[u32]) -> Result<Vec<Na
     Ok(names)
 }
 
+/// The numbers of the elements that can be taken one after the other, each after all that stand before it in
+/// a response, in that order: the least first where several can. All elements exactly where some order follows
+/// every response; else neither the elements of a cycle nor what stands after one are among them.
+///
+/// Time: two looks at each place of all responses, and each element once into and out of an ordered set.
+/// Memory: linear in the elements; no place is copied.
+pub fn taken(alloc: Global, graph: &OrderGraph) -> Result<Vec<u32>, Memory>
+    ensures known { IfOk result (λ v. All (λ x. x < length graph.now.elements) v.items) }
+    ensures all { IfOk result (λ v. vec_len v ≡ length graph.now.elements
+        → IsLeastOrder graph.now (names_at graph.now.elements v.items)) }
+    ensures some { IfOk result (λ v. vec_len v ≢ length graph.now.elements → HasNoOrder graph.now) }
+    ensures after { IfOk result (λ v. IsTakenInTurn (lists_of graph.now) v.items) }
+    ensures others { IfOk result (λ v. AreLed (lists_of graph.now) (length graph.now.elements) v.items) }
+{
+    // For its clauses: how few the places are.
+    let _ = graph.lists();
+    let mut looked = Looked::new();
+    let indegrees = indegrees_of(alloc, graph, &mut looked)?;
+    let free = free_elements(alloc, indegrees.as_slice())?;
+    taken_in_turn(alloc, graph, indegrees, free, &mut looked)
+}
+
 /// The least order of the elements that follows every response, by dictionary order of their numbers; none
 /// exactly where no order does, which is where responses show some elements in a cycle.
 ///
@@ -73,12 +98,7 @@ fn names_of(alloc: Global, graph: &OrderGraph, numbers: &[u32]) -> Result<Vec<Na
 pub fn order(alloc: Global, graph: &OrderGraph) -> Result<Option<Order>, Memory>
     ensures { IfOk result (λ o. MatchOption o (HasNoOrder graph.now) (λ p. IsLeastOrder graph.now p)) }
 {
-    // For its clauses: how few the places are.
-    let _ = graph.lists();
-    let mut looked = Looked::new();
-    let indegrees = indegrees_of(alloc, graph, &mut looked)?;
-    let free = free_elements(alloc, indegrees.as_slice())?;
-    let taken = taken_in_turn(alloc, graph, indegrees, free, &mut looked)?;
+    let taken = taken(alloc, graph)?;
     if !are_all_taken(graph, taken.as_slice()) {
         return Ok(None);
     }

@@ -9,7 +9,7 @@ mod indegrees;
 mod least_order;
 mod neighbours;
 
-pub use least_order::order;
+pub use least_order::{order, taken};
 pub use witnesses::Order;
 
 #[cfg(test)]

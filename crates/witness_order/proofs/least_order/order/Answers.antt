@@ -1,14 +1,8 @@
--- What is said of a vector's slice is said of the vector.
-use Rattle.std.proofs.Common.{◌≡◌, ℕ, ◌<◌, ◌↔◌, List, Contains, length, get_or, ap, subst, arith}
+-- The whole slice is as long as the vector.
+use Rattle.std.proofs.Common.{arith}
 use Rattle.std.proofs.lemmas.Bool.{false≢true}
 use Rattle.witness_order.proofs.least_order.order.Goals as goal
 
-pub taken_in_turn-requires-clause-free : goal.taken_in_turn-requires-clause-free
-taken_in_turn-requires-clause-free c =
-    let all : length c.as_slice.result.now ≡ length c.args.graph.now.elements = omega (arith, ap (λ (l : List ℕ). length l) c.as_slice.ensures.value, c.in_ok-indegrees.ensures.size) in
-    subst (λ n. (x : ℕ) → Contains c.in_ok-free.free.keys x ↔ ((x < n) × (get_or c.in_ok-indegrees.indegrees.items x 0 ≡ 0))) all
-    (subst (λ (l : List ℕ). (x : ℕ) → Contains c.in_ok-free.free.keys x ↔ ((x < length c.as_slice.result.now) × (get_or l x 0 ≡ 0))) c.as_slice.ensures.value c.in_ok-free.ensures)
-
 pub returns-then-not-are_all_taken : goal.returns-then-not-are_all_taken
 returns-then-not-are_all_taken c =
-    c.in_ok-taken.ensures.some (λ e. false≢true (c.if-not-are_all_taken.ensures.1 (omega (arith, c.as_slice-2.ensures.len))))
+    c.in_ok-taken.ensures.some (λ e. false≢true (c.if-not-are_all_taken.ensures.1 (omega (arith, c.as_slice.ensures.len))))

@@ -5,6 +5,7 @@ use Rattle.order_graph.specs.Lists.{lists_of}
 use Rattle.witness_order.specs.Edges.{edges}
 use Rattle.witness_order.proofs.InTurn.{InTurn, AreRemoved, term_le, begins, next, less_taken, ends_first, ends_closed}
 use Rattle.witness_order.proofs.Followed.{least_from_first, none_from_closed}
+use Rattle.witness_order.proofs.Earlier.{taken_in_turn, others_led}
 use Rattle.witness_order.proofs.least_order.taken_in_turn.Goals as goal
 
 pub loop-x-init : goal.loop-x-init
@@ -83,3 +84,15 @@ returns-clause-some c = λ some.
     let state : InTurn E n c.loop-x.taken.items [] c.loop-x.indegrees.items =
     subst (λ free. InTurn E n c.loop-x.taken.items free c.loop-x.indegrees.items) none c.loop-x.invariant.state in
     none_from_closed c.args.graph.now c.elements.ensures.proper (ends_closed E n c.loop-x.taken.items c.loop-x.indegrees.items state (λ e. some (omega arith)))
+
+pub returns-clause-after : goal.returns-clause-after
+returns-clause-after c =
+    taken_in_turn c.args.graph.now c.elements.ensures.proper c.loop-x.taken.items c.loop-x.free.keys c.loop-x.indegrees.items c.loop-x.invariant.state
+
+pub returns-clause-others : goal.returns-clause-others
+returns-clause-others c =
+    let n : ℕ = length c.args.graph.now.elements in
+    let E : ℕ → ℕ → ℕ = edges (lists_of c.args.graph.now) in
+    let none : c.loop-x.free.keys ≡ [] = c.in_default.ensures.none in
+    others_led c.args.graph.now c.elements.ensures.proper c.loop-x.taken.items c.loop-x.indegrees.items
+    (subst (λ free. InTurn E n c.loop-x.taken.items free c.loop-x.indegrees.items) none c.loop-x.invariant.state)
