@@ -3,4 +3,5 @@
 mod generated;
 mod orders;
 mod plain;
+mod taken;
 mod worked;

@@ -12,10 +12,10 @@ use std::alloc::Global;
 use std::test::Fail;
 use std::thread::Threads;
 
-const TWO_REPLICAS: &str = "trace 1\nreplicas 2\n0 ins a 0 : a\n1 ins b 0 : b\n";
+pub const TWO_REPLICAS: &str = "trace 1\nreplicas 2\n0 ins a 0 : a\n1 ins b 0 : b\n";
 
 /// Nobody else sees a, and nobody reads before it is deleted.
-const SHOWN_BESIDE_NONE: &str =
+pub const SHOWN_BESIDE_NONE: &str =
     "trace 1\nreplicas 2\n0 ins a 0 : a\n0 del a :\n1 ins c 0 : c\n1 ins b 0 : b c\n0 read :\n";
 
 /// Whether the least order of the recording that a text spells is the expected one, or is expected to be
