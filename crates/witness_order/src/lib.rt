@@ -1,4 +1,5 @@
-//! The least order of a recording's elements that follows every response.
+//! The least order of a recording's elements that follows every response, and which elements can be taken
+//! in turn where there is none.
 //!
 //! Each time the least element is taken that stands right after none that is left. What is taken is a front
 //! of every response, so neighbouring places tell what any two places do.
