@@ -69,8 +69,8 @@ fn names_of(alloc: Global, graph: &OrderGraph, numbers: &[u32]) -> Result<Vec<Na
 }
 
 /// The numbers of the elements that can be taken one after the other, each after all that stand before it in
-/// a response, in that order: the least first where several can. All elements exactly where some order follows
-/// every response; else neither the elements of a cycle nor what stands after one are among them.
+/// a response, in that order: the least first where several can. All elements exactly where some order
+/// follows every response; else neither the elements of a cycle nor what stands after one are among them.
 ///
 /// Time: two looks at each place of all responses, and each element once into and out of an ordered set.
 /// Memory: linear in the elements; no place is copied.

@@ -1,4 +1,5 @@
-//! The least orders of recordings, and what is taken in turn. Recordings must be sound. A call that finds no memory is made again.
+//! The least orders of recordings, and what is taken in turn. Recordings must be sound. A call that finds no
+//! memory is made again.
 ghost use Rattle.specification.specs.Faults.{IsSound};
 
 use crate::{Order, order, taken};
