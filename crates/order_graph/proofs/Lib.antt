@@ -1,4 +1,5 @@
--- Lemmas: on rows cut from a list, on names read back from their numbers, on spots, on the limits, on responses that cover others.
+-- Lemmas: on rows cut from a list, on names read back from their numbers, on spots, on the limits, on responses
+-- that cover others, on what is left where some elements alone are kept.
 pub mod Cuts
 pub mod ReadBack
 pub mod AllSpots
@@ -11,3 +12,4 @@ pub mod CoverSteps
 pub mod Copying
 pub mod Made
 pub mod Covers
+pub mod Renumbered

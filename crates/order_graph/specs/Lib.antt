@@ -6,3 +6,4 @@ pub mod Cuts
 pub mod Kept
 pub mod Covers
 pub mod Runs
+pub mod Renumbered

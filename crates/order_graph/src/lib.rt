@@ -6,6 +6,7 @@
 
 mod covering;
 mod looked;
+mod narrowing;
 mod order_graph;
 mod pairs;
 mod places;

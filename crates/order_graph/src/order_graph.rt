@@ -1,14 +1,16 @@
 //! The order graph: each response as a list of numbers of elements.
 
 ghost use Rattle.std.specs.Prelude.{◌≡◌, ℕ, ◌<◌, ◌≤◌, ◌^◌, IfOk, IfSome, length, slice_get, is_some};
-ghost use Rattle.std.specs.Prelude.{option_map, if◌then◌else◌};
+ghost use Rattle.std.specs.Prelude.{option_map, if◌then◌else◌, All, AllPairs};
 ghost use Rattle.events.specs.Operations.{operation_names};
 ghost use Rattle.specification.specs.Faults.{IsSound};
 ghost use Rattle.specification.specs.Elements.{elements, number_in};
+ghost use Rattle.specification.specs.LayerRule.{narrowed};
 ghost use Rattle.specification.specs.Responses.{responses_of, AreProper, IsLeastShowing};
 
 use super::covering::covering_operations;
 use super::looked::Looked;
+use super::narrowing::{names_kept, new_numbers, places_left};
 use super::pairs::first_list;
 use super::places::places_of;
 use super::rows::Rows;
@@ -27,7 +29,8 @@ use std::marker::Model;
 /// empty, and `covering` some that cover them. Lists and their places are numbered from 0. A spot of an
 /// element is a place where it stands.
 ///
-/// Its memory is linear in the places of the responses that are kept. Only `of` and `covering` take memory.
+/// Its memory is linear in the places of the responses that are kept. Only `of`, `covering` and
+/// `narrowed` take memory.
 #[derive(Drop)]
 pub struct OrderGraph {
     names: Vec<Name>,
@@ -56,6 +59,7 @@ impl Model for OrderGraph {
 impl OrderGraph {
     ghost use Rattle.order_graph.specs.Covers.{IsCoveredBy, IsPart, responses_on};
     ghost use Rattle.order_graph.specs.Lists.{lists_of, row, ticked, AreFew};
+    ghost use Rattle.order_graph.specs.Kept.{names_at};
     ghost use Rattle.order_graph.specs.Spots.{spots_of};
 
     /// The graph of a recording that has no fault. It takes memory and time linear in the places of all
@@ -104,6 +108,29 @@ impl OrderGraph {
         let numbers = numbers_of(alloc, &names)?;
         let places = places_of(alloc, recording, &shown, &names, &numbers)?;
         let spots = spots_in_lists(alloc, names.len(), &places)?;
+        Ok(OrderGraph {
+            names,
+            numbers,
+            shown,
+            places,
+            spots,
+        })
+    }
+
+    /// The graph of some of the elements alone, told by their numbers, which rise: each list keeps those of its
+    /// places that hold one of them, and the elements are numbered anew, in the same order. Time and memory are
+    /// linear in the elements and the places; the map is asked once for each element.
+    pub fn narrowed(&self, alloc: Global, kept: &[u32]) -> Result<OrderGraph, Memory>
+        requires rising { AllPairs (λ x y. x < y) kept.now }
+        requires known { All (λ x. x < length self.now.elements) kept.now }
+        ensures { IfOk result (λ g. g ≡ narrowed self.now (names_at self.now.elements kept.now)) }
+    {
+        let names = names_kept(alloc, &self.names, kept)?;
+        let numbers = numbers_of(alloc, &names)?;
+        let anew = new_numbers(alloc, &self.names, &names, &numbers)?;
+        let places = places_left(alloc, &self.places, &anew)?;
+        let spots = spots_in_lists(alloc, names.len(), &places)?;
+        let shown = Vec::from_slice(alloc, self.shown.as_slice())?;
         Ok(OrderGraph {
             names,
             numbers,

@@ -2,5 +2,6 @@
 
 mod generated;
 mod graphs;
+mod narrowed;
 mod plain;
 mod worked;
