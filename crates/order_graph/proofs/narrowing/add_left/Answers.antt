@@ -1,5 +1,5 @@
 -- One number more, if it has a new one.
-use Rattle.std.proofs.Common.{◌≡◌, ℕ, ◌++◌, Option, None, List, [], ◌∷◌, get_or, take, sym, ◌∙◌, ap, append_assoc}
+use Rattle.std.proofs.Common.{ℕ, ◌++◌, Option, None, List, [], ◌∷◌, get_or, take, sym, ◌∙◌, ap, append_assoc}
 use Rattle.std.specs.Prelude.{filter_map}
 use Rattle.std.specs.List.{cons_option}
 use Rattle.std.proofs.lemmas.List.{take_more}
