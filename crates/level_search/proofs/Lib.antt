@@ -11,6 +11,7 @@ pub mod RingWalks
 pub mod Joining
 pub mod TableRows
 pub mod StepsRound
+pub mod Cores
 pub mod ShortestFew
 pub mod Lengths
 pub mod Rising

@@ -7,6 +7,7 @@ pub mod Balls
 pub mod ScratchView
 pub mod Steps
 pub mod Conflicts
+pub mod Cores
 pub mod Sources
 pub mod Team
 pub mod BoundLaw

@@ -5,6 +5,7 @@ ghost use Rattle.specification.specs.Conflict.{IsConflictNumber};
 ghost use Rattle.level_search.specs.Conflicts.{IsLeastConflict};
 
 use super::MOST_WORKERS;
+use super::cycle_core::Core;
 use super::cycles::least_cycle_by_table;
 use super::gate::Gate;
 use super::search_fault::SearchFault;
@@ -19,18 +20,19 @@ use witnesses::Steps;
 /// The conflict number: the least number of operations whose responses no order of the elements has all
 /// as subsequences; none where some order has the responses of all operations.
 ///
-/// It is the length of a shortest cycle. It is searched for by 1 to 64 workers in threads, which take the
-/// elements to search from one after the other and share the least length found. Where there are at most 64
-/// elements these are all. Where there are more they are those that had to be left out of an order that all
-/// lists follow: each cycle leads through one of these, since along a cycle no order rises all the way, and
-/// so a shortest cycle is found from there. The gate is called round each search. Where no thread can be
-/// started, another runs its worker. The answer is the same for any number of workers, any gate and any order
-/// in which the workers come to run.
+/// It is the length of a shortest cycle. Cycles lead through elements alone that can't be taken in turn for an
+/// order: these are the core. A shortest cycle is searched for there by 1 to 64 workers in threads, which take
+/// the elements to search from one after the other and share the least length found. Where the core has at most
+/// 64 elements these are all. Where it has more they are those that stand out of place in some order of them:
+/// each cycle leads through one of these, since along a cycle no order rises all the way, and so a shortest
+/// cycle is found from there. The gate is called round each search, with the number that the element has in
+/// this graph. Where no thread can be started, another runs its worker. The answer is the same for any number
+/// of workers, any gate and any order in which the workers come to run.
 ///
-/// All searches read one table, which has for each element the set of those that some list shows before it, a
-/// bit each: n * n / 8 bytes for n elements, made in time linear in the places. A search takes n / 64 steps
-/// for each element that it reaches, and n for each of its levels. Each worker takes memory linear in the
-/// elements. All memory is taken before the first search.
+/// All searches read one table, which has for each element of the core the set of those that some list shows
+/// before it, a bit each: n * n / 8 bytes for n elements, made in time linear in the places. A search takes
+/// n / 64 steps for each element that it reaches, and n for each of its levels. Each worker takes memory linear
+/// in the core. All memory is taken before the first search.
 pub fn conflict_number<H: Threads + Sync, G: Gate>(
     rt: &H,
     alloc: Global,
@@ -46,8 +48,10 @@ pub fn conflict_number<H: Threads + Sync, G: Gate>(
     }
     // Its contract has that the responses are proper.
     let _ = graph.elements();
-    let table = ShownTable::of(alloc, graph)?;
-    let least = least_length(rt, alloc, graph, &table, workers, gate)?;
+    let core = Core::of(alloc, graph)?;
+    let _ = core.graph.elements();
+    let table = ShownTable::of(alloc, &core.graph)?;
+    let least = least_length(rt, alloc, &core.graph, &table, workers, &core.gate(gate))?;
     if least == NO_OFFER {
         Ok(None)
     } else {
@@ -79,11 +83,13 @@ pub fn least_conflict<H: Threads + Sync, G: Gate>(
     }
     // Its contract has that the responses are proper.
     let _ = graph.elements();
-    let table = ShownTable::of(alloc, graph)?;
-    let least = least_length(rt, alloc, graph, &table, workers, gate)?;
+    let core = Core::of(alloc, graph)?;
+    let _ = core.graph.elements();
+    let table = ShownTable::of(alloc, &core.graph)?;
+    let least = least_length(rt, alloc, &core.graph, &table, workers, &core.gate(gate))?;
     if least == NO_OFFER {
         return Ok(None);
     }
-    let steps = least_cycle_by_table(alloc, graph, &table, least)?;
+    let steps = least_cycle_by_table(alloc, &core.graph, &table, least)?;
     Ok(Some(Conflict { k: least, steps }))
 }

@@ -12,6 +12,7 @@ mod ring;
 mod steps;
 mod tables;
 
+use super::cycle_core::Core;
 use events::Memory;
 use order_graph::OrderGraph;
 use ring::least_ring;
@@ -23,15 +24,20 @@ use witnesses::Steps;
 /// The least cycle, where k is the length of a shortest: its elements are the first, in dictionary order
 /// of their numbers, of all cycles of k elements, and each step names the least operation that shows it.
 ///
-/// It makes the table of what stands before each element, in time linear in the places and n * n / 8 bytes
-/// for n elements, searches from each element up to the cycle's first, and goes k times over all places. It
-/// takes memory for k tables of one mark an element.
+/// It leaves out what can be taken in turn for an order, through which no cycle leads. For the n elements that
+/// are left it makes the table of what stands before each, in time linear in the places and n * n / 8 bytes,
+/// searches from each up to the cycle's first, and goes k times over all their places. It takes memory for k
+/// tables of one mark an element.
 pub fn least_cycle(alloc: Global, graph: &OrderGraph, k: u32) -> Result<Steps, Memory>
     requires { IsShortestLength graph.now k }
     ensures { IfOk result (λ steps. AreLeastSteps graph.now steps × (length steps ≡ k)) }
 {
-    let table = ShownTable::of(alloc, graph)?;
-    least_cycle_by_table(alloc, graph, &table, k)
+    // Its contract has that the responses are proper.
+    let _ = graph.elements();
+    let core = Core::of(alloc, graph)?;
+    let _ = core.graph.elements();
+    let table = ShownTable::of(alloc, &core.graph)?;
+    least_cycle_by_table(alloc, &core.graph, &table, k)
 }
 
 /// The same, where the table is made.

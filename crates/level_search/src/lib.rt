@@ -2,6 +2,7 @@
 #![tactic(auto)]
 
 mod conflict;
+mod cycle_core;
 mod cycles;
 mod gate;
 mod laws;

@@ -1,6 +1,7 @@
 //! The elements from which it is enough to search.
 
-ghost use Rattle.std.specs.Prelude.{◌≡◌, ◌+◌, ◌/◌, ◌<◌, ◌≤◌, ℕ, All, Contains, IfOk, length, slice_index};
+ghost use Rattle.std.specs.Prelude.{◌≡◌, ◌+◌, ◌/◌, ◌<◌, ◌≤◌, ℕ, All, AllPairs, Contains, IfOk, length};
+ghost use Rattle.std.specs.Prelude.{slice_index};
 ghost use Rattle.order_graph.specs.Lists.{lists_of};
 ghost use Rattle.shown_table.specs.Tables.{IsShownTable};
 ghost use Rattle.level_search.specs.Sources.{AreRanked, MeetsCycles, Rises};
@@ -15,7 +16,7 @@ use shown_table::ShownTable;
 use std::alloc::Global;
 
 /// The rank of an element that is out of place.
-const UNRANKED: u32 = u32::MAX;
+pub const UNRANKED: u32 = u32::MAX;
 /// Where there are no more elements than this, each is searched from.
 const FEW: u32 = 64;
 
@@ -105,9 +106,10 @@ fn all_elements(alloc: Global, graph: &OrderGraph) -> Result<Vec<u32>, Memory>
     Ok(elements)
 }
 
-/// The elements without a rank.
-fn unranked(alloc: Global, ranks: &[u32]) -> Result<Vec<u32>, Memory>
+/// The elements without a rank, in order of numbers.
+pub fn unranked(alloc: Global, ranks: &[u32]) -> Result<Vec<u32>, Memory>
     requires { length ranks.now < u32.MAX }
+    ensures rising { IfOk result (λ v. AllPairs (λ x y. x < y) v.items) }
     ensures known { IfOk result (λ v. All (λ s. s < length ranks.now) v.items) }
     ensures count { IfOk result (λ v. length v.items ≤ length ranks.now) }
     ensures all { IfOk result (λ v. (x : ℕ) → x < length ranks.now → slice_index ranks.now x ≡ u32.MAX

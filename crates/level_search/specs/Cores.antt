@@ -1,0 +1,12 @@
+-- A core of responses: part of the elements that has each element of each cycle.
+use Rattle.std.specs.Prelude.{ℕ, ◌<◌, List, length, All, AllPairs, Contains}
+use Rattle.events.specs.Names.{NameBytes}
+use Rattle.specification.specs.Responses.{Responses}
+use Rattle.specification.specs.Conflict.{IsCycle}
+use Rattle.order_graph.specs.Kept.{names_at}
+
+-- these numbers rise, and the elements of each cycle are among those with these numbers
+pub record IsCoreOf (v : Responses) (numbers : List ℕ) : Type 0 where
+  pub rising : AllPairs (λ x y. x < y) numbers
+  pub known : All (λ x. x < length v.elements) numbers
+  pub whole : (cycle : List NameBytes) → IsCycle v cycle → All (λ a. Contains (names_at v.elements numbers) a) cycle
