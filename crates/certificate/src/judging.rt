@@ -29,7 +29,8 @@ use witnesses::Order;
 ///
 /// Without conflicts its cost is that of `first_fault` and linear in the places of all responses; where there
 /// are, `least_conflict` has the cost of the search. Memory is linear in the places, and where there are
-/// conflicts n * n / 8 bytes more for n elements, and linear in the elements for each worker.
+/// conflicts n * n / 8 bytes more for the n elements that can't be taken in turn for an order, and linear in
+/// these for each worker.
 pub fn judge<H: Threads + Sync, G: Gate>(
     rt: &H,
     alloc: Global,

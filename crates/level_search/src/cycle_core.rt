@@ -10,8 +10,8 @@ use order_graph::OrderGraph;
 use std::alloc::Global;
 use witness_order::taken;
 
-/// The elements that are left where no order can go on, by their numbers in the whole graph, and the graph of
-/// these alone. All cycles are in it: what can be taken in turn stands after such alone as was taken before.
+/// The elements of a graph that can't be taken in turn for an order, by their numbers, and the graph of these
+/// alone. All cycles are in it: an element that is taken stands after such alone as were taken before it.
 #[derive(Drop)]
 pub struct Core {
     pub elements: Vec<u32>,

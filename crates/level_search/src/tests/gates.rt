@@ -51,10 +51,10 @@ impl Gate for Counts {
     }
 }
 
-/// Whether each source was counted once.
-fn are_once(counts: &[AtomicU64; 4]) -> bool {
-    for count in counts {
-        if count.load(Ordering::SeqCst) != 1 {
+/// Whether so many searches were counted of each source.
+fn are(counts: &[AtomicU64; 4], expected: [u64; 4]) -> bool {
+    for (source, times) in expected.iter().enumerate() {
+        if counts[source].load(Ordering::SeqCst) != *times {
             return false;
         }
     }
@@ -66,8 +66,23 @@ fn a_gate_is_called_round_each_search(rt: HostRuntime) -> Result<(), Fail> {
     let counts = Counts::none();
     let found = number_on(&rt, rt.alloc(), RING_OF_FOUR, 2, &counts)?;
     assert_eq!(rt; found, Some(4));
-    assert!(rt; are_once(&counts.begun));
-    assert!(rt; are_once(&counts.ended));
+    assert!(rt; are(&counts.begun, [1; 4]));
+    assert!(rt; are(&counts.ended, [1; 4]));
+    assert_eq!(rt; counts.others.load(Ordering::SeqCst), 0);
+    Ok(())
+}
+
+/// The elements are x, a and b. Replica 0 reads a before b, and replica 1 the other way; x stands before both.
+const PAIR_AFTER_ANOTHER: &str =
+    "trace 1\nreplicas 2\n0 ins x 0 : x\n0 ins a 1 : x a\n1 ins b 0 : b\n0 recv 1 1\n0 read : x a b\n1 recv 0 1\n1 recv 0 2\n1 read : x b a\n";
+
+#[test]
+fn a_gate_is_told_the_numbers_of_the_whole_graph(rt: HostRuntime) -> Result<(), Fail> {
+    let counts = Counts::none();
+    let found = number_on(&rt, rt.alloc(), PAIR_AFTER_ANOTHER, 2, &counts)?;
+    assert_eq!(rt; found, Some(2));
+    assert!(rt; are(&counts.begun, [0, 1, 1, 0]));
+    assert!(rt; are(&counts.ended, [0, 1, 1, 0]));
     assert_eq!(rt; counts.others.load(Ordering::SeqCst), 0);
     Ok(())
 }
