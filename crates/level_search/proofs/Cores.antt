@@ -8,7 +8,7 @@ use Rattle.events.specs.Names.{NameBytes}
 use Rattle.events.specs.Operation.{Operation, IsLeast}
 use Rattle.specification.specs.Elements.{numbers_in}
 use Rattle.specification.specs.Responses.{Responses, AreProper, Shows, StandsBefore}
-use Rattle.specification.specs.Conflict.{AreLeastSteps, IsCycle, Step, ring, ring_from}
+use Rattle.specification.specs.Conflict.{AreLeastSteps, HasConflictNumber, HasNoConflict, IsCycle, Step, ring, ring_from}
 use Rattle.specification.specs.LayerRule.{narrowed}
 use Rattle.specification.specs.Orders.{dictionary_lt}
 use Rattle.specification.specs.Search.{IsShortestLength, HasNoCycle}
@@ -23,11 +23,14 @@ use Rattle.order_graph.specs.Kept.{names_at}
 use Rattle.order_graph.specs.Lists.{lists_of, BeforeIn}
 use Rattle.witness_order.specs.Taken.{IsTakenInTurn}
 use Rattle.element_numbers.proofs.NameNumbers.{number-some}
+use Rattle.level_search.specs.Conflicts.{IsSearched}
 use Rattle.level_search.specs.Cores.{IsCoreOf}
+use Rattle.level_search.specs.declared.conflict.Searched.{Searched}
 use Rattle.level_search.specs.Graph as by_number
 use Rattle.level_search.specs.Team.{IsLeastLength}
 use Rattle.level_search.specs.Walks.{HasCycle, Walk}
 use Rattle.level_search.proofs.Joining.{name, ring_of_cycle}
+use Rattle.level_search.proofs.Lengths.{none, some}
 use Rattle.level_search.proofs.RingWalks.{ring_through}
 
 -- a pair of a ring has two of its elements
@@ -246,3 +249,16 @@ module _ (v : Responses) (proper : AreProper v) (numbers : List ℕ) (core : IsC
 
   pub steps_of_core : (steps : List Step) → AreLeastSteps w steps → AreLeastSteps v steps
   steps_of_core steps least = steps_of_part v proper numbers core left-proper steps (subst (λ u. AreLeastSteps u steps) is least)
+
+-- what was searched tells the whole
+whole-least : (v : Responses) (s : Searched) → IsSearched v s → IsLeastLength v s.least
+whole-least v s is = least_of_core v is.proper s.core.elements.items is.core s.core.graph is.part is.part_proper s.least is.least
+
+pub no_conflict : (v : Responses) (s : Searched) → IsSearched v s → s.least ≡ 4294967295 → HasNoConflict v
+no_conflict v s is = none v is.proper s.least (whole-least v s is)
+
+pub some_conflict : (v : Responses) (s : Searched) → IsSearched v s → s.least ≢ 4294967295 → HasConflictNumber v s.least
+some_conflict v s is = some v is.proper s.least (whole-least v s is)
+
+pub least_steps : (v : Responses) (s : Searched) → IsSearched v s → (steps : List Step) → AreLeastSteps s.core.graph steps → AreLeastSteps v steps
+least_steps v s is = steps_of_core v is.proper s.core.elements.items is.core s.core.graph is.part is.part_proper

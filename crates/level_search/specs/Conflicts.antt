@@ -1,8 +1,24 @@
--- The least conflict.
+-- What a search of the core has found, and the least conflict.
 use Rattle.std.specs.Prelude.{◌≡◌, Option, Some, None, length}
-use Rattle.specification.specs.Responses.{Responses}
+use Rattle.specification.specs.Responses.{Responses, AreProper}
 use Rattle.specification.specs.Conflict.{AreLeastSteps, HasConflictNumber, HasNoConflict}
+use Rattle.specification.specs.LayerRule.{narrowed}
+use Rattle.order_graph.specs.Kept.{names_at}
+use Rattle.order_graph.specs.Lists.{lists_of}
+use Rattle.shown_table.specs.Tables.{IsShownTable}
+use Rattle.level_search.specs.Cores.{IsCoreOf}
+use Rattle.level_search.specs.Team.{IsLeastLength}
 use Rattle.level_search.specs.declared.conflict.Conflict.{Conflict}
+use Rattle.level_search.specs.declared.conflict.Searched.{Searched}
+
+-- the core is one of these responses, the table is the core's, and the length that of a shortest cycle there
+pub record IsSearched (v : Responses) (s : Searched) : Type 0 where
+  pub proper : AreProper v
+  pub core : IsCoreOf v s.core.elements.items
+  pub part : s.core.graph ≡ narrowed v (names_at v.elements s.core.elements.items)
+  pub part_proper : AreProper s.core.graph
+  pub table : IsShownTable (length s.core.graph.elements) (lists_of s.core.graph) s.table
+  pub least : IsLeastLength s.core.graph s.least
 
 -- the conflict number and the steps of the least cycle, as many; none where there is no conflict
 abbrev pub IsLeastConflict : Responses → Option Conflict → Type 0

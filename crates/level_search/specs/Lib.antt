@@ -6,8 +6,8 @@ pub mod Progress
 pub mod Balls
 pub mod ScratchView
 pub mod Steps
-pub mod Conflicts
 pub mod Cores
+pub mod Conflicts
 pub mod Sources
 pub mod Team
 pub mod BoundLaw

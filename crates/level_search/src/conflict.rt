@@ -2,7 +2,7 @@
 
 ghost use Rattle.std.specs.Prelude.{◌≡◌, ◌⊎◌, ◌↔◌, ◌<◌, IfOk, IsErrOf};
 ghost use Rattle.specification.specs.Conflict.{IsConflictNumber};
-ghost use Rattle.level_search.specs.Conflicts.{IsLeastConflict};
+ghost use Rattle.level_search.specs.Conflicts.{IsLeastConflict, IsSearched};
 
 use super::MOST_WORKERS;
 use super::cycle_core::Core;
@@ -16,6 +16,37 @@ use shown_table::ShownTable;
 use std::alloc::Global;
 use std::thread::Threads;
 use witnesses::Steps;
+
+/// What the workers have searched, and the length of a shortest cycle, or `NO_OFFER` where there is none.
+#[derive(Drop)]
+struct Searched {
+    core: Core,
+    table: ShownTable,
+    least: u32,
+}
+
+/// Searches the core of a graph.
+fn searched<H: Threads + Sync, G: Gate>(
+    rt: &H,
+    alloc: Global,
+    graph: &OrderGraph,
+    workers: u32,
+    gate: &G,
+) -> Result<Searched, SearchFault>
+    ensures least { IfOk result (IsSearched graph.now) }
+    ensures workers { IsErrOf result SearchFault.Workers ↔ ((workers < 1) ⊎ (MOST_WORKERS < workers)) }
+{
+    if workers < 1 || workers > MOST_WORKERS {
+        return Err(SearchFault::Workers);
+    }
+    // Its contract has that the responses are proper.
+    let _ = graph.elements();
+    let core = Core::of(alloc, graph)?;
+    let _ = core.graph.elements();
+    let table = ShownTable::of(alloc, &core.graph)?;
+    let least = least_length(rt, alloc, &core.graph, &table, workers, &core.gate(gate))?;
+    Ok(Searched { core, table, least })
+}
 
 /// The conflict number: the least number of operations whose responses no order of the elements has all
 /// as subsequences; none where some order has the responses of all operations.
@@ -43,19 +74,11 @@ pub fn conflict_number<H: Threads + Sync, G: Gate>(
     ensures number { IfOk result (λ k. IsConflictNumber graph.now k) }
     ensures workers { IsErrOf result SearchFault.Workers ↔ ((workers < 1) ⊎ (MOST_WORKERS < workers)) }
 {
-    if workers == 0 || workers > MOST_WORKERS {
-        return Err(SearchFault::Workers);
-    }
-    // Its contract has that the responses are proper.
-    let _ = graph.elements();
-    let core = Core::of(alloc, graph)?;
-    let _ = core.graph.elements();
-    let table = ShownTable::of(alloc, &core.graph)?;
-    let least = least_length(rt, alloc, &core.graph, &table, workers, &core.gate(gate))?;
-    if least == NO_OFFER {
+    let found = searched(rt, alloc, graph, workers, gate)?;
+    if found.least == NO_OFFER {
         Ok(None)
     } else {
-        Ok(Some(least))
+        Ok(Some(found.least))
     }
 }
 
@@ -78,18 +101,13 @@ pub fn least_conflict<H: Threads + Sync, G: Gate>(
     ensures conflict { IfOk result (IsLeastConflict graph.now) }
     ensures workers { IsErrOf result SearchFault.Workers ↔ ((workers < 1) ⊎ (MOST_WORKERS < workers)) }
 {
-    if workers < 1 || workers > MOST_WORKERS {
-        return Err(SearchFault::Workers);
-    }
-    // Its contract has that the responses are proper.
-    let _ = graph.elements();
-    let core = Core::of(alloc, graph)?;
-    let _ = core.graph.elements();
-    let table = ShownTable::of(alloc, &core.graph)?;
-    let least = least_length(rt, alloc, &core.graph, &table, workers, &core.gate(gate))?;
-    if least == NO_OFFER {
+    let found = searched(rt, alloc, graph, workers, gate)?;
+    if found.least == NO_OFFER {
         return Ok(None);
     }
-    let steps = least_cycle_by_table(alloc, &core.graph, &table, least)?;
-    Ok(Some(Conflict { k: least, steps }))
+    let steps = least_cycle_by_table(alloc, &found.core.graph, &found.table, found.least)?;
+    Ok(Some(Conflict {
+        k: found.least,
+        steps,
+    }))
 }

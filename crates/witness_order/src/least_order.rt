@@ -1,13 +1,13 @@
 //! The least order that every list follows.
 
-ghost use Rattle.std.specs.Prelude.{◌≡◌, ◌≢◌, ℕ, ◌<◌, All, IfOk, IsTrue, MatchOption, length, vec_len};
+ghost use Rattle.std.specs.Prelude.{◌≡◌, ℕ, ◌<◌, All, IfOk, IsTrue, MatchOption, length, vec_len};
 ghost use Rattle.std.specs.Prelude.{slice_index, Contains, ◌↔◌};
 ghost use Rattle.std.specs.List.{range_with_len};
 ghost use Rattle.specification.specs.Orders.{IsLeastOrder, HasNoOrder};
 ghost use Rattle.order_graph.specs.Kept.{names_at};
 ghost use Rattle.order_graph.specs.Lists.{lists_of, AreFew};
 ghost use Rattle.witness_order.specs.Edges.{indegree};
-ghost use Rattle.witness_order.specs.Taken.{IsTakenInTurn, AreLed};
+ghost use Rattle.witness_order.specs.Taken.{AreTaken};
 
 use super::free::{free_elements, remove_edges, take_least};
 use super::indegrees::indegrees_of;
@@ -32,12 +32,7 @@ fn taken_in_turn(
         (range_with_len 0 (length graph.now.elements)) y }
     requires free { (x : ℕ) → Contains free.keys x
         ↔ ((x < length graph.now.elements) × (slice_index indegrees.items x ≡ 0)) }
-    ensures known { IfOk result (λ v. All (λ x. x < length graph.now.elements) v.items) }
-    ensures all { IfOk result (λ v. vec_len v ≡ length graph.now.elements
-        → IsLeastOrder graph.now (names_at graph.now.elements v.items)) }
-    ensures some { IfOk result (λ v. vec_len v ≢ length graph.now.elements → HasNoOrder graph.now) }
-    ensures after { IfOk result (λ v. IsTakenInTurn (lists_of graph.now) v.items) }
-    ensures others { IfOk result (λ v. AreLed (lists_of graph.now) (length graph.now.elements) v.items) }
+    ensures { IfOk result (λ v. AreTaken graph.now v.items) }
 {
     let mut taken = Vec::with_capacity(alloc, graph.elements() as usize)?;
     while let Some(x) = take_least(&mut free) {
@@ -75,12 +70,7 @@ fn names_of(alloc: Global, graph: &OrderGraph, numbers: &[u32]) -> Result<Vec<Na
 /// Time: two looks at each place of all responses, and each element once into and out of an ordered set.
 /// Memory: linear in the elements; no place is copied.
 pub fn taken(alloc: Global, graph: &OrderGraph) -> Result<Vec<u32>, Memory>
-    ensures known { IfOk result (λ v. All (λ x. x < length graph.now.elements) v.items) }
-    ensures all { IfOk result (λ v. vec_len v ≡ length graph.now.elements
-        → IsLeastOrder graph.now (names_at graph.now.elements v.items)) }
-    ensures some { IfOk result (λ v. vec_len v ≢ length graph.now.elements → HasNoOrder graph.now) }
-    ensures after { IfOk result (λ v. IsTakenInTurn (lists_of graph.now) v.items) }
-    ensures others { IfOk result (λ v. AreLed (lists_of graph.now) (length graph.now.elements) v.items) }
+    ensures { IfOk result (λ v. AreTaken graph.now v.items) }
 {
     // For its clauses: how few the places are.
     let _ = graph.lists();

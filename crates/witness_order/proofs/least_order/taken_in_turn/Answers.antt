@@ -65,34 +65,20 @@ loop-x-preserved c =
           (λ z i. All-member (λ w. x < w) free z c.in-Some.ensures.least i) removed);
     }
 
-pub returns-clause-known : goal.returns-clause-known
-returns-clause-known c = All-from_members (λ x. x < length c.args.graph.now.elements) c.loop-x.taken.items c.loop-x.invariant.state.taken_below
-
-pub returns-clause-all : goal.returns-clause-all
-returns-clause-all c = λ e.
+pub returns : goal.returns
+returns c =
     let n : ℕ = length c.args.graph.now.elements in
     let E : ℕ → ℕ → ℕ = edges (lists_of c.args.graph.now) in
+    let taken : List ℕ = c.loop-x.taken.items in
+    let degrees : List ℕ = c.loop-x.indegrees.items in
     let state = c.loop-x.invariant.state in
-    least_from_first c.args.graph.now c.elements.ensures.proper c.loop-x.taken.items state.taken_below
-    (ends_first E n c.loop-x.taken.items c.loop-x.free.keys c.loop-x.indegrees.items state (omega arith))
-
-pub returns-clause-some : goal.returns-clause-some
-returns-clause-some c = λ some.
-    let n : ℕ = length c.args.graph.now.elements in
-    let E : ℕ → ℕ → ℕ = edges (lists_of c.args.graph.now) in
+    let proper = c.elements.ensures.proper in
     let none : c.loop-x.free.keys ≡ [] = c.in_default.ensures.none in
-    let state : InTurn E n c.loop-x.taken.items [] c.loop-x.indegrees.items =
-    subst (λ free. InTurn E n c.loop-x.taken.items free c.loop-x.indegrees.items) none c.loop-x.invariant.state in
-    none_from_closed c.args.graph.now c.elements.ensures.proper (ends_closed E n c.loop-x.taken.items c.loop-x.indegrees.items state (λ e. some (omega arith)))
-
-pub returns-clause-after : goal.returns-clause-after
-returns-clause-after c =
-    taken_in_turn c.args.graph.now c.elements.ensures.proper c.loop-x.taken.items c.loop-x.free.keys c.loop-x.indegrees.items c.loop-x.invariant.state
-
-pub returns-clause-others : goal.returns-clause-others
-returns-clause-others c =
-    let n : ℕ = length c.args.graph.now.elements in
-    let E : ℕ → ℕ → ℕ = edges (lists_of c.args.graph.now) in
-    let none : c.loop-x.free.keys ≡ [] = c.in_default.ensures.none in
-    others_led c.args.graph.now c.elements.ensures.proper c.loop-x.taken.items c.loop-x.indegrees.items
-    (subst (λ free. InTurn E n c.loop-x.taken.items free c.loop-x.indegrees.items) none c.loop-x.invariant.state)
+    let end : InTurn E n taken [] degrees = subst (λ free. InTurn E n taken free degrees) none state in
+    record {
+      known = All-from_members (λ x. x < n) taken state.taken_below;
+      all = λ e. least_from_first c.args.graph.now proper taken state.taken_below (ends_first E n taken c.loop-x.free.keys degrees state e);
+      some = λ some. none_from_closed c.args.graph.now proper (ends_closed E n taken degrees end some);
+      after = taken_in_turn c.args.graph.now proper taken c.loop-x.free.keys degrees state;
+      others = others_led c.args.graph.now proper taken degrees end;
+    }

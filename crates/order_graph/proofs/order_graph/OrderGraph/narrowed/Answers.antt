@@ -28,120 +28,76 @@ known-in v w kept e known = subst (λ (u : Responses). All (λ x. x < length u.e
 pub numbers_of-requires-clause-distinct : goal.numbers_of-requires-clause-distinct
 numbers_of-requires-clause-distinct c =
     let g = c.self.inside in
-    let names : List NameBytes = g.names.items in
-    let rows : List (List ℕ) = rows_of g.places in
-    let v : Responses = responses_kept names g.shown.items rows in
-    let kept : List ℕ = c.args.kept.now in
-    let known : All (λ x. x < length names) kept = known-in v c.args.self.now kept c.self.view_is c.requires.known in
-    let among : List NameBytes = c.in_ok-names.names.items in
-    let among_is : among ≡ names_at names kept = lent-names names c.deref.result.now among kept c.deref.ensures.value c.in_ok-names.ensures in
-    subst (λ (l : List NameBytes). AllPairs (λ a b. a ≢ b) l) (sym (c.deref-2.ensures.value ∙ among_is)) (distinct-kept names c.self.invariant.proper.distinct kept c.requires.rising known)
+    let known = known-in (responses_kept g.names.items g.shown.items (rows_of g.places)) c.args.self.now c.args.kept.now c.self.view_is c.requires.known in
+    let among_is = lent-names g.names.items c.deref.result.now c.in_ok-names.names.items c.args.kept.now c.deref.ensures.value c.in_ok-names.ensures in
+    subst (λ (l : List NameBytes). AllPairs (λ a b. a ≢ b) l) (sym (c.deref-2.ensures.value ∙ among_is)) (distinct-kept g.names.items c.self.invariant.proper.distinct c.args.kept.now c.requires.rising known)
 
 pub numbers_of-requires-clause-few : goal.numbers_of-requires-clause-few
 numbers_of-requires-clause-few c =
     let g = c.self.inside in
-    let names : List NameBytes = g.names.items in
-    let rows : List (List ℕ) = rows_of g.places in
-    let v : Responses = responses_kept names g.shown.items rows in
-    let kept : List ℕ = c.args.kept.now in
-    let known : All (λ x. x < length names) kept = known-in v c.args.self.now kept c.self.view_is c.requires.known in
-    let among : List NameBytes = c.in_ok-names.names.items in
-    let among_is : among ≡ names_at names kept = lent-names names c.deref.result.now among kept c.deref.ensures.value c.in_ok-names.ensures in
-    let fewer : length (names_at names kept) ≤ length names = count-kept names c.self.invariant.proper.distinct kept c.requires.rising known in
-    let same : c.deref-2.result.now ≡ names_at names kept = c.deref-2.ensures.value ∙ among_is in
-    omega (arith, c.self.invariant.proper.few, fewer, ap (λ (l : List NameBytes). length l) same)
+    let known = known-in (responses_kept g.names.items g.shown.items (rows_of g.places)) c.args.self.now c.args.kept.now c.self.view_is c.requires.known in
+    let among_is = lent-names g.names.items c.deref.result.now c.in_ok-names.names.items c.args.kept.now c.deref.ensures.value c.in_ok-names.ensures in
+    let bound : length (names_at g.names.items c.args.kept.now) ≤ length g.names.items = count-kept g.names.items c.self.invariant.proper.distinct c.args.kept.now c.requires.rising known in
+    let same : c.deref-2.result.now ≡ names_at g.names.items c.args.kept.now = c.deref-2.ensures.value ∙ among_is in
+    omega (arith, c.self.invariant.proper.few, bound, ap (λ (l : List NameBytes). length l) same)
 
 pub places_left-requires-clause-known : goal.places_left-requires-clause-known
 places_left-requires-clause-known c =
     let g = c.self.inside in
-    let names : List NameBytes = g.names.items in
-    let rows : List (List ℕ) = rows_of g.places in
-    let v : Responses = responses_kept names g.shown.items rows in
-    let kept : List ℕ = c.args.kept.now in
-    let known : All (λ x. x < length names) kept = known-in v c.args.self.now kept c.self.view_is c.requires.known in
-    let among : List NameBytes = c.in_ok-names.names.items in
-    let among_is : among ≡ names_at names kept = lent-names names c.deref.result.now among kept c.deref.ensures.value c.in_ok-names.ensures in
-    let anew_is : c.deref-5.result.now ≡ map (number_in among) names =
-    lent-numbers names c.deref-3.result.now among c.deref-4.result.now c.in_ok-anew.anew.items c.deref-5.result.now c.deref-3.ensures.value c.deref-4.ensures.value c.deref-5.ensures.value c.in_ok-anew.ensures in
-    let count : length c.deref-5.result.now ≡ length names = ap (λ (l : List (Option ℕ)). length l) anew_is ∙ length-map names (number_in among) in
-    let all : List (List ℕ) = map (numbers_left (map (number_in among) names)) rows in
-    subst (λ n. (l : ℕ) → All (λ x. x < n) (row rows l)) (sym count) (whole-known names among kept g.shown.items rows all c.self.invariant.proper c.self.invariant.few c.self.invariant.lists_are c.self.invariant.count c.requires.rising known among_is refl)
+    let known = known-in (responses_kept g.names.items g.shown.items (rows_of g.places)) c.args.self.now c.args.kept.now c.self.view_is c.requires.known in
+    let among_is = lent-names g.names.items c.deref.result.now c.in_ok-names.names.items c.args.kept.now c.deref.ensures.value c.in_ok-names.ensures in
+    let anew_is = lent-numbers g.names.items c.deref-3.result.now c.in_ok-names.names.items c.deref-4.result.now c.in_ok-anew.anew.items c.deref-5.result.now c.deref-3.ensures.value c.deref-4.ensures.value c.deref-5.ensures.value c.in_ok-anew.ensures in
+    let count : length c.deref-5.result.now ≡ length g.names.items = ap (λ (l : List (Option ℕ)). length l) anew_is ∙ length-map g.names.items (number_in c.in_ok-names.names.items) in
+    let all : List (List ℕ) = map (numbers_left (map (number_in c.in_ok-names.names.items) g.names.items)) (rows_of g.places) in
+    subst (λ n. (l : ℕ) → All (λ x. x < n) (row (rows_of g.places) l)) (sym count) (whole-known g.names.items c.in_ok-names.names.items c.args.kept.now g.shown.items (rows_of g.places) all c.self.invariant.proper c.self.invariant.few c.self.invariant.lists_are c.self.invariant.count c.requires.rising known among_is refl)
 
 pub spots_in_lists-requires-clause-known : goal.spots_in_lists-requires-clause-known
 spots_in_lists-requires-clause-known c =
     let g = c.self.inside in
-    let names : List NameBytes = g.names.items in
-    let rows : List (List ℕ) = rows_of g.places in
-    let v : Responses = responses_kept names g.shown.items rows in
-    let kept : List ℕ = c.args.kept.now in
-    let known : All (λ x. x < length names) kept = known-in v c.args.self.now kept c.self.view_is c.requires.known in
-    let among : List NameBytes = c.in_ok-names.names.items in
-    let among_is : among ≡ names_at names kept = lent-names names c.deref.result.now among kept c.deref.ensures.value c.in_ok-names.ensures in
-    let anew_is : c.deref-5.result.now ≡ map (number_in among) names =
-    lent-numbers names c.deref-3.result.now among c.deref-4.result.now c.in_ok-anew.anew.items c.deref-5.result.now c.deref-3.ensures.value c.deref-4.ensures.value c.deref-5.ensures.value c.in_ok-anew.ensures in
-    let fewer : List (List ℕ) = rows_of c.in_ok-places.places in
-    let fewer_is : fewer ≡ map (numbers_left (map (number_in among) names)) rows = c.in_ok-places.ensures.rows ∙ ap (λ l. map (numbers_left l) rows) anew_is in
-    let count : length among ≡ c.len.result = omega (arith, c.len.ensures, c.in_ok-names.names.ok) in
-    subst (λ n. (l : ℕ) → All (λ x. x < n) (row fewer l)) count (part-known names among kept g.shown.items rows fewer c.self.invariant.proper c.self.invariant.few c.self.invariant.lists_are c.self.invariant.count c.requires.rising known among_is fewer_is)
+    let known = known-in (responses_kept g.names.items g.shown.items (rows_of g.places)) c.args.self.now c.args.kept.now c.self.view_is c.requires.known in
+    let among_is = lent-names g.names.items c.deref.result.now c.in_ok-names.names.items c.args.kept.now c.deref.ensures.value c.in_ok-names.ensures in
+    let anew_is = lent-numbers g.names.items c.deref-3.result.now c.in_ok-names.names.items c.deref-4.result.now c.in_ok-anew.anew.items c.deref-5.result.now c.deref-3.ensures.value c.deref-4.ensures.value c.deref-5.ensures.value c.in_ok-anew.ensures in
+    let fewer_is = c.in_ok-places.ensures.rows ∙ ap (λ l. map (numbers_left l) (rows_of g.places)) anew_is in
+    let count : length c.in_ok-names.names.items ≡ c.len.result = omega (arith, c.len.ensures, c.in_ok-names.names.ok) in
+    subst (λ n. (l : ℕ) → All (λ x. x < n) (row (rows_of c.in_ok-places.places) l)) count (part-known g.names.items c.in_ok-names.names.items c.args.kept.now g.shown.items (rows_of g.places) (rows_of c.in_ok-places.places) c.self.invariant.proper c.self.invariant.few c.self.invariant.lists_are c.self.invariant.count c.requires.rising known among_is fewer_is)
 
 pub spots_in_lists-requires-clause-short : goal.spots_in_lists-requires-clause-short
 spots_in_lists-requires-clause-short c =
     let g = c.self.inside in
-    let names : List NameBytes = g.names.items in
-    let rows : List (List ℕ) = rows_of g.places in
-    let v : Responses = responses_kept names g.shown.items rows in
-    let kept : List ℕ = c.args.kept.now in
-    let known : All (λ x. x < length names) kept = known-in v c.args.self.now kept c.self.view_is c.requires.known in
-    let among : List NameBytes = c.in_ok-names.names.items in
-    let among_is : among ≡ names_at names kept = lent-names names c.deref.result.now among kept c.deref.ensures.value c.in_ok-names.ensures in
-    let anew_is : c.deref-5.result.now ≡ map (number_in among) names =
-    lent-numbers names c.deref-3.result.now among c.deref-4.result.now c.in_ok-anew.anew.items c.deref-5.result.now c.deref-3.ensures.value c.deref-4.ensures.value c.deref-5.ensures.value c.in_ok-anew.ensures in
-    let fewer : List (List ℕ) = rows_of c.in_ok-places.places in
-    let fewer_is : fewer ≡ map (numbers_left (map (number_in among) names)) rows = c.in_ok-places.ensures.rows ∙ ap (λ l. map (numbers_left l) rows) anew_is in
-    part-short names among kept g.shown.items rows fewer c.self.invariant.proper c.self.invariant.few c.self.invariant.lists_are c.self.invariant.count c.requires.rising known among_is fewer_is
+    let known = known-in (responses_kept g.names.items g.shown.items (rows_of g.places)) c.args.self.now c.args.kept.now c.self.view_is c.requires.known in
+    let among_is = lent-names g.names.items c.deref.result.now c.in_ok-names.names.items c.args.kept.now c.deref.ensures.value c.in_ok-names.ensures in
+    let anew_is = lent-numbers g.names.items c.deref-3.result.now c.in_ok-names.names.items c.deref-4.result.now c.in_ok-anew.anew.items c.deref-5.result.now c.deref-3.ensures.value c.deref-4.ensures.value c.deref-5.ensures.value c.in_ok-anew.ensures in
+    let fewer_is = c.in_ok-places.ensures.rows ∙ ap (λ l. map (numbers_left l) (rows_of g.places)) anew_is in
+    part-short g.names.items c.in_ok-names.names.items c.args.kept.now g.shown.items (rows_of g.places) (rows_of c.in_ok-places.places) c.self.invariant.proper c.self.invariant.few c.self.invariant.lists_are c.self.invariant.count c.requires.rising known among_is fewer_is
 
 pub invariant_of-result : goal.invariant_of-result
 invariant_of-result c =
     let g = c.self.inside in
-    let names : List NameBytes = g.names.items in
-    let rows : List (List ℕ) = rows_of g.places in
-    let v : Responses = responses_kept names g.shown.items rows in
-    let kept : List ℕ = c.args.kept.now in
-    let known : All (λ x. x < length names) kept = known-in v c.args.self.now kept c.self.view_is c.requires.known in
-    let among : List NameBytes = c.in_ok-names.names.items in
-    let among_is : among ≡ names_at names kept = lent-names names c.deref.result.now among kept c.deref.ensures.value c.in_ok-names.ensures in
-    let anew_is : c.deref-5.result.now ≡ map (number_in among) names =
-    lent-numbers names c.deref-3.result.now among c.deref-4.result.now c.in_ok-anew.anew.items c.deref-5.result.now c.deref-3.ensures.value c.deref-4.ensures.value c.deref-5.ensures.value c.in_ok-anew.ensures in
-    let fewer : List (List ℕ) = rows_of c.in_ok-places.places in
-    let fewer_is : fewer ≡ map (numbers_left (map (number_in among) names)) rows = c.in_ok-places.ensures.rows ∙ ap (λ l. map (numbers_left l) rows) anew_is in
+    let known = known-in (responses_kept g.names.items g.shown.items (rows_of g.places)) c.args.self.now c.args.kept.now c.self.view_is c.requires.known in
+    let among_is = lent-names g.names.items c.deref.result.now c.in_ok-names.names.items c.args.kept.now c.deref.ensures.value c.in_ok-names.ensures in
+    let anew_is = lent-numbers g.names.items c.deref-3.result.now c.in_ok-names.names.items c.deref-4.result.now c.in_ok-anew.anew.items c.deref-5.result.now c.deref-3.ensures.value c.deref-4.ensures.value c.deref-5.ensures.value c.in_ok-anew.ensures in
+    let fewer_is = c.in_ok-places.ensures.rows ∙ ap (λ l. map (numbers_left l) (rows_of g.places)) anew_is in
     let shown_is : c.in_ok-shown.shown.items ≡ g.shown.items = c.in_ok-shown.ensures.items ∙ c.as_slice.ensures.value in
     let shown : List Operation = c.in_ok-shown.shown.items in
     record {
-      proper = subst (λ (s : List Operation). AreProper (responses_kept among s fewer)) (sym shown_is) (part-proper names among kept g.shown.items rows fewer c.self.invariant.proper c.self.invariant.few c.self.invariant.lists_are c.self.invariant.count c.requires.rising known among_is fewer_is);
-      few = subst (λ (s : List Operation). AreFew (responses_kept among s fewer)) (sym shown_is) (part-few names among kept g.shown.items rows fewer c.self.invariant.proper c.self.invariant.few c.self.invariant.lists_are c.self.invariant.count c.requires.rising known among_is fewer_is);
+      proper = subst (λ (s : List Operation). AreProper (responses_kept c.in_ok-names.names.items s (rows_of c.in_ok-places.places))) (sym shown_is) (part-proper g.names.items c.in_ok-names.names.items c.args.kept.now g.shown.items (rows_of g.places) (rows_of c.in_ok-places.places) c.self.invariant.proper c.self.invariant.few c.self.invariant.lists_are c.self.invariant.count c.requires.rising known among_is fewer_is);
+      few = subst (λ (s : List Operation). AreFew (responses_kept c.in_ok-names.names.items s (rows_of c.in_ok-places.places))) (sym shown_is) (part-few g.names.items c.in_ok-names.names.items c.args.kept.now g.shown.items (rows_of g.places) (rows_of c.in_ok-places.places) c.self.invariant.proper c.self.invariant.few c.self.invariant.lists_are c.self.invariant.count c.requires.rising known among_is fewer_is);
       numbered = λ a. c.in_ok-numbers.ensures a ∙ ap (λ (l : List NameBytes). number_in l a) c.deref-2.ensures.value;
       places_cut = c.in_ok-places.ensures.cut;
       spots_cut = c.in_ok-spots.ensures.cut;
-      lists_are = subst (λ (s : List Operation). lists_of (responses_kept among s fewer) ≡ fewer) (sym shown_is) (part-lists names among kept g.shown.items rows fewer c.self.invariant.proper c.self.invariant.few c.self.invariant.lists_are c.self.invariant.count c.requires.rising known among_is fewer_is);
-      count = subst (λ (s : List Operation). length s ≡ length fewer) (sym shown_is) (part-count names among kept g.shown.items rows fewer c.self.invariant.proper c.self.invariant.few c.self.invariant.lists_are c.self.invariant.count c.requires.rising known among_is fewer_is);
+      lists_are = subst (λ (s : List Operation). lists_of (responses_kept c.in_ok-names.names.items s (rows_of c.in_ok-places.places)) ≡ (rows_of c.in_ok-places.places)) (sym shown_is) (part-lists g.names.items c.in_ok-names.names.items c.args.kept.now g.shown.items (rows_of g.places) (rows_of c.in_ok-places.places) c.self.invariant.proper c.self.invariant.few c.self.invariant.lists_are c.self.invariant.count c.requires.rising known among_is fewer_is);
+      count = subst (λ (s : List Operation). length s ≡ length (rows_of c.in_ok-places.places)) (sym shown_is) (part-count g.names.items c.in_ok-names.names.items c.args.kept.now g.shown.items (rows_of g.places) (rows_of c.in_ok-places.places) c.self.invariant.proper c.self.invariant.few c.self.invariant.lists_are c.self.invariant.count c.requires.rising known among_is fewer_is);
       spots_are = c.in_ok-spots.ensures.spots;
     }
 
 pub returns : goal.returns
 returns c =
     let g = c.self.inside in
-    let names : List NameBytes = g.names.items in
-    let rows : List (List ℕ) = rows_of g.places in
-    let v : Responses = responses_kept names g.shown.items rows in
-    let kept : List ℕ = c.args.kept.now in
-    let known : All (λ x. x < length names) kept = known-in v c.args.self.now kept c.self.view_is c.requires.known in
-    let among : List NameBytes = c.in_ok-names.names.items in
-    let among_is : among ≡ names_at names kept = lent-names names c.deref.result.now among kept c.deref.ensures.value c.in_ok-names.ensures in
-    let anew_is : c.deref-5.result.now ≡ map (number_in among) names =
-    lent-numbers names c.deref-3.result.now among c.deref-4.result.now c.in_ok-anew.anew.items c.deref-5.result.now c.deref-3.ensures.value c.deref-4.ensures.value c.deref-5.ensures.value c.in_ok-anew.ensures in
-    let fewer : List (List ℕ) = rows_of c.in_ok-places.places in
-    let fewer_is : fewer ≡ map (numbers_left (map (number_in among) names)) rows = c.in_ok-places.ensures.rows ∙ ap (λ l. map (numbers_left l) rows) anew_is in
+    let known = known-in (responses_kept g.names.items g.shown.items (rows_of g.places)) c.args.self.now c.args.kept.now c.self.view_is c.requires.known in
+    let among_is = lent-names g.names.items c.deref.result.now c.in_ok-names.names.items c.args.kept.now c.deref.ensures.value c.in_ok-names.ensures in
+    let anew_is = lent-numbers g.names.items c.deref-3.result.now c.in_ok-names.names.items c.deref-4.result.now c.in_ok-anew.anew.items c.deref-5.result.now c.deref-3.ensures.value c.deref-4.ensures.value c.deref-5.ensures.value c.in_ok-anew.ensures in
+    let fewer_is = c.in_ok-places.ensures.rows ∙ ap (λ l. map (numbers_left l) (rows_of g.places)) anew_is in
     let shown_is : c.in_ok-shown.shown.items ≡ g.shown.items = c.in_ok-shown.ensures.items ∙ c.as_slice.ensures.value in
-    ap (λ (s : List Operation). responses_kept among s fewer) shown_is
-    ∙ narrowed-is names among kept g.shown.items rows fewer c.self.invariant.proper c.self.invariant.few c.self.invariant.lists_are c.self.invariant.count c.requires.rising known among_is fewer_is
-    ∙ ap (λ (w : Responses). narrowed w (names_at w.elements kept)) c.self.view_is
+    ap (λ (s : List Operation). responses_kept c.in_ok-names.names.items s (rows_of c.in_ok-places.places)) shown_is
+    ∙ narrowed-is g.names.items c.in_ok-names.names.items c.args.kept.now g.shown.items (rows_of g.places) (rows_of c.in_ok-places.places) c.self.invariant.proper c.self.invariant.few c.self.invariant.lists_are c.self.invariant.count c.requires.rising known among_is fewer_is
+    ∙ ap (λ (w : Responses). narrowed w (names_at w.elements c.args.kept.now)) c.self.view_is
