@@ -23,9 +23,9 @@ use Rattle.order_graph.specs.Kept.{names_at}
 use Rattle.order_graph.specs.Lists.{lists_of, BeforeIn}
 use Rattle.witness_order.specs.Taken.{IsTakenInTurn}
 use Rattle.element_numbers.proofs.NameNumbers.{number-some}
-use Rattle.level_search.specs.Conflicts.{IsSearched}
+use Rattle.level_search.specs.Conflicts.{IsFound}
 use Rattle.level_search.specs.Cores.{IsCoreOf}
-use Rattle.level_search.specs.declared.conflict.Searched.{Searched}
+use Rattle.level_search.specs.declared.conflict.Found.{Found}
 use Rattle.level_search.specs.Graph as by_number
 use Rattle.level_search.specs.Team.{IsLeastLength}
 use Rattle.level_search.specs.Walks.{HasCycle, Walk}
@@ -251,14 +251,14 @@ module _ (v : Responses) (proper : AreProper v) (numbers : List ℕ) (core : IsC
   steps_of_core steps least = steps_of_part v proper numbers core left-proper steps (subst (λ u. AreLeastSteps u steps) is least)
 
 -- what was searched tells the whole
-whole-least : (v : Responses) (s : Searched) → IsSearched v s → IsLeastLength v s.least
+whole-least : (v : Responses) (s : Found) → IsFound v s → IsLeastLength v s.least
 whole-least v s is = least_of_core v is.proper s.core.elements.items is.core s.core.graph is.part is.part_proper s.least is.least
 
-pub no_conflict : (v : Responses) (s : Searched) → IsSearched v s → s.least ≡ 4294967295 → HasNoConflict v
+pub no_conflict : (v : Responses) (s : Found) → IsFound v s → s.least ≡ 4294967295 → HasNoConflict v
 no_conflict v s is = none v is.proper s.least (whole-least v s is)
 
-pub some_conflict : (v : Responses) (s : Searched) → IsSearched v s → s.least ≢ 4294967295 → HasConflictNumber v s.least
+pub some_conflict : (v : Responses) (s : Found) → IsFound v s → s.least ≢ 4294967295 → HasConflictNumber v s.least
 some_conflict v s is = some v is.proper s.least (whole-least v s is)
 
-pub least_steps : (v : Responses) (s : Searched) → IsSearched v s → (steps : List Step) → AreLeastSteps s.core.graph steps → AreLeastSteps v steps
+pub least_steps : (v : Responses) (s : Found) → IsFound v s → (steps : List Step) → AreLeastSteps s.core.graph steps → AreLeastSteps v steps
 least_steps v s is = steps_of_core v is.proper s.core.elements.items is.core s.core.graph is.part is.part_proper

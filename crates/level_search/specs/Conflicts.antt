@@ -9,10 +9,10 @@ use Rattle.shown_table.specs.Tables.{IsShownTable}
 use Rattle.level_search.specs.Cores.{IsCoreOf}
 use Rattle.level_search.specs.Team.{IsLeastLength}
 use Rattle.level_search.specs.declared.conflict.Conflict.{Conflict}
-use Rattle.level_search.specs.declared.conflict.Searched.{Searched}
+use Rattle.level_search.specs.declared.conflict.Found.{Found}
 
 -- the core is one of these responses, the table is the core's, and the length that of a shortest cycle there
-pub record IsSearched (v : Responses) (s : Searched) : Type 0 where
+pub record IsFound (v : Responses) (s : Found) : Type 0 where
   pub proper : AreProper v
   pub core : IsCoreOf v s.core.elements.items
   pub part : s.core.graph ≡ narrowed v (names_at v.elements s.core.elements.items)

@@ -2,7 +2,7 @@
 
 ghost use Rattle.std.specs.Prelude.{◌≡◌, ◌⊎◌, ◌↔◌, ◌<◌, IfOk, IsErrOf};
 ghost use Rattle.specification.specs.Conflict.{IsConflictNumber};
-ghost use Rattle.level_search.specs.Conflicts.{IsLeastConflict, IsSearched};
+ghost use Rattle.level_search.specs.Conflicts.{IsLeastConflict, IsFound};
 
 use super::MOST_WORKERS;
 use super::cycle_core::Core;
@@ -17,23 +17,24 @@ use std::alloc::Global;
 use std::thread::Threads;
 use witnesses::Steps;
 
-/// What the workers have searched, and the length of a shortest cycle, or `NO_OFFER` where there is none.
+/// What the workers have found: the core, its table, and the length of a shortest cycle, or `NO_OFFER` where
+/// there is none.
 #[derive(Drop)]
-struct Searched {
+struct Found {
     core: Core,
     table: ShownTable,
     least: u32,
 }
 
 /// Searches the core of a graph.
-fn searched<H: Threads + Sync, G: Gate>(
+fn search_core<H: Threads + Sync, G: Gate>(
     rt: &H,
     alloc: Global,
     graph: &OrderGraph,
     workers: u32,
     gate: &G,
-) -> Result<Searched, SearchFault>
-    ensures least { IfOk result (IsSearched graph.now) }
+) -> Result<Found, SearchFault>
+    ensures least { IfOk result (IsFound graph.now) }
     ensures workers { IsErrOf result SearchFault.Workers ↔ ((workers < 1) ⊎ (MOST_WORKERS < workers)) }
 {
     if workers < 1 || workers > MOST_WORKERS {
@@ -45,7 +46,7 @@ fn searched<H: Threads + Sync, G: Gate>(
     let _ = core.graph.elements();
     let table = ShownTable::of(alloc, &core.graph)?;
     let least = least_length(rt, alloc, &core.graph, &table, workers, &core.gate(gate))?;
-    Ok(Searched { core, table, least })
+    Ok(Found { core, table, least })
 }
 
 /// The conflict number: the least number of operations whose responses no order of the elements has all
@@ -74,7 +75,7 @@ pub fn conflict_number<H: Threads + Sync, G: Gate>(
     ensures number { IfOk result (λ k. IsConflictNumber graph.now k) }
     ensures workers { IsErrOf result SearchFault.Workers ↔ ((workers < 1) ⊎ (MOST_WORKERS < workers)) }
 {
-    let found = searched(rt, alloc, graph, workers, gate)?;
+    let found = search_core(rt, alloc, graph, workers, gate)?;
     if found.least == NO_OFFER {
         Ok(None)
     } else {
@@ -101,7 +102,7 @@ pub fn least_conflict<H: Threads + Sync, G: Gate>(
     ensures conflict { IfOk result (IsLeastConflict graph.now) }
     ensures workers { IsErrOf result SearchFault.Workers ↔ ((workers < 1) ⊎ (MOST_WORKERS < workers)) }
 {
-    let found = searched(rt, alloc, graph, workers, gate)?;
+    let found = search_core(rt, alloc, graph, workers, gate)?;
     if found.least == NO_OFFER {
         return Ok(None);
     }

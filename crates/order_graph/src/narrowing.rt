@@ -1,15 +1,15 @@
 //! What is left of lists of numbers where some elements alone are kept, and are numbered anew.
 
 ghost use Rattle.std.specs.Prelude.{◌≡◌, ℕ, ◌<◌, ◌==◌, ◌++◌, [], All, IfOk, OnOk, Option, length, map};
-ghost use Rattle.std.specs.Cmp.Lexicographic.{pointwise};
-ghost use Rattle.std.specs.List.{cons_option};
-ghost use Rattle.events.specs.Names.{NameBytes};
 ghost use Rattle.indexmap.specs.IndexMap.{get};
-ghost use Rattle.order_graph.specs.Lists.{row};
-ghost use Rattle.order_graph.specs.Kept.{names_at};
-ghost use Rattle.specification.specs.Elements.{number_in};
+ghost use Rattle.events.specs.Names.{NameBytes};
 ghost use Rattle.order_graph.specs.Renumbered.{numbers_left};
+ghost use Rattle.order_graph.specs.Lists.{row};
 ghost use Rattle.order_graph.specs.Cuts.{rows_of, IsCut};
+ghost use Rattle.std.specs.Cmp.Lexicographic.{pointwise};
+ghost use Rattle.specification.specs.Elements.{number_in};
+ghost use Rattle.order_graph.specs.Kept.{names_at};
+ghost use Rattle.std.specs.List.{cons_option};
 
 use super::rows::Rows;
 use events::{Memory, Name};

@@ -10,11 +10,26 @@ use std::alloc::Global;
 use std::test::Fail;
 use std::thread::Threads;
 
-fn order_of(alloc: Global, recording: &Recording) -> Result<Option<Order>, Memory>
+fn found_of(alloc: Global, recording: &Recording) -> Result<(Vec<u32>, Option<Order>), Memory>
     requires { IsSound recording.now }
 {
     let graph = OrderGraph::of(alloc, recording)?;
-    order(alloc, &graph)
+    let numbers = taken(alloc, &graph)?;
+    let order = order(alloc, &graph)?;
+    Ok((numbers, order))
+}
+
+/// The numbers of the elements of a recording that are taken in turn, and its least order.
+pub fn taken_and_order(
+    rt: &(impl Threads + Sync),
+    alloc: Global,
+    recording: &Recording,
+) -> Result<(Vec<u32>, Option<Order>), Fail> {
+    check_sound(rt, alloc, recording)?;
+    match found_of(alloc, recording) {
+        Ok(found) => Ok(found),
+        Err(Memory) => Ok(found_of(alloc, recording)?),
+    }
 }
 
 /// The least order of a recording.
@@ -23,31 +38,8 @@ pub fn least_order(
     alloc: Global,
     recording: &Recording,
 ) -> Result<Option<Order>, Fail> {
-    check_sound(rt, alloc, recording)?;
-    match order_of(alloc, recording) {
-        Ok(found) => Ok(found),
-        Err(Memory) => Ok(order_of(alloc, recording)?),
-    }
-}
-
-fn taken_of(alloc: Global, recording: &Recording) -> Result<Vec<u32>, Memory>
-    requires { IsSound recording.now }
-{
-    let graph = OrderGraph::of(alloc, recording)?;
-    taken(alloc, &graph)
-}
-
-/// The numbers of the elements of a recording that are taken in turn.
-pub fn taken_numbers(
-    rt: &(impl Threads + Sync),
-    alloc: Global,
-    recording: &Recording,
-) -> Result<Vec<u32>, Fail> {
-    check_sound(rt, alloc, recording)?;
-    match taken_of(alloc, recording) {
-        Ok(numbers) => Ok(numbers),
-        Err(Memory) => Ok(taken_of(alloc, recording)?),
-    }
+    let (_, order) = taken_and_order(rt, alloc, recording)?;
+    Ok(order)
 }
 
 /// Puts a name at the end of some names.

@@ -1,6 +1,6 @@
 //! What is taken in turn of worked recordings, by the elements' numbers.
 
-use super::orders::taken_numbers;
+use super::orders::taken_and_order;
 use super::worked::{SHOWN_BESIDE_NONE, TWO_REPLICAS};
 use sample_recordings::{EMPTY, OPPOSITE_PAIR, PAST_A_NEIGHBOUR, READ_THE_OTHER_WAY, recording};
 use std::alloc::Global;
@@ -20,7 +20,7 @@ fn takes(
     expected: &[u32],
 ) -> Result<bool, Fail> {
     let recording = recording(alloc, text)?;
-    let numbers = taken_numbers(rt, alloc, &recording)?;
+    let (numbers, _) = taken_and_order(rt, alloc, &recording)?;
     Ok(numbers.as_slice() == expected)
 }
 
