@@ -31,12 +31,14 @@ fn has_two_names(part: &OrderGraph) -> Result<bool, Fail> {
 /// Whether these are the places of a list.
 fn has_places(part: &OrderGraph, list: u32, expected: &[u32]) -> bool {
     let mut looked = Looked::new();
-    for (j, x) in expected.iter().enumerate() {
-        if part.place(list, j as u32, &mut looked) != Some(*x) {
+    let mut j: u32 = 0;
+    for x in expected {
+        if part.place(list, j, &mut looked) != Some(*x) {
             return false;
         }
+        j = j.saturating_add(1);
     }
-    part.length(list) as usize == expected.len()
+    part.length(list) == j
 }
 
 /// Whether the lists of the ring are a, nothing, a, nothing, nothing, d, d, and d before a.
