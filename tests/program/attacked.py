@@ -3,10 +3,10 @@
 
 Each command that reads is given, through a pipe: lines without end, lines of each legal length, ten million receipts, names of 32
 bytes, binary bytes; and `verify`, beside a small trace, certificates of a gigabyte in several shapes. Each run must end in under
-15 seconds with its one line, and with no more than 200 MB of memory, to which comes for `verify` the certificate's text. What the line says is
-written here from docs/formats.md, and the slow references must say it of a shorter text of the same shape. It stands outside the
-gate: it takes some minutes on a quiet machine. A slow machine wants more --seconds; --megabytes makes the texts smaller, at least
-128, and --only takes the shapes whose names have the word."""
+15 seconds with its one line, and with no more than 200 MB of memory, to which comes for `verify` the certificate's text. What the
+line says is written here from docs/formats.md, and the slow references must say it of a shorter text of the same shape. It stands
+outside the gate: it takes some minutes on a quiet machine. A slow machine wants more --seconds; --megabytes makes the texts
+smaller, at least 128, and --only takes the shapes whose names have the word."""
 import argparse
 import os
 import random
@@ -128,7 +128,7 @@ def long_ring(size: int) -> Iterator[bytes]:
 
 
 def wide_row(size: int) -> Iterator[bytes]:
-    """A refusal of a large k, with a row of as many empty layers. A third of the bytes are the row's: a step takes 13, a layer 2."""
+    """A refusal of a large k, with a row of as many empty layers: a step takes 13 bytes, a layer 2."""
     rounds = size // (len(STEPS) + 6)
     yield from long_ring(rounds * len(STEPS))
     yield b"layers x"
@@ -176,7 +176,8 @@ CERTIFICATES = [
     Shape("as many layers as k", wide_row, "short x"),
     Shape("right rows, and rows too many", around(b"cert 2\nrefused 3\n" + STEPS + ROWS, b"layers x / b\n"), "extra x"),
     Shape("rows of the first source", around(b"cert 2\nrefused 3\n" + STEPS, b"layers x / b\n"), "missing a"),
-    Shape("a row of one name over and over", around(b"cert 2\nrefused 3\n" + STEPS + b"layers x /", b" b", b"\n" + ROWS), "short x"),
+    Shape("a row of one name over and over", around(b"cert 2\nrefused 3\n" + STEPS + b"layers x /", b" b", b"\n" + ROWS),
+          "short x"),
     Shape("a row without end", around(b"cert 2\nrefused 3\n" + STEPS + b"layers x /", b" b"), "text"),
     Shape("rows of each length", rows_of_each_length, "missing a"),
     Shape("names of 32 bytes in a row", around(b"cert 2\nrefused 3\n" + STEPS + b"layers x /", NAME, b"\n"), "short x"),
@@ -200,13 +201,13 @@ def answer_to(name: str) -> str:
     return answer_of(THREE_WAY.read_text(), b"".join(text(SHORT // 64)).decode("latin-1"))
 
 
-def attack(tally: Tally, name: str, words: list, pieces: Iterator[bytes], wanted: Ended, given: argparse.Namespace, keeps: bool) -> None:
-    """One run, of which the line, the time and the memory are tested, and told; whether it may keep the text that comes by the pipe."""
-    ran = measured(words, pieces, 4 * given.seconds)
-    may_keep = ran.given if keeps else 0
+def attack(tally: Tally, name: str, words: list, pieces: Iterator[bytes], wanted: Ended, seconds: float, keeps: bool) -> None:
+    """One run, of which the line, the time and the memory are tested, and told; and whether it may keep the text."""
+    ran = measured(words, pieces, 4 * seconds)
+    most = MOST_MEMORY + (ran.given if keeps else 0)
     tally.same(name, ran.ended, wanted)
-    tally.check(f"{name}: in {given.seconds} seconds", ran.seconds < given.seconds, f"{ran.seconds:.1f} s")
-    tally.check(f"{name}: in 200 MB", ran.memory <= MOST_MEMORY + may_keep, f"{ran.memory / 1e6:.0f} MB, given {ran.given / 1e6:.0f} MB")
+    tally.check(f"{name}: in {seconds:g} seconds", ran.seconds < seconds, f"{ran.seconds:.1f} s")
+    tally.check(f"{name}: in {most / 1e6:.0f} MB", ran.memory <= most, f"{ran.memory / 1e6:.0f} MB")
     print(f"{name}: {ran.given / 1e6:.0f} MB given, {ran.seconds:.1f} s, {ran.memory / 1e6:.0f} MB", flush=True)
 
 
@@ -223,8 +224,10 @@ def attack_with_traces(tally: Tally, program: str, asking: ProcessPoolExecutor, 
         else:
             tally.check(f"the reference on {shape.name}", said.endswith(": places full"), said)
         for words in READERS:
-            attack(tally, f"{words[:-1]} of {shape.name}", [program, *words], shape.text(given.size), fault(said), given, False)
-        attack(tally, f"['verify'] of {shape.name}", [program, "verify", "-", certificate], shape.text(given.size), line("no trace\n"), given, False)
+            name = f"{' '.join(words[:-1])} of {shape.name}"
+            attack(tally, name, [program, *words], shape.text(given.size), fault(said), given.seconds, False)
+        words = [program, "verify", "-", certificate]
+        attack(tally, f"verify of {shape.name}", words, shape.text(given.size), line("no trace\n"), given.seconds, False)
 
 
 def attack_with_certificates(tally: Tally, program: str, asking: ProcessPoolExecutor, given: argparse.Namespace) -> None:
@@ -234,7 +237,8 @@ def attack_with_certificates(tally: Tally, program: str, asking: ProcessPoolExec
             continue
         said = asking.submit(answer_to, shape.name).result()
         tally.check(f"the reference on {shape.name}", said == f"no {shape.words}\n", f"{said!r}, not {shape.words}")
-        attack(tally, f"a certificate: {shape.name}", [program, "verify", str(THREE_WAY), "-"], shape.text(given.size), line(said), given, True)
+        words = [program, "verify", str(THREE_WAY), "-"]
+        attack(tally, f"a certificate: {shape.name}", words, shape.text(given.size), line(said), given.seconds, True)
 
 
 def main() -> None:

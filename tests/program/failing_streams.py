@@ -71,8 +71,9 @@ class Streams:
         of_plan = {name.upper(): str(value) for name, value in plan.items()}
         done = subprocess.run([self.program, *words], input=given, capture_output=True, env={**self.given, **of_plan},
                               timeout=SECONDS, check=False)
-        told = [told.split() for told in Path(self.log).read_text().splitlines()]
-        return Ended(done.returncode, done.stdout, done.stderr), [Call(kind, int(asked), int(moved)) for kind, asked, moved in told]
+        told = [words.split() for words in Path(self.log).read_text().splitlines()]
+        calls = [Call(kind, int(asked), int(moved)) for kind, asked, moved in told]
+        return Ended(done.returncode, done.stdout, done.stderr), calls
 
 
 def status_of(trace: Path) -> int:
@@ -89,7 +90,8 @@ def judged(trace: Path) -> Iterator[tuple[list, Ended]]:
         wanted = fault(trace.with_suffix(".fault").read_text().rstrip("\n"))
         yield from ((words, wanted) for words in (["verdict"], ["verdict", "--json"], ["cert"], ["live"]))
         return
-    for words, suffix in ((["verdict"], ".report"), (["verdict", "--json"], ".json"), (["cert"], ".cert2"), (["live"], ".report")):
+    outputs = (["verdict"], ".report"), (["verdict", "--json"], ".json"), (["cert"], ".cert2"), (["live"], ".report")
+    for words, suffix in outputs:
         yield words, Ended(status_of(trace), trace.with_suffix(suffix).read_bytes(), b"")
 
 
@@ -156,11 +158,12 @@ def try_writes(tally: Tally, streams: Streams, case: Asked, most: int) -> None:
     got, calls = streams.run(case.words, case.given, stream_write=1, write_most=most, write_fails_at=len(case.wanted.out))
     tally.same(name, got, case.wanted)
     few = -(-len(case.wanted.out) // most)
-    tally.check(f"the writes of {name}", [call.moved for call in calls[:-1]] == [most] * (few - 1) and len(calls) == few, calls)
+    taken = [call.moved for call in calls]
+    tally.check(f"the writes of {name}", taken[:-1] == [most] * (few - 1) and len(taken) == few, taken)
 
 
 def try_failed_write(tally: Tally, streams: Streams, case: Asked, at: int, why: int, **plan: object) -> None:
-    """The write fails, or takes nothing, that comes when so many bytes were taken: these were written, and no write comes after."""
+    """The write fails, or takes nothing, that comes when so many bytes were taken: these were written, and no write follows."""
     name = f"{case.words}, a write fails at byte {at} for {errno.errorcode.get(why, 'no cause')}, {plan}"
     got, calls = streams.run(case.words, case.given, stream_write=1, write_fails_at=at, stream_errno=why, **plan)
     tally.same(name, got, fault("cannot write")._replace(out=case.wanted.out[:at]))
@@ -170,7 +173,7 @@ def try_failed_write(tally: Tally, streams: Streams, case: Asked, at: int, why: 
 
 def try_failed_message(tally: Tally, streams: Streams, case: Asked, at: int, why: int) -> None:
     """A write of the fault's own line to standard error fails: the status is as it was, so many bytes were written, and no write
-    comes after. That line is written by the standard library, which goes on after a call that was interrupted; then it is whole."""
+    comes after. The standard library writes that line, and goes on after a call that was interrupted: then it is whole."""
     name = f"{case.words}, the message's write fails at byte {at} for {errno.errorcode.get(why, 'no cause')}"
     got, calls = streams.run(case.words, case.given, stream_write=2, write_fails_at=at, stream_errno=why)
     moved = [call.moved for call in calls]

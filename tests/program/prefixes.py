@@ -24,6 +24,7 @@ from shared.forger import line  # noqa: E402
 from shared.program import Ended, Tally, fault, program_of, run  # noqa: E402
 
 VECTORS = ROOT / "tests" / "vectors"
+THREE_WAY_CERTIFICATE = VECTORS / "all-three-way-cycle.cert2"
 SEED = 1836
 MOST_BYTES = 4096
 # The reference of reports tries all orders of the elements, and all sets of responses.
@@ -76,7 +77,8 @@ def try_trace(tally: Tally, counted: Counter, program: str, trace: Path, text: b
     for words, wanted in runs:
         tally.same(f"{words} of {name}", run(program, words, text), wanted)
     for cert in certificates_of(trace)[:2] or [THREE_WAY_CERTIFICATE]:
-        tally.same(f"verify of {name} with {cert.name}", run(program, ["verify", "-", str(cert)], text), checked(text, cert.read_bytes()))
+        got = run(program, ["verify", "-", str(cert)], text)
+        tally.same(f"verify of {name} with {cert.name}", got, checked(text, cert.read_bytes()))
 
 
 def try_certificate(tally: Tally, counted: Counter, program: str, trace: Path, cert: Path, text: bytes) -> None:
@@ -84,10 +86,9 @@ def try_certificate(tally: Tally, counted: Counter, program: str, trace: Path, c
     wanted = checked(trace.read_bytes(), text)
     counted["certificates' prefixes"] += 1
     counted[f"of these {' '.join(wanted.out.decode().split()[:2])}"] += 1
-    tally.same(f"verify of {trace.name} with {len(text)} bytes of {cert.name}", run(program, ["verify", str(trace), "-"], text), wanted)
+    got = run(program, ["verify", str(trace), "-"], text)
+    tally.same(f"verify of {trace.name} with {len(text)} bytes of {cert.name}", got, wanted)
 
-
-THREE_WAY_CERTIFICATE = VECTORS / "all-three-way-cycle.cert2"
 
 
 def main() -> None:
