@@ -4,9 +4,10 @@
 Each command that reads is given, through a pipe: lines without end, lines of each legal length, ten million receipts, names of 32
 bytes, binary bytes; and `verify`, beside a small trace, certificates of a gigabyte in several shapes. Each run must end in under
 15 seconds with its one line, and with no more than 200 MB of memory, to which comes for `verify` the certificate's text. What the
-line says is written here from docs/formats.md, and the slow references must say it of a shorter text of the same shape. It stands
-outside the gate: it takes some minutes on a quiet machine. A slow machine wants more --seconds; --megabytes makes the texts
-smaller, at least 128, and --only takes the shapes whose names have the word."""
+line says is written here from docs/formats.md, and the slow references must say it of a shorter text of the same shape. A run
+that has 4 GB of memory is stopped, and fails. It stands outside the gate: it takes some minutes on a quiet machine. A slow
+machine wants more --seconds; --megabytes makes the texts smaller, at least 128, and --only takes the shapes whose names have the
+word."""
 import argparse
 import os
 import random
