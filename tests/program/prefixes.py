@@ -4,22 +4,23 @@
 Of each vector's trace and certificate of up to 4 KiB, malformed and forged ones too, every proper prefix is given to the program:
 a trace's to `verdict` in both forms, to `cert`, `live` and `verify`, a certificate's to `verify`. The line fault, the report, the
 certificate and the checker's line must be those of reference/. A prefix that spells a recording too large for the reference of
-reports is counted, and given to `verify` alone. With --one-in a share of the prefixes is tried; another folder of vectors can
-be named."""
+reports is counted, and given to `verify` alone; one that is too large for that of certificates too is counted alone. With
+--one-in a share of the prefixes is tried; another folder of vectors can be named."""
 import argparse
 import os
 import random
 import sys
 import tempfile
 from collections import Counter
+from functools import lru_cache
 from pathlib import Path
 from typing import Iterator
 
 ROOT = Path(__file__).resolve().parents[2]
 sys.path.insert(0, str(ROOT / "tests"))
-from reference.checker import answer_of  # noqa: E402
+from reference.checker import certificate_of, line_on  # noqa: E402
 from reference.traces import line_fault  # noqa: E402
-from reference.verdicts import recording_of, report_of  # noqa: E402
+from reference.verdicts import Fault, Recording, first_fault, recording_of, report_of  # noqa: E402
 from shared.forger import line  # noqa: E402
 from shared.program import Ended, Tally, fault, program_of, run  # noqa: E402
 
@@ -28,7 +29,9 @@ THREE_WAY_CERTIFICATE = VECTORS / "all-three-way-cycle.cert2"
 SEED = 1836
 MOST_BYTES = 4096
 # The reference of reports tries all orders of the elements, and all sets of responses.
-MOST_INSERTS, MOST_OPERATIONS = 7, 14
+MOST_INSERTS, MOST_OPERATIONS = 6, 12
+# That of certificates makes all pairs of operations.
+MOST_CHECKED = 40
 FORMS = ["verdict", "-"], ["verdict", "--json", "-"], ["cert", "-"], ["live", "-"]
 
 
@@ -53,9 +56,22 @@ def of_trace(text: bytes) -> list[tuple[list, Ended]]:
     return [(words, Ended(0 if report.kind == "accepted" else 1, out.encode(), b"")) for words, out in zip(FORMS, outputs)]
 
 
-def checked(trace: bytes, certificate: bytes) -> Ended:
-    """How `verify` must end."""
-    return line("no trace\n" if line_fault(trace) else answer_of(trace.decode(), certificate.decode("latin-1")))
+@lru_cache(maxsize=4)
+def judged(trace: str) -> tuple[Recording, Fault | None] | None:
+    """The recording with its first fault; none where it is too large."""
+    recording = recording_of(trace)
+    return (recording, first_fault(recording)) if len(recording.operations) <= MOST_CHECKED else None
+
+
+def checked(trace: bytes, text: bytes) -> Ended | None:
+    """How `verify` must end; none is answered where the reference would take too long."""
+    if line_fault(trace):
+        return line("no trace\n")
+    certificate = certificate_of(text.decode("latin-1"))
+    if certificate is None:
+        return line("no text\n")
+    of_trace = judged(trace.decode())
+    return line(line_on(*of_trace, certificate)) if of_trace else None
 
 
 def chosen(rnd: random.Random, text: bytes, one_in: int) -> Iterator[bytes]:
@@ -77,13 +93,19 @@ def try_trace(tally: Tally, counted: Counter, program: str, trace: Path, text: b
     for words, wanted in runs:
         tally.same(f"{words} of {name}", run(program, words, text), wanted)
     for cert in certificates_of(trace)[:2] or [THREE_WAY_CERTIFICATE]:
-        got = run(program, ["verify", "-", str(cert)], text)
-        tally.same(f"verify of {name} with {cert.name}", got, checked(text, cert.read_bytes()))
+        wanted = checked(text, cert.read_bytes())
+        if wanted is None:
+            counted["runs of verify too large for the reference of certificates"] += 1
+        else:
+            tally.same(f"verify of {name} with {cert.name}", run(program, ["verify", "-", str(cert)], text), wanted)
 
 
 def try_certificate(tally: Tally, counted: Counter, program: str, trace: Path, cert: Path, text: bytes) -> None:
     """`verify` with a prefix of a certificate."""
     wanted = checked(trace.read_bytes(), text)
+    if wanted is None:
+        counted["runs of verify too large for the reference of certificates"] += 1
+        return
     counted["certificates' prefixes"] += 1
     counted[f"of these {' '.join(wanted.out.decode().split()[:2])}"] += 1
     got = run(program, ["verify", str(trace), "-"], text)
