@@ -4,15 +4,13 @@
 The program must answer what it answers with ample memory, or that it is out of memory; `live`, which is tried on a few
 vectors since its recorders may wait long for each other, also that a thread couldn't be started. It needs a C compiler
 (`cc`)."""
-import os
-import subprocess
 import sys
 import tempfile
 from pathlib import Path
 
 ROOT = Path(__file__).resolve().parents[2]
 sys.path.insert(0, str(ROOT / "tests"))
-from shared.program import Ended, Tally, program_of, run  # noqa: E402
+from shared.program import Ended, Tally, library_of, program_of, run  # noqa: E402
 
 # When so many requests in a row change nothing, the program makes no more. (How many it makes depends on its threads.)
 UNTOLD = 40
@@ -24,9 +22,7 @@ REHEARSED = ["all-three-way-cycle", "all-opposite-pair", "all-contents"]
 
 def shim(folder: str) -> str:
     """The library that refuses, built."""
-    path = os.path.join(folder, "refused_memory.so")
-    subprocess.run(["cc", "-shared", "-fPIC", "-O1", "-o", path, str(HERE / "refused_memory.c"), "-ldl"], check=True)
-    return path
+    return library_of(HERE / "refused_memory.c", folder)
 
 
 def refused(library: str, words: list, request: int) -> Ended:

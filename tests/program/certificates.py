@@ -1,18 +1,30 @@
 #!/usr/bin/env python3
-"""certificates.py PROGRAM: certificates that the program writes, and its checker's answers, on vectors, on forged
-certificates and on cut ones. On generated recordings generated.py asks for both, against two slow references."""
+"""certificates.py PROGRAM [--forgeries N [--seed N]]: certificates that the program writes, and its checker's answers, on
+vectors, on forged certificates and on cut ones. On generated recordings generated.py asks for both, against two slow references.
+
+The forgeries, 3,000 unless told otherwise, are changes of the certificates of the vectors and of 200 generated recordings, in
+both versions; the checker's line must be the reference checker's."""
+import argparse
 import os
+import random
 import sys
 import tempfile
+from collections import Counter
 from pathlib import Path
 
 ROOT = Path(__file__).resolve().parents[2]
 sys.path.insert(0, str(ROOT / "tests"))
 from reference.traces import spellings  # noqa: E402
 from shared.forger import line  # noqa: E402
+from shared.forgeries import ANOTHERS, KINDS, certified, forgery, generated  # noqa: E402
 from shared.program import Ended, Tally, fault, program_of, run  # noqa: E402
 
 VECTORS = ROOT / "tests" / "vectors"
+SEED = 1984
+FORGERIES = 3000
+RECORDINGS = 200
+# What the reference checker reads in no time.
+MOST_BYTES = 4096
 THREE_WAY = VECTORS / "all-three-way-cycle.trace"
 USAGE = [["cert"], ["cert", "t", "u"], ["cert", "--json", "t"], ["cert", "--workers", "2", "t"], ["verify"], ["verify", "t"], ["verify", "t", "u", "v"],
          ["verify", "--json", "t", "u"], ["cert", b"\xff"]]
@@ -59,6 +71,30 @@ def prefixes(tally: Tally, program: str) -> None:
             tally.same(f"{length} bytes of {suffix}", run(program, ["verify", str(THREE_WAY), "-"], whole[:length]), line(said))
 
 
+def forgeries(tally: Tally, program: str, folder: str, many: int, seed: int) -> None:
+    """Forged certificates, of vectors and generated recordings: the checker's line is that of the reference."""
+    rnd, kinds, said = random.Random(seed), Counter(), Counter()
+    short = [trace for trace in sorted(VECTORS.glob("*.trace")) if trace.stat().st_size <= MOST_BYTES]
+    cases = generated(rnd, RECORDINGS)
+    cases += [certified(trace.read_text(), *(trace.with_suffix(suffix).read_text() for suffix in (".cert1", ".cert2")))
+              for trace in short]
+    path = os.path.join(folder, "cert")
+    for _ in range(many):
+        kind, case, text = forgery(rnd, cases)
+        Path(path).write_text(text)
+        answer = case.answer(text)
+        kinds[kind] += 1
+        said[" ".join(answer.split()[:2])] += 1
+        got = run(program, ["verify", "-", path], case.trace.encode())
+        tally.same(f"{kind}: verify of\n{case.trace}with\n{text}", got, line(answer))
+    print(f"{many} forgeries of {len(cases)} recordings' certificates")
+    print("forged: " + ", ".join(f"{n} {kind}" for kind, n in kinds.most_common()))
+    print("answers to them: " + ", ".join(f"{n} {answer}" for answer, n in said.most_common()))
+    tally.check("forgeries of all kinds", many < 1000 or set(kinds) == {*KINDS, ANOTHERS}, kinds)
+    wanted = {f"no {why}" for why in ("fault", "order", "followed", "cycle", "missing", "short", "extra")} | {"yes refused"}
+    tally.check("answers of all kinds", many < 1000 or wanted <= set(said), said)
+
+
 def command_line(tally: Tally, program: str, folder: str) -> None:
     trace, cert = str(THREE_WAY), str(THREE_WAY.with_suffix(".cert2"))
     missing, other = os.path.join(folder, "missing"), os.path.join(folder, "other")
@@ -79,12 +115,18 @@ def command_line(tally: Tally, program: str, folder: str) -> None:
 
 
 def main() -> None:
-    program = program_of(sys.argv)
+    words = argparse.ArgumentParser(description=__doc__)
+    words.add_argument("program")
+    words.add_argument("--forgeries", type=int, default=FORGERIES, help="how many forged certificates")
+    words.add_argument("--seed", type=int, default=SEED, help="where the random choices begin")
+    given = words.parse_args()
+    program = program_of([sys.argv[0], given.program])
     tally = Tally()
     vectors(tally, program)
     malformed(tally, program)
     prefixes(tally, program)
     with tempfile.TemporaryDirectory() as folder:
+        forgeries(tally, program, folder, given.forgeries, given.seed)
         command_line(tally, program, folder)
     tally.close()
 

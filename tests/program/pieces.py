@@ -1,6 +1,5 @@
 #!/usr/bin/env python3
 """pieces.py PROGRAM: traces that come through a pipe in pieces: vectors cut anywhere, endless streams, lines of a gigabyte."""
-import os
 import random
 import subprocess
 import sys
@@ -10,6 +9,7 @@ from pathlib import Path
 
 ROOT = Path(__file__).resolve().parents[2]
 sys.path.insert(0, str(ROOT / "tests"))
+from shared.measured import measured  # noqa: E402
 from shared.program import Ended, Tally, fault, program_of, run  # noqa: E402
 
 VECTORS = ROOT / "tests" / "vectors"
@@ -87,25 +87,6 @@ def try_endless(program: str, tally: Tally) -> None:
         tally.check(f"endless after {line!r} in time", time.monotonic() - started < 5)
 
 
-def measured(program: str, words: list, pieces) -> tuple[Ended, float, float]:
-    """A run that is given each piece, its seconds, and the most megabytes of memory that it had."""
-    begun = time.monotonic()
-    started = subprocess.Popen([program, *words], stdin=subprocess.PIPE, stdout=subprocess.PIPE,
-                               stderr=subprocess.PIPE, bufsize=0)
-    try:
-        for piece in pieces:
-            started.stdin.write(piece)
-        started.stdin.close()
-    except BrokenPipeError:
-        pass
-    out, err = started.stdout.read(), started.stderr.read()
-    _, status, usage = os.wait4(started.pid, 0)
-    started.returncode = os.waitstatus_to_exitcode(status)
-    started.stdout.close()
-    started.stderr.close()
-    return Ended(started.returncode, out, err), time.monotonic() - begun, usage.ru_maxrss / 1024
-
-
 def long_line(front: bytes, piece: bytes, back: bytes):
     """A text whose last line goes on for a gigabyte before its back."""
     yield front
@@ -130,10 +111,10 @@ def try_long_lines(program: str, tally: Tally) -> None:
             ("names and two spaces", read, name, b"  a\n", "line 3: shape"),
             ("names of a view", view, name, b"\n", "line 3: long response"),
             ("names of a view in version 1", view.replace(b"trace 2", b"trace 1"), name, b"\n", "line 3: shape")):
-        ended, seconds, megabytes = measured(program, ["verdict", "-"], long_line(front, piece, back))
-        tally.same(f"a gigabyte of {what}", ended, fault(words))
-        tally.check(f"a gigabyte of {what} in a minute", seconds < 60, f"{seconds:.1f} s")
-        tally.check(f"a gigabyte of {what} in 100 megabytes", megabytes < 100, f"{megabytes:.0f} MB")
+        ran = measured([program, "verdict", "-"], long_line(front, piece, back), 240)
+        tally.same(f"a gigabyte of {what}", ran.ended, fault(words))
+        tally.check(f"a gigabyte of {what} in a minute", ran.seconds < 60, f"{ran.seconds:.1f} s")
+        tally.check(f"a gigabyte of {what} in 100 megabytes", ran.memory < 100_000_000, f"{ran.memory / 1e6:.0f} MB")
 
 
 def main() -> None:

@@ -72,12 +72,17 @@ def answer_of(trace: str, text: str) -> str:
     if certificate is None:
         return "no text\n"
     recording = recording_of(trace)
-    why = reason(recording, certificate)
+    return line_on(recording, first_fault(recording), certificate)
+
+
+def line_on(recording: Recording, fault: Fault | None, certificate: Certificate) -> str:
+    """The checker's line, where the recording's first fault is known."""
+    why = reason(recording, fault, certificate)
     return f"no {why}\n" if why else f"yes {certificate.kind}\n"
 
 
-def reason(recording: Recording, certificate: Certificate) -> str | None:
-    if certificate.fault != first_fault(recording):
+def reason(recording: Recording, fault: Fault | None, certificate: Certificate) -> str | None:
+    if certificate.fault != fault:
         return "fault"
     if certificate.fault is not None:
         return None

@@ -33,7 +33,7 @@ class Lines:
             self.replicas = int(line.split()[1])
             return None
         entry = ENTRY.fullmatch(line)
-        if entry is None or any(int(entry[key]) > MOST_NUMBER for key in ("r", "at", "q", "n") if entry[key]) or entry["n"] == b"0":
+        if entry is None or any(is_too_great(entry[key]) for key in ("r", "at", "q", "n") if entry[key]) or entry["n"] == b"0":
             return "shape"
         if entry["kind"] == b"view" and self.version == 1:
             return "shape"
@@ -65,6 +65,10 @@ class Lines:
         self.inserts[r] += bool(entry["at"])
         self.operations[r] += not entry["q"]
         self.places[r] += names_of(entry)
+
+
+def is_too_great(digits: bytes) -> bool:
+    return len(digits) > len(str(MOST_NUMBER)) or int(digits) > MOST_NUMBER
 
 
 def names_of(entry: re.Match) -> int:

@@ -66,6 +66,13 @@ def need(command: str, package: str) -> None:
         sys.exit(f"{command} is needed, and apt-get could not install the package {package}")
 
 
+def library_of(source: Path, folder: str) -> str:
+    """The library that a C source makes, built in the folder, for LD_PRELOAD."""
+    path = os.path.join(folder, f"{source.stem}.so")
+    subprocess.run(["cc", "-shared", "-fPIC", "-O1", "-o", path, str(source), "-ldl"], check=True)
+    return path
+
+
 def short(ended: Ended) -> str:
     text = repr(tuple(ended))
     return text if len(text) < 300 else text[:300] + ".."

@@ -1,0 +1,159 @@
+#!/usr/bin/env python3
+"""refused_calls.py PROGRAM [--write] [--most N]: each call that can answer out of memory, with one request for memory refused.
+
+Of each such call it takes a test of the crates that makes it and compares what it answers, and runs it with its first request
+refused, then with its second, and so on until a run meets no refusal; a test that would take more than --most runs, 2,000 unless
+told otherwise, is told as cut short. A call that only an engine of the program has is tried by the program's command, on three
+vectors. A test passes where its calls answer out of memory, or what they must, and again what they must when memory is there. The
+table of calls is printed, and with --write it is put into docs/testing.md. A call without a line there fails, and so does one
+whose test is gone. It needs what `rt ci` has built in this repository, and a C compiler (`cc`); it is no part of the gate."""
+import argparse
+import sys
+import tempfile
+from pathlib import Path
+from typing import NamedTuple
+
+ROOT = Path(__file__).resolve().parents[2]
+sys.path.insert(0, str(ROOT / "tests"))
+from memory.refused_memory import refuse_each, shim  # noqa: E402
+from memory.refused_memory_of_tests import Test, tests_of  # noqa: E402
+from shared.program import Tally, program_of  # noqa: E402
+
+PAGE = ROOT / "docs" / "testing.md"
+BEGIN, END = "<!-- refused memory: made by tests/memory/refused_calls.py -->", "<!-- end of refused memory -->"
+VECTORS = [ROOT / "tests" / "vectors" / f"{name}.trace" for name in ("all-three-way-cycle", "all-opposite-pair", "all-contents")]
+MOST = 2000
+
+# Every call that can answer want of memory, as their contracts name them.
+CALLS = """Response::push, Recording::new, Recording::record, Recording::copy, trace_text::read, trace_text::write, Reader::feed,
+Sight::of, first_fault, OrderGraph::of, Scratch::new, Bound::new, conflict_number, least_cycle, judge, report::text, report::json,
+order, certify, Certificate::write, Certificate::read, check, Session::open, Session::record, snapshot, watch_snapshot, watch,
+replay, Registry::add, Registry::names, run, run_cert, run_verify, live, read_words"""
+
+# By call: the crate and its tests, or the program's command.
+TESTS = {
+    "Response::push": ("events", "responses_are_lists"),
+    "Recording::new": ("events", "a_recording_has_one_to_sixteen_replicas"),
+    "Recording::record": ("events", "entries_are_taken_or_refused", "a_refused_entry_is_handed_back"),
+    "Recording::copy": ("events", "a_full_recording_is_copied", "copies_are_equal_and_go_on_alone"),
+    "trace_text::read": ("trace_text", "a_text_gives_its_entries", "plain_texts_are_read_and_written_again"),
+    "trace_text::write": ("trace_text", "plain_texts_are_read_and_written_again", "views_are_read_and_written_again"),
+    "Reader::feed": ("trace_text", "a_text_in_two_pieces", "faults_of_texts_in_pieces"),
+    "Sight::of": ("visibility", "a_chain_of_receipts_is_seen", "a_receipt_tells_what_comes_after_it"),
+    "first_fault": ("contents_check", "contents_are_those_that_are_visible", "doubled_names_come_first"),
+    "OrderGraph::of": ("order_graph", "steps_of_worked_recordings", "marks_of_the_ring_of_four"),
+    "Scratch::new": ("level_search", "a_scratch_fits_its_graph_alone"),
+    "Bound::new": ("shared_bound", "two_seats_share_three_sources"),
+    "conflict_number": ("level_search", "worked_recordings_for_any_number_of_workers"),
+    "least_cycle": ("level_search", "steps_of_worked_recordings"),
+    "judge": ("certificate", "verdicts_of_worked_recordings", "any_number_of_workers"),
+    "report::text": ("finder_cli", "worked_recordings"),
+    "report::json": ("finder_cli", "reports_as_json"),
+    "order": ("witness_order", "the_least_of_several_orders"),
+    "certify": ("certificate", "certificates_of_worked_recordings"),
+    "Certificate::write": ("certificate_text", "certificates_are_read_and_written_again"),
+    "Certificate::read": ("certificate_text", "certificates_are_read_and_written_again"),
+    "check": ("cert_check", "valid_certificates", "reasons_against_certificates"),
+    "Session::open": ("sessions", "sessions_have_1_to_16_replicas"),
+    "Session::record": ("sessions", "two_passes"),
+    "snapshot": ("sessions", "two_passes"),
+    "watch_snapshot": ("sessions", "session_of_two"),
+    "watch": ("sessions", "watched_three_way_cycle"),
+    "replay": ("sessions", "stalled_and_resumed", "receipt_out_of_range"),
+    "Registry::add": ("sessions", "registry_of_64"),
+    "Registry::names": ("sessions", "registry_of_64"),
+    "run": ("finder_cli", "worked_recordings", "any_number_of_workers"),
+    "run_cert": ("program", "cert"),
+    "run_verify": ("program", "verify"),
+    "live": ("program", "live"),
+    "read_words": ("command_line", "words_of_a_command_line", "words_of_certificates"),
+}
+
+
+class Line(NamedTuple):
+    """A line of the table: the call, its test, how many runs had a request refused, and what was seen."""
+
+    call: str
+    test: str
+    refused: int
+    seen: str
+
+    def text(self) -> str:
+        return f"| `{self.call}` | `{self.test}` | {self.refused:,} | {self.seen} |"
+
+
+def names_of(calls: str) -> list:
+    return [call.strip() for call in calls.replace("\n", " ").split(",")]
+
+
+def refuse_in_test(tally: Tally, call: str, test: Test, name: str, most: int) -> Line:
+    """One request after the other, until a run meets no refusal."""
+    stopped = []
+    for request in range(1, most + 1):
+        status, was_refused = test.run(request)
+        if not was_refused:
+            is_whole, refused = status == 0, request - 1
+            break
+        if status != 0:
+            stopped.append(request)
+    else:
+        is_whole, refused = False, most
+    tally.check(f"{call}: {name}", not stopped and refused > 0, stopped)
+    seen = "passed each time" if not stopped else f"failed at {stopped[:9]}"
+    return Line(call, name, refused, seen if is_whole else f"{seen}; cut short")
+
+
+def refuse_in_program(tally: Tally, call: str, library: str, program: str, command: str) -> Line:
+    """The program's command on three vectors."""
+    told = 0
+    for trace in VECTORS:
+        certificate = [str(trace.with_suffix(".cert2"))] if command == "verify" else []
+        told += refuse_each(tally, library, [program, command, str(trace), *certificate])
+    return Line(call, f"the program's {command}", told, "out of memory each time, else the right answer")
+
+
+def lines(tally: Tally, library: str, folder: str, program: str, most: int) -> list[Line]:
+    """A line for each call and test."""
+    made = []
+    for call in names_of(CALLS):
+        crate, *names = TESTS.get(call, ("",))
+        tally.check(f"{call} has a test", bool(names))
+        for name in names:
+            if crate == "program":
+                made.append(refuse_in_program(tally, call, library, program, name))
+                print(made[-1].text(), flush=True)
+                continue
+            built = next(iter(sorted((ROOT / "crates" / crate / "out").glob("*_tests"))), None)
+            whole = [test for test in tests_of(built) if test.split("::")[-1] == name] if built else []
+            tally.check(f"{call}: {crate} has the test {name}", len(whole) == 1, built or "`rt ci` has not been run here")
+            if len(whole) == 1:
+                made.append(refuse_in_test(tally, call, Test(library, folder, built, whole[0]), f"{crate} {name}", most))
+                print(made[-1].text(), flush=True)
+    return made
+
+
+def put(table: str) -> None:
+    """The table in the page, in the place of the one that is there."""
+    front, rest = PAGE.read_text().split(BEGIN)
+    PAGE.write_text(f"{front}{BEGIN}\n\n{table}\n{END}{rest.split(END)[1]}")
+
+
+def main() -> None:
+    words = argparse.ArgumentParser(description=__doc__)
+    words.add_argument("program")
+    words.add_argument("--write", action="store_true", help="put the table into docs/testing.md")
+    words.add_argument("--most", type=int, default=MOST, help="how many runs of a test at most")
+    given = words.parse_args()
+    program = program_of([sys.argv[0], given.program])
+    tally = Tally()
+    with tempfile.TemporaryDirectory() as folder:
+        made = lines(tally, shim(folder), folder, program, given.most)
+    missing = set(names_of(CALLS)) - {one.call for one in made}
+    tally.check("each call has a line", not missing, missing)
+    if given.write and not missing:
+        put("\n".join(["| call | test | requests refused | seen |", "|---|---|---|---|", *(one.text() for one in made), ""]))
+    tally.close()
+
+
+if __name__ == "__main__":
+    main()
