@@ -26,9 +26,10 @@ MOST = 2000
 
 # Every call that can answer want of memory, as their contracts name them.
 CALLS = """Response::push, Recording::new, Recording::record, Recording::copy, trace_text::read, trace_text::write, Reader::feed,
-Sight::of, first_fault, OrderGraph::of, Scratch::new, Bound::new, conflict_number, least_cycle, judge, report::text, report::json,
-order, certify, Certificate::write, Certificate::read, check, Session::open, Session::record, snapshot, watch_snapshot, watch,
-replay, Registry::add, Registry::names, run, run_cert, run_verify, live, read_words"""
+Sight::of, first_fault, OrderGraph::of, Scratch::new, Bound::new, conflict_number, least_cycle, judge, report::text,
+report::json, OrderGraph::narrowed, taken, order, certify, Certificate::write, Certificate::read, check, Session::open,
+Session::record, snapshot, watch_snapshot, watch, replay, Registry::add, Registry::names, run, run_cert, run_verify, live,
+read_words"""
 
 # By call: the crate and its tests, or the program's command.
 TESTS = {
@@ -49,6 +50,8 @@ TESTS = {
     "judge": ("certificate", "verdicts_of_worked_recordings", "any_number_of_workers"),
     "report::text": ("finder_cli", "worked_recordings"),
     "report::json": ("finder_cli", "reports_as_json"),
+    "OrderGraph::narrowed": ("order_graph", "two_none_and_all_of_the_ring_of_four"),
+    "taken": ("witness_order", "neither_a_cycle_nor_what_stands_after_it_is_taken"),
     "order": ("witness_order", "the_least_of_several_orders"),
     "certify": ("certificate", "certificates_of_worked_recordings"),
     "Certificate::write": ("certificate_text", "certificates_are_read_and_written_again"),
