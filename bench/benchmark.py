@@ -2,7 +2,7 @@
 """benchmark.py PROGRAM [RUNS [SIZE..]]: seconds, MB/s and peak memory of the whole program, and how its time grows.
 benchmark.py PROGRAM --beside OTHER [RUNS] TRACE..: the verdict's processor time and peak memory beside another program's.
 
-The traces are those of traces.py: XL is near the limits. Sizes are M, L and XL, and runs ten, unless told otherwise. Of
+The traces are those of traces.py: XL is near the limits on names, XXL near all. Sizes are M, L and XL, and runs ten, unless told otherwise. Of
 refused recordings the certificate is made and checked too, once; at XL, where that takes minutes, only where XL alone is
 asked for. The wide ring, where the search takes the most of the time, is judged with 1, 2 and 4 workers. It is no timed
 test: what counts as passed is that each trace has the verdict that it is made for, and that the checker says yes. What is

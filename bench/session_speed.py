@@ -3,7 +3,7 @@
 the limits.
 
 It builds the program in session_speed/ beside the crates, in a copy of the repository with the work of earlier checks, which
-takes some minutes, and runs it. Each thread records 4,096 reads, as many as a replica may have: with no name, and with 64
+takes some minutes, and runs it. Each thread records 4,096 reads, a quarter of the entries that a replica may have: with no name, and with 64
 names of 32 bytes each, which makes 262,144 names a replica, the limit. Then one snapshot is made of all that. A run is
 repeated, and the best counts; seconds of the processor, of all threads, are those of a whole run, responses made and
 everything freed. It is no part of the gate."""

@@ -74,7 +74,7 @@ static struct list *list_of(int r) {
     gchar *text = inf_text_chunk_get_text(chunk, &bytes);
     now.count = 0;
     for (const gchar *letter = text; letter < text + bytes; letter = g_utf8_next_char(letter)) {
-        if (now.count == MOST_ELEMENTS) stop("a list of more elements than a trace takes");
+        if (now.count == MOST_ELEMENTS) stop("a list of more elements than a response of a trace takes");
         snprintf(now.text[now.count], NAME, "e%u", g_utf8_get_char(letter) - FIRST);
         now.names[now.count] = now.text[now.count];
         now.count++;

@@ -139,7 +139,7 @@ def wide_row(size: int) -> Iterator[bytes]:
     yield b"\n"
 
 
-# What no text of a trace may do. The words are those of the first faulty line.
+# Traces that must be refused. The words are those of the first faulty line; none where the text is right.
 FULL = 4 + MOST_ENTRIES  # the line of the first receipt too many: three lines stand before the receipts
 TRACES = [
     Shape("one line without end", around(b"", b"x"), "line 1: cut"),
@@ -163,7 +163,7 @@ TRACES = [
     Shape("binary bytes without LF", around(READ, BINARY.replace(b"\n", b"\xff")), "line 3: cut"),
 ]
 
-# What no certificate may do, beside the trace of the three-way cycle. The words are the checker's.
+# Certificates that must get a no, beside the trace of the three-way cycle. The words are the checker's.
 CERTIFICATES = [
     Shape("one line without end", around(b"", b"x"), "text"),
     Shape("binary bytes", around(b"cert 2\n", BINARY), "text"),

@@ -263,7 +263,7 @@ def most_threads(program: str, words: list) -> int:
 
 
 def threads(tally: Tally, program: str, folder: str) -> None:
-    """As many threads search as were asked for, in one run of several near the limits: a search may end before all have begun. The
+    """As many threads search as were asked for, in one run of several near the limits on names: a search may end before all have begun. The
     check of contents before it has a thread for each processor, and begins twice."""
     path = os.path.join(folder, "ring")
     with open(path, "wb") as out:

@@ -1,6 +1,6 @@
 #!/usr/bin/env python3
-"""traces.py FAMILY SIZE: a legal trace near the limits on names in responses (XXL: also on entries and inserts), or near those of a smaller SIZE, on
-standard output.
+"""traces.py FAMILY SIZE: a legal trace on standard output, near the limits on names in responses (XL), near those on entries
+and inserts too (XXL), or smaller.
 
 The editors of one group keep one order of all elements: those of their own group first, then those of the next group,
 and so on round; within a group by rank. So the groups' orders together make a ring."""

@@ -19,7 +19,7 @@ use trace_text::{Cause, read};
 /// response of its operation, and a row the n elements of the recording, and `n / 64` steps for each of its
 /// names and layers. So it is in both versions; the rows of version two have about half as many names. For
 /// the rows a table is made once, in `n / 64` steps for each place of a response. Its memory is linear in the
-/// texts but for that table, which takes `n * n / 8` bytes, 2 MB for 4,096 elements. Out of memory is never
+/// texts but for that table, which takes `n * n / 8` bytes, 2 MB for 4,096 elements and 512 MB for 65,536. Out of memory is never
 /// answered for a text that is faulty before any line of it takes memory.
 pub fn check<H: Threads + Sync>(
     rt: &H,

@@ -49,7 +49,7 @@ impl Core {
     }
 }
 
-/// A rank of 0 for each of so many elements that is taken, and none for the others.
+/// A rank of 0 for each element that is taken, of so many, and `UNRANKED` for the others.
 fn ranks_of(alloc: Global, elements: usize, taken: &[u32]) -> Result<Vec<u32>, Memory>
     requires { All (λ x. x < elements) taken.now }
     ensures count { IfOk result (λ ranks. length ranks.items ≡ elements) }

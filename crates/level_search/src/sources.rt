@@ -15,7 +15,7 @@ use peeling::order_taken;
 use shown_table::ShownTable;
 use std::alloc::Global;
 
-/// The rank of an element that is out of place.
+/// The rank of an element that is out of place, or that was not taken.
 pub const UNRANKED: u32 = u32::MAX;
 /// Where there are no more elements than this, each is searched from.
 const FEW: u32 = 64;

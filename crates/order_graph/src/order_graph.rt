@@ -119,7 +119,7 @@ impl OrderGraph {
 
     /// The graph of some of the elements alone, told by their numbers, which rise: each list keeps those of
     /// its places that hold one of them, and the elements are numbered anew, in the same order. Time and
-    /// memory are linear in the elements and the places; the map is asked once for each element.
+    /// memory are linear in the elements and the places; a name is looked up once for each element.
     pub fn narrowed(&self, alloc: Global, kept: &[u32]) -> Result<OrderGraph, Memory>
         requires rising { AllPairs (λ x y. x < y) kept.now }
         requires known { All (λ x. x < length self.now.elements) kept.now }

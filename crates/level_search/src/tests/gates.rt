@@ -7,8 +7,8 @@ use std::sync::atomic::{AtomicU64, Ordering};
 use std::test::Fail;
 use std::thread::Threads;
 
-/// Counts the searches of each of four sources by two workers, begun and ended, and calls that name something
-/// else.
+/// Counts the searches of each of four sources by two workers, begun and then ended, and calls that name
+/// something else or come in another order.
 #[derive(Drop)]
 struct Counts {
     begun: [AtomicU64; 4],
@@ -44,11 +44,18 @@ impl Gate for Counts {
     }
 
     fn after(&self, worker: u32, source: u32) {
-        match self.ended.get(source as usize) {
-            Some(count) if worker < 2 => count.fetch_add(1, Ordering::SeqCst),
+        match (self.begun.get(source as usize), self.ended.get(source as usize)) {
+            (Some(begun), Some(ended)) if worker < 2 && is_less(ended, begun) => {
+                ended.fetch_add(1, Ordering::SeqCst)
+            }
             _ => self.others.fetch_add(1, Ordering::SeqCst),
         };
     }
+}
+
+/// Whether the one count is less than the other.
+fn is_less(count: &AtomicU64, other: &AtomicU64) -> bool {
+    count.load(Ordering::SeqCst) < other.load(Ordering::SeqCst)
 }
 
 /// Whether so many searches were counted of each source.

@@ -91,7 +91,7 @@ fn one_search_where_all_cycles_meet(rt: HostRuntime) -> Result<(), Fail> {
 }
 
 #[test]
-fn no_search_where_all_follow_one_order(rt: HostRuntime) -> Result<(), Fail> {
+fn no_search_where_the_core_is_empty(rt: HostRuntime) -> Result<(), Fail> {
     let searches = Searches(AtomicU64::new(0));
     let found = number_behind(&rt, rt.alloc(), ONE_ELEMENT, &["x"], &searches)?;
     assert_eq!(rt; found, None);
