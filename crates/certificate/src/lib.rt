@@ -8,6 +8,7 @@ mod certifying;
 mod judging;
 mod rows;
 mod verdict;
+mod writing;
 
 pub use certificate_text::{CertCause, CertFault, Certificate, Layer, Layers, Row, Version};
 pub use certifying::certify;
@@ -16,6 +17,7 @@ pub use level_search::{Gate, NoGate, SearchFault};
 pub use specification::{conflict_numbers_fall, verdicts_follow};
 pub use verdict::Verdict;
 pub use witnesses::{Order, Step, Steps};
+pub use writing::write_certificate;
 
 #[cfg(test)]
 mod tests;
