@@ -61,6 +61,7 @@ TESTS = {
     "push_row": ("certificate", "certificates_written_row_by_row"),
     "Certificate::read": ("certificate_text", "certificates_are_read_and_written_again"),
     "check": ("cert_check", "valid_certificates", "reasons_against_certificates"),
+    "check_recording": ("finder_cli", "right_trace_is_judged"),
     "Session::open": ("sessions", "sessions_have_1_to_16_replicas"),
     "Session::record": ("sessions", "two_passes"),
     "snapshot": ("sessions", "two_passes"),
