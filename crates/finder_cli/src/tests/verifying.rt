@@ -14,7 +14,7 @@ const CERTIFICATE: &str = "cert 1\naccepted\norder : a\n";
 
 /// A check with readers of 7 bytes a read and a writer of one byte a write.
 #[derive(Drop)]
-struct Checked<'a> {
+struct Check<'a> {
     trace: Script<'a>,
     cert: Script<'a>,
     page: Page,
@@ -27,7 +27,7 @@ fn checked<'a, H: Threads + Sync>(
     alloc: Global,
     text: &'a str,
     read_fails: u32,
-) -> Checked<'a> {
+) -> Check<'a> {
     let once = || {
         let mut trace = Script::new(text, 7, read_fails);
         let mut cert = Script::new(CERTIFICATE, 7, 0);
@@ -39,7 +39,7 @@ fn checked<'a, H: Threads + Sync>(
             &mut Source::new(&mut cert),
             &mut Sink::new(&mut page),
         );
-        Checked {
+        Check {
             trace,
             cert,
             page,
@@ -54,7 +54,7 @@ fn checked<'a, H: Threads + Sync>(
 }
 
 /// Whether the trace's last of so many reads failed, and the certificate was left alone.
-fn fails_in_the_trace(check: &Checked<'_>, reads: u32) -> bool {
+fn fails_in_the_trace(check: &Check<'_>, reads: u32) -> bool {
     check.answer == Err(RunFault::Read)
         && check.trace.reads == reads
         && check.cert.reads == 0
