@@ -18,9 +18,10 @@ use trace_text::{Cause, read};
 /// It searches nothing. Beyond reading the texts and looking for a fault, a step of a certificate costs the
 /// response of its operation, and a row the n elements of the recording, and `n / 64` steps for each of its
 /// names and layers. So it is in both versions; the rows of version two have about half as many names. For
-/// the rows a table is made once, in `n / 64` steps for each place of a response. Its memory is linear in the
-/// texts but for that table, which takes `n * n / 8` bytes, 2 MB for 4,096 elements and 512 MB for 65,536. Out of memory is never
-/// answered for a text that is faulty before any line of it takes memory.
+/// the rows a table is made once, in `n / 64` steps for each place of a response. Contents are checked on all
+/// processors. Its memory is linear in the texts but for that table, which takes `n * n / 8` bytes, 2 MB for
+/// 4,096 elements and 512 MB for 65,536. Out of memory is answered only where a line of the trace takes
+/// memory, or where the trace spells a recording and the certificate's text takes memory.
 pub fn check<H: Threads + Sync>(
     rt: &H,
     alloc: Global,
@@ -45,7 +46,7 @@ pub fn check<H: Threads + Sync>(
     }
 }
 
-/// What `check` answers on each trace that spells the recording, for who has read it already, as
+/// What `check` answers on each trace that spells the recording, for a caller that has read it already, as
 /// `trace_text::Reader` does piece by piece. So the trace's text need not stand in memory.
 ///
 /// It costs what `check` does but for the reading of the trace. Beside the recording and the certificate's

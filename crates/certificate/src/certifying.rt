@@ -30,7 +30,8 @@ use witnesses::{Order, Steps};
 /// bits for n elements is made once, and turned, in time linear in the places of all responses, at most 64
 /// steps each, and in the pairs that they show. Each row then costs n / 64 steps for each name in it and each
 /// layer, and memory for its names. So the memory may be quadratic in the elements: of 4,096, rows of up to
-/// 2,048 names of 33 bytes each on average, and it answers `Memory` where that is not to be had.
+/// 2,048 names of 33 bytes each on average, and it answers `Memory` where that is not to be had. For the text
+/// alone `write_certificate` keeps one row at a time.
 pub fn certify(
     alloc: Global,
     recording: &Recording,

@@ -1,7 +1,8 @@
 //! The verdict on a recording, and its certificate.
 //!
 //! `judge` looks for the first fault, then for the least order that every response follows, and only where
-//! there is none for the conflict number and the least cycle. `certify` shows why a verdict is right.
+//! there is none for the conflict number and the least cycle. `certify` shows why a verdict is right,
+//! and `write_certificate` gives the text of that.
 #![tactic(auto)]
 
 mod certifying;

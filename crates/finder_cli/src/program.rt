@@ -145,7 +145,7 @@ fn help<W: Writer + Drop>(sink: &mut Sink<W>, text: &[u8]) -> Result<Status, Pro
     }
 }
 
-/// Opens the file, has the engine go on its stream, and closes that.
+/// Opens the file, runs the engine on its stream, and closes that.
 fn on_file<H: AllocGlobal + Threads + Wait + Sync, N: World, W: Writer + Drop>(
     rt: &H,
     engine: Engine,
@@ -165,8 +165,7 @@ fn on_file<H: AllocGlobal + Threads + Wait + Sync, N: World, W: Writer + Drop>(
     answer_on(file, ran)
 }
 
-/// Writes the checker's line on the trace in the file and the certificate in the other. The trace is opened
-/// first.
+/// Writes the checker's line on the trace in `file` and the certificate in `cert`. The trace is opened first.
 fn check_files<H: AllocGlobal + Threads + Sync, N: World, W: Writer + Drop>(
     rt: &H,
     world: &mut N,

@@ -19,7 +19,7 @@ use trace_text::{Cause, LineFault};
 const PIECE: usize = 65_536;
 
 /// The recording that the source's text spells, to its end. Each piece that a read gives is handed on before
-/// the next is asked for, and none is asked for behind the text's first fault.
+/// the next is asked for, and none is asked for after the text's first fault.
 pub fn recording_from<R: Reader + Drop>(
     alloc: Global,
     source: &mut Source<R>,
@@ -44,10 +44,10 @@ pub fn recording_from<R: Reader + Drop>(
 }
 
 /// The recording that the source's text spells, or none where it spells none. The text is read to its end
-/// either way: what stands behind its first fault is thrown away.
+/// either way: what comes after its first fault is thrown away.
 ///
 /// It keeps the recording and one piece, and of the line that a piece cuts what `trace_text::Reader` keeps;
-/// behind a fault one piece alone.
+/// after a fault one piece alone.
 pub fn recording_to_end<R: Reader + Drop>(
     alloc: Global,
     source: &mut Source<R>,

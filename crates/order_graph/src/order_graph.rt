@@ -114,7 +114,7 @@ impl OrderGraph {
         OrderGraph::with_spots(alloc, names, numbers, shown, places)
     }
 
-    /// The graph of these lists, whose spots are looked for in their places.
+    /// The graph of these lists, with the spots of each element, which are found in one pass over the places.
     fn with_spots(
         alloc: Global,
         names: Vec<Name>,
