@@ -24,9 +24,9 @@ pub enum Engine {
 impl Engine {
     ghost use Rattle.finder_cli.specs.Engines.{RunsAs};
 
-    /// Reads the trace to its end, or to its first faulty line, and writes the report or the certificate, whole.
-    /// It answers `Good` for an accepted recording and else `Bad`. `Cert` never answers `Workers`, and only
-    /// `Live` answers `Thread` or `Stalled`.
+    /// Reads the trace to its end, or to its first faulty line, and writes the report or the certificate,
+    /// whole. It answers `Good` for an accepted recording and else `Bad`. `Cert` never answers `Workers`, and
+    /// only `Live` answers `Thread` or `Stalled`.
     pub fn go<H: AllocGlobal + Threads + Wait + Sync, R: Reader + Drop, W: Writer + Drop>(
         self,
         rt: &H,

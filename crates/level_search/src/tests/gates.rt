@@ -44,7 +44,10 @@ impl Gate for Counts {
     }
 
     fn after(&self, worker: u32, source: u32) {
-        match (self.begun.get(source as usize), self.ended.get(source as usize)) {
+        match (
+            self.begun.get(source as usize),
+            self.ended.get(source as usize),
+        ) {
             (Some(begun), Some(ended)) if worker < 2 && is_less(ended, begun) => {
                 ended.fetch_add(1, Ordering::SeqCst)
             }
@@ -79,7 +82,8 @@ fn a_gate_is_called_round_each_search(rt: HostRuntime) -> Result<(), Fail> {
     Ok(())
 }
 
-/// The elements are x, a and b. Replica 0 reads a before b, and replica 1 the other way; x stands before both.
+/// The elements are x, a and b. Replica 0 reads a before b, and replica 1 the other way; x stands before
+/// both.
 const PAIR_AFTER_ANOTHER: &str =
     "trace 1\nreplicas 2\n0 ins x 0 : x\n0 ins a 1 : x a\n1 ins b 0 : b\n0 recv 1 1\n0 read : x a b\n1 recv 0 1\n1 recv 0 2\n1 read : x b a\n";
 
