@@ -3,4 +3,3 @@ pub mod Copies
 pub mod TableWays
 pub mod ExactRows
 pub mod CoveredRows
-pub mod ByRows

@@ -7,7 +7,6 @@
 
 mod answer_line;
 mod certified;
-mod engine;
 mod fault;
 mod live;
 mod machine;

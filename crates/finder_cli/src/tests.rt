@@ -5,4 +5,3 @@ mod pages;
 mod recordings;
 mod streams;
 mod texts;
-mod verifying;
