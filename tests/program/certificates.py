@@ -17,14 +17,12 @@ sys.path.insert(0, str(ROOT / "tests"))
 from reference.traces import spellings  # noqa: E402
 from shared.forger import line  # noqa: E402
 from shared.forgeries import ANOTHERS, KINDS, certified, forgery, generated  # noqa: E402
-from shared.program import Ended, Tally, fault, program_of, run  # noqa: E402
+from shared.program import Ended, Tally, fault, is_short, program_of, run  # noqa: E402
 
 VECTORS = ROOT / "tests" / "vectors"
 SEED = 1984
 FORGERIES = 3000
 RECORDINGS = 200
-# What the reference checker reads in no time.
-MOST_BYTES = 4096
 THREE_WAY = VECTORS / "all-three-way-cycle.trace"
 USAGE = [["cert"], ["cert", "t", "u"], ["cert", "--json", "t"], ["cert", "--workers", "2", "t"], ["verify"], ["verify", "t"], ["verify", "t", "u", "v"],
          ["verify", "--json", "t", "u"], ["cert", b"\xff"]]
@@ -74,7 +72,7 @@ def prefixes(tally: Tally, program: str) -> None:
 def forgeries(tally: Tally, program: str, folder: str, many: int, seed: int) -> None:
     """Forged certificates, of vectors and generated recordings: the checker's line is that of the reference."""
     rnd, kinds, said = random.Random(seed), Counter(), Counter()
-    short = [trace for trace in sorted(VECTORS.glob("*.trace")) if trace.stat().st_size <= MOST_BYTES]
+    short = filter(is_short, sorted(VECTORS.glob("*.trace")))
     cases = generated(rnd, RECORDINGS)
     cases += [certified(trace.read_text(), *(trace.with_suffix(suffix).read_text() for suffix in (".cert1", ".cert2")))
               for trace in short]

@@ -20,13 +20,12 @@ ROOT = Path(__file__).resolve().parents[2]
 sys.path.insert(0, str(ROOT / "tests"))
 from reference.traces import line_fault  # noqa: E402
 from shared.forger import line  # noqa: E402
-from shared.program import SECONDS, Ended, Tally, fault, library_of, program_of  # noqa: E402
+from shared.program import SECONDS, Ended, Tally, fault, is_short, library_of, program_of  # noqa: E402
 
 VECTORS = ROOT / "tests" / "vectors"
 THREE_WAY = VECTORS / "all-three-way-cycle.trace"
 SEED = 1903
 ONE_IN = 20
-MOST_BYTES = 4096
 # A failed call is not tried again, though by these two a system says that it may be.
 WHY = (errno.EIO, errno.EINTR, errno.EAGAIN)
 WHY_NOT_WRITTEN = (*WHY, errno.ENOSPC, 0)
@@ -78,10 +77,6 @@ class Streams:
 
 def status_of(trace: Path) -> int:
     return int(trace.with_suffix(".status").read_text())
-
-
-def is_short(path: Path) -> bool:
-    return path.stat().st_size <= MOST_BYTES
 
 
 def judged(trace: Path) -> Iterator[tuple[list, Ended]]:

@@ -22,21 +22,16 @@ from reference.checker import certificate_of, line_on  # noqa: E402
 from reference.traces import line_fault  # noqa: E402
 from reference.verdicts import Fault, Recording, first_fault, recording_of, report_of  # noqa: E402
 from shared.forger import line  # noqa: E402
-from shared.program import Ended, Tally, fault, program_of, run  # noqa: E402
+from shared.program import Ended, Tally, fault, is_short, program_of, run  # noqa: E402
 
 VECTORS = ROOT / "tests" / "vectors"
 THREE_WAY_CERTIFICATE = VECTORS / "all-three-way-cycle.cert2"
 SEED = 1836
-MOST_BYTES = 4096
 # The reference of reports tries all orders of the elements, and all sets of responses.
 MOST_INSERTS, MOST_OPERATIONS = 6, 12
 # That of certificates makes all pairs of operations.
 MOST_CHECKED = 40
 FORMS = ["verdict", "-"], ["verdict", "--json", "-"], ["cert", "-"], ["live", "-"]
-
-
-def is_short(path: Path) -> bool:
-    return path.stat().st_size <= MOST_BYTES
 
 
 def is_small(text: str) -> bool:
@@ -110,7 +105,6 @@ def try_certificate(tally: Tally, counted: Counter, program: str, trace: Path, c
     counted[f"of these {' '.join(wanted.out.decode().split()[:2])}"] += 1
     got = run(program, ["verify", str(trace), "-"], text)
     tally.same(f"verify of {trace.name} with {len(text)} bytes of {cert.name}", got, wanted)
-
 
 
 def main() -> None:

@@ -7,6 +7,7 @@ from pathlib import Path
 from typing import NamedTuple
 
 SECONDS = 60
+SHORT_BYTES = 4096
 
 
 class Ended(NamedTuple):
@@ -22,6 +23,11 @@ def run(program: str, words: list = (), trace: bytes = b"", out=subprocess.PIPE,
     given = {"input": trace} if stdin is None else {"stdin": stdin}
     done = subprocess.run([program, *words], stdout=out, stderr=subprocess.PIPE, timeout=SECONDS, **given)
     return Ended(done.returncode, done.stdout or b"", done.stderr)
+
+
+def is_short(path: Path) -> bool:
+    """Whether a text is one that the slow references read in no time."""
+    return path.stat().st_size <= SHORT_BYTES
 
 
 def fault(words: str) -> Ended:
