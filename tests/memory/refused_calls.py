@@ -27,10 +27,9 @@ MOST = 2000
 # Every call that can answer out of memory, by its name in docs/names.md; the list is kept by hand.
 CALLS = """Response::push, Recording::new, Recording::record, Recording::copy, trace_text::read, trace_text::write, Reader::feed,
 Sight::of, first_fault, OrderGraph::of, OrderGraph::covering, Scratch::new, Bound::new, conflict_number, least_cycle,
-least_conflict, judge, report::text,
-report::json, OrderGraph::narrowed, taken, order, certify, Certificate::write, Certificate::read, check, Session::open,
-Session::record, snapshot, watch_snapshot, watch, replay, Registry::add, Registry::names, run, run_cert, run_verify, live,
-read_words"""
+least_conflict, judge, report::text, report::json, OrderGraph::narrowed, taken, order, certify, write_certificate,
+Certificate::write, push_row, Certificate::read, check, check_recording, Session::open, Session::record, snapshot,
+watch_snapshot, watch, replay, Registry::add, Registry::names, run, run_cert, run_verify, live, read_words"""
 
 # By call: the crate and its tests, or the program's command.
 TESTS = {
@@ -57,9 +56,12 @@ TESTS = {
     "taken": ("witness_order", "neither_a_cycle_nor_what_stands_after_it_is_taken"),
     "order": ("witness_order", "the_least_of_several_orders"),
     "certify": ("certificate", "certificates_of_worked_recordings"),
+    "write_certificate": ("certificate", "certificates_written_row_by_row"),
     "Certificate::write": ("certificate_text", "certificates_are_read_and_written_again"),
+    "push_row": ("certificate", "certificates_written_row_by_row"),
     "Certificate::read": ("certificate_text", "certificates_are_read_and_written_again"),
     "check": ("cert_check", "valid_certificates", "reasons_against_certificates"),
+    "check_recording": ("finder_cli", "right_trace_is_judged"),
     "Session::open": ("sessions", "sessions_have_1_to_16_replicas"),
     "Session::record": ("sessions", "two_passes"),
     "snapshot": ("sessions", "two_passes"),

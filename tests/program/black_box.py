@@ -263,15 +263,21 @@ def most_threads(program: str, words: list) -> int:
 
 
 def threads(tally: Tally, program: str, folder: str) -> None:
-    """As many threads search as were asked for, in one run of several near the limits on names: a search may end before all have begun. The
-    check of contents before it has a thread for each processor, and begins twice."""
+    """As many threads search as were asked for, in one run of several near the limits on names: a search may end before all
+    have begun. The check of contents before it has a thread for each processor or for each replica, where more than one worker
+    was asked for; in an accepted recording no search follows."""
     path = os.path.join(folder, "ring")
-    with open(path, "wb") as out:
-        subprocess.run([sys.executable, str(ROOT / "tests" / "shared" / "traces.py"), "wide_ring", "XL"], stdout=out, check=True)
+    for name, family in ((path, "wide_ring"), (os.path.join(folder, "accepted"), "accepted")):
+        with open(name, "wb") as out:
+            subprocess.run([sys.executable, str(ROOT / "tests" / "shared" / "traces.py"), family, "XL"], stdout=out, check=True)
     processors = os.cpu_count() or 1
     many = min(64, 2 * processors + 8)
     seen = most_threads(program, ["verdict", "--workers", "1", path])
-    tally.check("one worker", seen <= 2 * processors + 1, f"saw {seen}")
+    tally.check("one worker", seen == 1, f"saw {seen}")
+    for _ in range(20):
+        if seen <= 1:
+            seen = most_threads(program, ["verdict", "--workers", "2", os.path.join(folder, "accepted")])
+    tally.check("contents in threads", seen > 1 or processors == 1, f"saw {seen}")
     runs = 0
     while seen < many and runs < 20:
         seen = max(seen, most_threads(program, ["verdict", "--workers", str(many), path]))

@@ -30,7 +30,7 @@ use Rattle.cert_check.specs.Judged.{IsJudged}
 use Rattle.cert_check.specs.declared.answer.Answer.{Answer}
 use Rattle.cert_check.specs.declared.answer.Answer.TheVariants.{Yes, No}
 use Rattle.cert_check.specs.declared.answer.Reason.TheVariants.{Trace, CertText, WrongFault, NotOrder, NotFollowed, NoCycle, MissingLayer, ShortLayer, ExtraLayer}
-use Rattle.cert_check.specs.AnswerOf.{Reads, IsAnswer, Implies, ImpliesOfTexts}
+use Rattle.cert_check.specs.AnswerOf.{Reads, IsAnswer, IsAnswerOn, Implies, ImpliesOn, ImpliesOfTexts}
 
 -- the row of an element
 row_of : (version : Version) (v : Responses) (k : ℕ) (sources : List NameBytes) (rows : List Row) → RowsMeetRule version v k sources rows → (a : NameBytes) → In a sources → (row : Row) × HasSource row a × MeetsRuleOf version v k a row
@@ -72,16 +72,23 @@ implied version h (gives_order order) legal spellable valid = (strong_is_an_orde
 implied version h (gives_cycle k steps rows) legal spellable valid =
     cycle_implies (responses_of h) (sound_responses_are_proper h legal valid.0) k steps spellable.0 valid.2 valid.1 version rows valid.3
 
--- what was read is what is spelled
-pub implied_texts : (trace cert : List ℕ) (given : Version) (g : History) (d : Certificate) (result : Result Answer Memory) → IsLegal g → IsSpellable d → ((h : History) → Spells trace h → g ≡ h) →
-    ((version : Version) (c : Certificate) → SpellsCertificate cert version c → (given ≡ version) × (d ≡ c)) → IfOk result (λ a. IsJudged given g d a) → IfOk result (λ a. ImpliesOfTexts trace cert a)
-implied_texts trace cert given g d (Ok (Yes k)) legal spellable one_h one_c judged = λ version h c reads.
-    subst (λ (z : History). Implies z c) (one_h h reads.0) (subst (λ (z : Certificate). Implies g z) (one_c version c reads.1).1 (implied given g d legal spellable judged.0))
-implied_texts trace cert given g d (Ok (No why)) legal spellable one_h one_c judged = tt
-implied_texts trace cert given g d (Err e) legal spellable one_h one_c judged = tt
+-- what was read of the certificate's text is what is spelled
+pub implied_on : (cert : List ℕ) (given : Version) (g : History) (d : Certificate) (result : Result Answer Memory) → IsLegal g → IsSpellable d →
+    ((version : Version) (c : Certificate) → SpellsCertificate cert version c → (given ≡ version) × (d ≡ c)) → IfOk result (λ a. IsJudged given g d a) → IfOk result (λ a. ImpliesOn g cert a)
+implied_on cert given g d (Ok (Yes k)) legal spellable one_c judged = λ version c spells.
+    subst (λ (z : Certificate). Implies g z) (one_c version c spells).1 (implied given g d legal spellable judged.0)
+implied_on cert given g d (Ok (No why)) legal spellable one_c judged = tt
+implied_on cert given g d (Err e) legal spellable one_c judged = tt
+
+-- and so is what was read of the trace
+pub implied_texts : (trace cert : List ℕ) (g : History) (result : Result Answer Memory) → ((h : History) → Spells trace h → g ≡ h) →
+    IfOk result (λ a. ImpliesOn g cert a) → IfOk result (λ a. ImpliesOfTexts trace cert a)
+implied_texts trace cert g (Ok (Yes k)) one_h implies = λ version h c reads. subst (λ (z : History). Implies z c) (one_h h reads.0) (implies version c reads.1)
+implied_texts trace cert g (Ok (No why)) one_h implies = tt
+implied_texts trace cert g (Err e) one_h implies = tt
 
 -- what is judged of what was read is the answer to the texts
-pub judged_texts : (trace cert : List ℕ) (version : Version) (h : History) (c : Certificate) (result : Result Answer Memory) → Reads trace cert version h c →
+judged_texts : (trace cert : List ℕ) (version : Version) (h : History) (c : Certificate) (result : Result Answer Memory) → Reads trace cert version h c →
     IfOk result (λ a. IsJudged version h c a) → IfOk result (λ a. IsAnswer trace cert a)
 judged_texts trace cert version h c (Ok (Yes k)) reads judged = (version, h, c, reads, judged.0, judged.1)
 judged_texts trace cert version h c (Ok (No Trace)) reads judged = absurd judged
@@ -94,3 +101,8 @@ judged_texts trace cert version h c (Ok (No (MissingLayer source))) reads judged
 judged_texts trace cert version h c (Ok (No (ShortLayer source))) reads judged = (version, h, c, reads, judged)
 judged_texts trace cert version h c (Ok (No (ExtraLayer source))) reads judged = (version, h, c, reads, judged)
 judged_texts trace cert version h c (Err e) reads judged = tt
+
+pub judged_on : (cert : List ℕ) (version : Version) (h : History) (c : Certificate) (result : Result Answer Memory) → SpellsCertificate cert version c →
+    IfOk result (λ a. IsJudged version h c a) → IfOk result (λ a. IsAnswerOn h cert a)
+judged_on cert version h c (Ok a) spells judged = λ trace spells_trace. judged_texts trace cert version h c (Ok a) (spells_trace, spells) judged
+judged_on cert version h c (Err e) spells judged = tt

@@ -47,6 +47,10 @@ abbrev pub IsAnswer : List ℕ → List ℕ → Answer → Type 0
 IsAnswer trace cert (Yes k) = (version : Version) × (h : History) × (c : text.Certificate) × Reads trace cert version h c × valid.IsValid version h c × (kind_of c ≡ k)
 IsAnswer trace cert (No why) = IsReason trace cert why
 
+-- the answer on a recording: that on each text that spells it
+abbrev pub IsAnswerOn : History → List ℕ → Answer → Type 0
+IsAnswerOn h cert a = (trace : List ℕ) → Spells trace h → IsAnswer trace cert a
+
 -- what a valid certificate implies of its recording, in either version
 abbrev pub Implies : History → text.Certificate → Type 0
 Implies h (text.names_fault named) = fault.IsFirstFault h named
@@ -56,3 +60,8 @@ Implies h (text.gives_cycle k steps rows) = HasConflictNumber (responses_of h) k
 abbrev pub ImpliesOfTexts : List ℕ → List ℕ → Answer → Type 0
 ImpliesOfTexts trace cert (Yes k) = (version : Version) (h : History) (c : text.Certificate) → Reads trace cert version h c → Implies h c
 ImpliesOfTexts trace cert (No why) = Unit {0}
+
+-- what a yes implies of the recording
+abbrev pub ImpliesOn : History → List ℕ → Answer → Type 0
+ImpliesOn h cert (Yes k) = (version : Version) (c : text.Certificate) → text.SpellsCertificate cert version c → Implies h c
+ImpliesOn h cert (No why) = Unit {0}

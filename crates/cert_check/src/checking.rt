@@ -1,13 +1,13 @@
-//! The checker, from the two texts.
+//! The checker, from the two texts, or from a recording and one text.
 
 ghost use Rattle.std.specs.Prelude.{◌≡◌, ◌↔◌, IfOk, IfErr, IsTrue};
-ghost use Rattle.cert_check.specs.AnswerOf.{IsAnswer, ImpliesOfTexts};
-ghost use Rattle.cert_check.specs.OutOfMemory.{TakesMemory};
+ghost use Rattle.cert_check.specs.AnswerOf.{IsAnswer, IsAnswerOn, ImpliesOfTexts, ImpliesOn};
+ghost use Rattle.cert_check.specs.OutOfMemory.{CertTakesMemory, TakesMemory};
 
 use super::answer::{Answer, Reason};
 use super::judging::judge;
 use certificate_text::{CertCause, Certificate};
-use events::{Memory, Refusal};
+use events::{Memory, Recording, Refusal};
 use std::alloc::Global;
 use std::thread::Threads;
 use trace_text::{Cause, read};
@@ -18,9 +18,10 @@ use trace_text::{Cause, read};
 /// It searches nothing. Beyond reading the texts and looking for a fault, a step of a certificate costs the
 /// response of its operation, and a row the n elements of the recording, and `n / 64` steps for each of its
 /// names and layers. So it is in both versions; the rows of version two have about half as many names. For
-/// the rows a table is made once, in `n / 64` steps for each place of a response. Its memory is linear in the
-/// texts but for that table, which takes `n * n / 8` bytes, 2 MB for 4,096 elements and 512 MB for 65,536. Out of memory is never
-/// answered for a text that is faulty before any line of it takes memory.
+/// the rows a table is made once, in `n / 64` steps for each place of a response. Contents are checked on all
+/// processors. Its memory is linear in the texts but for that table, which takes `n * n / 8` bytes, 2 MB for
+/// 4,096 elements and 512 MB for 65,536. Out of memory is answered only where a line of the trace takes
+/// memory, or where the trace spells a recording and the certificate's text takes memory.
 pub fn check<H: Threads + Sync>(
     rt: &H,
     alloc: Global,
@@ -33,26 +34,45 @@ pub fn check<H: Threads + Sync>(
     // Out of memory, only where a line of the texts takes some, or both spell something.
     ensures memory { IfErr result (λ _. TakesMemory trace.now cert.now) }
 {
-    let recording = match read(alloc, trace) {
-        Ok(recording) => recording,
+    match read(alloc, trace) {
+        Ok(recording) => check_recording(rt, alloc, &recording, cert),
         Err(fault) => {
-            return if is_out_of_memory(fault.cause) {
+            if is_out_of_memory(fault.cause) {
                 Err(Memory)
             } else {
                 Ok(Answer::No(Reason::Trace))
-            };
+            }
         }
-    };
-    let (version, certificate) = match Certificate::read(alloc, cert) {
-        Ok(read) => read,
-        Err(fault) => {
-            return match fault.cause {
-                CertCause::Memory => Err(Memory),
-                _ => Ok(Answer::No(Reason::CertText)),
-            };
-        }
-    };
-    judge(rt, alloc, &recording, version, &certificate)
+    }
+}
+
+/// What `check` answers on each trace that spells the recording, for a caller that has read it already, as
+/// `trace_text::Reader` does piece by piece. So the trace's text need not stand in memory.
+///
+/// It costs what `check` does but for the reading of the trace. Beside the recording and the certificate's
+/// text it keeps the certificate, whose names take 33 bytes each, the numbers of the elements and of the
+/// places, and the table for the rows.
+pub fn check_recording<H: Threads + Sync>(
+    rt: &H,
+    alloc: Global,
+    recording: &Recording,
+    cert: &[u8],
+) -> Result<Answer, Memory>
+    ensures answer { IfOk result (λ a. IsAnswerOn recording.now cert.now a) }
+    // What a yes says of the recording.
+    ensures implies { IfOk result (λ a. ImpliesOn recording.now cert.now a) }
+    // Out of memory, only where a line of the text takes some, or it spells a certificate.
+    ensures memory { IfErr result (λ _. CertTakesMemory cert.now) }
+{
+    // Each recording is legal.
+    let _replicas = recording.replicas();
+    match Certificate::read(alloc, cert) {
+        Ok((version, certificate)) => judge(rt, alloc, recording, version, &certificate),
+        Err(fault) => match fault.cause {
+            CertCause::Memory => Err(Memory),
+            _ => Ok(Answer::No(Reason::CertText)),
+        },
+    }
 }
 
 /// Whether the reading of a trace found no memory.

@@ -3,8 +3,8 @@
 ghost use Rattle.cert_check.specs.Laws.{AnswersAreUnique, LayersBoundCycles, ValidCertificatesGetYes};
 ghost use Rattle.cert_check.specs.Laws.{ValidCertificatesImply, ValidOrReason, VerdictsCertificatesGetYes};
 
-/// For the responses of every sound recording, every k and both versions: where each element is the source
-/// of a row of layers that meets the layer rule for k, no cycle has fewer than k elements. So rows are tested,
+/// For the responses of every sound recording, every k and both versions: where each element is the source of
+/// a row of layers that meets the layer rule for k, no cycle has fewer than k elements. So rows are tested,
 /// and nothing is searched.
 pub fn layers_bound_cycles()
     ensures { LayersBoundCycles }

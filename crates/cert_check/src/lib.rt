@@ -18,7 +18,7 @@ mod steps;
 mod values;
 
 pub use answer::{Answer, Kind, Reason};
-pub use checking::check;
+pub use checking::{check, check_recording};
 pub use laws::{
     answers_are_unique, layers_bound_cycles, valid_certificates_get_yes,
     valid_certificates_have_no_reason, valid_certificates_imply, verdicts_certificates_get_yes,

@@ -3,3 +3,4 @@ pub mod Copies
 pub mod TableWays
 pub mod ExactRows
 pub mod CoveredRows
+pub mod ByRows

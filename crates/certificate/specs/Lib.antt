@@ -1,2 +1,3 @@
 pub mod VerdictOf
 pub mod AfterTables
+pub mod ByRows

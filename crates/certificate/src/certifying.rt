@@ -1,17 +1,18 @@
 //! The certificate of a verdict.
 
-ghost use Rattle.std.specs.Prelude.{◌≡◌, IfOk};
+ghost use Rattle.std.specs.Prelude.{◌≡◌, IfOk, MatchOption};
 ghost use Rattle.specification.specs.CertificateText.{IsSpellable};
 ghost use Rattle.specification.specs.ExactRows.{IsCertificateOf};
 ghost use Rattle.specification.specs.ValidCertificate.{IsValid};
-ghost use Rattle.specification.specs.Verdict.{IsVerdict, refused};
+ghost use Rattle.specification.specs.Verdict.{IsVerdict};
 ghost use Rattle.specification.specs.Versions.{two};
 ghost use Rattle.certificate_text.specs.CertificateOf.{certificate_of};
+ghost use Rattle.certificate.specs.ByRows.{HasNoRows, HasRows, certificate_with};
 ghost use Rattle.certificate.specs.VerdictOf.{verdict_of};
 
 use super::rows::rows_of_layers;
 use super::verdict::Verdict;
-use certificate_text::{Certificate, Layers};
+use certificate_text::{Certificate, Layers, Row};
 use events::{Memory, Recording};
 use order_graph::OrderGraph;
 use std::alloc::Global;
@@ -29,7 +30,8 @@ use witnesses::{Order, Steps};
 /// bits for n elements is made once, and turned, in time linear in the places of all responses, at most 64
 /// steps each, and in the pairs that they show. Each row then costs n / 64 steps for each name in it and each
 /// layer, and memory for its names. So the memory may be quadratic in the elements: of 4,096, rows of up to
-/// 2,048 names of 33 bytes each on average, and it answers `Memory` where that is not to be had.
+/// 2,048 names of 33 bytes each on average, and it answers `Memory` where that is not to be had. For the text
+/// alone `write_certificate` keeps one row at a time.
 pub fn certify(
     alloc: Global,
     recording: &Recording,
@@ -52,9 +54,42 @@ fn certificate_for(
     recording: &Recording,
     verdict: &Verdict,
 ) -> Result<Certificate, Memory>
-    requires verdict { IsVerdict recording.now (verdict_of verdict.now) }
+    requires { IsVerdict recording.now (verdict_of verdict.now) }
     ensures { IfOk result (λ c. IsCertificateOf two recording.now (verdict_of verdict.now)
         (certificate_of c)) }
+{
+    let rows = rows_for(alloc, recording, verdict)?;
+    with_rows(alloc, verdict, rows)
+}
+
+/// The rows of the certificate of a verdict.
+fn rows_for(alloc: Global, recording: &Recording, verdict: &Verdict) -> Result<Vec<Row>, Memory>
+    requires { IsVerdict recording.now (verdict_of verdict.now) }
+    ensures { IfOk result (λ rows. IsCertificateOf two recording.now (verdict_of verdict.now)
+        (certificate_with rows.items (verdict_of verdict.now))) }
+{
+    // The contract of this call has that the recording is legal.
+    let _ = recording.replicas();
+    let Some(k) = number_with_rows(verdict) else {
+        return Ok(Vec::new(alloc));
+    };
+    let graph = OrderGraph::covering(alloc, recording)?;
+    rows_of_layers(alloc, &graph, k)
+}
+
+/// The conflict number of a verdict whose certificate has rows: a refusal with 3 or more.
+pub fn number_with_rows(verdict: &Verdict) -> Option<u32>
+    ensures { MatchOption result (HasNoRows (verdict_of verdict.now)) (HasRows (verdict_of verdict.now)) }
+{
+    match verdict {
+        Verdict::Refused { k, .. } if *k >= 3 => Some(*k),
+        _ => None,
+    }
+}
+
+/// The certificate of a verdict, with these rows where it is a refusal.
+pub fn with_rows(alloc: Global, verdict: &Verdict, rows: Vec<Row>) -> Result<Certificate, Memory>
+    ensures { IfOk result (λ c. certificate_of c ≡ certificate_with rows.items (verdict_of verdict.now)) }
 {
     match verdict {
         Verdict::Doubled { first, again } => Ok(Certificate::Doubled {
@@ -67,7 +102,11 @@ fn certificate_for(
             let names = Vec::from_slice(alloc, order.names())?;
             Ok(Certificate::Accepted(Order::from_names(names)))
         },
-        Verdict::Refused { k, steps } => refusal(alloc, recording, *k, steps),
+        Verdict::Refused { k, steps } => Ok(Certificate::Refused {
+            k: *k,
+            steps: copied_steps(alloc, steps)?,
+            layers: Layers::from_rows(rows),
+        }),
     }
 }
 
@@ -83,30 +122,4 @@ fn copied_steps(alloc: Global, steps: &Steps) -> Result<Steps, Memory>
         copies.push(*step)?;
     }
     Ok(Steps::from_steps(copies))
-}
-
-/// The certificate of a refusal.
-fn refusal(
-    alloc: Global,
-    recording: &Recording,
-    k: u32,
-    steps: &Steps,
-) -> Result<Certificate, Memory>
-    requires { IsVerdict recording.now (refused k steps.now) }
-    ensures { IfOk result (λ c. IsCertificateOf two recording.now (refused k steps.now) (certificate_of c)) }
-{
-    // The contract of this call has that the recording is legal.
-    let _ = recording.replicas();
-    let steps = copied_steps(alloc, steps)?;
-    if k < 3 {
-        return Ok(Certificate::Refused {
-            k,
-            steps,
-            layers: Layers::from_rows(Vec::new(alloc)),
-        });
-    }
-    let graph = OrderGraph::covering(alloc, recording)?;
-    let rows = rows_of_layers(alloc, &graph, k)?;
-    let layers = Layers::from_rows(rows);
-    Ok(Certificate::Refused { k, steps, layers })
 }

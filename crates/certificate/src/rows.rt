@@ -29,7 +29,7 @@ pub fn rows_of_layers(alloc: Global, graph: &OrderGraph, k: u32) -> Result<Vec<R
 }
 
 /// The table of what stands after each element.
-fn after_table(alloc: Global, graph: &OrderGraph) -> Result<AfterTable, Memory>
+pub fn after_table(alloc: Global, graph: &OrderGraph) -> Result<AfterTable, Memory>
     ensures { IfOk result (λ t. IsAfterTable graph.now t) }
 {
     // The contract of this call has that the elements are few.
@@ -40,7 +40,7 @@ fn after_table(alloc: Global, graph: &OrderGraph) -> Result<AfterTable, Memory>
 }
 
 /// The row of k - 1 layers from an element.
-fn row_of_layers(
+pub fn row_of_layers(
     alloc: Global,
     graph: &OrderGraph,
     table: &AfterTable,

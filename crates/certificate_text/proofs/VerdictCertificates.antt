@@ -75,24 +75,25 @@ module _ (version : Version) (h : History) (legal : IsLegal h) where
           operation-name h s.shown legal (subst (IsOperation h) shown (listed-operation h by.0 by.1)),
         )
 
-  -- a refusal's certificate, with these rows
+  -- a refusal's certificate with these rows has a spelling
+  pub refusal-spellable : (k : ℕ) (steps : List Step) (rows : List Row) → IsVerdict h (refused k steps) → (k ≡ 2 → rows ≡ []) → All (IsRow k) rows → IsSpellable (gives_cycle k steps rows)
+  refusal-spellable k steps rows is none named = (
+    (verdicts_decide h (refused k steps) legal is).1,
+    number-fits h k legal is.1,
+    is.3,
+    All-weaker (λ (s : Step). IsLeast (λ o. Shows (responses_of h) o s.from s.to) s.shown) IsStep (λ s l. step-name is.0 s l.holds) steps is.2.operations,
+    none,
+    named,
+  )
+
+  -- and it is valid, where they meet the rule
   refusal : (k : ℕ) (steps : List Step) (rows : List Row) → IsVerdict h (refused k steps) → (3 ≤ k → RowsMeetRule version (responses_of h) k (elements h) rows) → (k ≡ 2 → rows ≡ []) → All (IsRow k) rows →
       IsValid version h (gives_cycle k steps rows) × IsSpellable (gives_cycle k steps rows)
   refusal k steps rows is rule none named =
       let shown : AreShownSteps (responses_of h) steps = record {
         joined = is.2.joined;
         shown = All-weaker (λ (s : Step). IsLeast (λ o. Shows (responses_of h) o s.from s.to) s.shown) (λ (s : Step). Shows (responses_of h) s.shown s.from s.to) (λ s l. l.holds) steps is.2.operations;
-      } in (
-        (is.0, shown, is.3, rule),
-        (
-          (verdicts_decide h (refused k steps) legal is).1,
-          number-fits h k legal is.1,
-          is.3,
-          All-weaker (λ (s : Step). Shows (responses_of h) s.shown s.from s.to) IsStep (step-name is.0) steps shown.shown,
-          none,
-          named,
-        ),
-      )
+      } in ((is.0, shown, is.3, rule), refusal-spellable k steps rows is none named)
 
 pub certificates_are_valid : CertificatesAreValid
 certificates_are_valid version h (faulty f) c legal is e = subst (λ d. IsValid version h d × IsSpellable d) (sym e) (is, fault-name version h legal f is)

@@ -30,6 +30,7 @@ pub use laws::{
 };
 pub use version::Version;
 pub use witnesses::{Layer, Layers, Order, Row, Step, Steps};
+pub use writing::push_row;
 
 #[cfg(test)]
 mod tests;

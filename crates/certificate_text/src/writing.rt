@@ -104,8 +104,11 @@ fn push_rows(text: &mut Vec<u8>, layers: &Layers) -> Result<(), Memory>
     Ok(())
 }
 
-/// Adds a row's line.
-fn push_row(text: &mut Vec<u8>, row: &Row) -> Result<(), Memory>
+/// Adds a row's line to a text: `layers`, and the names of each layer, with ` /` between two layers.
+///
+/// So a certificate can be written row by row, where there is no room for all rows at once. It takes time in
+/// proportion to the line, and no memory but the text's.
+pub fn push_row(text: &mut Vec<u8>, row: &Row) -> Result<(), Memory>
     ensures { OnOk result (text.new.items ≡ text.old.items ++ (row_line row.now ++ 10 ∷ [])) }
 {
     text.extend_from_slice(b"layers")?;

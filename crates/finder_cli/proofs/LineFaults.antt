@@ -1,9 +1,11 @@
 -- From the fault of a text to the fault of a run.
 use Rattle.std.proofs.Common.{◌≡◌, ◌++◌, ℕ, List, Option, Some, None, IfSome, MatchOption, sym, subst}
 use Rattle.std.specs.Io.KnownBytes.{Consumes}
-use Rattle.specification.specs.TraceText.{Cause, IsFirstLineFault}
+use Rattle.events.specs.History.{History}
+use Rattle.specification.specs.TraceText.{Cause, IsFirstLineFault, Spells}
 use Rattle.trace_text.specs.Causes.{cause_of}
 use Rattle.trace_text.specs.declared.cause.LineFault.{LineFault}
+use Rattle.trace_text.proofs.OneReading.{no-fault}
 use Rattle.finder_cli.specs.Runs.{NamesFirstFault, IsOfText}
 use Rattle.finder_cli.specs.declared.status.RunFault.{RunFault}
 use Rattle.finder_cli.specs.declared.status.RunFault.TheVariants as run
@@ -22,3 +24,10 @@ pub names-of-front : (before after : Option (List ℕ)) (text : List ℕ) (fault
 names-of-front None after text fault came names = tt
 names-of-front (Some x) None text fault came names = absurd came
 names-of-front (Some x) (Some y) text fault came names = subst (λ t. NamesFirstFault t fault) (sym came) (names y)
+
+-- a text that has a fault spells nothing
+pub none-spelled : (before : Option (List ℕ)) (fault : RunFault) (named : LineFault) → fault ≡ run.Trace named → IfSome before (λ t. NamesFirstFault t fault) → IfSome before (λ t. (h : History) → Spells t h → ⊥)
+none-spelled None fault named is names = tt
+none-spelled (Some text) fault named is names =
+    let first = subst (NamesFirstFault text) is names in
+    λ h spells. no-fault h text named.line first.0 spells first.2

@@ -55,26 +55,26 @@ names-none (Some t) Workers h = absurd h
 names-none (Some t) Read h = absurd h
 names-none (Some t) Write h = absurd h
 
+-- what is so of each text of which this was read, and of this certificate's text, is so of both texts where they are known
+pub of-both : (Was : List ℕ → Type 0) (Q : List ℕ → List ℕ → List ℕ → Status → Type 0) (before before_2 after_2 : Option (List ℕ)) (text_2 read_2 bytes : List ℕ) (status : Status)
+    → IfSome before Was → WasRead before_2 after_2 text_2 read_2 → ((t : List ℕ) → Was t → Q t text_2 bytes status)
+    → IfSome before (λ t. IfSome before_2 (λ c. Q t c bytes status))
+of-both Was Q None before_2 after_2 text_2 read_2 bytes status was was_2 of_texts = tt
+of-both Was Q (Some t) before_2 after_2 text_2 read_2 bytes status was was_2 of_texts =
+    Consumes-whole before_2 after_2 read_2 (λ c. Q t c bytes status) was_2.consumed was_2.ended (subst (λ c. Q t c bytes status) was_2.same (of_texts t was))
+
 -- an output on two texts was written
-pub written-of-both : (Q : List ℕ → List ℕ → List ℕ → Status → Type 0) (before after before_2 after_2 old new : Option (List ℕ)) (text read text_2 read_2 bytes : List ℕ) (status : Status) (answer : Result Status RunFault)
-    → WasRead before after text read → WasRead before_2 after_2 text_2 read_2 → Q text text_2 bytes status → IfOk answer (λ s. (s ≡ status) × Appends old new bytes)
+pub written-of-both : (Q : List ℕ → List ℕ → List ℕ → Status → Type 0) (before before_2 old new : Option (List ℕ)) (bytes : List ℕ) (status : Status) (answer : Result Status RunFault)
+    → IfSome before (λ t. IfSome before_2 (λ c. Q t c bytes status)) → IfOk answer (λ s. (s ≡ status) × Appends old new bytes)
     → IfOk answer (λ s. IfSome before (λ t. IfSome before_2 (λ c. (output : List ℕ) × Q t c output s × Appends old new output)))
-written-of-both Q before after before_2 after_2 old new text read text_2 read_2 bytes status (Ok s) was was_2 of_texts wrote =
-    let of_read : Q read text_2 bytes s = subst (λ x. Q read text_2 bytes x) (sym wrote.0) (subst (λ t. Q t text_2 bytes status) was.same of_texts) in
-    Consumes-whole before after read (λ t. IfSome before_2 (λ c. (output : List ℕ) × Q t c output s × Appends old new output)) was.consumed was.ended
-    (Consumes-whole before_2 after_2 read_2 (λ c. (output : List ℕ) × Q read c output s × Appends old new output) was_2.consumed was_2.ended
-    (bytes, subst (λ c. Q read c bytes s) was_2.same of_read, wrote.1))
-written-of-both Q before after before_2 after_2 old new text read text_2 read_2 bytes status (Err fault) was was_2 of_texts wrote = tt
+written-of-both Q None before_2 old new bytes status (Ok s) of_texts wrote = tt
+written-of-both Q (Some t) before_2 old new bytes status (Ok s) of_texts wrote = written-on (Q t) before_2 old new bytes status (Ok s) of_texts wrote
+written-of-both Q before before_2 old new bytes status (Err fault) of_texts wrote = tt
 
 -- a prefix of one was written
-pub front-of-both : (Q : List ℕ → List ℕ → List ℕ → Status → Type 0) (failed : Bool) (before after before_2 after_2 old new : Option (List ℕ)) (text read text_2 read_2 bytes : List ℕ) (status : Status) (answer : Result Status RunFault)
-    → WasRead before after text read → WasRead before_2 after_2 text_2 read_2 → Q text text_2 bytes status
-    → IfErr answer (λ f. (f ≡ Write) × (failed ≡ true) × AppendsFront old new bytes)
+pub front-of-both : (Q : List ℕ → List ℕ → List ℕ → Status → Type 0) (failed : Bool) (before before_2 old new : Option (List ℕ)) (bytes : List ℕ) (status : Status) (answer : Result Status RunFault)
+    → IfSome before (λ t. IfSome before_2 (λ c. Q t c bytes status)) → IfErr answer (λ f. (f ≡ Write) × (failed ≡ true) × AppendsFront old new bytes)
     → IfErr answer (λ f. f ≡ Write → (failed ≡ true) × IfSome before (λ t. IfSome before_2 (λ c. (output : List ℕ) × (s : Status) × Q t c output s × AppendsFront old new output)))
-front-of-both Q failed before after before_2 after_2 old new text read text_2 read_2 bytes status (Err fault) was was_2 of_texts wrote = λ _. (
-  wrote.1,
-  Consumes-whole before after read (λ t. IfSome before_2 (λ c. (output : List ℕ) × (s : Status) × Q t c output s × AppendsFront old new output)) was.consumed was.ended
-      (Consumes-whole before_2 after_2 read_2 (λ c. (output : List ℕ) × (s : Status) × Q read c output s × AppendsFront old new output) was_2.consumed was_2.ended
-      (bytes, status, subst (λ c. Q read c bytes status) was_2.same (subst (λ t. Q t text_2 bytes status) was.same of_texts), wrote.2)),
-)
-front-of-both Q failed before after before_2 after_2 old new text read text_2 read_2 bytes status (Ok s) was was_2 of_texts wrote = tt
+front-of-both Q failed None before_2 old new bytes status (Err fault) of_texts wrote = λ _. (wrote.1, tt)
+front-of-both Q failed (Some t) before_2 old new bytes status (Err fault) of_texts wrote = front-on (Q t) failed before_2 old new bytes status (Err fault) of_texts wrote
+front-of-both Q failed before before_2 old new bytes status (Ok s) of_texts wrote = tt

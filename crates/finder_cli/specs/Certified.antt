@@ -1,5 +1,5 @@
 -- What is written and answered where a certificate is asked for, and where one is checked.
-use Rattle.std.specs.Prelude.{◌≡◌, ℕ, Option, List}
+use Rattle.std.specs.Prelude.{◌≡◌, ℕ, Option, Some, None, List}
 use Rattle.std.specs.Io.KnownBytes.{Appends}
 use Rattle.events.specs.History.{History}
 use Rattle.specification.specs.Verdict.{Verdict, IsVerdict}
@@ -39,6 +39,11 @@ CertifiesFront text old new = (output : List ℕ) × (status : Status) × IsCert
 abbrev pub status_of_answer : Answer → Status
 status_of_answer (Yes kind) = Good
 status_of_answer (No why) = Bad
+
+-- the recording that the text spells; none where it spells none
+abbrev pub IsRecordingOf : List ℕ → Option History → Type 0
+IsRecordingOf text (Some h) = Spells text h
+IsRecordingOf text None = (h : History) → ¬ Spells text h
 
 -- the line of the checker's answer on the two texts, and the status that goes with it
 abbrev pub IsLineOn : List ℕ → List ℕ → List ℕ → Status → Type 0

@@ -3,6 +3,9 @@ use Rattle.std.specs.Prelude.{◌≡◌, ◌≢◌, ◌↔◌, ◌⊎◌, ℕ, t
 use Rattle.std.specs.Io.KnownBytes.{IsAtEnd}
 use Rattle.byte_streams.specs.Streams.{SourceState, SinkState, IsClosed}
 use Rattle.command_line.specs.declared.task.Form.{Form}
+use Rattle.command_line.specs.declared.task.Form.TheVariants.{Text}
+use Rattle.finder_cli.specs.declared.engine.Engine.{Engine}
+use Rattle.finder_cli.specs.declared.engine.Engine.TheVariants as engine
 use Rattle.finder_cli.specs.Runs.{Reports, ReportsFront, NamesFirstFault, IsNoWorkers, IsOfRun, IsOfVerifying}
 use Rattle.finder_cli.specs.Certified.{Certifies, CertifiesFront, Verifies, VerifiesFront}
 use Rattle.finder_cli.specs.declared.status.Status.{Status}
@@ -44,6 +47,12 @@ pub record Shows (before after : SourceState) (old new : SinkState)
   pub write : IfErr answer (λ fault. fault ≡ run.Write → (new.failed ≡ true)
       × IfSome before.bytes (λ text. CertifiesFront text old.bytes new.bytes))
   pub unwritten : IfErr answer (λ fault. fault ≢ run.Write → new ≡ old)
+
+-- what each engine does that reads one trace
+abbrev pub RunsAs : Engine → SourceState → SourceState → SinkState → SinkState → Result Status RunFault → Type 0
+RunsAs (engine.Verdict count form) before after old new answer = JudgesAlone count form before after old new answer
+RunsAs engine.Cert before after old new answer = Shows before after old new answer
+RunsAs (engine.Live count) before after old new answer = Judges count Text before after old new answer
 
 -- the checker's line on the trace and the certificate
 pub record Checks (trace trace_after cert cert_after : SourceState) (old new : SinkState)

@@ -10,8 +10,7 @@ use super::output::{Output, status_of, verdict_on, write_output};
 use super::status::{RunFault, Status};
 use super::trace_source::recording_from;
 use byte_streams::{Reader, Sink, Source, Writer};
-use certificate::certify;
-use certificate_text::Version;
+use certificate::write_certificate;
 use command_line::WORKERS;
 use events::{Memory, Recording};
 use std::alloc::Global;
@@ -53,8 +52,7 @@ fn certificate_on<H: Threads + Sync>(
     ensures { IfOk result (λ output. IsCertificateFor recording.now output.bytes.items output.status) }
 {
     let verdict = verdict_on(rt, alloc, recording, WORKERS)?;
-    let certificate = certify(alloc, recording, &verdict)?;
-    let bytes = certificate.write(alloc, Version::Two)?;
+    let bytes = write_certificate(alloc, recording, &verdict)?;
     Ok(Output {
         bytes,
         status: status_of(&verdict),

@@ -13,7 +13,7 @@ pub enum ProgramFault {
     /// The words are no command.
     #[error("usage")]
     Usage,
-    /// The file can't be opened or read.
+    /// The file can't be opened or read. Where a certificate can't be read it is the trace's name too.
     #[error("cannot read {file}")]
     Read { file: Word },
     /// The text spells no recording.

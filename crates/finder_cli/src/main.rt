@@ -7,6 +7,7 @@
 
 mod answer_line;
 mod certified;
+mod engine;
 mod fault;
 mod live;
 mod machine;

@@ -1,4 +1,4 @@
-//! What the engines share: a whole text in, an output out.
+//! What the engines share: a certificate's whole text, the verdict, an output and its status.
 
 ghost use Rattle.std.specs.Prelude.{◌≡◌, ◌≤◌, true, false, IfOk, IfErr};
 ghost use Rattle.std.specs.Io.KnownBytes.{Appends, Consumes, IsAtEnd};

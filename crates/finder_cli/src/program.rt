@@ -4,26 +4,22 @@ ghost use Rattle.std.specs.Prelude.{◌≡◌, ◌++◌, drop, map, string_bytes
 ghost use Rattle.byte_streams.specs.Streams.{Makes};
 ghost use Rattle.command_line.specs.Asked.{IsAskedBy};
 ghost use Rattle.command_line.specs.declared.task.Task.{Task};
-ghost use Rattle.command_line.specs.declared.task.Form.TheVariants.{Text};
 ghost use Rattle.command_line.specs.declared.words.WordsFault.{WordsFault};
 ghost use Rattle.finder_cli.specs.Deeds.{Deed};
 ghost use Rattle.finder_cli.specs.Endings.{fault_of_run};
-ghost use Rattle.finder_cli.specs.Engines.{Judges, JudgesAlone, Shows, Checks};
-ghost use Rattle.finder_cli.specs.Programs.{ChecksOn, Does, DoesTask, Helps, RunsOn, answer_on, complaints};
+ghost use Rattle.finder_cli.specs.Engines.{Checks, RunsAs};
+ghost use Rattle.finder_cli.specs.Programs.{ChecksOn, Does, Helps, RunsOn, answer_on, complaints};
 ghost use Rattle.finder_cli.specs.Programs.{number_of};
 ghost use Rattle.finder_cli.specs.declared.fault.ProgramFault.{ProgramFault};
 ghost use Rattle.finder_cli.specs.declared.status.Status.{Status};
 
-use super::certified::run_cert;
+use super::engine::Engine;
 use super::fault::ProgramFault;
-use super::live::live;
-use super::run::run;
 use super::status::{RunFault, Status};
 use super::verified::run_verify;
 use super::world::World;
 use byte_streams::{Reader, Sink, Source, Writer};
-use certificate::NoGate;
-use command_line::{Form, Task, Word, WordsFault, read_words};
+use command_line::{Task, Word, WordsFault, read_words};
 use std::alloc::Global;
 use std::env;
 use std::env::Env;
@@ -117,7 +113,22 @@ fn do_asked<H: AllocGlobal + Threads + Wait + Sync, N: World, W: Writer + Drop>(
         × Makes (N.deeds world.old) (N.deeds world.new) deeds }
 {
     match asked {
-        Ok(task) => do_task(rt, task, world, sink),
+        Ok(
+            Task::Verdict {
+                workers,
+                form,
+                file,
+            },
+        ) => on_file(rt, Engine::Verdict { workers, form }, world, sink, file),
+        Ok(Task::Cert { file }) => on_file(rt, Engine::Cert, world, sink, file),
+        Ok(Task::Verify { file, cert }) => check_files(rt, world, sink, file, cert),
+        Ok(Task::Live { workers, file }) => on_file(
+            rt,
+            Engine::Live { workers },
+            world,
+            sink,
+            file,
+        ),
         Err(WordsFault::Usage) => Err(ProgramFault::Usage),
         Err(WordsFault::Memory) => Err(ProgramFault::Memory),
         Err(WordsFault::Help { text }) => help(sink, text.as_bytes()),
@@ -134,125 +145,27 @@ fn help<W: Writer + Drop>(sink: &mut Sink<W>, text: &[u8]) -> Result<Status, Pro
     }
 }
 
-/// Does the task.
-fn do_task<H: AllocGlobal + Threads + Wait + Sync, N: World, W: Writer + Drop>(
+/// Opens the file, runs the engine on its stream, and closes that.
+fn on_file<H: AllocGlobal + Threads + Wait + Sync, N: World, W: Writer + Drop>(
     rt: &H,
-    task: Task,
-    world: &mut N,
-    sink: &mut Sink<W>,
-) -> Result<Status, ProgramFault>
-    ensures { (deeds : List Deed) × DoesTask (N.text world.old) task deeds sink.old sink.new result
-        × Makes (N.deeds world.old) (N.deeds world.new) deeds }
-{
-    match task {
-        Task::Verdict {
-            workers,
-            form,
-            file,
-        } => judge_file(rt, world, sink, file, workers, form),
-        Task::Cert { file } => certify_file(rt, world, sink, file),
-        Task::Verify { file, cert } => check_files(rt, world, sink, file, cert),
-        Task::Live { workers, file } => rehearse_file(rt, world, sink, file, workers),
-    }
-}
-
-/// Writes the report on the recording that the file spells.
-fn judge_file<H: AllocGlobal + Threads + Sync, N: World, W: Writer + Drop>(
-    rt: &H,
+    engine: Engine,
     world: &mut N,
     sink: &mut Sink<W>,
     file: Word,
-    workers: u32,
-    form: Form,
 ) -> Result<Status, ProgramFault>
     ensures { (deeds : List Deed)
-        × RunsOn (JudgesAlone workers form) (N.text world.old) file deeds sink.old sink.new result
+        × RunsOn (RunsAs engine) (N.text world.old) file deeds sink.old sink.new result
         × Makes (N.deeds world.old) (N.deeds world.new) deeds }
 {
     let Some(mut source) = world.open(file.as_str()) else {
         return Err(ProgramFault::Read { file });
     };
-    let ran = judge(rt, &mut source, sink, workers, form);
+    let ran = engine.go(rt, &mut source, sink);
     world.close(&source);
     answer_on(file, ran)
 }
 
-/// Writes the report on the recording that the source spells.
-fn judge<H: AllocGlobal + Threads + Sync, R: Reader + Drop, W: Writer + Drop>(
-    rt: &H,
-    source: &mut Source<R>,
-    sink: &mut Sink<W>,
-    workers: u32,
-    form: Form,
-) -> Result<Status, RunFault>
-    ensures { JudgesAlone workers form source.old source.new sink.old sink.new result }
-{
-    run(rt, rt.alloc(), source, sink, workers, form)
-}
-
-/// Writes the report on the recording that the file spells, by way of a session.
-fn rehearse_file<H: AllocGlobal + Threads + Wait + Sync, N: World, W: Writer + Drop>(
-    rt: &H,
-    world: &mut N,
-    sink: &mut Sink<W>,
-    file: Word,
-    workers: u32,
-) -> Result<Status, ProgramFault>
-    ensures { (deeds : List Deed)
-        × RunsOn (Judges workers Text) (N.text world.old) file deeds sink.old sink.new result
-        × Makes (N.deeds world.old) (N.deeds world.new) deeds }
-{
-    let Some(mut source) = world.open(file.as_str()) else {
-        return Err(ProgramFault::Read { file });
-    };
-    let ran = rehearse(rt, &mut source, sink, workers);
-    world.close(&source);
-    answer_on(file, ran)
-}
-
-/// Writes the report on the recording that the source spells, by way of a session.
-fn rehearse<H: AllocGlobal + Threads + Wait + Sync, R: Reader + Drop, W: Writer + Drop>(
-    rt: &H,
-    source: &mut Source<R>,
-    sink: &mut Sink<W>,
-    workers: u32,
-) -> Result<Status, RunFault>
-    ensures { Judges workers Text source.old source.new sink.old sink.new result }
-{
-    live(rt, rt.alloc(), source, sink, workers, &NoGate)
-}
-
-/// Writes the certificate of the recording that the file spells.
-fn certify_file<H: AllocGlobal + Threads + Sync, N: World, W: Writer + Drop>(
-    rt: &H,
-    world: &mut N,
-    sink: &mut Sink<W>,
-    file: Word,
-) -> Result<Status, ProgramFault>
-    ensures { (deeds : List Deed) × RunsOn Shows (N.text world.old) file deeds sink.old sink.new result
-        × Makes (N.deeds world.old) (N.deeds world.new) deeds }
-{
-    let Some(mut source) = world.open(file.as_str()) else {
-        return Err(ProgramFault::Read { file });
-    };
-    let ran = certify(rt, &mut source, sink);
-    world.close(&source);
-    answer_on(file, ran)
-}
-
-/// Writes the certificate of the recording that the source spells.
-fn certify<H: AllocGlobal + Threads + Sync, R: Reader + Drop, W: Writer + Drop>(
-    rt: &H,
-    source: &mut Source<R>,
-    sink: &mut Sink<W>,
-) -> Result<Status, RunFault>
-    ensures { Shows source.old source.new sink.old sink.new result }
-{
-    run_cert(rt, rt.alloc(), source, sink)
-}
-
-/// Writes the checker's line on the trace in the file and the certificate in the other. The trace is opened
-/// first.
+/// Writes the checker's line on the trace in `file` and the certificate in `cert`. The trace is opened first.
 fn check_files<H: AllocGlobal + Threads + Sync, N: World, W: Writer + Drop>(
     rt: &H,
     world: &mut N,

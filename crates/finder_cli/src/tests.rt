@@ -5,3 +5,4 @@ mod pages;
 mod recordings;
 mod streams;
 mod texts;
+mod verifying;

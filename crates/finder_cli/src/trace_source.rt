@@ -6,7 +6,8 @@ ghost use Rattle.specification.specs.TraceText.{Spells};
 ghost use Rattle.trace_text.specs.Causes.{cause_of};
 ghost use Rattle.trace_text.specs.Fed.{WasFed};
 ghost use Rattle.byte_streams.specs.Streams.{IsClosed};
-ghost use Rattle.finder_cli.specs.Runs.{IsOfText, IsOfTrace, NamesFirstFault};
+ghost use Rattle.finder_cli.specs.Runs.{IsOfReading, IsOfText, IsOfTrace, NamesFirstFault};
+ghost use Rattle.finder_cli.specs.Certified.{IsRecordingOf};
 
 use super::status::RunFault;
 use byte_streams::{Reader, Source};
@@ -18,7 +19,7 @@ use trace_text::{Cause, LineFault};
 const PIECE: usize = 65_536;
 
 /// The recording that the source's text spells, to its end. Each piece that a read gives is handed on before
-/// the next is asked for, and none is asked for behind the text's first fault.
+/// the next is asked for, and none is asked for after the text's first fault.
 pub fn recording_from<R: Reader + Drop>(
     alloc: Global,
     source: &mut Source<R>,
@@ -38,6 +39,47 @@ pub fn recording_from<R: Reader + Drop>(
             return end(reader);
         }
         feed(&mut reader, &buffer[..n])?;
+    }
+    Err(RunFault::Read)
+}
+
+/// The recording that the source's text spells, or none where it spells none. The text is read to its end
+/// either way: what comes after its first fault is thrown away.
+///
+/// It keeps the recording and one piece, and of the line that a piece cuts what `trace_text::Reader` keeps;
+/// after a fault one piece alone.
+pub fn recording_to_end<R: Reader + Drop>(
+    alloc: Global,
+    source: &mut Source<R>,
+) -> Result<Option<Recording>, RunFault>
+    ensures ok { IfOk result (λ found. IfSome source.old.bytes (λ text. IsRecordingOf text found)) }
+    ensures end { OnOk result (IsAtEnd source.new.bytes × (source.new.failed ≡ false)
+        × (source.new.ended ≡ true)) }
+    ensures faults { IfErr result IsOfReading }
+    ensures read { IfErr result (λ fault. fault ≡ RunFault.Read → IsClosed source.new) }
+    ensures memory { IfErr result (λ fault. fault ≡ RunFault.Memory → source.new.failed ≡ false) }
+{
+    match recording_from(alloc, source) {
+        Ok(recording) => Ok(Some(recording)),
+        Err(RunFault::Trace(_)) => match read_on(source) {
+            Ok(()) => Ok(None),
+            Err(fault) => Err(fault),
+        },
+        Err(fault) => Err(fault),
+    }
+}
+
+/// Reads to the end, and throws away what comes.
+fn read_on<R: Reader + Drop>(source: &mut Source<R>) -> Result<(), RunFault>
+    ensures end { OnOk result (IsAtEnd source.new.bytes × (source.new.failed ≡ false)
+        × (source.new.ended ≡ true)) }
+    ensures read { IfErr result (λ fault. (fault ≡ RunFault.Read) × IsClosed source.new) }
+{
+    let mut buffer = [0; PIECE];
+    while let Some(n) = source.read(&mut buffer) {
+        if n == 0 {
+            return Ok(());
+        }
     }
     Err(RunFault::Read)
 }

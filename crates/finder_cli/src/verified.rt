@@ -1,25 +1,31 @@
 //! A trace and a certificate in, the checker's line out.
 
-ghost use Rattle.std.specs.Prelude.{◌≡◌, ◌≢◌, ◌⊎◌, true, false, IfOk, IfErr, IfSome, OnOk};
+ghost use Rattle.std.specs.Prelude.{◌≡◌, ◌≢◌, ◌⊎◌, true, false, IfOk, IfErr, IfSome, List, OnOk, ℕ};
 ghost use Rattle.std.specs.Io.KnownBytes.{IsAtEnd};
 ghost use Rattle.byte_streams.specs.Streams.{IsClosed};
+ghost use Rattle.cert_check.specs.AnswerOf.{IsAnswer};
 ghost use Rattle.finder_cli.specs.Runs.{IsOfVerifying};
-ghost use Rattle.finder_cli.specs.Certified.{IsLineOn, Verifies, VerifiesFront, status_of_answer};
+ghost use Rattle.finder_cli.specs.Certified.{IsLineOn, IsRecordingOf, Verifies, VerifiesFront};
+ghost use Rattle.finder_cli.specs.Certified.{status_of_answer};
 
 use super::answer_line::line_of;
 use super::output::{Output, whole_text, write_output};
 use super::status::{RunFault, Status};
+use super::trace_source::recording_to_end;
 use byte_streams::{Reader, Sink, Source, Writer};
-use cert_check::{Answer, check};
-use events::Memory;
+use cert_check::{Answer, Reason, check_recording};
+use events::{Memory, Recording};
 use std::alloc::Global;
 use std::thread::Threads;
 
 /// Reads a trace to its end, then a certificate, and writes the checker's line: whether the certificate is
 /// valid for the recording that the trace spells.
 ///
-/// Texts that do not read are answers of the checker and no faults. Nothing is written before the whole line
-/// is made.
+/// Texts that do not read are answers of the checker and no faults: the rest of a faulty trace is read and
+/// thrown away. Nothing is written before the whole line is made.
+///
+/// The trace's text never stands in memory: it is read by pieces of 65,536 bytes. What is kept is the
+/// recording, the certificate's text, and what `check_recording` takes for the two.
 pub fn run_verify<H: Threads + Sync, T: Reader + Drop, C: Reader + Drop, W: Writer + Drop>(
     rt: &H,
     alloc: Global,
@@ -42,27 +48,44 @@ pub fn run_verify<H: Threads + Sync, T: Reader + Drop, C: Reader + Drop, W: Writ
         (λ c. VerifiesFront t c sink.old.bytes sink.new.bytes))) }
     ensures unwritten { IfErr result (λ fault. fault ≢ RunFault.Write → sink.new ≡ sink.old) }
 {
-    let trace_text = whole_text(alloc, trace)?;
+    let recording = recording_to_end(alloc, trace)?;
     let cert_text = whole_text(alloc, cert)?;
-    let output = line_on(rt, alloc, &trace_text, &cert_text)?;
+    let output = line_on(rt, alloc, &recording, &cert_text)?;
     write_output(sink, &output)
 }
 
-/// The line of the checker's answer on the two texts.
+/// The line of the checker's answer on the certificate's text and each trace of which this was read.
 fn line_on<H: Threads + Sync>(
     rt: &H,
     alloc: Global,
-    trace: &[u8],
+    recording: &Option<Recording>,
     cert: &[u8],
 ) -> Result<Output, Memory>
-    ensures { IfOk result (λ output. IsLineOn trace.now cert.now output.bytes.items output.status) }
+    ensures { IfOk result (λ output. (trace : List ℕ) → IsRecordingOf trace recording.now
+        → IsLineOn trace cert.now output.bytes.items output.status) }
 {
-    let answer = check(rt, alloc, trace, cert)?;
+    let answer = answer_on(rt, alloc, cert, recording)?;
     let bytes = line_of(alloc, &answer)?;
     Ok(Output {
         bytes,
         status: status_of_answer(&answer),
     })
+}
+
+/// The checker's answer. It is of the trace where no recording was read, whatever the certificate's text.
+fn answer_on<H: Threads + Sync>(
+    rt: &H,
+    alloc: Global,
+    cert: &[u8],
+    recording: &Option<Recording>,
+) -> Result<Answer, Memory>
+    ensures { IfOk result (λ a. (trace : List ℕ) → IsRecordingOf trace recording.now
+        → IsAnswer trace cert.now a) }
+{
+    match recording {
+        None => Ok(Answer::No(Reason::Trace)),
+        Some(recording) => check_recording(rt, alloc, recording, cert),
+    }
 }
 
 /// Good exactly for a yes.

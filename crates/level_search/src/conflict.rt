@@ -49,21 +49,21 @@ fn search_core<H: Threads + Sync, G: Gate>(
     Ok(Found { core, table, least })
 }
 
-/// The conflict number: the least number of operations whose responses no order of the elements has all
-/// as subsequences; none where some order has the responses of all operations.
+/// The conflict number: the least number of operations whose responses no order of the elements has all as
+/// subsequences; none where some order has the responses of all operations.
 ///
-/// It is the length of a shortest cycle. Cycles lead through elements alone that can't be taken in turn for an
-/// order: these are the core. A shortest cycle is searched for there by 1 to 64 workers in threads, which take
-/// the elements to search from one after the other and share the least length found. Where the core has at most
-/// 64 elements these are all. Where it has more they are those that stand out of place in some order of them:
-/// each cycle leads through one of these, since along a cycle no order rises all the way, and so a shortest
-/// cycle is found from there. The gate is called round each search, with the number that the element has in
-/// this graph. Where no thread can be started, another runs its worker. The answer is the same for any number
-/// of workers, any gate and any order in which the workers come to run.
+/// It is the length of a shortest cycle. Cycles lead through elements alone that can't be taken in turn for
+/// an order: these are the core. A shortest cycle is searched for there by 1 to 64 workers in threads, which
+/// take the elements to search from one after the other and share the least length found. Where the core has
+/// at most 64 elements these are all. Where it has more they are those that stand out of place in some order
+/// of them: each cycle leads through one of these, since along a cycle no order rises all the way, and so a
+/// shortest cycle is found from there. The gate is called round each search, with the number that the element
+/// has in this graph. Where no thread can be started, another runs its worker. The answer is the same for any
+/// number of workers, any gate and any order in which the workers come to run.
 ///
 /// All searches read one table, which has for each element of the core the set of those that some list shows
-/// before it, a bit each: n * n / 8 bytes for n elements, made in time linear in the places. A search takes
-/// n / 64 steps for each element that it reaches, and n for each of its levels. Each worker takes memory linear
+/// before it, a bit each: n * n / 8 bytes for n elements, made in time linear in the places. A search takes n
+/// / 64 steps for each element that it reaches, and n for each of its levels. Each worker takes memory linear
 /// in the core. All memory is taken before the first search.
 pub fn conflict_number<H: Threads + Sync, G: Gate>(
     rt: &H,

@@ -21,13 +21,13 @@ use std::alloc::Global;
 use steps::steps_of;
 use witnesses::Steps;
 
-/// The least cycle, where k is the length of a shortest: its elements are the first, in dictionary order
-/// of their numbers, of all cycles of k elements, and each step names the least operation that shows it.
+/// The least cycle, where k is the length of a shortest: its elements are the first, in dictionary order of
+/// their numbers, of all cycles of k elements, and each step names the least operation that shows it.
 ///
-/// It leaves out what can be taken in turn for an order, through which no cycle leads. For the n elements that
-/// are left it makes the table of what stands before each, in time linear in the places and n * n / 8 bytes,
-/// searches from each up to the cycle's first, and goes k times over all their places. It takes memory for k
-/// tables of one mark an element.
+/// It leaves out what can be taken in turn for an order, through which no cycle leads. For the n elements
+/// that are left it makes the table of what stands before each, in time linear in the places and n * n / 8
+/// bytes, searches from each up to the cycle's first, and goes k times over all their places. It takes memory
+/// for k tables of one mark an element.
 pub fn least_cycle(alloc: Global, graph: &OrderGraph, k: u32) -> Result<Steps, Memory>
     requires { IsShortestLength graph.now k }
     ensures { IfOk result (λ steps. AreLeastSteps graph.now steps × (length steps ≡ k)) }

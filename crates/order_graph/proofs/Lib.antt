@@ -11,5 +11,6 @@ pub mod Parts
 pub mod CoverSteps
 pub mod Copying
 pub mod Made
+pub mod Listed
 pub mod Covers
 pub mod Renumbered

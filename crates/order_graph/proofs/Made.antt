@@ -91,18 +91,3 @@ module _ (h : History) (legal : IsLegal h) (sound : IsSound h) (names : List Nam
 
   pub kept-count : length shown ≡ length rows
   kept-count = omega (arith, ap (λ (l : List (List ℕ)). length l) rows_is, length-map {B = List ℕ} shown (λ o. numbers_in names (response h o)))
-
-  pub kept-known : (l : ℕ) → All (λ x. x < length names) (row rows l)
-  kept-known l = subst (λ (rs : List (List ℕ)). All (λ x. x < length names) (row rs l)) kept-lists (known-numbers (responses_kept names shown rows) kept-proper l)
-
-  pub kept-short : (l : ℕ) → length (row rows l) < 2 ^ 32
-  kept-short l =
-      let total : sum_by (λ r. length r) rows ≡ place_count (responses_kept names shown rows) =
-      ap (sum_by (λ (r : List ℕ). length r)) (sym kept-lists) ∙ lists-total (responses_kept names shown rows) in
-      omega (arith, total, row-le rows l, kept-few.places)
-
-  pub few-rows : length rows < 2 ^ 32
-  few-rows =
-      let same : length rows ≡ length (responses_kept names shown rows).returned =
-      ap (λ (l : List (List ℕ)). length l) (sym kept-lists) ∙ length-map {B = List ℕ} (responses_kept names shown rows).returned (λ (r : Returned). numbers_in names r.names) in
-      omega (arith, same, kept-few.lists)

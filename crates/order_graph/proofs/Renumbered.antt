@@ -160,19 +160,5 @@ module _ (names among : List NameBytes) (kept : List ℕ) (shown : List Operatio
   pub part-count : length shown ≡ length fewer
   part-count = omega (arith, count, ap (λ (l : List (List ℕ)). length l) fewer_is, length-map {B = List ℕ} rows (numbers_left (map (number_in among) names)))
 
-  pub part-known : (l : ℕ) → All (λ x. x < length among) (row fewer l)
-  part-known l = subst (λ (rs : List (List ℕ)). All (λ x. x < length among) (row rs l)) part-lists (known-numbers part part-proper l)
-
-  pub part-short : (l : ℕ) → length (row fewer l) < 2 ^ 32
-  part-short l =
-      let total : sum_by (λ r. length r) fewer ≡ place_count part = ap (sum_by (λ (r : List ℕ). length r)) (sym part-lists) ∙ lists-total part in
-      omega (arith, total, row-le fewer l, part-few.places)
-
-  pub part-rows : length fewer < 2 ^ 32
-  part-rows =
-      let same : length fewer ≡ length part.returned =
-      ap (λ (l : List (List ℕ)). length l) (sym part-lists) ∙ length-map {B = List ℕ} part.returned (λ (r : Returned). numbers_in among r.names) in
-      omega (arith, same, part-few.lists)
-
   pub whole-known : (l : ℕ) → All (λ x. x < length names) (row rows l)
   whole-known l = subst (λ (rs : List (List ℕ)). All (λ x. x < length names) (row rs l)) lists_are (known-numbers whole proper l)

@@ -59,8 +59,12 @@ impl Model for OrderGraph {
 impl OrderGraph {
     ghost use Rattle.order_graph.specs.Covers.{IsCoveredBy, IsPart, responses_on};
     ghost use Rattle.order_graph.specs.Lists.{lists_of, row, ticked, AreFew};
-    ghost use Rattle.order_graph.specs.Kept.{names_at};
+    ghost use Rattle.order_graph.specs.Cuts.{rows_of};
+    ghost use Rattle.order_graph.specs.Kept.{names_at, responses_kept, AreListed};
     ghost use Rattle.order_graph.specs.Spots.{spots_of};
+    ghost use Rattle.std.specs.Prelude.{◌==◌};
+    ghost use Rattle.std.specs.Cmp.Lexicographic.{pointwise};
+    ghost use Rattle.indexmap.specs.IndexMap.{get};
 
     /// The graph of a recording that has no fault. It takes memory and time linear in the places of all
     /// responses, the operations and the elements: a name is looked up at most once for each place, and not
@@ -107,6 +111,20 @@ impl OrderGraph {
         let _ = recording.replicas();
         let numbers = numbers_of(alloc, &names)?;
         let places = places_of(alloc, recording, &shown, &names, &numbers)?;
+        OrderGraph::with_spots(alloc, names, numbers, shown, places)
+    }
+
+    /// The graph of these lists, with the spots of each element, which are found in one pass over the places.
+    fn with_spots(
+        alloc: Global,
+        names: Vec<Name>,
+        numbers: IndexMap<Name, u32>,
+        shown: Vec<OpName>,
+        places: Rows<u32>,
+    ) -> Result<OrderGraph, Memory>
+        requires { AreListed names.items (get (pointwise ◌==◌) numbers) shown.items places }
+        ensures { IfOk result (λ g. g ≡ responses_kept names.items shown.items (rows_of places)) }
+    {
         let spots = spots_in_lists(alloc, names.len(), &places)?;
         Ok(OrderGraph {
             names,
@@ -129,15 +147,8 @@ impl OrderGraph {
         let numbers = numbers_of(alloc, &names)?;
         let anew = new_numbers(alloc, &self.names, &names, &numbers)?;
         let places = places_left(alloc, &self.places, &anew)?;
-        let spots = spots_in_lists(alloc, names.len(), &places)?;
         let shown = Vec::from_slice(alloc, self.shown.as_slice())?;
-        Ok(OrderGraph {
-            names,
-            numbers,
-            shown,
-            places,
-            spots,
-        })
+        OrderGraph::with_spots(alloc, names, numbers, shown, places)
     }
 
     /// How many elements there are, at most 65,536.

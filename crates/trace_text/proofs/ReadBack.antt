@@ -22,7 +22,8 @@ module _ (text : List ℕ) (h : History) (spelled : Spells text h) (line : ℕ) 
   only-refused refusal.PlacesFull fault = absurd (no-fault h text line (format.refused refusal.PlacesFull) spelled fault)
   only-refused refusal.Memory fault = refl
 
-  only-memory : (c : Cause) → IfSome (cause_of c) (IsFirstLineFault text line) → c ≡ cause.Refused refusal.Memory
+  -- a text that spells a recording has no fault but out of memory
+  pub only-memory : (c : Cause) → IfSome (cause_of c) (IsFirstLineFault text line) → c ≡ cause.Refused refusal.Memory
   only-memory cause.Header fault = absurd (no-fault h text line format.header spelled fault)
   only-memory cause.Replicas fault = absurd (no-fault h text line format.replicas spelled fault)
   only-memory cause.Shape fault = absurd (no-fault h text line format.shape spelled fault)

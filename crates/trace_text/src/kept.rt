@@ -133,7 +133,7 @@ impl KeptLine {
         self.grow_word(part)
     }
 
-    /// Puts the word begun and a space behind the whole words.
+    /// Puts the word begun and a space after the whole words.
     fn take_word(&mut self) -> Result<(), Memory>
         ensures { OnOk result (self.new ≡ record {
           whole = (self.old.whole ++ self.old.word) ++ 32 ∷ [];
@@ -193,7 +193,7 @@ impl KeptLine {
         self.add_part(rest)
     }
 
-    /// Puts the word begun behind the whole words, since the line ends so.
+    /// Puts the word begun after the whole words, since the line ends so.
     pub fn close(&mut self) -> Result<(), Memory>
         ensures { OnOk result (self.new.whole ≡ self.old.whole ++ self.old.word) }
     {

@@ -122,20 +122,6 @@ impl Reader {
         ensures spelled { (text : List ℕ) → (h : History) → WasFed self text → Spells text h
             → MatchResult result (λ g. g ≡ h) (λ fault. fault.cause ≡ Cause.Refused Refusal.Memory) }
     {
-        self.answer()
-    }
-
-    /// What `end` answers.
-    fn answer(self) -> Result<Recording, LineFault>
-        ensures ok { IfOk result (λ h. (text : List ℕ) → WasFed self text → Spells text h) }
-        ensures fault { IfErr result (λ fault. (text : List ℕ) → WasFed self text
-            → IfSome (cause_of fault.cause) (IsFirstLineFault text fault.line)) }
-        ensures place { IfErr result (λ fault. (text : List ℕ) → WasFed self text
-            → IsBehindRightLines text fault.line) }
-        ensures again { IfSome self.fault (λ fault. result ≡ Err fault) }
-        ensures memory { self.fault ≡ None → IfErr result (λ fault. fault.cause
-            ≢ Cause.Refused Refusal.Memory) }
-    {
         if let Some(fault) = self.fault {
             return Err(fault);
         }

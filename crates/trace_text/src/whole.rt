@@ -13,20 +13,6 @@ use crate::reader::Reader;
 use events::{Recording, Refusal};
 use std::alloc::Global;
 
-/// The recording that the text spells, or the first faulty line.
-fn read_at_once(alloc: Global, bytes: &[u8]) -> Result<Recording, LineFault>
-    ensures ok { IfOk result (λ h. Spells bytes.now h) }
-    ensures fault { IfErr result (λ fault. IfSome (cause_of fault.cause)
-        (λ cause. IsFirstLineFault bytes.now fault.line cause)) }
-    ensures place { IfErr result (λ fault. IsBehindRightLines bytes.now fault.line) }
-    ensures memory { IfErr result (λ fault. fault.cause ≡ Cause.Refused Refusal.Memory
-        → TakesMemoryAt bytes.now fault.line) }
-{
-    let mut reader = Reader::new(alloc);
-    reader.feed(bytes)?;
-    reader.end()
-}
-
 /// The recording that the text spells, or the text's first faulty line with its cause.
 ///
 /// Out of memory is `Refused(Memory)`, and only at a line after right lines whose reading takes memory: the
@@ -48,5 +34,7 @@ pub fn read(alloc: Global, bytes: &[u8]) -> Result<Recording, LineFault>
     ensures spelled { (h : History) → Spells bytes.now h
         → MatchResult result (λ g. g ≡ h) (λ fault. fault.cause ≡ Cause.Refused Refusal.Memory) }
 {
-    read_at_once(alloc, bytes)
+    let mut reader = Reader::new(alloc);
+    reader.feed(bytes)?;
+    reader.end()
 }

@@ -1,6 +1,6 @@
 //! Tests of certificates of worked recordings.
 
-use crate::{NoGate, Version, certify, judge};
+use crate::{NoGate, Version, certify, judge, write_certificate};
 use sample_recordings::{
     EMPTY, OPPOSITE_PAIR, PAST_A_NEIGHBOUR, READ_THE_OTHER_WAY, RING_OF_FOUR, THREE_WAY_CYCLE,
     recording,
@@ -8,25 +8,50 @@ use sample_recordings::{
 use std::alloc::Global;
 use std::thread::Threads;
 
+/// How the text of a certificate is made.
+#[derive(Clone, Copy)]
+enum Way {
+    /// The certificate first, and then its text.
+    Whole,
+    /// Row by row.
+    RowByRow,
+}
+
 /// The text of the certificate of the recording that a text spells.
-fn certified_once<H: Threads + Sync>(rt: &H, alloc: Global, text: &str) -> Option<Vec<u8>> {
+fn certified_once<H: Threads + Sync>(
+    rt: &H,
+    alloc: Global,
+    text: &str,
+    way: Way,
+) -> Option<Vec<u8>> {
     let recording = recording(alloc, text).ok()?;
     let verdict = judge(rt, alloc, &recording, 4, &NoGate).ok()?;
-    let certificate = certify(alloc, &recording, &verdict).ok()?;
-    certificate.write(alloc, Version::Two).ok()
+    match way {
+        Way::Whole => {
+            let certificate = certify(alloc, &recording, &verdict).ok()?;
+            certificate.write(alloc, Version::Two).ok()
+        },
+        Way::RowByRow => write_certificate(alloc, &recording, &verdict).ok(),
+    }
 }
 
 /// The same; where the first try finds no memory, by a second.
-fn certified<H: Threads + Sync>(rt: &H, alloc: Global, text: &str) -> Option<Vec<u8>> {
-    match certified_once(rt, alloc, text) {
-        None => certified_once(rt, alloc, text),
+fn certified<H: Threads + Sync>(rt: &H, alloc: Global, text: &str, way: Way) -> Option<Vec<u8>> {
+    match certified_once(rt, alloc, text, way) {
+        None => certified_once(rt, alloc, text, way),
         certificate => certificate,
     }
 }
 
 /// Whether the recording that the text spells has this certificate.
-fn has_certificate<H: Threads + Sync>(rt: &H, alloc: Global, text: &str, wanted: &str) -> bool {
-    match certified(rt, alloc, text) {
+fn has_certificate<H: Threads + Sync>(
+    rt: &H,
+    alloc: Global,
+    text: &str,
+    way: Way,
+    wanted: &str,
+) -> bool {
+    match certified(rt, alloc, text, way) {
         Some(certificate) => certificate.as_slice() == wanted.as_bytes(),
         None => false,
     }
@@ -79,7 +104,15 @@ static ROWS: [(&str, &str); 11] = [
 #[test]
 fn certificates_of_worked_recordings(rt: HostRuntime) {
     for (text, certificate) in ROWS.iter().copied() {
-        let certified = has_certificate(&rt, rt.alloc(), text, certificate);
+        let certified = has_certificate(&rt, rt.alloc(), text, Way::Whole, certificate);
         assert!(rt; certified, "at {text}");
+    }
+}
+
+#[test]
+fn certificates_written_row_by_row(rt: HostRuntime) {
+    for (text, certificate) in ROWS.iter().copied() {
+        let written = has_certificate(&rt, rt.alloc(), text, Way::RowByRow, certificate);
+        assert!(rt; written, "at {text}");
     }
 }

@@ -14,8 +14,8 @@ returns-in_err-list c =
     let g = c.self.inside in
     let v : Responses = responses_kept g.names.items g.shown.items (rows_of g.places) in
     let none : (l : ℕ) → BeforeIn (lists_of v) l c.args.a c.args.b → ⊥ =
-    subst (λ (rows : List (List ℕ)). (l : ℕ) → BeforeIn rows l c.args.a c.args.b → ⊥) (sym c.self.invariant.lists_are) c.in_err-list.ensures in
-    let answer : IsLeastShowing v c.args.a c.args.b None = none-shown v c.self.invariant.proper c.args.a c.args.b none in
+    subst (λ (rows : List (List ℕ)). (l : ℕ) → BeforeIn rows l c.args.a c.args.b → ⊥) (sym c.self.invariant.listed.lists_are) c.in_err-list.ensures in
+    let answer : IsLeastShowing v c.args.a c.args.b None = none-shown v c.self.invariant.listed.proper c.args.a c.args.b none in
     subst (λ (o : Option Operation). IsLeastShowing c.args.self.now c.args.a c.args.b o) (sym c.from_residual.ensures)
     (subst (λ (w : Responses). IsLeastShowing w c.args.a c.args.b None) c.self.view_is answer)
 
@@ -23,11 +23,11 @@ pub returns : goal.returns
 returns c =
     let g = c.self.inside in
     let v : Responses = responses_kept g.names.items g.shown.items (rows_of g.places) in
-    let proper : AreProper v = c.self.invariant.proper in
+    let proper : AreProper v = c.self.invariant.listed.proper in
     let l : ℕ = c.in_ok-list.list in
     let a : ℕ = c.args.a in
     let b : ℕ = c.args.b in
-    let least : IsLeastList (lists_of v) a b l = subst (λ (rows : List (List ℕ)). IsLeastList rows a b l) (sym c.self.invariant.lists_are) c.in_ok-list.ensures in
+    let least : IsLeastList (lists_of v) a b l = subst (λ (rows : List (List ℕ)). IsLeastList rows a b l) (sym c.self.invariant.listed.lists_are) c.in_ok-list.ensures in
     let named = named-stands v proper l least.shows.place a least.shows.first in
     let r : Returned = named.by in
     let by : c.shown_by.result ≡ Some r.by =

@@ -2,6 +2,7 @@
 use Rattle.std.proofs.Common.{◌≡◌, ◌≢◌, ℕ, ◌<◌, ◌≤◌, Option, List, length, map, refl, sym, ◌∙◌, ap, subst, arith}
 use Rattle.std.specs.Prelude.{All, AllPairs}
 use Rattle.std.proofs.lemmas.List.{length-map}
+use Rattle.std.proofs.lemmas.Result.{IfOk-weaker}
 use Rattle.events.specs.Names.{NameBytes}
 use Rattle.events.specs.Operation.{Operation}
 use Rattle.specification.specs.Elements.{number_in}
@@ -11,7 +12,7 @@ use Rattle.order_graph.specs.Cuts.{rows_of}
 use Rattle.order_graph.specs.Kept.{names_at, responses_kept}
 use Rattle.order_graph.specs.Lists.{lists_of, row, AreFew}
 use Rattle.order_graph.specs.Renumbered.{numbers_left}
-use Rattle.order_graph.proofs.Renumbered.{distinct-kept, count-kept, whole-known, narrowed-is, part-proper, part-few, part-lists, part-count, part-known, part-short}
+use Rattle.order_graph.proofs.Renumbered.{distinct-kept, count-kept, whole-known, narrowed-is, part-proper, part-few, part-lists, part-count}
 use Rattle.order_graph.proofs.order_graph.OrderGraph.narrowed.Goals as goal
 
 -- the clauses speak of what is lent
@@ -30,16 +31,16 @@ numbers_of-requires-clause-distinct c =
     let g = c.self.inside in
     let known = known-in (responses_kept g.names.items g.shown.items (rows_of g.places)) c.args.self.now c.args.kept.now c.self.view_is c.requires.known in
     let among_is = lent-names g.names.items c.deref.result.now c.in_ok-names.names.items c.args.kept.now c.deref.ensures.value c.in_ok-names.ensures in
-    subst (λ (l : List NameBytes). AllPairs (λ a b. a ≢ b) l) (sym (c.deref-2.ensures.value ∙ among_is)) (distinct-kept g.names.items c.self.invariant.proper.distinct c.args.kept.now c.requires.rising known)
+    subst (λ (l : List NameBytes). AllPairs (λ a b. a ≢ b) l) (sym (c.deref-2.ensures.value ∙ among_is)) (distinct-kept g.names.items c.self.invariant.listed.proper.distinct c.args.kept.now c.requires.rising known)
 
 pub numbers_of-requires-clause-few : goal.numbers_of-requires-clause-few
 numbers_of-requires-clause-few c =
     let g = c.self.inside in
     let known = known-in (responses_kept g.names.items g.shown.items (rows_of g.places)) c.args.self.now c.args.kept.now c.self.view_is c.requires.known in
     let among_is = lent-names g.names.items c.deref.result.now c.in_ok-names.names.items c.args.kept.now c.deref.ensures.value c.in_ok-names.ensures in
-    let bound : length (names_at g.names.items c.args.kept.now) ≤ length g.names.items = count-kept g.names.items c.self.invariant.proper.distinct c.args.kept.now c.requires.rising known in
+    let bound : length (names_at g.names.items c.args.kept.now) ≤ length g.names.items = count-kept g.names.items c.self.invariant.listed.proper.distinct c.args.kept.now c.requires.rising known in
     let same : c.deref-2.result.now ≡ names_at g.names.items c.args.kept.now = c.deref-2.ensures.value ∙ among_is in
-    omega (arith, c.self.invariant.proper.few, bound, ap (λ (l : List NameBytes). length l) same)
+    omega (arith, c.self.invariant.listed.proper.few, bound, ap (λ (l : List NameBytes). length l) same)
 
 pub places_left-requires-clause-known : goal.places_left-requires-clause-known
 places_left-requires-clause-known c =
@@ -49,29 +50,10 @@ places_left-requires-clause-known c =
     let anew_is = lent-numbers g.names.items c.deref-3.result.now c.in_ok-names.names.items c.deref-4.result.now c.in_ok-anew.anew.items c.deref-5.result.now c.deref-3.ensures.value c.deref-4.ensures.value c.deref-5.ensures.value c.in_ok-anew.ensures in
     let count : length c.deref-5.result.now ≡ length g.names.items = ap (λ (l : List (Option ℕ)). length l) anew_is ∙ length-map g.names.items (number_in c.in_ok-names.names.items) in
     let all : List (List ℕ) = map (numbers_left (map (number_in c.in_ok-names.names.items) g.names.items)) (rows_of g.places) in
-    subst (λ n. (l : ℕ) → All (λ x. x < n) (row (rows_of g.places) l)) (sym count) (whole-known g.names.items c.in_ok-names.names.items c.args.kept.now g.shown.items (rows_of g.places) all c.self.invariant.proper c.self.invariant.few c.self.invariant.lists_are c.self.invariant.count c.requires.rising known among_is refl)
+    subst (λ n. (l : ℕ) → All (λ x. x < n) (row (rows_of g.places) l)) (sym count) (whole-known g.names.items c.in_ok-names.names.items c.args.kept.now g.shown.items (rows_of g.places) all c.self.invariant.listed.proper c.self.invariant.listed.few c.self.invariant.listed.lists_are c.self.invariant.listed.count c.requires.rising known among_is refl)
 
-pub spots_in_lists-requires-clause-known : goal.spots_in_lists-requires-clause-known
-spots_in_lists-requires-clause-known c =
-    let g = c.self.inside in
-    let known = known-in (responses_kept g.names.items g.shown.items (rows_of g.places)) c.args.self.now c.args.kept.now c.self.view_is c.requires.known in
-    let among_is = lent-names g.names.items c.deref.result.now c.in_ok-names.names.items c.args.kept.now c.deref.ensures.value c.in_ok-names.ensures in
-    let anew_is = lent-numbers g.names.items c.deref-3.result.now c.in_ok-names.names.items c.deref-4.result.now c.in_ok-anew.anew.items c.deref-5.result.now c.deref-3.ensures.value c.deref-4.ensures.value c.deref-5.ensures.value c.in_ok-anew.ensures in
-    let fewer_is = c.in_ok-places.ensures.rows ∙ ap (λ l. map (numbers_left l) (rows_of g.places)) anew_is in
-    let count : length c.in_ok-names.names.items ≡ c.len.result = omega (arith, c.len.ensures, c.in_ok-names.names.ok) in
-    subst (λ n. (l : ℕ) → All (λ x. x < n) (row (rows_of c.in_ok-places.places) l)) count (part-known g.names.items c.in_ok-names.names.items c.args.kept.now g.shown.items (rows_of g.places) (rows_of c.in_ok-places.places) c.self.invariant.proper c.self.invariant.few c.self.invariant.lists_are c.self.invariant.count c.requires.rising known among_is fewer_is)
-
-pub spots_in_lists-requires-clause-short : goal.spots_in_lists-requires-clause-short
-spots_in_lists-requires-clause-short c =
-    let g = c.self.inside in
-    let known = known-in (responses_kept g.names.items g.shown.items (rows_of g.places)) c.args.self.now c.args.kept.now c.self.view_is c.requires.known in
-    let among_is = lent-names g.names.items c.deref.result.now c.in_ok-names.names.items c.args.kept.now c.deref.ensures.value c.in_ok-names.ensures in
-    let anew_is = lent-numbers g.names.items c.deref-3.result.now c.in_ok-names.names.items c.deref-4.result.now c.in_ok-anew.anew.items c.deref-5.result.now c.deref-3.ensures.value c.deref-4.ensures.value c.deref-5.ensures.value c.in_ok-anew.ensures in
-    let fewer_is = c.in_ok-places.ensures.rows ∙ ap (λ l. map (numbers_left l) (rows_of g.places)) anew_is in
-    part-short g.names.items c.in_ok-names.names.items c.args.kept.now g.shown.items (rows_of g.places) (rows_of c.in_ok-places.places) c.self.invariant.proper c.self.invariant.few c.self.invariant.lists_are c.self.invariant.count c.requires.rising known among_is fewer_is
-
-pub invariant_of-result : goal.invariant_of-result
-invariant_of-result c =
+pub with_spots-requires : goal.with_spots-requires
+with_spots-requires c =
     let g = c.self.inside in
     let known = known-in (responses_kept g.names.items g.shown.items (rows_of g.places)) c.args.self.now c.args.kept.now c.self.view_is c.requires.known in
     let among_is = lent-names g.names.items c.deref.result.now c.in_ok-names.names.items c.args.kept.now c.deref.ensures.value c.in_ok-names.ensures in
@@ -80,14 +62,12 @@ invariant_of-result c =
     let shown_is : c.in_ok-shown.shown.items ≡ g.shown.items = c.in_ok-shown.ensures.items ∙ c.as_slice.ensures.value in
     let shown : List Operation = c.in_ok-shown.shown.items in
     record {
-      proper = subst (λ (s : List Operation). AreProper (responses_kept c.in_ok-names.names.items s (rows_of c.in_ok-places.places))) (sym shown_is) (part-proper g.names.items c.in_ok-names.names.items c.args.kept.now g.shown.items (rows_of g.places) (rows_of c.in_ok-places.places) c.self.invariant.proper c.self.invariant.few c.self.invariant.lists_are c.self.invariant.count c.requires.rising known among_is fewer_is);
-      few = subst (λ (s : List Operation). AreFew (responses_kept c.in_ok-names.names.items s (rows_of c.in_ok-places.places))) (sym shown_is) (part-few g.names.items c.in_ok-names.names.items c.args.kept.now g.shown.items (rows_of g.places) (rows_of c.in_ok-places.places) c.self.invariant.proper c.self.invariant.few c.self.invariant.lists_are c.self.invariant.count c.requires.rising known among_is fewer_is);
+      proper = subst (λ (s : List Operation). AreProper (responses_kept c.in_ok-names.names.items s (rows_of c.in_ok-places.places))) (sym shown_is) (part-proper g.names.items c.in_ok-names.names.items c.args.kept.now g.shown.items (rows_of g.places) (rows_of c.in_ok-places.places) c.self.invariant.listed.proper c.self.invariant.listed.few c.self.invariant.listed.lists_are c.self.invariant.listed.count c.requires.rising known among_is fewer_is);
+      few = subst (λ (s : List Operation). AreFew (responses_kept c.in_ok-names.names.items s (rows_of c.in_ok-places.places))) (sym shown_is) (part-few g.names.items c.in_ok-names.names.items c.args.kept.now g.shown.items (rows_of g.places) (rows_of c.in_ok-places.places) c.self.invariant.listed.proper c.self.invariant.listed.few c.self.invariant.listed.lists_are c.self.invariant.listed.count c.requires.rising known among_is fewer_is);
       numbered = λ a. c.in_ok-numbers.ensures a ∙ ap (λ (l : List NameBytes). number_in l a) c.deref-2.ensures.value;
       places_cut = c.in_ok-places.ensures.cut;
-      spots_cut = c.in_ok-spots.ensures.cut;
-      lists_are = subst (λ (s : List Operation). lists_of (responses_kept c.in_ok-names.names.items s (rows_of c.in_ok-places.places)) ≡ (rows_of c.in_ok-places.places)) (sym shown_is) (part-lists g.names.items c.in_ok-names.names.items c.args.kept.now g.shown.items (rows_of g.places) (rows_of c.in_ok-places.places) c.self.invariant.proper c.self.invariant.few c.self.invariant.lists_are c.self.invariant.count c.requires.rising known among_is fewer_is);
-      count = subst (λ (s : List Operation). length s ≡ length (rows_of c.in_ok-places.places)) (sym shown_is) (part-count g.names.items c.in_ok-names.names.items c.args.kept.now g.shown.items (rows_of g.places) (rows_of c.in_ok-places.places) c.self.invariant.proper c.self.invariant.few c.self.invariant.lists_are c.self.invariant.count c.requires.rising known among_is fewer_is);
-      spots_are = c.in_ok-spots.ensures.spots;
+      lists_are = subst (λ (s : List Operation). lists_of (responses_kept c.in_ok-names.names.items s (rows_of c.in_ok-places.places)) ≡ (rows_of c.in_ok-places.places)) (sym shown_is) (part-lists g.names.items c.in_ok-names.names.items c.args.kept.now g.shown.items (rows_of g.places) (rows_of c.in_ok-places.places) c.self.invariant.listed.proper c.self.invariant.listed.few c.self.invariant.listed.lists_are c.self.invariant.listed.count c.requires.rising known among_is fewer_is);
+      count = subst (λ (s : List Operation). length s ≡ length (rows_of c.in_ok-places.places)) (sym shown_is) (part-count g.names.items c.in_ok-names.names.items c.args.kept.now g.shown.items (rows_of g.places) (rows_of c.in_ok-places.places) c.self.invariant.listed.proper c.self.invariant.listed.few c.self.invariant.listed.lists_are c.self.invariant.listed.count c.requires.rising known among_is fewer_is);
     }
 
 pub returns : goal.returns
@@ -98,6 +78,8 @@ returns c =
     let anew_is = lent-numbers g.names.items c.deref-3.result.now c.in_ok-names.names.items c.deref-4.result.now c.in_ok-anew.anew.items c.deref-5.result.now c.deref-3.ensures.value c.deref-4.ensures.value c.deref-5.ensures.value c.in_ok-anew.ensures in
     let fewer_is = c.in_ok-places.ensures.rows ∙ ap (λ l. map (numbers_left l) (rows_of g.places)) anew_is in
     let shown_is : c.in_ok-shown.shown.items ≡ g.shown.items = c.in_ok-shown.ensures.items ∙ c.as_slice.ensures.value in
-    ap (λ (s : List Operation). responses_kept c.in_ok-names.names.items s (rows_of c.in_ok-places.places)) shown_is
-    ∙ narrowed-is g.names.items c.in_ok-names.names.items c.args.kept.now g.shown.items (rows_of g.places) (rows_of c.in_ok-places.places) c.self.invariant.proper c.self.invariant.few c.self.invariant.lists_are c.self.invariant.count c.requires.rising known among_is fewer_is
-    ∙ ap (λ (w : Responses). narrowed w (names_at w.elements c.args.kept.now)) c.self.view_is
+    IfOk-weaker c.with_spots.result _ _ (λ w is. is
+    ∙ ap (λ (s : List Operation). responses_kept c.in_ok-names.names.items s (rows_of c.in_ok-places.places)) shown_is
+    ∙ narrowed-is g.names.items c.in_ok-names.names.items c.args.kept.now g.shown.items (rows_of g.places) (rows_of c.in_ok-places.places) c.self.invariant.listed.proper c.self.invariant.listed.few c.self.invariant.listed.lists_are c.self.invariant.listed.count c.requires.rising known among_is fewer_is
+    ∙ ap (λ (w : Responses). narrowed w (names_at w.elements c.args.kept.now)) c.self.view_is)
+    c.with_spots.ensures

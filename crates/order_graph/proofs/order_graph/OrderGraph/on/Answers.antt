@@ -1,6 +1,6 @@
 -- What is kept of these operations reads as their responses.
 use Rattle.std.proofs.Common.{◌≡◌, ℕ, ◌<◌, List, length, ◌∙◌, ap, subst, arith}
-use Rattle.std.specs.Prelude.{All}
+use Rattle.std.proofs.lemmas.Result.{IfOk-weaker}
 use Rattle.events.specs.Names.{NameBytes}
 use Rattle.events.specs.Operation.{Operation}
 use Rattle.events.specs.History.{History}
@@ -8,7 +8,7 @@ use Rattle.specification.specs.Elements.{number_in}
 use Rattle.element_numbers.proofs.Elements.{distinct-names, few-names}
 use Rattle.order_graph.specs.Cuts.{rows_of}
 use Rattle.order_graph.specs.Lists.{row}
-use Rattle.order_graph.proofs.Made.{answers, kept-is, kept-lists, kept-proper, kept-few, kept-count, kept-known, kept-short, few-rows}
+use Rattle.order_graph.proofs.Made.{answers, kept-is, kept-lists, kept-proper, kept-few, kept-count}
 use Rattle.order_graph.proofs.order_graph.OrderGraph.on.Goals as goal
 
 rows-are : (h : History) (names lent : List NameBytes) (shown all : List Operation) (rows : List (List ℕ)) → lent ≡ names → all ≡ shown
@@ -27,22 +27,8 @@ pub places_of-requires-clause-few : goal.places_of-requires-clause-few
 places_of-requires-clause-few c =
     few-names c.args.recording.now c.replicas.ensures.legal c.requires.sound c.deref-3.result.now (c.deref-3.ensures.value ∙ c.requires.names)
 
-pub spots_in_lists-requires-clause-few : goal.spots_in_lists-requires-clause-few
-spots_in_lists-requires-clause-few c =
-    few-rows c.args.recording.now c.replicas.ensures.legal c.requires.sound c.args.names.items c.args.shown.items (rows_of c.in_ok-places.places) c.requires.names c.requires.part (rows-are c.args.recording.now c.args.names.items c.deref-3.result.now c.args.shown.items c.deref-2.result.now (rows_of c.in_ok-places.places) c.deref-3.ensures.value c.deref-2.ensures.value c.in_ok-places.ensures.rows)
-
-pub spots_in_lists-requires-clause-known : goal.spots_in_lists-requires-clause-known
-spots_in_lists-requires-clause-known c =
-    let count : length c.args.names.items ≡ c.len.result = omega (arith, c.len.ensures, c.args.names.ok) in
-    subst (λ n. (l : ℕ) → All (λ x. x < n) (row (rows_of c.in_ok-places.places) l)) count
-    (kept-known c.args.recording.now c.replicas.ensures.legal c.requires.sound c.args.names.items c.args.shown.items (rows_of c.in_ok-places.places) c.requires.names c.requires.part (rows-are c.args.recording.now c.args.names.items c.deref-3.result.now c.args.shown.items c.deref-2.result.now (rows_of c.in_ok-places.places) c.deref-3.ensures.value c.deref-2.ensures.value c.in_ok-places.ensures.rows))
-
-pub spots_in_lists-requires-clause-short : goal.spots_in_lists-requires-clause-short
-spots_in_lists-requires-clause-short c =
-    kept-short c.args.recording.now c.replicas.ensures.legal c.requires.sound c.args.names.items c.args.shown.items (rows_of c.in_ok-places.places) c.requires.names c.requires.part (rows-are c.args.recording.now c.args.names.items c.deref-3.result.now c.args.shown.items c.deref-2.result.now (rows_of c.in_ok-places.places) c.deref-3.ensures.value c.deref-2.ensures.value c.in_ok-places.ensures.rows)
-
-pub invariant_of-result : goal.invariant_of-result
-invariant_of-result c =
+pub with_spots-requires : goal.with_spots-requires
+with_spots-requires c =
     let h = c.args.recording.now in
     let legal = c.replicas.ensures.legal in
     let sound = c.requires.sound in
@@ -57,12 +43,12 @@ invariant_of-result c =
       few = kept-few h legal sound names shown rows is part rows_is;
       numbered = λ a. c.in_ok-numbers.ensures a ∙ ap (λ (l : List NameBytes). number_in l a) c.deref.ensures.value;
       places_cut = c.in_ok-places.ensures.cut;
-      spots_cut = c.in_ok-spots.ensures.cut;
       lists_are = kept-lists h legal sound names shown rows is part rows_is;
       count = kept-count h legal sound names shown rows is part rows_is;
-      spots_are = c.in_ok-spots.ensures.spots;
     }
 
 pub returns : goal.returns
 returns c =
-    kept-is c.args.recording.now c.replicas.ensures.legal c.requires.sound c.args.names.items c.args.shown.items (rows_of c.in_ok-places.places) c.requires.names c.requires.part (rows-are c.args.recording.now c.args.names.items c.deref-3.result.now c.args.shown.items c.deref-2.result.now (rows_of c.in_ok-places.places) c.deref-3.ensures.value c.deref-2.ensures.value c.in_ok-places.ensures.rows)
+    IfOk-weaker c.with_spots.result _ _ (λ g is. is
+    ∙ kept-is c.args.recording.now c.replicas.ensures.legal c.requires.sound c.args.names.items c.args.shown.items (rows_of c.in_ok-places.places) c.requires.names c.requires.part (rows-are c.args.recording.now c.args.names.items c.deref-3.result.now c.args.shown.items c.deref-2.result.now (rows_of c.in_ok-places.places) c.deref-3.ensures.value c.deref-2.ensures.value c.in_ok-places.ensures.rows))
+    c.with_spots.ensures

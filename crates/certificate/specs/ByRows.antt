@@ -1,0 +1,37 @@
+-- Certificates row by row: what a verdict gives beside the rows, and a text that grows by their lines.
+use Rattle.std.specs.Prelude.{◌≡◌, ℕ, ◌<◌, ◌≤◌, List, ◌++◌, map}
+use Rattle.events.specs.Names.{NameBytes}
+use Rattle.events.specs.History.{History}
+use Rattle.specification.specs.CertificateText.{Certificate, names_fault, gives_order, gives_cycle, certificate_text, row_line}
+use Rattle.specification.specs.ExactRows.{AreExactRows, IsCertificateOf}
+use Rattle.specification.specs.LayerRule.{Row}
+use Rattle.specification.specs.Lines.{text_of}
+use Rattle.specification.specs.Responses.{Responses}
+use Rattle.specification.specs.Verdict.{Verdict, faulty, accepted, refused}
+use Rattle.specification.specs.Versions.{two}
+
+-- the text, in version two, of the certificate of a verdict on a recording
+abbrev pub IsTextOfCertificate : History → Verdict → List ℕ → Type 0
+IsTextOfCertificate h v text = (c : Certificate) × IsCertificateOf two h v c × (text ≡ certificate_text two c)
+
+-- what a verdict says as a certificate, with these rows where it is a refusal
+abbrev pub certificate_with : List Row → Verdict → Certificate
+certificate_with rows (faulty fault) = names_fault fault
+certificate_with rows (accepted order) = gives_order order
+certificate_with rows (refused k steps) = gives_cycle k steps rows
+
+-- a refusal with this conflict number, of which a certificate has rows
+abbrev pub HasRows : Verdict → ℕ → Type 0
+HasRows (faulty fault) k = ⊥
+HasRows (accepted order) k = ⊥
+HasRows (refused n steps) k = (n ≡ k) × (3 ≤ k)
+
+-- a verdict of which a certificate has none
+abbrev pub HasNoRows : Verdict → Type 0
+HasNoRows (faulty fault) = Unit {0}
+HasNoRows (accepted order) = Unit {0}
+HasNoRows (refused n steps) = n < 3
+
+-- the text grew by the lines of the exact rows from these sources
+abbrev pub AppendsRows : Responses → ℕ → List NameBytes → List ℕ → List ℕ → Type 0
+AppendsRows v k sources old new = (rows : List Row) × AreExactRows two v k sources rows × (new ≡ old ++ text_of (map row_line rows))

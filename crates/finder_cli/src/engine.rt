@@ -1,0 +1,44 @@
+//! The engines that read one trace, as the program calls them.
+
+use super::certified::run_cert;
+use super::live::live;
+use super::run::run;
+use super::status::{RunFault, Status};
+use byte_streams::{Reader, Sink, Source, Writer};
+use certificate::NoGate;
+use command_line::Form;
+use std::sync::Wait;
+use std::thread::Threads;
+
+/// What reads one trace and writes what it finds.
+#[derive(Clone, Copy, Debug)]
+pub enum Engine {
+    /// The report of the verdict, in this form. The workers are 1 to 64.
+    Verdict { workers: u32, form: Form },
+    /// The certificate of the verdict.
+    Cert,
+    /// The report of the verdict as text, by way of a session. The workers are 1 to 64.
+    Live { workers: u32 },
+}
+
+impl Engine {
+    ghost use Rattle.finder_cli.specs.Engines.{RunsAs};
+
+    /// Reads the trace to its end, or to its first faulty line, and writes the report or the certificate,
+    /// whole. It answers `Good` for an accepted recording and else `Bad`. `Cert` never answers `Workers`, and
+    /// only `Live` answers `Thread` or `Stalled`.
+    pub fn go<H: AllocGlobal + Threads + Wait + Sync, R: Reader + Drop, W: Writer + Drop>(
+        self,
+        rt: &H,
+        source: &mut Source<R>,
+        sink: &mut Sink<W>,
+    ) -> Result<Status, RunFault>
+        ensures { RunsAs self source.old source.new sink.old sink.new result }
+    {
+        match self {
+            Engine::Verdict { workers, form } => run(rt, rt.alloc(), source, sink, workers, form),
+            Engine::Cert => run_cert(rt, rt.alloc(), source, sink),
+            Engine::Live { workers } => live(rt, rt.alloc(), source, sink, workers, &NoGate),
+        }
+    }
+}
