@@ -2,7 +2,7 @@
 """names.py: is docs/names.md, which says where each name stands, what the sources say? With --write it is written anew.
 
 A name is a public function, method, type, variant, trait or constant of a crate, or a definition of its specs; before the names
-stand the words of the documents. No word, or --write."""
+stand the words of the documents, and the crates with their files of definitions and lemmas. No word, or --write."""
 import re
 import sys
 from pathlib import Path
@@ -12,8 +12,8 @@ PAGE = ROOT / "docs" / "names.md"
 
 HEAD = """# Where each name stands
 
-Search this page for a word of the documents, or for a name: a definition, a law, a public function or type, a method as
-`Certificate::read`, a variant as `Refusal::NotYet`. The file stands in the same line. Private functions are not listed. What the definitions mean is in
+Search this page for a word of the documents, or for a name: a definition, a law, a crate, a file of definitions or lemmas, a
+public function or type, a method as `Certificate::read`, a variant as `Refusal::NotYet`. The file stands in the same line. Private functions are not listed. What the definitions mean is in
 [definitions.md](definitions.md), what the calls promise in [proved.md](proved.md). `tests/tools/names.py --write` makes this page from the sources.
 
 ## Words
@@ -105,10 +105,29 @@ def row_of_word(word: str, crate: str, names: list[str], rows: dict[str, list]) 
     return f"- {word}: {', '.join(places)}"
 
 
+def row_of_crate(crate: Path) -> str:
+    """A crate's folder, and the files of its definitions and of its lemmas, without endings."""
+    row = f"- `{crate.name}` is `crates/{crate.name}/`"
+    for folder, word in (("specs", "definitions"), ("proofs", "lemmas")):
+        files = [path.stem for path in sorted((crate / folder).glob("*.antt")) if path.stem != "Lib"]
+        if files:
+            row += f"; {word} in its `{folder}/`: " + ", ".join(f"`{name}`" for name in files)
+    return row
+
+
+def row_of_tools() -> str:
+    """The commands among the tools, and their modules."""
+    commands = [path.name for path in sorted((ROOT / "tools").iterdir()) if path.is_file()]
+    names = [path.stem for path in sorted((ROOT / "tools" / "explaining").glob("*.py")) if path.stem != "__init__"]
+    return (f"- tools in `tools/`: {', '.join(f'`{name}`' for name in commands)}; "
+            f"their modules in `tools/explaining/`: {', '.join(f'`{name}`' for name in names)}")
+
+
 def page() -> str:
     crates = sorted(path for path in (ROOT / "crates").iterdir() if path.is_dir())
     rows = {crate.name: [(path, names_in(path)) for path in sources(crate)] for crate in crates}
-    lines = [HEAD, *(row_of_word(word, crate, names.split(), rows) for word, (crate, names) in WORDS.items()), ""]
+    lines = [HEAD, *(row_of_word(word, crate, names.split(), rows) for word, (crate, names) in WORDS.items()), "",
+             "## Crates and files\n", *(row_of_crate(crate) for crate in crates), row_of_tools(), ""]
     for crate, files in rows.items():
         listed = [f"- `{path.relative_to(ROOT)}`: {', '.join(f'`{name}`' for name in names)}" for path, names in files if names]
         if listed:
