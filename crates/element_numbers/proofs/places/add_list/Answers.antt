@@ -8,9 +8,9 @@ use Rattle.events.specs.History.{History, response_of}
 use Rattle.events.specs.Operations.{operation, response, IsOperation}
 use Rattle.events.specs.declared.recording.Body.{Body}
 use Rattle.specification.specs.Elements.{numbers_in}
-use Rattle.order_graph.proofs.Cuts.{row-ended}
-use Rattle.order_graph.specs.Cuts.{rows_of}
-use Rattle.order_graph.proofs.places.add_list.Goals as goal
+use Rattle.element_numbers.proofs.Cuts.{row-ended}
+use Rattle.element_numbers.specs.Cuts.{rows_of}
+use Rattle.element_numbers.proofs.places.add_list.Goals as goal
 
 nothing-returned : (h : History) (o : Operation) → (IsOperation h o → ⊥) → response h o ≡ []
 nothing-returned h o none = go (operation h o) none

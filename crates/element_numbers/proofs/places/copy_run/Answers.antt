@@ -2,8 +2,8 @@
 use Rattle.std.proofs.Common.{◌≡◌, ◌∙◌, ℕ, ◌+◌, ◌-◌, ◌++◌, ◌<◌, ◌≤◌, List, length, take, drop, get_or, sym, ap, subst, arith, length-append, length-drop}
 use Rattle.std.proofs.lemmas.Option.{get_or_from_slice_get}
 use Rattle.events.proofs.Places.{slice_get-within}
-use Rattle.order_graph.proofs.Copying.{stands-within, one_copied, copied}
-use Rattle.order_graph.proofs.places.copy_run.Goals as goal
+use Rattle.element_numbers.proofs.Copying.{stands-within, one_copied, copied}
+use Rattle.element_numbers.proofs.places.copy_run.Goals as goal
 
 pub loop-k-preserved : goal.loop-k-preserved
 loop-k-preserved c =

@@ -1,6 +1,6 @@
 use Rattle.std.proofs.Common.{◌≡◌, ◌-◌, ◌≤◌, ◌++◌, take, length}
 use Rattle.specification.specs.Elements.{numbers_in}
-use Rattle.order_graph.proofs.places.add_numbers.Given as goal
+use Rattle.element_numbers.proofs.places.add_numbers.Given as goal
 
 abbrev pub invariant-runs : goal.invariant-runs
 invariant-runs l = record {

@@ -7,11 +7,11 @@ ghost use Rattle.indexmap.specs.IndexMap.{get};
 ghost use Rattle.events.specs.Names.{NameBytes};
 ghost use Rattle.events.specs.Operations.{response};
 ghost use Rattle.specification.specs.Elements.{number_in, numbers_in};
-ghost use Rattle.order_graph.specs.Cuts.{rows_of, IsCut};
-ghost use Rattle.order_graph.specs.Runs.{response_if};
+ghost use Rattle.element_numbers.specs.Cuts.{rows_of, IsCut};
+ghost use Rattle.element_numbers.specs.Runs.{response_if};
 
+use super::numbers::number_or_count;
 use super::rows::Rows;
-use element_numbers::number_or_count;
 use events::{Memory, Name, OpName, Recording, Response};
 use indexmap::IndexMap;
 use std::alloc::Global;

@@ -1,9 +1,9 @@
 use Rattle.std.proofs.Common.{◌≡◌, drop, length, map, take}
 use Rattle.events.specs.Operations.{response}
 use Rattle.specification.specs.Elements.{numbers_in}
-use Rattle.order_graph.specs.Cuts.{rows_of, IsCut}
-use Rattle.order_graph.specs.Runs.{response_if}
-use Rattle.order_graph.proofs.places.places_of.Given as goal
+use Rattle.element_numbers.specs.Cuts.{rows_of, IsCut}
+use Rattle.element_numbers.specs.Runs.{response_if}
+use Rattle.element_numbers.proofs.places.places_of.Given as goal
 
 abbrev pub invariant-loop-operation : goal.invariant-loop-operation
 invariant-loop-operation l = record {

@@ -1,8 +1,8 @@
 -- Rows cut from a list: one more at the end, and where each begins and ends.
 use Rattle.std.proofs.Common.{◌≡◌, ◌≢◌, ℕ, zero, suc, ◌+◌, ◌-◌, ◌<◌, ◌≤◌, List, [], ◌∷◌, ◌++◌, length, take, drop, get_or, refl, sym, ◌∙◌, ap, subst, arith, length-append, length-drop}
 use Rattle.std.proofs.lemmas.List.{take-append-le, drop-append-le, take_all}
-use Rattle.order_graph.specs.Cuts.{cut, AreEnds, begin_of, rows_of, IsCut}
-use Rattle.order_graph.specs.declared.rows.Rows.{Rows}
+use Rattle.element_numbers.specs.Cuts.{cut, AreEnds, begin_of, rows_of, IsCut}
+use Rattle.element_numbers.specs.declared.rows.Rows.{Rows}
 
 empty_of : {X : Type 0} (xs : List X) → length xs ≡ 0 → xs ≡ []
 empty_of [] e = refl

@@ -1,6 +1,6 @@
 -- Rows that are kept one after the other in one list, with the place where each ends.
 use Rattle.std.specs.Prelude.{◌≡◌, ℕ, zero, suc, slice_index, ◌-◌, ◌≤◌, List, [], ◌∷◌, length, take, drop}
-use Rattle.order_graph.specs.declared.rows.Rows.{Rows}
+use Rattle.element_numbers.specs.declared.rows.Rows.{Rows}
 
 -- a list cut at these ends, the first row of which begins at `from`
 abbrev pub cut : {X : Type 0} → ℕ → List ℕ → List X → List (List X)

@@ -15,7 +15,7 @@ pub struct Rows<T: Copy + Drop> {
 }
 
 impl<T: Copy + Drop> Rows<T> {
-    ghost use Rattle.order_graph.specs.Cuts.{rows_of, IsCut, begin_of};
+    ghost use Rattle.element_numbers.specs.Cuts.{rows_of, IsCut, begin_of};
 
     /// No rows. It takes no memory.
     pub fn new(alloc: Global) -> Rows<T>

@@ -3,9 +3,9 @@ use Rattle.std.proofs.Common.{◌≡◌, ℕ, ◌-◌, ◌<◌, ◌≤◌, [], l
 use Rattle.std.proofs.lemmas.Grind.{common_steps}
 use Rattle.std.proofs.lemmas.List.{get_or_past}
 use Rattle.std.proofs.lemmas.Option.{gets}
-use Rattle.order_graph.specs.Cuts.{cut, begin_of}
-use Rattle.order_graph.proofs.Cuts.{Lies, row-lies, length-cut}
-use Rattle.order_graph.proofs.rows.Rows.bounds.Goals as goal
+use Rattle.element_numbers.specs.Cuts.{cut, begin_of}
+use Rattle.element_numbers.proofs.Cuts.{Lies, row-lies, length-cut}
+use Rattle.element_numbers.proofs.rows.Rows.bounds.Goals as goal
 
 pub returns-in-None : goal.returns-in-None
 returns-in-None g c =

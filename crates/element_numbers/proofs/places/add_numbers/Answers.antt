@@ -3,8 +3,8 @@ use Rattle.std.proofs.Common.{◌≡◌, ◌∙◌, ℕ, ◌+◌, ◌<◌, ◌�
 use Rattle.std.proofs.lemmas.Option.{slice_get_within}
 use Rattle.std.specs.Prelude.{unwrap_or}
 use Rattle.specification.specs.Elements.{number_in, numbers_in}
-use Rattle.order_graph.proofs.Copying.{run_more, one_more, past-end}
-use Rattle.order_graph.proofs.places.add_numbers.Goals as goal
+use Rattle.element_numbers.proofs.Copying.{run_more, one_more, past-end}
+use Rattle.element_numbers.proofs.places.add_numbers.Goals as goal
 
 pub runs-preserved : goal.runs-preserved
 runs-preserved c =
