@@ -62,7 +62,7 @@ fn with_word(
         → layers_at layer.items (word.now ∷ ws) ≡ None) }
 {
     if word == b"/".as_slice() {
-        row.push(Layer::from_names(layer))?;
+        row.push(Layer::from_items(layer))?;
         return Ok(Vec::new(alloc));
     }
     let name = name_of(word)?;
@@ -82,7 +82,7 @@ fn layers(alloc: Global, rest: &[u8]) -> Result<Vec<Layer>, Stop>
         layer = with_word(alloc, &mut row, layer, word)?;
         rest = behind;
     }
-    row.push(Layer::from_names(layer))?;
+    row.push(Layer::from_items(layer))?;
     Ok(row)
 }
 
@@ -184,7 +184,7 @@ fn grown_row(alloc: Global, k: u32, line: &[u8]) -> Result<Row, Stop>
     }
     let layers = layers(alloc, rest)?;
     if has_form(k, &layers) {
-        Ok(Row::from_layers(layers))
+        Ok(Row::from_items(layers))
     } else {
         Err(Stop::Shape)
     }
