@@ -2,7 +2,7 @@
 use Rattle.std.proofs.Common.{◌≡◌, ◌≢◌, ℕ, ◌-◌, ◌==◌, List, [], ◌∷◌, ◌++◌, ◌<◌, ◌≤◌, Bool, true, false, Option, Some, None, length, map, take, drop, Result, Ok, Err, IfOk, IfErr, IfSome, MatchResult, refl, sym, ap, ◌∙◌, subst, arith, append_assoc, length-append}
 use Rattle.std.specs.List.{All}
 use Rattle.std.proofs.Math.Seq.{take-append_seam}
-use Rattle.std.proofs.lemmas.Bool.{false≢true}
+use Rattle.std.proofs.lemmas.Bool.{false≢true, eqb-true}
 use Rattle.std.proofs.lemmas.List.{append-nil, map_push}
 use Rattle.std.proofs.lemmas.List.Concat.{flat_map-append}
 use Rattle.events.specs.Names.{NameBytes}
@@ -55,7 +55,7 @@ shorter-rest text line more is = omega (arith, ap length is, length-append line 
 
 pub empty-is : (text : List ℕ) (t : Bool) → t ≡ (length text == 0) → t ≡ true → text ≡ []
 empty-is [] t e h = refl
-empty-is (b ∷ text) t e h = absurd (false≢true (sym e ∙ h))
+empty-is (b ∷ text) t e h = let none : length (b ∷ text) ≡ 0 = eqb-true (length (b ∷ text)) 0 (sym e ∙ h) in absurd (omega (arith, none))
 
 pub some-byte : (text : List ℕ) (t : Bool) → t ≡ (length text == 0) → t ≡ false → 1 ≤ length text
 some-byte [] t e h = absurd (false≢true (sym h ∙ e))
@@ -68,7 +68,7 @@ row-told k line true told is = go (row_at k (words_of line)) refl told
   where
     go : (o : Option Row) → row_at k (words_of line) ≡ o → GivesOne (λ row. Unit {0}) o → (row : Row) × IsRow k row × (line ≡ row_line row)
     go None e h = absurd h
-    go (Some row) e h = (row, row-spells k line row e)
+    go (Some row) e h = let p = row-spells k line row e in (row, p.0, p.1)
 
 pub untold : {Y : Type 0} (t : Bool) (read : Option Y) → Tells t read → t ≡ false → read ≡ None
 untold true read told is = absurd (cc)

@@ -7,8 +7,8 @@ use Rattle.certificate_text.proofs.OutlineFaults.{fault-after-steps}
 use Rattle.certificate_text.proofs.OutlineTexts.{cycle-text, front-text}
 use Rattle.certificate_text.proofs.outline.cycle.Goals as goal
 
-pub returns-in-Ok-clause-ok : goal.returns-in-Ok-clause-ok
-returns-in-Ok-clause-ok c =
+pub returns-in-Ok-check_rows-clause-ok : goal.returns-in-Ok-check_rows-clause-ok
+returns-in-Ok-check_rows-clause-ok c =
     let steps = c.in-Ok.ensures.ok in
     let rows = c.in-Ok-check_rows.ensures.ok in
     let high : c.args.k < 2 ^ 32 = omega arith in (

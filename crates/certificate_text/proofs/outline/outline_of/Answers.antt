@@ -5,11 +5,25 @@ use Rattle.certificate_text.proofs.OutlineFaults.{version-fault, fault-behind, o
 use Rattle.certificate_text.proofs.OutlineTexts.{headed-text}
 use Rattle.certificate_text.proofs.outline.outline_of.Goals as goal
 
-pub returns-in-Ok-Ok-clause-ok : goal.returns-in-Ok-Ok-clause-ok
-returns-in-Ok-Ok-clause-ok c =
+pub returns-in-Ok-behind_version-clause-ok : goal.returns-in-Ok-behind_version-clause-ok
+returns-in-Ok-behind_version-clause-ok c =
     let made = c.in-Ok-behind_version.ensures.ok in
     let version = version_in c.in-Ok.version in
-    (made.0, (made.1, headed-text version made.0 _ _ c.in-Ok.ensures.ok made.2), made.3)
+    (made.0, (made.1, headed-text version made.0 c.args.bytes.now c.in-Ok.rest.now c.in-Ok.ensures.ok made.2), made.3)
+
+pub returns-in-Err-behind_version-clause-fault : goal.returns-in-Err-behind_version-clause-fault
+returns-in-Err-behind_version-clause-fault c =
+    let version = version_in c.in-Ok.version in
+    let fault = c.in-Err-behind_version.fault in
+    let cut = one-text c.args.bytes.now (version_line version) c.in-Ok.rest.now c.in-Ok.ensures.ok in
+    (fault-behind [] (version_line version ∷ []) c.args.bytes.now c.in-Ok.rest.now fault.line fault.cause cut (c.in-Err-behind_version.ensures.fault version)).0
+
+pub returns-in-Err-behind_version-clause-memory : goal.returns-in-Err-behind_version-clause-memory
+returns-in-Err-behind_version-clause-memory c =
+    let version = version_in c.in-Ok.version in
+    let fault = c.in-Err-behind_version.fault in
+    let cut = one-text c.args.bytes.now (version_line version) c.in-Ok.rest.now c.in-Ok.ensures.ok in
+    (fault-behind [] (version_line version ∷ []) c.args.bytes.now c.in-Ok.rest.now fault.line fault.cause cut (c.in-Err-behind_version.ensures.fault version)).1
 
 pub returns-in-Err-clause-fault : goal.returns-in-Err-clause-fault
 returns-in-Err-clause-fault c = (version-fault c.args.bytes.now c.in-Err.cause c.in-Err.ensures.cause).0
