@@ -27,13 +27,22 @@ use events::OpName;
 #[derive(Clone, Copy, Debug)]
 pub enum Outline<'a> {
     /// A name is inserted twice: as in `Certificate`.
-    Doubled { first: OpName, again: OpName },
+    Doubled {
+        first: OpName,
+        again: OpName,
+    },
     /// The contents of `at` are wrong.
-    Contents { at: OpName },
+    Contents {
+        at: OpName,
+    },
     /// The place of `at` is wrong.
-    Position { at: OpName },
+    Position {
+        at: OpName,
+    },
     /// An order: what follows `order :` in its line, each name after a space.
-    Accepted { names: &'a [u8] },
+    Accepted {
+        names: &'a [u8],
+    },
     /// A cycle of `k` steps: the lines of its steps, and those of its rows, each with its LF.
     Refused {
         k: u32,

@@ -162,9 +162,17 @@ fn an_outline_leaves_long_parts_as_text(rt: HostRuntime) {
     assert!(rt; names_in(b"cert 2\naccepted\norder :\n") == Some(b"".as_slice()));
     let steps = b"step x b 2.1\nstep b a 0.3\nstep a x 1.1\n".as_slice();
     let rows = b"layers x / b\nlayers a /\n".as_slice();
-    let text = b"cert 2\nrefused 3\nstep x b 2.1\nstep b a 0.3\nstep a x 1.1\nlayers x / b\nlayers a /\n";
+    let text =
+        b"cert 2\nrefused 3\nstep x b 2.1\nstep b a 0.3\nstep a x 1.1\nlayers x / b\nlayers a /\n";
     assert!(rt; cycle_in(text) == Some((3, steps, rows)));
-    assert!(rt; is_position(b"cert 2\nposition 4294967295.2\n", Version::Two, 4294967295, 2));
+    assert!(rt;
+        is_position(
+            b"cert 2\nposition 4294967295.2\n",
+            Version::Two,
+            4294967295,
+            2
+        )
+    );
 }
 
 /// Whether the text has an outline.
@@ -182,8 +190,7 @@ fn certificates_have_outlines(rt: HostRuntime) {
 /// Whether reading the text tells this fault, and reading its outline too.
 fn has_fault(alloc: Global, text: &str, line: u64, cause: CertCause) -> bool {
     let fault = Some(CertFault { line, cause });
-    reading(alloc, text.as_bytes()).err() == fault
-        && Outline::read(text.as_bytes()).err() == fault
+    reading(alloc, text.as_bytes()).err() == fault && Outline::read(text.as_bytes()).err() == fault
 }
 
 /// The first of the texts that has not this fault; none where each has it.
