@@ -146,16 +146,6 @@ fn cycle_in(text: &[u8]) -> Option<(u32, &[u8], &[u8])> {
     }
 }
 
-/// Whether the outline of the text is of this version, and names this operation as one at the wrong place.
-fn is_position(text: &[u8], version: Version, replica: u32, n: u32) -> bool {
-    match Outline::read(text) {
-        Ok((found, Outline::Position { at })) => {
-            found == version && at.replica == replica && at.n == n
-        }
-        _ => false,
-    }
-}
-
 #[test]
 fn an_outline_leaves_long_parts_as_text(rt: HostRuntime) {
     assert!(rt; names_in(b"cert 1\naccepted\norder : b a\n") == Some(b" b a".as_slice()));
@@ -165,14 +155,6 @@ fn an_outline_leaves_long_parts_as_text(rt: HostRuntime) {
     let text =
         b"cert 2\nrefused 3\nstep x b 2.1\nstep b a 0.3\nstep a x 1.1\nlayers x / b\nlayers a /\n";
     assert!(rt; cycle_in(text) == Some((3, steps, rows)));
-    assert!(rt;
-        is_position(
-            b"cert 2\nposition 4294967295.2\n",
-            Version::Two,
-            4294967295,
-            2
-        )
-    );
 }
 
 /// Whether the text has an outline.
@@ -187,10 +169,9 @@ fn certificates_have_outlines(rt: HostRuntime) {
     }
 }
 
-/// Whether reading the text tells this fault, and reading its outline too.
+/// Whether reading the text tells this fault.
 fn has_fault(alloc: Global, text: &str, line: u64, cause: CertCause) -> bool {
-    let fault = Some(CertFault { line, cause });
-    reading(alloc, text.as_bytes()).err() == fault && Outline::read(text.as_bytes()).err() == fault
+    reading(alloc, text.as_bytes()).err() == Some(CertFault { line, cause })
 }
 
 /// The first of the texts that has not this fault; none where each has it.
