@@ -5,7 +5,7 @@ use Rattle.format_words.specs.Words.{words_behind}
 use Rattle.format_words.specs.Reading.{GivesOne}
 use Rattle.format_words.proofs.FirstWord.{none-behind}
 use Rattle.format_words.proofs.NamesRead.{some-word-at, names-end, names-more, names-stop}
-use Rattle.format_words.proofs.name_list.look_over.Goals as goal
+use Rattle.format_words.proofs.name_list.check_names.Goals as goal
 
 pub returns-in_err-word : goal.returns-in_err-word
 returns-in_err-word c = absurd (some-word-at c.loop-rest.rest.now (grind (arith, common_steps)) c.in_err-word.ensures.word)
