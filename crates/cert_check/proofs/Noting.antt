@@ -113,19 +113,19 @@ module _ (names : List NameBytes) (count : ℕ) (all : List Word) where
 
     pub placed-many : count ≡ length names → place ≡ count → IsPermutation names all → ⊥
     placed-many is most perm =
-        let e : length names ≡ length all = length_permutation names all perm in
+        let e : length all ≡ length names = length_permutation names all perm in
         let n : length all ≡ length state.0 + suc (length ws) = ap (λ (l : List Word). length l) state.2 ∙ length-append state.0 (w ∷ ws) in
         omega (arith, e, n, state.3, is, most)
 
   pub placed-end : (values : List ℕ) (place : ℕ) → Once names → count ≡ length names → Placed values place [] → (t : Bool) → (place == count) ≡ t →
-      MatchBool t (IsPermutation names all × Holds names count (placed_from 0 all) values) (IsPermutation names all → ⊥)
+      MatchBool t (IsPermutation names all × Holds names count (placed_from 0 all) values) (All IsName all → IsPermutation names all → ⊥)
   placed-end values place once is state true e =
       let whole : all ≡ state.0 = state.2 ∙ append-nil state.0 in
       let same : place ≡ count = eqb-true place count e in
       let holds : Holds names count (placed_from 0 all) values = subst (λ (l : List Word). Holds names count (placed_from 0 l) values) (sym whole) state.1 in
       let size : length all ≡ length names = ap (λ (l : List Word). length l) whole ∙ state.3 ∙ same ∙ is in
       (permutation_noted names all once size holds.can, holds)
-  placed-end values place once is state false e = λ perm.
+  placed-end values place once is state false e = λ each perm.
       let whole : all ≡ state.0 = state.2 ∙ append-nil state.0 in
-      let n : length names ≡ length all = length_permutation names all perm in
-      eqb-false place count e (sym state.3 ∙ ap (λ (l : List Word). length l) (sym whole) ∙ sym n ∙ sym is)
+      let n : length all ≡ length names = length_permutation names all perm in
+      eqb-false place count e (sym state.3 ∙ ap (λ (l : List Word). length l) (sym whole) ∙ n ∙ sym is)

@@ -1,5 +1,5 @@
 -- The words of a row's line note what the row does.
-use Rattle.std.proofs.Common.{◌≡◌, ℕ, ◌+◌, ◌<◌, ◌≤◌, ◌==◌, inl, inr, Bool, true, false, List, [], ◌∷◌, ◌++◌, length, codes, refl, sym, ◌∙◌, ap, subst, arith, append_assoc}
+use Rattle.std.proofs.Common.{◌≡◌, ℕ, ◌+◌, ◌<◌, ◌≤◌, ◌==◌, inl, inr, Bool, true, false, Some, None, List, [], ◌∷◌, ◌++◌, length, codes, refl, sym, ◌∙◌, ap, subst, arith, append_assoc}
 use Rattle.std.specs.Prelude.{All, bytes_eq}
 use Rattle.std.specs.Cmp.Lexicographic.{bytes_decides}
 use Rattle.std.proofs.lemmas.List.{append-nil}
@@ -10,6 +10,8 @@ use Rattle.specification.specs.Lines.{Line}
 use Rattle.specification.specs.CertificateText.{row_line, IsRow, StartsAtSource}
 use Rattle.specification.specs.ValidCertificate.{HasSource}
 use Rattle.format_words.specs.Words.{Word, words_of, words_behind}
+use Rattle.format_words.specs.Reading.{word_at}
+use Rattle.format_words.proofs.NamesRead.{word-at-some}
 use Rattle.format_words.proofs.Bytes.{lacks-name}
 use Rattle.format_words.proofs.Spaced.{words-of-spaced}
 use Rattle.certificate_text.proofs.RowLines.{layers_words, row-spaced, plain-layers, row-plain}
@@ -104,3 +106,17 @@ line-says k row line first rest h is words =
     let all : words_of line ≡ codes "layers" ∷ layers_words row =
     ap words_of (is ∙ row-spaced row) ∙ words-of-spaced (codes "layers") (layers_words row) plain-layers (row-plain row h.names) in
     subst (λ (ws : List Word). SaysRow k ws row) (tail-same (codes "layers") first (layers_words row) (words_behind rest) (sym all ∙ words)) (row-says k row h)
+
+-- the first word of a row is its source
+pub source-word : (k : ℕ) (row : Row) (ws : List Word) (w : Word) (behind : List Word) → SaysRow k ws row → word_at ws ≡ Some (w, behind) → HasSource row w × IsName w
+source-word k row ws w behind says first =
+    let s = says.source in
+    let heads : s.0 ∷ s.1 ≡ w ∷ behind = sym s.4 ∙ word-at-some ws w behind first in
+    let same : s.0 ≡ w = Prim.cc in
+    subst (λ (a : NameBytes). HasSource row a × IsName a) same (s.2, s.3)
+
+pub source-none : (k : ℕ) (row : Row) (ws : List Word) → SaysRow k ws row → word_at ws ≡ None → ⊥
+source-none k row ws says none =
+    let s = says.source in
+    let bad : word_at (s.0 ∷ s.1) ≡ None = ap word_at (sym s.4) ∙ none in
+    absurd Prim.cc

@@ -13,7 +13,7 @@ use std::alloc::Global;
 #[derive(Clone, Copy)]
 struct Place {
     depth: u32,
-    likely: usize,
+    likely: u32,
 }
 
 /// The elements of a recording with their numbers, and each operation's response as numbers.
@@ -61,17 +61,17 @@ impl Numbered {
     }
 
     /// Whether the element with this number has this name.
-    fn is_named(&self, number: usize, word: &[u8]) -> bool
+    fn is_named(&self, number: u32, word: &[u8]) -> bool
         ensures { IsTrue result → slice_get self.now.names.items number ≡ Some word.now }
     {
-        match self.names.get(number) {
+        match self.names.get(number as usize) {
             Some(name) => name.bytes() == word,
             None => false,
         }
     }
 
     /// The number of the element with this name. The number that is likely is tried first, for speed alone.
-    fn find(&self, likely: usize, word: &[u8]) -> Option<usize>
+    fn find(&self, likely: u32, word: &[u8]) -> Option<u32>
         requires { IsNumbering self.now }
         ensures { MatchOption result (IsName word.now → number_in self.now.names.items word.now ≡ None)
             (λ n. slice_get self.now.names.items n ≡ Some word.now) }
@@ -79,9 +79,11 @@ impl Numbered {
         if self.is_named(likely, word) {
             return Some(likely);
         }
-        let name = name_of(word).ok()?;
+        let Ok(name) = name_of(word) else {
+            return None;
+        };
         match self.numbers.get(&name) {
-            Some(number) => Some(*number as usize),
+            Some(number) => Some(*number),
             None => None,
         }
     }
@@ -91,11 +93,11 @@ impl Numbered {
     fn note(
         &self,
         values: &mut [u32],
-        likely: usize,
+        likely: u32,
         word: &[u8],
         value: u32,
         unset: u32,
-    ) -> Option<usize>
+    ) -> Option<u32>
         requires numbering { IsNumbering self.now }
         requires room { length values.old ≡ length self.now.names.items }
         requires below { value < unset }
@@ -105,11 +107,13 @@ impl Numbered {
             (IsName word.now → ¬ CanBeNoted self.now.names.items (noted ++ (word.now, value) ∷ []))
             (λ _. Holds self.now.names.items unset (noted ++ (word.now, value) ∷ []) values.new) }
     {
-        let number = self.find(likely, word)?;
-        if values[number] != unset {
+        let Some(number) = self.find(likely, word) else {
+            return None;
+        };
+        if values[number as usize] != unset {
             return None;
         }
-        values[number] = value;
+        values[number as usize] = value;
         Some(number)
     }
 
@@ -136,7 +140,9 @@ impl Numbered {
                 likely: at.likely,
             });
         }
-        let number = self.note(depths, at.likely, word, at.depth, unset)?;
+        let Some(number) = self.note(depths, at.likely, word, at.depth, unset) else {
+            return None;
+        };
         Some(Place {
             depth: at.depth,
             likely: number.saturating_add(1),
@@ -208,7 +214,7 @@ impl Numbered {
             → ¬ IsPermutation self.now.names.items (words_behind words.now)) }
     {
         let mut place = 0u32;
-        let mut likely = 0usize;
+        let mut likely = 0u32;
         let mut rest = words;
         while !rest.is_empty() {
             let Ok((word, behind)) = next_word(rest) else {

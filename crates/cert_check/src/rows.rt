@@ -1,6 +1,6 @@
 //! Rows of layers.
 
-ghost use Rattle.std.specs.Prelude.{◌≡◌, ◌↔◌, ◌<◌, ◌≤◌, [], ℕ, All, IfOk, IfSome, IsTrue, List};
+ghost use Rattle.std.specs.Prelude.{◌≡◌, ◌↔◌, ◌<◌, ◌≤◌, [], ℕ, All, IfOk, IsTrue, List};
 ghost use Rattle.std.specs.Prelude.{MatchOption, Some, length, map, slice_get};
 ghost use Rattle.events.specs.Names.{IsName};
 ghost use Rattle.specification.specs.LayerRule.{Row};
@@ -35,7 +35,7 @@ fn words_of_row(line: &[u8]) -> &[u8]
 /// The source of a row: the first of its words.
 fn source_of(words: &[u8]) -> Option<&[u8]>
     ensures { (k : ℕ) (row : Row) → SaysRow k (words_behind words.now) row
-        → IfSome result (λ a. HasSource row a.now × IsName a.now) }
+        → MatchOption result ⊥ (λ a. HasSource row a.now × IsName a.now) }
 {
     match next_word(words) {
         Ok((source, _)) => Some(source),
@@ -134,9 +134,16 @@ fn first_source(rows: &[u8]) -> Option<Name>
         → rows.now ≡ text_of (map row_line layers) → MatchOption result (layers ≡ [])
         (λ a. (row : Row) × (slice_get layers 0 ≡ Some row) × HasSource row a) }
 {
-    let (line, _) = split_line(rows)?;
-    let source = source_of(words_of_row(line))?;
-    name_of(source).ok()
+    let Some((line, _)) = split_line(rows) else {
+        return None;
+    };
+    let Some(source) = source_of(words_of_row(line)) else {
+        return None;
+    };
+    match name_of(source) {
+        Ok(name) => Some(name),
+        Err(_) => None,
+    }
 }
 
 /// The first thing that is wrong with the rows of a certificate for `k` of 3 and more: one row after the

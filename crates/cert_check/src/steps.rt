@@ -20,7 +20,9 @@ fn first_step(lines: &[u8]) -> Option<(Step, &[u8])>
     ensures { (s : Step) (more : List Step) → IsStep s → lines.now ≡ text_of (map step_line (s ∷ more))
         → MatchOption result ⊥ (λ x. (x.0 ≡ s) × (x.1.now ≡ text_of (map step_line more))) }
 {
-    let (line, behind) = split_line(lines)?;
+    let Some((line, behind)) = split_line(lines) else {
+        return None;
+    };
     match step_of(line) {
         Ok(step) => Some((step, behind)),
         Err(_) => None,
@@ -46,11 +48,15 @@ pub fn first_wrong_step(recording: &Recording, k: u32, lines: &[u8]) -> Option<u
         MatchOption result ((i : ℕ) → i < length steps → StepIsRight (responses_of recording.now) steps i)
         (IsFirstWrongStep (responses_of recording.now) steps) }
 {
-    let (first, behind) = first_step(lines)?;
+    let Some((first, behind)) = first_step(lines) else {
+        return None;
+    };
     let mut step = first;
     let mut rest = behind;
     for i in 1..k {
-        let (next, behind) = first_step(rest)?;
+        let Some((next, behind)) = first_step(rest) else {
+            return None;
+        };
         if !is_right_step(recording, &step, &next) {
             return Some(i);
         }
