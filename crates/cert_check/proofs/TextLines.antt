@@ -68,19 +68,28 @@ names-behind [] h = refl
 names-behind (a ∷ order) h = names-words a order (name-lacks a (All-head IsName a order h)) (names-lack order (All-tail IsName a order h))
 
 -- what is left from a place on
+drop-suc : {X : Type 0} (xs : List X) (i : ℕ) → i < length xs → (x : X) × (slice_get xs i ≡ Some x) × (drop i xs ≡ x ∷ drop (suc i) xs)
+drop-suc [] i lt = absurd (omega arith)
+drop-suc (x ∷ xs) zero lt = (x, refl, refl)
+drop-suc (x ∷ xs) (suc i) lt = drop-suc xs i (omega arith)
+
 pub drop-next : {X : Type 0} (xs : List X) (i : ℕ) → i < length xs → (x : X) × (slice_get xs i ≡ Some x) × (drop i xs ≡ x ∷ drop (i + 1) xs)
-drop-next [] i lt = absurd (omega arith)
-drop-next (x ∷ xs) zero lt = (x, refl, refl)
-drop-next (x ∷ xs) (suc i) lt = drop-next xs i (omega arith)
+drop-next xs i lt =
+    let p = drop-suc xs i lt in
+    let one : suc i ≡ i + 1 = omega arith in
+    (p.0, p.1, p.2 ∙ ap (λ (n : ℕ). p.0 ∷ drop n xs) one)
+
+suc-is : {X : Type 0} (xs : List X) (i : ℕ) (x : X) (more : List X) → drop i xs ≡ x ∷ more → (slice_get xs i ≡ Some x) × (more ≡ drop (suc i) xs)
+suc-is [] zero x more e = absurd Prim.cc
+suc-is [] (suc i) x more e = absurd Prim.cc
+suc-is (y ∷ xs) zero x more e = (let f : y ≡ x = Prim.cc in ap Some f, (let f : more ≡ xs = Prim.cc in f))
+suc-is (y ∷ xs) (suc i) x more e = suc-is xs i x more e
 
 pub drop-is : {X : Type 0} (xs : List X) (i : ℕ) (x : X) (more : List X) → drop i xs ≡ x ∷ more → (slice_get xs i ≡ Some x) × (more ≡ drop (i + 1) xs)
-drop-is [] i x more e = absurd (none i e)
-  where
-    none : (i : ℕ) → drop i [] ≡ x ∷ more → ⊥
-    none zero e = absurd Prim.cc
-    none (suc i) e = absurd Prim.cc
-drop-is (y ∷ xs) zero x more e = (let f : y ≡ x = Prim.cc in ap Some f, (let f : more ≡ xs = Prim.cc in f))
-drop-is (y ∷ xs) (suc i) x more e = drop-is xs i x more e
+drop-is xs i x more e =
+    let p = suc-is xs i x more e in
+    let one : suc i ≡ i + 1 = omega arith in
+    (p.0, p.1 ∙ ap (λ (n : ℕ). drop n xs) one)
 
 pub drop-none : {X : Type 0} (xs : List X) (i : ℕ) → drop i xs ≡ [] → length xs ≤ i
 drop-none [] i e = omega arith
