@@ -93,12 +93,3 @@ module _ (names order : List NameBytes) (ranks : List ℕ) (unset : ℕ) (once :
         let ea : value r.0 ≡ c = ap (slice_index ranks) r.3 ∙ s.3 in
         let eb : value r.1 ≡ d = ap (slice_index ranks) r.4 ∙ s.4 in
         omega arith
-
--- all names of the order are noted
-pub ranks_done : (names order : List NameBytes) (unset i : ℕ) (ranks : List ℕ) → Once names → unset ≡ length names → length order ≡ length names → length order ≤ i →
-    Holds names unset (placed_from 0 (take i order)) ranks → IsPermutation names order × Holds names (length names) (placed_from 0 order) ranks
-ranks_done names order unset i ranks once count size le holds =
-    let all : Holds names (length names) (placed_from 0 order) ranks =
-    subst (λ (l : List NameBytes). Holds names (length names) (placed_from 0 l) ranks) (take_all i order le)
-    (subst (λ (n : ℕ). Holds names n (placed_from 0 (take i order)) ranks) count holds) in
-    (permutation_noted names order once size all.can, all)
