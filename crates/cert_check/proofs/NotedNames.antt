@@ -1,7 +1,7 @@
 -- One name more is noted, or cannot be.
-use Rattle.std.proofs.Common.{◌≡◌, ◌≢◌, ℕ, zero, suc, ◌+◌, ◌<◌, inl, inr, Option, Some, None, List, [], ◌∷◌, ◌++◌, map, length, take, drop, set, refl, sym, ◌∙◌, ap, subst, arith, get_or-set_same, get_or-set_other, add-zero, append_assoc, append-nil}
+use Rattle.std.proofs.Common.{◌≡◌, ◌≢◌, ℕ, zero, suc, ◌+◌, ◌<◌, inl, inr, Some, None, List, [], ◌∷◌, ◌++◌, map, length, set, refl, sym, ◌∙◌, ap, subst, arith, get_or-set_same, get_or-set_other, add-zero}
 use Rattle.std.specs.Prelude.{slice_get, slice_index, replicate}
-use Rattle.std.proofs.lemmas.List.{length-set, map-append, take-append-drop, length-take-le}
+use Rattle.std.proofs.lemmas.List.{length-set, map-append}
 use Rattle.std.proofs.lemmas.Option.{slice_get_within}
 use native.Mathlib.Decide.{ℕ_discrete}
 use Rattle.events.specs.Names.{NameBytes}

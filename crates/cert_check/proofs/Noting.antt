@@ -1,5 +1,5 @@
 -- How the noting of words goes on, stops and ends.
-use Rattle.std.proofs.Common.{◌≡◌, ℕ, zero, suc, ◌+◌, ◌<◌, ◌≤◌, ◌==◌, inl, inr, Bool, true, false, List, [], ◌∷◌, ◌++◌, length, codes, refl, sym, ◌∙◌, ap, subst, arith, append_assoc, length-append}
+use Rattle.std.proofs.Common.{◌≡◌, ℕ, suc, ◌+◌, ◌<◌, ◌==◌, inl, inr, Bool, true, false, List, [], ◌∷◌, ◌++◌, length, codes, refl, sym, ◌∙◌, ap, subst, arith, append_assoc, length-append}
 use Rattle.std.specs.Prelude.{All, IsPermutation, MatchBool, bytes_eq}
 use Rattle.std.specs.Cmp.Lexicographic.{bytes_decides}
 use Rattle.std.proofs.lemmas.Bool.{eqb-true, eqb-false}
@@ -9,7 +9,6 @@ use Rattle.std.proofs.lemmas.List.Sorted.{length_permutation}
 use Rattle.events.specs.Names.{NameBytes, IsName}
 use Rattle.specification.proofs.Members.{Once}
 use Rattle.format_words.specs.Words.{Word}
-use Rattle.format_words.proofs.TextLines.{all-front}
 use Rattle.cert_check.specs.Noted.{Noted, Holds, CanBeNoted, placed_from}
 use Rattle.cert_check.specs.RowWords.{pairs_of, slashes, IsRowWord, GoesOn, Stops}
 use Rattle.cert_check.proofs.NotedNames.{can_front, placed-append}

@@ -1,7 +1,6 @@
 -- An order of the elements by the places of its names.
-use Rattle.std.proofs.Common.{◌≡◌, ℕ, zero, suc, ◌+◌, ◌<◌, ◌≤◌, inl, inr, Some, List, [], ◌∷◌, map, take, length, refl, sym, ◌∙◌, ap, subst, arith, add-zero, zero-add}
+use Rattle.std.proofs.Common.{◌≡◌, ℕ, zero, suc, ◌+◌, ◌<◌, ◌≤◌, inl, inr, Some, List, [], ◌∷◌, map, length, refl, sym, ◌∙◌, ap, subst, arith, add-zero, zero-add}
 use Rattle.std.specs.Prelude.{unwrap_or, slice_get, slice_index, IsPermutation}
-use Rattle.std.proofs.lemmas.List.{take_all}
 use Rattle.events.specs.Names.{NameBytes}
 use Rattle.specification.specs.Elements.{numbers_in}
 use Rattle.specification.specs.Orders.{IsSubsequence}

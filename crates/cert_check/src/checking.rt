@@ -67,7 +67,7 @@ pub fn check_recording<H: Threads + Sync>(
     // Each recording is legal.
     let _replicas = recording.replicas();
     match Outline::read(cert) {
-        Ok((version, outline)) => judge(rt, alloc, recording, version, outline),
+        Ok((version, outline)) => judge(rt, alloc, recording, version, &outline),
         Err(_) => Ok(Answer::No(Reason::CertText)),
     }
 }

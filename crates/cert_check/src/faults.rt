@@ -12,15 +12,15 @@ use certificate_text::Outline;
 use contents_check::Fault;
 
 /// Whether a certificate with this outline names this fault.
-fn names(outline: Outline<'_>, fault: &Fault) -> bool
-    ensures { IsTrue result ↔ (named outline ≡ Some (fault_of fault.now)) }
+fn names(outline: &Outline<'_>, fault: &Fault) -> bool
+    ensures { IsTrue result ↔ (named outline.now ≡ Some (fault_of fault.now)) }
 {
     match (outline, fault) {
         (Outline::Doubled { first, again }, Fault::Doubled { first: f, again: e }) => {
-            first == *f && again == *e
+            first == f && again == e
         }
-        (Outline::Contents { at }, Fault::Contents { at: e }) => at == *e,
-        (Outline::Position { at }, Fault::Position { at: e }) => at == *e,
+        (Outline::Contents { at }, Fault::Contents { at: e }) => at == e,
+        (Outline::Position { at }, Fault::Position { at: e }) => at == e,
         _ => false,
     }
 }
@@ -37,8 +37,8 @@ fn kind(fault: &Fault) -> Kind
 }
 
 /// Whether the certificate with this outline names the first fault of a recording.
-pub fn judge_fault(outline: Outline<'_>, fault: &Fault) -> Answer
-    ensures { (c : Certificate) → Outlines outline c → IsJudgedByFault c (fault_of fault.now) result }
+pub fn judge_fault(outline: &Outline<'_>, fault: &Fault) -> Answer
+    ensures { (c : Certificate) → Outlines outline.now c → IsJudgedByFault c (fault_of fault.now) result }
 {
     if names(outline, fault) {
         Answer::Yes(kind(fault))

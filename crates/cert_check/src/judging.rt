@@ -26,10 +26,10 @@ pub fn judge<H: Threads + Sync>(
     alloc: Global,
     recording: &Recording,
     version: Version,
-    outline: Outline<'_>,
+    outline: &Outline<'_>,
 ) -> Result<Answer, Memory>
     requires legal { IsLegal recording.now }
-    ensures { IfOk result (λ answer. (c : Certificate) → IsSpellable c → Outlines outline c
+    ensures { IfOk result (λ answer. (c : Certificate) → IsSpellable c → Outlines outline.now c
         → IsJudged (version_in version) recording.now c answer) }
 {
     let sight = Sight::of(alloc, recording)?;
@@ -44,17 +44,17 @@ fn judge_sound(
     alloc: Global,
     recording: &Recording,
     version: Version,
-    outline: Outline<'_>,
+    outline: &Outline<'_>,
 ) -> Result<Answer, Memory>
     requires legal { IsLegal recording.now }
     requires sound { IsSound recording.now }
-    ensures { IfOk result (λ answer. (c : Certificate) → IsSpellable c → Outlines outline c
+    ensures { IfOk result (λ answer. (c : Certificate) → IsSpellable c → Outlines outline.now c
         → IsJudged (version_in version) recording.now c answer) }
 {
     match outline {
         Outline::Accepted { names } => judge_order(alloc, recording, names),
         Outline::Refused { k, steps, rows } => {
-            judge_cycle(alloc, recording, version, k, steps, rows)
+            judge_cycle(alloc, recording, version, *k, steps, rows)
         }
         _ => Ok(Answer::No(Reason::WrongFault)),
     }

@@ -180,12 +180,7 @@ impl Numbered {
 
     /// The depth of each element in a row of `k - 1` layers, `k - 1` where it stands in none; none where a
     /// name of the row is no element's or stands in it twice. The row is given by its line after `layers`.
-    pub fn depths_of(
-        &self,
-        alloc: Global,
-        k: u32,
-        words: &[u8],
-    ) -> Result<Option<Vec<u32>>, Memory>
+    pub fn depths_of(&self, alloc: Global, k: u32, words: &[u8]) -> Result<Option<Vec<u32>>, Memory>
         requires numbering { IsNumbering self.now }
         requires layers { 2 ≤ k }
         ensures { IfOk result (λ found. MatchOption found

@@ -48,20 +48,22 @@ pub fn first_wrong_step(recording: &Recording, k: u32, lines: &[u8]) -> Option<u
         MatchOption result ((i : ℕ) → i < length steps → StepIsRight (responses_of recording.now) steps i)
         (IsFirstWrongStep (responses_of recording.now) steps) }
 {
-    let Some((first, behind)) = first_step(lines) else {
+    let Some(start) = first_step(lines) else {
         return None;
     };
+    let first = start.0;
     let mut step = first;
-    let mut rest = behind;
+    let mut rest = start.1;
     for i in 1..k {
-        let Some((next, behind)) = first_step(rest) else {
+        let Some(found) = first_step(rest) else {
             return None;
         };
+        let next = found.0;
         if !is_right_step(recording, &step, &next) {
             return Some(i);
         }
         step = next;
-        rest = behind;
+        rest = found.1;
     }
     if is_right_step(recording, &step, &first) {
         None

@@ -157,7 +157,11 @@ static INVALID: [(&str, &str, Why); 27] = [
     (READ_BACK, "cert 1\naccepted\norder : b\n", Why::NotOrder),
     (READ_BACK, "cert 1\naccepted\norder : b b\n", Why::NotOrder),
     (READ_BACK, "cert 2\naccepted\norder : b c\n", Why::NotOrder),
-    (READ_BACK, "cert 2\naccepted\norder : b a b\n", Why::NotOrder),
+    (
+        READ_BACK,
+        "cert 2\naccepted\norder : b a b\n",
+        Why::NotOrder,
+    ),
     (
         READ_BACK,
         "cert 1\naccepted\norder : a b\n",

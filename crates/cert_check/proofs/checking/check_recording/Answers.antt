@@ -1,6 +1,5 @@
 -- What the text spells is what was read.
-use Rattle.std.proofs.Common.{inr, sym}
-use Rattle.specification.specs.CertificateText.{SpellsCertificate}
+use Rattle.std.proofs.Common.{inr}
 use Rattle.std.proofs.lemmas.Result.{IfOk-weaker}
 use Rattle.certificate_text.specs.CertificateOf.{version_in}
 use Rattle.certificate_text.proofs.OneCertificate.{one-certificate}

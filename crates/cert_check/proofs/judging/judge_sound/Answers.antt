@@ -26,5 +26,5 @@ returns-in-Refused c =
 
 pub returns-in_default : goal.returns-in_default
 returns-in_default c = λ d spellable outlines.
-    let f = names_some c.args.outline d outlines c.in_default.not-Accepted c.in_default.not-Refused in
+    let f = names_some c.args.outline.now d outlines c.in_default.not-Accepted c.in_default.not-Refused in
     no_fault c.args.recording.now d f.0 c.requires.sound f.1

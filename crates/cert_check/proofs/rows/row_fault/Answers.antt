@@ -1,8 +1,7 @@
 -- The row at the element's place, if it has the element as its source, decides.
-use Rattle.std.proofs.Common.{◌≡◌, ◌∙◌, ℕ, ◌<◌, Some, List, length, get_or, sym, ap, subst, refl}
+use Rattle.std.proofs.Common.{◌≡◌, ◌∙◌, Some, sym, subst, refl}
 use Rattle.std.specs.Prelude.{slice_get}
 use Rattle.std.proofs.lemmas.Bool.{false≢true}
-use Rattle.events.proofs.Places.{slice_get-within}
 use Rattle.events.specs.Names.{NameBytes}
 use Rattle.specification.specs.LayerRule.{Row, MeetsRuleOf}
 use Rattle.specification.specs.Responses.{responses_of}
@@ -11,10 +10,8 @@ use Rattle.specification.specs.ValidCertificate.{HasSource}
 use Rattle.format_words.specs.Words.{words_behind}
 use Rattle.certificate_text.specs.CertificateOf.{version_in}
 use Rattle.cert_check.specs.RowWords.{SaysRow}
+use Rattle.cert_check.proofs.RowsJudged.{element_at}
 use Rattle.cert_check.proofs.rows.row_fault.Goals as goal
-
-element_at : (names all : List NameBytes) (i : ℕ) (a : NameBytes) → i < length names → a ≡ get_or names i a → names ≡ all → slice_get all i ≡ Some a
-element_at names all i a lt is same = ap (λ (ns : List NameBytes). slice_get ns i) (sym same) ∙ slice_get-within names i a lt is
 
 pub returns-then-not-has_source : goal.returns-then-not-has_source
 returns-then-not-has_source c = λ rows row there is spelled h of.

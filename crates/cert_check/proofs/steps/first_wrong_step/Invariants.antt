@@ -1,4 +1,4 @@
-use Rattle.std.proofs.Common.{◌≡◌, ◌≤◌, ℕ, List, length}
+use Rattle.std.proofs.Common.{◌≡◌, ◌≤◌, List, length}
 use Rattle.std.specs.Prelude.{All, map}
 use Rattle.specification.specs.Conflict.{Step}
 use Rattle.specification.specs.Lines.{text_of}

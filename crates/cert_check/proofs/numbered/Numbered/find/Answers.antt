@@ -1,9 +1,8 @@
 -- A name that the map has, or no name.
-use Rattle.std.proofs.Common.{◌≡◌, ◌∙◌, ℕ, Some, None, List, sym, ap}
-use Rattle.std.specs.Prelude.{slice_get, option_copied}
+use Rattle.std.proofs.Common.{◌≡◌, ◌∙◌, Some, None, List, sym, ap}
+use Rattle.std.specs.Prelude.{option_copied}
 use Rattle.events.specs.Names.{NameBytes}
 use Rattle.specification.specs.Elements.{number_in}
-use Rattle.format_words.specs.Reading.{name_of}
 use Rattle.format_words.proofs.NameWords.{name-is, name_of-name}
 use Rattle.element_numbers.proofs.NameNumbers.{name-at}
 use Rattle.cert_check.proofs.numbered.Numbered.find.Goals as goal

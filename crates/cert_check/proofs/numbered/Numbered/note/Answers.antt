@@ -1,8 +1,6 @@
 -- The name's element has no value, or has one, or there is none.
-use Rattle.std.proofs.Common.{◌≡◌, ◌<◌, ℕ, Some, List, length, arith}
-use Rattle.std.specs.Prelude.{slice_get}
+use Rattle.std.proofs.Common.{◌<◌, length, arith}
 use Rattle.std.proofs.lemmas.Option.{slice_get_within}
-use Rattle.events.specs.Names.{NameBytes}
 use Rattle.cert_check.proofs.NotedNames.{none_unknown, none_twice, hold_more}
 use Rattle.cert_check.proofs.numbered.Numbered.note.Goals as goal
 

@@ -1,5 +1,5 @@
 -- One name of the order more.
-use Rattle.std.proofs.Common.{◌≡◌, ◌<◌, ◌==◌, ℕ, List, [], ◌∷◌, length, refl, subst, arith}
+use Rattle.std.proofs.Common.{◌≡◌, ◌<◌, ◌==◌, List, length, refl, subst, arith}
 use Rattle.std.proofs.lemmas.Grind.{common_steps}
 use Rattle.format_words.specs.Words.{Word, words_behind}
 use Rattle.format_words.proofs.FirstWord.{none-behind}

@@ -1,5 +1,5 @@
 -- One word of the row more.
-use Rattle.std.proofs.Common.{◌≡◌, ◌<◌, ℕ, List, ◌∷◌, length, subst, arith}
+use Rattle.std.proofs.Common.{◌<◌, List, length, subst, arith}
 use Rattle.std.proofs.lemmas.Grind.{common_steps}
 use Rattle.format_words.specs.Words.{Word, words_behind}
 use Rattle.format_words.proofs.NamesRead.{some-word-at, word-at-some}

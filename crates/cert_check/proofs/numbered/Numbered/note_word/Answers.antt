@@ -1,5 +1,5 @@
 -- A name that cannot be noted.
-use Rattle.std.proofs.Common.{◌≡◌, ◌≢◌, ◌∙◌, ℕ, List, codes, sym}
+use Rattle.std.proofs.Common.{◌≢◌, ◌∙◌, codes, sym}
 use Rattle.std.proofs.lemmas.Slice.Eq.{slice_eq-Decides}
 use Rattle.std.proofs.lemmas.Bool.Decides.{Decides-eqb}
 use Rattle.std.proofs.lemmas.Bool.{false≢true}
