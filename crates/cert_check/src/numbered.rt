@@ -1,8 +1,7 @@
 //! A recording's elements by number, and its responses as lists of numbers.
 
-use super::places::places_of;
 use super::values::is_rising;
-use element_numbers::{inserted_names, numbers_of};
+use element_numbers::{Rows, inserted_names, numbers_of, places_of};
 use events::{Memory, Name, OpName, Recording};
 use format_words::{name_of, next_word};
 use indexmap::IndexMap;
@@ -18,14 +17,14 @@ struct Place {
 
 /// The elements of a recording with their numbers, and each operation's response as numbers.
 ///
-/// Elements are numbered from 0 in the order of their inserts' operations. There is one list of places for
+/// Elements are numbered from 0 in the order of their inserts' operations. There is one row of places for
 /// each operation, in the order of their names.
 #[derive(Drop)]
 pub struct Numbered {
     pub names: Vec<Name>,
     pub numbers: IndexMap<Name, u32>,
     pub operations: Vec<OpName>,
-    pub places: Vec<Vec<u32>>,
+    pub places: Rows<u32>,
 }
 
 ghost use Rattle.std.specs.Prelude.{◌≡◌, ◌+◌, ◌-◌, ◌<◌, ◌≤◌, ◌∷◌, ◌++◌, ◌↔◌, ◌^◌, [], ℕ, List, All, IfOk};
@@ -36,7 +35,8 @@ ghost use Rattle.specification.specs.Elements.{number_in};
 ghost use Rattle.specification.specs.Faults.{IsSound};
 ghost use Rattle.specification.specs.LayerRule.{Row};
 ghost use Rattle.format_words.specs.Words.{words_behind};
-ghost use Rattle.cert_check.specs.Numbering.{IsNumbering, IsOf, AreWithin, places_at};
+ghost use Rattle.element_numbers.specs.Cuts.{IsCut};
+ghost use Rattle.cert_check.specs.Numbering.{IsNumbering, IsOf, AreWithin, lists_of, places_at};
 ghost use Rattle.cert_check.specs.Noted.{Noted, Holds, CanBeNoted, pairs_from, placed_from};
 ghost use Rattle.cert_check.specs.RowWords.{GoesOn, IsRowWord, SaysRow, Stops, pairs_of, slashes};
 ghost use Rattle.cert_check.specs.Values.{IsRising};
@@ -251,15 +251,16 @@ impl Numbered {
 
     /// The first list of places along which these values do not rise.
     pub fn first_not_rising(&self, values: &[u32]) -> Option<usize>
-        requires { AreWithin (length values.now) self.now }
-        ensures { MatchOption result ((j : ℕ) → j < length self.now.places.items
+        requires cut { IsCut self.now.places }
+        requires within { AreWithin (length values.now) self.now }
+        ensures { MatchOption result ((j : ℕ) → j < length (lists_of self.now)
             → IsRising (map (slice_index values.now) (places_at self.now j)))
-            (λ i. (i < length self.now.places.items)
+            (λ i. (i < length (lists_of self.now))
             × (¬ IsRising (map (slice_index values.now) (places_at self.now i)))
             × ((j : ℕ) → j < i → IsRising (map (slice_index values.now) (places_at self.now j)))) }
     {
-        for (i, list) in self.places.iter().enumerate() {
-            if !is_rising(values, list) {
+        for i in 0..self.places.ends.len() {
+            if !is_rising(values, self.places.row(i)) {
                 return Some(i);
             }
         }

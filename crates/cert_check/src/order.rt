@@ -9,7 +9,8 @@ ghost use Rattle.specification.specs.Versions.{Version};
 ghost use Rattle.specification.specs.CertificateText.{gives_order};
 ghost use Rattle.cert_check.specs.Judged.{IsJudged};
 ghost use Rattle.cert_check.specs.Noted.{Holds, placed_from};
-ghost use Rattle.cert_check.specs.Numbering.{IsOf, AreWithin};
+ghost use Rattle.element_numbers.specs.Cuts.{IsCut};
+ghost use Rattle.cert_check.specs.Numbering.{IsOf, AreWithin, lists_of};
 
 use super::answer::{Answer, Kind, Reason};
 use super::numbered::Numbered;
@@ -36,8 +37,9 @@ pub fn judge_order(alloc: Global, recording: &Recording, names: &[u8]) -> Result
 
 /// The same by the places of the elements in a permutation of them.
 fn judge_ranks(numbered: &Numbered, ranks: &[u32]) -> Answer
+    requires cut { IsCut numbered.now.places }
     requires within { AreWithin (length ranks.now) numbered.now }
-    requires operations { length numbered.now.operations.items ≡ length numbered.now.places.items }
+    requires operations { length numbered.now.operations.items ≡ length (lists_of numbered.now) }
     ensures { (version : Version) (h : History) (order : List NameBytes) → IsOf h numbered.now
         → IsPermutation numbered.now.names.items order →
         Holds numbered.now.names.items (length numbered.now.names.items) (placed_from 0 order) ranks.now

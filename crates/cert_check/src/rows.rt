@@ -10,6 +10,7 @@ ghost use Rattle.specification.specs.ValidCertificate.{HasSource};
 ghost use Rattle.bit_tables.specs.Lists.{IsTableOf};
 ghost use Rattle.format_words.specs.Words.{words_behind};
 ghost use Rattle.certificate_text.specs.CertificateOf.{version_in};
+ghost use Rattle.element_numbers.specs.Cuts.{IsCut};
 ghost use Rattle.cert_check.specs.Numbering.{IsNumbering, AreWithin, first_of, lists_of};
 ghost use Rattle.cert_check.specs.Judged.{TellsLayerRule, TellsRow, TellsRows};
 ghost use Rattle.cert_check.specs.RowWords.{SaysRow};
@@ -146,6 +147,19 @@ fn first_source(rows: &[u8]) -> Option<Name>
     }
 }
 
+/// Which elements are shown after which.
+fn shown_after(alloc: Global, numbered: &Numbered) -> Result<AfterTable, Memory>
+    requires cut { IsCut numbered.now.places }
+    requires within { AreWithin (length numbered.now.names.items) numbered.now }
+    ensures { IfOk result (λ t. IsTableOf (length numbered.now.names.items) (lists_of numbered.now) t) }
+{
+    let mut table = AfterTable::new(alloc, numbered.names.len())?;
+    for i in 0..numbered.places.ends.len() {
+        table.add(alloc, numbered.places.row(i))?;
+    }
+    Ok(table)
+}
+
 /// The first thing that is wrong with the rows of a certificate for `k` of 3 and more: one row after the
 /// other, in order of numbers, and then a row too many. The rows are given by their lines.
 ///
@@ -159,13 +173,14 @@ pub fn rows_fault(
     rows: &[u8],
 ) -> Result<Option<Reason>, Memory>
     requires numbering { IsNumbering numbered.now }
+    requires cut { IsCut numbered.now.places }
     requires within { AreWithin (length numbered.now.names.items) numbered.now }
     requires long { 2 ≤ k }
     ensures { IfOk result (λ found. (layers : List Row) → All (IsRow k) layers
         → rows.now ≡ text_of (map row_line layers)
         → TellsRows (version_in version) numbered.now k layers found) }
 {
-    let table = AfterTable::of(alloc, numbered.names.len(), &numbered.places)?;
+    let table = shown_after(alloc, numbered)?;
     first_row_fault(alloc, numbered, &table, version, k, rows)
 }
 
