@@ -1,5 +1,5 @@
 -- Layers of numbers by how many steps lead to them: none at first, one layer more, and what all of them say.
-use Rattle.std.proofs.Common.{◌≡◌, ℕ, zero, suc, ◌+◌, ◌/◌, ◌<◌, ◌≤◌, ◌⊎◌, inl, inr, ◌∙◌, List, [], ◌∷◌, ◌++◌, length, get_or, ap, sym, refl, subst, arith}
+use Rattle.std.proofs.Common.{◌≡◌, ℕ, zero, suc, ◌+◌, ◌<◌, ◌≤◌, ◌⊎◌, inl, inr, ◌∙◌, List, [], ◌∷◌, ◌++◌, length, get_or, ap, sym, refl, subst, arith}
 use Rattle.std.specs.Prelude.{◌↔◌, Contains}
 use Rattle.std.specs.List.Sorted.{IsStrictlyIncreasing}
 use Rattle.std.proofs.lemmas.Bool.{cases_eq, cases_lt}
@@ -7,10 +7,9 @@ use Rattle.std.proofs.lemmas.List.{get_or_past, get_or_append_left, length-appen
 use Rattle.std.proofs.Math.Seq.{get_or-append_seam}
 use Rattle.bit_tables.specs.Sets.{Has, room}
 use Rattle.bit_tables.specs.Lists.{row_of}
-use Rattle.bit_tables.specs.Rule.{StandsBelow, layer_at}
-use Rattle.bit_tables.specs.Ways.{AreThoseBelow, IsStep, Way, IsDistance, IsLayerAt}
+use Rattle.bit_tables.specs.Rule.{StandsBelow}
+use Rattle.bit_tables.specs.Ways.{AreThoseBelow, IsStep, Way, IsLayerAt}
 use Rattle.bit_tables.proofs.SetLemmas.{Has-either, Has-room}
-use Rattle.bit_tables.proofs.Those.{not_in-none}
 
 -- the layer at a place
 abbrev pub at : List (List ℕ) → ℕ → List ℕ
