@@ -65,7 +65,7 @@ def main() -> None:
                 name = " ".join(words)
                 told[name] = refuse_each(tally, library, [program, *words])
                 tally.check(f"some request of {name} was refused", told[name] > 0)
-    print(f"{sum(told.values())} times want of memory, at most {max(told.values())} for one answer")
+    print(f"{sum(told.values())} times out of memory, at most {max(told.values())} for one answer")
     tally.close()
 
 
