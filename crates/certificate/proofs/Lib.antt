@@ -4,4 +4,3 @@ pub mod TableWays
 pub mod ExactRows
 pub mod CoveredRows
 pub mod ByRows
-pub mod RowLines

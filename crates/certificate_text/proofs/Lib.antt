@@ -15,5 +15,3 @@ pub mod Nameable
 pub mod VerdictCertificates
 pub mod TakingLines
 pub mod RowForms
-pub mod OutlineFaults
-pub mod OutlineTexts

@@ -2,5 +2,4 @@ pub mod CertificateOf
 pub mod Reading
 pub mod Progress
 pub mod Place
-pub mod Outlines
 pub mod Laws

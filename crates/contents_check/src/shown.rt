@@ -11,7 +11,6 @@ ghost use Rattle.contents_check.specs.Shown.{ShowJust, ShowsLive};
 ghost use Rattle.contents_check.specs.Standings.{AreBehind};
 
 use super::elements::Elements;
-use super::recent::Recent;
 use super::rightness::is_view;
 use super::standings::Standings;
 use events::{OpName, Recording, Response};
@@ -38,7 +37,6 @@ impl Standings {
     /// differ is a name looked up. It takes time linear in both.
     pub fn shows_live(
         &mut self,
-        recent: &mut Recent,
         elements: &Elements,
         last: &Response,
         w: &Response,
@@ -55,7 +53,7 @@ impl Standings {
         ensures shows { IsTrue result
             ↔ ShowsLive (IsView recording.now e) elements.now self.new.list.items w.now }
     {
-        self.show(recent, elements, last, w) && self.has_what_it_must(recording, e)
+        self.show(elements, last, w) && self.has_what_it_must(recording, e)
     }
 
     /// Whether none is shown that is not live, and no live element is left out unless `e` is a view.
@@ -67,13 +65,7 @@ impl Standings {
 
     /// Notes what a response shows, where `last` is noted; false where it repeats a name or has one that is
     /// no element's.
-    fn show(
-        &mut self,
-        recent: &mut Recent,
-        elements: &Elements,
-        last: &Response,
-        w: &Response,
-    ) -> bool
+    fn show(&mut self, elements: &Elements, last: &Response, w: &Response) -> bool
         requires numbers { AreNumbered elements.now }
         requires fits { Fits elements.now self.old }
         requires shown { ShowJust elements.now self.old.list.items last.now }
@@ -89,21 +81,20 @@ impl Standings {
             let run = w.same_names(i, last, j);
             i += run;
             j += run;
-            match self.step(recent, elements, last, j, w, i) {
+            match self.step(elements, last, j, w, i) {
                 Step::End => {}
                 Step::New => i += 1,
                 Step::Gone => j += 1,
                 Step::Wrong => return false,
             }
         }
-        self.hide_from(recent, elements, last, j);
+        self.hide_from(elements, last, j);
         true
     }
 
     /// Notes what differs at these places: that the one's name is shown, or that the other's is not any more.
     fn step(
         &mut self,
-        recent: &mut Recent,
         elements: &Elements,
         last: &Response,
         j: usize,
@@ -119,7 +110,7 @@ impl Standings {
         let Some(name) = w.get(i) else {
             return Step::End;
         };
-        let Some(number) = recent.number(elements, name) else {
+        let Some(number) = elements.number(name) else {
             return Step::Wrong;
         };
         if !self.list[number].shown {
@@ -127,14 +118,14 @@ impl Standings {
             return Step::New;
         }
         if j < last.len() {
-            self.hide(recent, elements, last, j);
+            self.hide(elements, last, j);
             return Step::Gone;
         }
         Step::Wrong
     }
 
     /// Notes that the name at a place of a response is not shown any more.
-    fn hide(&mut self, recent: &mut Recent, elements: &Elements, last: &Response, j: usize)
+    fn hide(&mut self, elements: &Elements, last: &Response, j: usize)
         requires numbers { AreNumbered elements.now }
         requires fits { Fits elements.now self.old }
         requires inside { j < length last.now }
@@ -144,14 +135,14 @@ impl Standings {
             → ShowJust elements.now self.new.list.items (front ++ drop (j + 1) last.now) }
     {
         if let Some(name) = last.get(j) {
-            if let Some(number) = recent.number(elements, name) {
+            if let Some(number) = elements.number(name) {
                 self.note(number, false);
             }
         }
     }
 
     /// Notes that the names of a response from a place on are not shown any more.
-    fn hide_from(&mut self, recent: &mut Recent, elements: &Elements, last: &Response, j: usize)
+    fn hide_from(&mut self, elements: &Elements, last: &Response, j: usize)
         requires numbers { AreNumbered elements.now }
         requires fits { Fits elements.now self.old }
         ensures notes { OnlyNotes elements.now self.old self.new }
@@ -160,7 +151,7 @@ impl Standings {
             → ShowJust elements.now self.new.list.items front }
     {
         for k in j..last.len() {
-            self.hide(recent, elements, last, k);
+            self.hide(elements, last, k);
         }
     }
 }

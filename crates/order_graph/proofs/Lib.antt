@@ -1,5 +1,6 @@
--- Lemmas: on names read back from their numbers, on spots, on the limits, on responses
+-- Lemmas: on rows cut from a list, on names read back from their numbers, on spots, on the limits, on responses
 -- that cover others, on what is left where some elements alone are kept.
+pub mod Cuts
 pub mod ReadBack
 pub mod AllSpots
 pub mod Adding
@@ -8,6 +9,7 @@ pub mod Shown
 pub mod Totals
 pub mod Parts
 pub mod CoverSteps
+pub mod Copying
 pub mod Made
 pub mod Listed
 pub mod Covers

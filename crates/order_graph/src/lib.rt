@@ -9,6 +9,8 @@ mod looked;
 mod narrowing;
 mod order_graph;
 mod pairs;
+mod places;
+mod rows;
 mod spot;
 mod spots;
 
