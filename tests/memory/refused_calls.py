@@ -28,7 +28,7 @@ MOST = 2000
 CALLS = """Response::push, Recording::new, Recording::record, Recording::copy, trace_text::read, trace_text::write, Reader::feed,
 Sight::of, first_fault, OrderGraph::of, OrderGraph::covering, Scratch::new, Bound::new, conflict_number, least_cycle,
 least_conflict, judge, report::text, report::json, OrderGraph::narrowed, taken, order, certify, write_certificate,
-Certificate::write, push_row, Certificate::read, check, check_recording, Session::open, Session::record, snapshot,
+judge_and_write, Certificate::write, push_row, Certificate::read, check, check_recording, Session::open, Session::record, snapshot,
 watch_snapshot, watch, replay, Registry::add, Registry::names, run, run_cert, run_verify, live, read_words"""
 
 # By call: the crate and its tests, or the program's command.
@@ -57,6 +57,7 @@ TESTS = {
     "order": ("witness_order", "the_least_of_several_orders"),
     "certify": ("certificate", "certificates_of_worked_recordings"),
     "write_certificate": ("certificate", "certificates_written_row_by_row"),
+    "judge_and_write": ("certificate", "certificates_with_their_verdicts"),
     "Certificate::write": ("certificate_text", "certificates_are_read_and_written_again"),
     "push_row": ("certificate", "certificates_written_row_by_row"),
     "Certificate::read": ("certificate_text", "certificates_are_read_and_written_again"),

@@ -1,10 +1,12 @@
 -- Lists from their end on.
-use Rattle.std.proofs.Common.{◌≡◌, ℕ, ◌+◌, ◌<◌, ◌≤◌, ◌⊎◌, ◌∙◌, List, [], Some, length, get_or, set, ap, sym, inl, inr, arith, get_or-set_same, get_or-set_other, length-set}
+use Rattle.std.proofs.Common.{◌≡◌, ℕ, ◌+◌, ◌/◌, ◌<◌, ◌≤◌, ◌⊎◌, ◌∙◌, List, [], ◌∷◌, ◌++◌, Some, length, get_or, set, ap, sym, subst, inl, inr, arith, get_or-set_same, get_or-set_other, length-set}
 use Rattle.std.specs.Prelude.{◌↔◌, slice_get}
-use Rattle.std.proofs.lemmas.Bool.{cases_eq}
+use Rattle.std.proofs.lemmas.Bool.{cases_eq, cases_lt}
+use Rattle.std.proofs.lemmas.List.{get_or_append_left, length-append}
+use Rattle.std.proofs.Math.Seq.{get_or-append_seam}
 use Rattle.std.proofs.lemmas.Option.{slice_get_within}
 use Rattle.bit_tables.specs.Sets.{Has}
-use Rattle.bit_tables.specs.Lists.{HasInOrder, HaveWidth, IsShownBelow, row_of}
+use Rattle.bit_tables.specs.Lists.{HasInOrder, HaveWidth, IsShown, IsTableOf, row_of}
 
 -- from place i on the list has x
 abbrev pub StandsFrom : ℕ → List ℕ → ℕ → Type 0
@@ -122,20 +124,39 @@ width_set width rows x row all same a within =
       | inr apart ↦ ap length (get_or-set_other rows x a row [] apart) ∙ all a inside
     ]
 
+-- a table of no list
+pub table_none : (n : ℕ) (rows : List (List ℕ)) → length rows ≡ n → HaveWidth (n / 64 + 1) rows → ((a b : ℕ) → a < n → Has (row_of rows a) b → ⊥) → IsTableOf n [] rows
+table_none n rows len width none = record {
+  len = len;
+  width = width;
+  shown = λ a b low. ((λ has. absurd (none a b low has)), (λ s. absurd (let bad : s.0 < 0 = s.1 in omega (arith, bad))));
+}
+
 -- one list more
-pub shown_step : (n k : ℕ) (lists : List (List ℕ)) (w : List ℕ) (old new : List (List ℕ)) → length old ≡ n → get_or lists k [] ≡ w
-    → ((a b : ℕ) → a < n → Has (row_of old a) b ↔ IsShownBelow k lists a b)
+module _ (lists : List (List ℕ)) (w : List ℕ) (a b : ℕ) where
+  size : length (lists ++ w ∷ []) ≡ length lists + 1
+  size = length-append lists (w ∷ [])
+
+  shown_more : IsShown lists a b ⊎ HasInOrder w a b → IsShown (lists ++ w ∷ []) a b
+  shown_more (inl s) = (s.0, omega (arith, s.1, size), subst (λ (l : List ℕ). HasInOrder l a b) (sym (get_or_append_left lists (w ∷ []) [] s.0 s.1)) s.2)
+  shown_more (inr s) = (length lists, omega (arith, size), subst (λ (l : List ℕ). HasInOrder l a b) (sym (get_or-append_seam lists w [] [])) s)
+
+  shown_less : IsShown (lists ++ w ∷ []) a b → IsShown lists a b ⊎ HasInOrder w a b
+  shown_less s = elim (cases_lt s.0 (length lists)) [
+    | inl lt ↦ inl (s.0, lt, subst (λ (l : List ℕ). HasInOrder l a b) (get_or_append_left lists (w ∷ []) [] s.0 lt) s.2)
+    | inr ge ↦
+        let same : s.0 ≡ length lists = omega (arith, ge, s.1, size) in
+        inr (subst (λ (l : List ℕ). HasInOrder l a b) (ap (λ (i : ℕ). get_or (lists ++ w ∷ []) i []) same ∙ get_or-append_seam lists w [] []) s.2)
+  ]
+
+pub table_more : (lists : List (List ℕ)) (w : List ℕ) (old new : List (List ℕ)) → length new ≡ length old → HaveWidth (length old / 64 + 1) new
     → ((a b : ℕ) → a < length old → Has (row_of new a) b ↔ (Has (row_of old a) b ⊎ HasInOrder w a b))
-    → (a b : ℕ) → a < n → Has (row_of new a) b ↔ IsShownBelow (k + 1) lists a b
-shown_step n k lists w old new len here shown noted a b low =
-    let inside : a < length old = omega arith in (
-      λ has. elim ((noted a b inside).0 has) [
-        | inl was ↦ let s = (shown a b low).0 was in (s.0, (omega arith), s.2)
-        | inr s ↦ (k, (omega arith), rw here s)
-      ],
-      λ s. (noted a b inside).1
-          (elim (cases_eq s.0 k) [
-            | inl last ↦ inr (rw (last, here) at s.2)
-            | inr before ↦ inl ((shown a b low).1 (s.0, (omega arith), s.2))
-          ]),
-    )
+    → IsTableOf (length old) lists old → IsTableOf (length old) (lists ++ w ∷ []) new
+table_more lists w old new len width noted is = record {
+  len = len;
+  width = width;
+  shown = λ a b low. (
+    λ has. shown_more lists w a b (elim ((noted a b low).0 has) [ inl was ↦ inl ((is.shown a b low).0 was) | inr s ↦ inr s ]),
+    λ s. (noted a b low).1 (elim (shown_less lists w a b s) [ inl was ↦ inl ((is.shown a b low).1 was) | inr shown ↦ inr shown ]),
+  );
+}

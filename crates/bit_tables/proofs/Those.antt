@@ -10,7 +10,7 @@ use Rattle.std.proofs.lemmas.List.Elements.{Contains-push, Contains-append_left,
 use Rattle.std.proofs.lemmas.Nat.Bits.{bit_at_and, bit_at_not, bit_at-zero, bit_at-lt, shr_and_one}
 use Rattle.bit_tables.specs.Sets.{Has}
 use Rattle.bit_tables.specs.Lists.{row_of}
-use Rattle.bit_tables.specs.Ways.{AreThoseBelow, IsOutside}
+use Rattle.bit_tables.specs.Ways.{AreThoseBelow}
 
 pub not_in-none : (x : ℕ) → ¬ Contains {X = ℕ} [] x
 not_in-none x (i, lt, is) = omega (arith, lt)

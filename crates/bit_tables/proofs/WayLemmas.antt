@@ -1,5 +1,5 @@
 -- Layers of numbers by how many steps lead to them: none at first, one layer more, and what all of them say.
-use Rattle.std.proofs.Common.{◌≡◌, ℕ, zero, suc, ◌+◌, ◌/◌, ◌<◌, ◌≤◌, ◌⊎◌, inl, inr, ◌∙◌, List, [], ◌∷◌, ◌++◌, length, get_or, ap, sym, refl, subst, arith}
+use Rattle.std.proofs.Common.{◌≡◌, ℕ, zero, suc, ◌+◌, ◌<◌, ◌≤◌, ◌⊎◌, inl, inr, ◌∙◌, List, [], ◌∷◌, ◌++◌, length, get_or, ap, sym, refl, subst, arith}
 use Rattle.std.specs.Prelude.{◌↔◌, Contains}
 use Rattle.std.specs.List.Sorted.{IsStrictlyIncreasing}
 use Rattle.std.proofs.lemmas.Bool.{cases_eq, cases_lt}
@@ -7,10 +7,9 @@ use Rattle.std.proofs.lemmas.List.{get_or_past, get_or_append_left, length-appen
 use Rattle.std.proofs.Math.Seq.{get_or-append_seam}
 use Rattle.bit_tables.specs.Sets.{Has, room}
 use Rattle.bit_tables.specs.Lists.{row_of}
-use Rattle.bit_tables.specs.Rule.{StandsBelow, layer_at}
-use Rattle.bit_tables.specs.Ways.{AreThoseBelow, IsStep, Way, IsDistance, IsLayerAt}
+use Rattle.bit_tables.specs.Rule.{StandsBelow}
+use Rattle.bit_tables.specs.Ways.{AreThoseBelow, IsStep, Way, IsLayerAt}
 use Rattle.bit_tables.proofs.SetLemmas.{Has-either, Has-room}
-use Rattle.bit_tables.proofs.Those.{not_in-none}
 
 -- the layer at a place
 abbrev pub at : List (List ℕ) → ℕ → List ℕ
@@ -27,31 +26,31 @@ row-within rows c x has = elim (cases_lt c (length rows)) [
       absurd (omega (arith, low, size))
 ]
 
--- what is known of the first m layers
-pub record IsWalked (n first source m : ℕ) (rows layers : List (List ℕ)) (reached shown : List ℕ) : Type 0 where
+-- what is known of the first m layers of so many; what they show is known only where another layer follows
+pub record IsWalked (most n first source m : ℕ) (rows layers : List (List ℕ)) (reached shown : List ℕ) : Type 0 where
   pub count : length layers ≡ m
   pub reached_is : (y : ℕ) → Has reached y ↔ ((y < first) ⊎ StandsBelow m layers y)
-  pub shown_is : (y : ℕ) → Has shown y ↔ ((y ≡ source) ⊎ ((x : ℕ) × StandsBelow m layers x × Has (row_of rows x) y))
+  pub shown_is : m < most → (y : ℕ) → Has shown y ↔ ((y ≡ source) ⊎ ((x : ℕ) × StandsBelow m layers x × Has (row_of rows x) y))
   pub sound : (j x : ℕ) → j < m → Contains (at layers j) x → (x < n) × Way rows first j source x
   pub found : (j x : ℕ) → j < m → x < n → Way rows first j source x → StandsBelow (j + 1) layers x
   pub apart : (i j x : ℕ) → i < j → j < m → Contains (at layers i) x → Contains (at layers j) x → ⊥
   pub rising : (j : ℕ) → j < m → IsStrictlyIncreasing (at layers j)
 
-module _ (n first source : ℕ) (rows : List (List ℕ)) (size : length rows ≡ n) (counts : first ≤ source) (within : source < n) where
+module _ (most n first source : ℕ) (rows : List (List ℕ)) (size : length rows ≡ n) (counts : first ≤ source) (within : source < n) where
   -- a way from a number that counts leads to one that counts
   way-counts : (j x : ℕ) → Way rows first j source x → first ≤ x
   way-counts zero x way = subst (λ y. first ≤ y) way counts
   way-counts (suc j) x way = way.2.to
 
   -- before the first layer
-  pub walked_none : (reached shown : List ℕ) → ((y : ℕ) → Has reached y ↔ (y < first)) → ((y : ℕ) → Has shown y ↔ (y ≡ source)) → IsWalked n first source 0 rows [] reached shown
+  pub walked_none : (reached shown : List ℕ) → ((y : ℕ) → Has reached y ↔ (y < first)) → ((y : ℕ) → Has shown y ↔ (y ≡ source)) → IsWalked most n first source 0 rows [] reached shown
   walked_none reached shown below source_alone = record {
     count = refl;
     reached_is = λ y. (
       λ has. inl ((below y).0 has),
       λ s. elim s [ inl low ↦ (below y).1 low | inr stands ↦ absurd (let none : stands.0 < 0 = stands.1 in omega (arith, none)) ],
     );
-    shown_is = λ y. (
+    shown_is = λ _ y. (
       λ has. inl ((source_alone y).0 has),
       λ s. elim s [ inl e ↦ (source_alone y).1 e | inr p ↦ absurd (let none : p.1.0 < 0 = p.1.1 in omega (arith, none)) ],
     );
@@ -62,17 +61,17 @@ module _ (n first source : ℕ) (rows : List (List ℕ)) (size : length rows ≡
   }
 
   -- what a way of m steps leads to is shown by the first m layers
-  shows : (m : ℕ) (layers : List (List ℕ)) (reached shown : List ℕ) → IsWalked n first source m rows layers reached shown → (x : ℕ) → Way rows first m source x → Has shown x
-  shows zero layers reached shown is x way = (is.shown_is x).1 (inl (sym way))
-  shows (suc m) layers reached shown is x way =
+  shows : (m : ℕ) (layers : List (List ℕ)) (reached shown : List ℕ) → IsWalked most n first source m rows layers reached shown → m < most → (x : ℕ) → Way rows first m source x → Has shown x
+  shows zero layers reached shown is more x way = (is.shown_is more x).1 (inl (sym way))
+  shows (suc m) layers reached shown is more x way =
       let known : way.0 < n = (let lt = row-within rows way.0 x way.2.has in omega (arith, lt, size)) in
       let stands : StandsBelow (m + 1) layers way.0 = is.found m way.0 (omega arith) known way.1 in
       let all : StandsBelow (suc m) layers way.0 = (stands.0, (let lt = stands.1 in omega (arith, lt)), stands.2) in
-      (is.shown_is x).1 (inr (way.0, all, way.2.has))
+      (is.shown_is more x).1 (inr (way.0, all, way.2.has))
 
-  module _ (m : ℕ) (layers : List (List ℕ)) (layer reached shown reached' shown' : List ℕ) (is : IsWalked n first source m rows layers reached shown)
+  module _ (m : ℕ) (layers : List (List ℕ)) (layer reached shown reached' shown' : List ℕ) (is : IsWalked most n first source m rows layers reached shown) (more : m < most)
       (new : AreThoseBelow (λ x. Has shown x × (¬ Has reached x)) n layer) (more_reached : (y : ℕ) → Has reached' y ↔ (Has reached y ⊎ Contains layer y))
-      (more_shown : (y : ℕ) → Has shown' y ↔ (Has shown y ⊎ ((x : ℕ) × Contains layer x × Has (row_of rows x) y))) where
+      (more_shown : m + 1 < most → (y : ℕ) → Has shown' y ↔ (Has shown y ⊎ ((x : ℕ) × Contains layer x × Has (row_of rows x) y))) where
     abbrev all : List (List ℕ)
     all = layers ++ layer ∷ []
 
@@ -113,7 +112,7 @@ module _ (n first source : ℕ) (rows : List (List ℕ)) (size : length rows ≡
     ]
 
     new-way : (x : ℕ) → Contains layer x → Way rows first m source x
-    new-way x c = elim ((is.shown_is x).0 ((new.has x).0 c).1.0) [
+    new-way x c = elim ((is.shown_is more x).0 ((new.has x).0 c).1.0) [
       | inl e ↦ elim (cases_lt 0 m) [
         | inl some ↦
             let stands : StandsBelow 1 layers source = is.found 0 source some within refl in
@@ -144,11 +143,11 @@ module _ (n first source : ℕ) (rows : List (List ℕ)) (size : length rows ≡
         | inl low ↦ absurd (let high = way-counts m x way in omega (arith, low, high))
         | inr stands ↦ join x (inl stands)
       ]
-      | inr not ↦ join x (inr ((new.has x).1 (known, (shows m layers reached shown is x way, not))))
+      | inr not ↦ join x (inr ((new.has x).1 (known, (shows m layers reached shown is more x way, not))))
     ]
 
     -- one layer more
-    pub walked_more : IsWalked n first source (m + 1) rows all reached' shown'
+    pub walked_more : IsWalked most n first source (m + 1) rows all reached' shown'
     walked_more = record {
       count = length-push layers layer ∙ ap (λ k. k + 1) is.count;
       reached_is = λ y. (
@@ -164,16 +163,16 @@ module _ (n first source : ℕ) (rows : List (List ℕ)) (size : length rows ≡
           ]
         ],
       );
-      shown_is = λ y. (
-        λ has. elim ((more_shown y).0 has) [
-          | inl was ↦ elim ((is.shown_is y).0 was) [ inl e ↦ inl e | inr s ↦ inr (s.0, join s.0 (inl s.1), s.2) ]
+      shown_is = λ again y. (
+        λ has. elim ((more_shown again y).0 has) [
+          | inl was ↦ elim ((is.shown_is more y).0 was) [ inl e ↦ inl e | inr s ↦ inr (s.0, join s.0 (inl s.1), s.2) ]
           | inr s ↦ inr (s.0, join s.0 (inr s.1), s.2)
         ],
         λ s. elim s [
-          | inl e ↦ (more_shown y).1 (inl ((is.shown_is y).1 (inl e)))
+          | inl e ↦ (more_shown again y).1 (inl ((is.shown_is more y).1 (inl e)))
           | inr p ↦ elim (split p.0 p.1) [
-            | inl before ↦ (more_shown y).1 (inl ((is.shown_is y).1 (inr (p.0, before, p.2))))
-            | inr here ↦ (more_shown y).1 (inr (p.0, here, p.2))
+            | inl before ↦ (more_shown again y).1 (inl ((is.shown_is more y).1 (inr (p.0, before, p.2))))
+            | inr here ↦ (more_shown again y).1 (inr (p.0, here, p.2))
           ]
         ],
       );
@@ -212,7 +211,7 @@ module _ (n first source : ℕ) (rows : List (List ℕ)) (size : length rows ≡
         length-push xs x = length-append xs (x ∷ [])
 
   -- all layers
-  pub walked-layer : (m : ℕ) (layers : List (List ℕ)) (reached shown : List ℕ) → IsWalked n first source m rows layers reached shown → (d : ℕ) → d < m → IsLayerAt n rows first source d (at layers d)
+  pub walked-layer : (m : ℕ) (layers : List (List ℕ)) (reached shown : List ℕ) → IsWalked most n first source m rows layers reached shown → (d : ℕ) → d < m → IsLayerAt n rows first source d (at layers d)
   walked-layer m layers reached shown is d lt = record {
     has = λ x. (
       λ c. (

@@ -1,7 +1,7 @@
 //! Which numbers stand after which in some lists.
 
-ghost use Rattle.std.specs.Prelude.{◌≡◌, ◌<◌, ◌≤◌, ◌+◌, ◌/◌, ◌^◌, ◌⊎◌, ◌↔◌, ℕ, All, Contains, IfOk, List};
-ghost use Rattle.std.specs.Prelude.{length, map};
+ghost use Rattle.std.specs.Prelude.{◌≡◌, ◌<◌, ◌≤◌, ◌+◌, ◌/◌, ◌^◌, ◌⊎◌, ◌↔◌, ℕ, [], ◌∷◌, ◌++◌, All, Contains, IfOk};
+ghost use Rattle.std.specs.Prelude.{List, OnErr, OnOk, length};
 ghost use Rattle.bit_tables.specs.Sets.{Has, room};
 ghost use Rattle.bit_tables.specs.Lists.{HasInOrder, HaveWidth, IsTableOf, row_of};
 ghost use Rattle.bit_tables.specs.Ways.{IsTurned};
@@ -58,18 +58,28 @@ pub fn empty_rows(alloc: Global, n: usize) -> Result<Vec<BitSet>, AllocError>
 }
 
 impl AfterTable {
-    /// The table of some lists of numbers below `n`. It takes `n / 64` steps for each place of the lists and
-    /// each list, and `n * n / 8` bytes.
-    pub fn of(alloc: Global, n: usize, lists: &[Vec<u32>]) -> Result<AfterTable, AllocError>
-        requires { All (λ list. All (λ x. x < n) list.items) lists.now }
-        ensures { IfOk result (λ t. IsTableOf n (map (λ list. list.items) lists.now) t) }
+    /// The table of no list, of numbers below `n`. It takes `n * n / 8` bytes.
+    pub fn new(alloc: Global, n: usize) -> Result<AfterTable, AllocError>
+        ensures { IfOk result (λ t. IsTableOf n [] t) }
     {
-        let mut rows = empty_rows(alloc, n)?;
-        let mut after = BitSet::new(alloc, n)?;
-        'lists: for list in lists {
-            note_list(&mut rows, &mut after, list);
-        }
+        let rows = empty_rows(alloc, n)?;
         Ok(AfterTable { rows })
+    }
+
+    /// Notes one list more, or finds no memory and leaves the table as it is. It takes `n / 64` steps for each
+    /// place of the list and one more, and memory for one set, which it gives back.
+    pub fn add(&mut self, alloc: Global, list: &[u32]) -> Result<(), AllocError>
+        requires within { All (λ x. x < length self.old) list.now }
+        requires width { HaveWidth (length self.old / 64 + 1) self.old }
+        ensures len { length self.new ≡ length self.old }
+        ensures width { HaveWidth (length self.old / 64 + 1) self.new }
+        ensures table { OnOk result ((lists : List (List ℕ)) → IsTableOf (length self.old) lists self.old
+            → IsTableOf (length self.old) (lists ++ list.now ∷ []) self.new) }
+        ensures kept { OnErr result (self.new ≡ self.old) }
+    {
+        let mut after = BitSet::new(alloc, self.rows.len())?;
+        note_list(&mut self.rows, &mut after, list);
+        Ok(())
     }
 
     /// The numbers that stand after this one in some list.

@@ -1,8 +1,9 @@
 //! The numbers by how many steps lead to them, along a table.
 
-ghost use Rattle.std.specs.Prelude.{◌≡◌, ◌<◌, ◌≤◌, ◌+◌, ◌/◌, ◌↔◌, ℕ, IfOk, length, vec_len};
+ghost use Rattle.std.specs.Prelude.{◌≡◌, ◌<◌, ◌≤◌, ◌+◌, ◌/◌, ◌⊎◌, ◌↔◌, ℕ};
+ghost use Rattle.std.specs.Prelude.{All, Contains, IfOk, length, vec_len};
 ghost use Rattle.bit_tables.specs.Sets.{Has};
-ghost use Rattle.bit_tables.specs.Lists.{HaveWidth};
+ghost use Rattle.bit_tables.specs.Lists.{HaveWidth, row_of};
 ghost use Rattle.bit_tables.specs.Rule.{layer_at};
 ghost use Rattle.bit_tables.specs.Ways.{IsLayerAt};
 
@@ -24,12 +25,27 @@ fn numbers_below(alloc: Global, n: u32, first: u32) -> Result<BitSet, AllocError
     Ok(numbers)
 }
 
+/// Adds what stands after a number of the layer, unless this layer, counted from 0, is the last of so many:
+/// what it shows is then asked of no other.
+fn add_unless_last(into: &mut BitSet, table: &AfterTable, layer: &[u32], d: u32, count: u32)
+    requires within { All (λ x. x < length table.now) layer.now }
+    requires width { HaveWidth (length into.old) table.now }
+    requires few { d < count }
+    ensures len { length into.new ≡ length into.old }
+    ensures has { d + 1 < count → (y : ℕ) → Has into.new y
+        ↔ (Has into.old y ⊎ ((x : ℕ) × Contains layer.now x × Has (row_of table.now x) y)) }
+{
+    if d + 1 < count {
+        add_successors(into, table, layer);
+    }
+}
+
 /// So many layers of the numbers below `n`, from the first that counts on: layer d holds those that d steps
 /// lead to from the source, and no fewer, in rising order. A step leads to what the table has of a number,
 /// and all steps go through numbers that count.
 ///
-/// It takes `n / 64` steps for each number in the layers and each layer, and memory for these numbers and
-/// two sets.
+/// It takes `n / 64` steps for each layer and for each number in the layers but the last, and memory for
+/// these numbers and two sets.
 pub fn layers_from(
     alloc: Global,
     table: &AfterTable,
@@ -50,10 +66,10 @@ pub fn layers_from(
     let mut shown = BitSet::new(alloc, n as usize)?;
     shown.insert(source as usize);
     let mut layers = Vec::new(alloc);
-    for _ in 0..count {
+    for d in 0..count {
         let layer = shown.outside(alloc, &reached, n)?;
         add_layer(&mut reached, layer.as_slice());
-        add_successors(&mut shown, table, layer.as_slice());
+        add_unless_last(&mut shown, table, layer.as_slice(), d, count);
         layers.push(layer)?;
     }
     Ok(layers)

@@ -22,7 +22,7 @@ use Rattle.cert_check.proofs.NotedNames.{noted_name}
 use Rattle.cert_check.proofs.Listed.{In-map_back, Before-map, Before-map_back, number_of_member, number_at_place, once-elements, known-response, each_response, each_list}
 use Rattle.cert_check.specs.Noted.{Noted, Holds, CanBeNoted, at_depth, pairs_from}
 use Rattle.cert_check.specs.Values.{IsGradualFrom, IsDeepFrom, AreUnsetBelow}
-use Rattle.cert_check.specs.Numbering.{IsOf, AreDeepAt}
+use Rattle.cert_check.specs.Numbering.{IsOf, AreDeepAt, lists_of}
 use Rattle.cert_check.proofs.RulesFrom.{MeetsRuleFrom}
 use Rattle.cert_check.specs.declared.numbered.Numbered.{Numbered}
 
@@ -245,7 +245,7 @@ module _ (h : History) (t : Numbered) (of : IsOf h t) (k first : ℕ) (row : Row
   once : Once (elements h)
   once = once-elements h of.legal of.sound
 
-  pub rule_from_lists : AreUnsetBelow first (k - 1) depths → ((j : ℕ) → j < length t.places.items → AreDeepAt t depths first source (k - 1) j) → MeetsRuleFrom (responses_of h) first k a row
+  pub rule_from_lists : AreUnsetBelow first (k - 1) depths → ((j : ℕ) → j < length (lists_of t) → AreDeepAt t depths first source (k - 1) j) → MeetsRuleFrom (responses_of h) first k a row
   rule_from_lists unset all = record {
     of_elements = rule_elements (elements h) row holds.can;
     from = from_unset (elements h) (k - 1) first row depths once holds unset;
@@ -260,7 +260,7 @@ module _ (h : History) (t : Numbered) (of : IsOf h t) (k first : ℕ) (row : Row
         (subst (λ (w : List NameBytes). HasInOrder w x a) s.1 p);
   }
 
-  pub lists_from_rule : MeetsRuleFrom (responses_of h) first k a row → (j : ℕ) → j < length t.places.items → AreDeepAt t depths first source (k - 1) j
+  pub lists_from_rule : MeetsRuleFrom (responses_of h) first k a row → (j : ℕ) → j < length (lists_of t) → AreDeepAt t depths first source (k - 1) j
   lists_from_rule rule j lt = (
     each_list h t of (IsGradualFrom first depths) (λ o i.
         gradual_numbers (elements h) k row depths size once holds (response h o) (known-response h of.legal of.sound o i) first

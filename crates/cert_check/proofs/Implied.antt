@@ -22,7 +22,7 @@ use Rattle.specification.proofs.Layers.{layers_bound_cycles}
 use Rattle.specification.proofs.Weak.{two_or_more}
 use Rattle.cert_check.proofs.Listed.{In-map_back}
 use Rattle.cert_check.proofs.Rings.{ends, begin}
-use Rattle.std.specs.Prelude.{Result, Ok, Err, IfOk}
+use Rattle.std.specs.Prelude.{Result, Ok, Err, IfOk, IfErr}
 use Rattle.specification.specs.TraceText.{Spells}
 use Rattle.specification.specs.CertificateText.{SpellsCertificate}
 use Rattle.events.specs.declared.memory.Memory.{Memory}
@@ -31,6 +31,11 @@ use Rattle.cert_check.specs.declared.answer.Answer.{Answer}
 use Rattle.cert_check.specs.declared.answer.Answer.TheVariants.{Yes, No}
 use Rattle.cert_check.specs.declared.answer.Reason.TheVariants.{Trace, CertText, WrongFault, NotOrder, NotFollowed, NoCycle, MissingLayer, ShortLayer, ExtraLayer}
 use Rattle.cert_check.specs.AnswerOf.{Reads, IsAnswer, IsAnswerOn, Implies, ImpliesOn, ImpliesOfTexts}
+
+-- what holds in any case
+pub if_err : {A E : Type 0} (r : Result A E) (P : Type 0) → P → IfErr r (λ e. P)
+if_err (Ok a) P h = tt
+if_err (Err e) P h = h
 
 -- the row of an element
 row_of : (version : Version) (v : Responses) (k : ℕ) (sources : List NameBytes) (rows : List Row) → RowsMeetRule version v k sources rows → (a : NameBytes) → In a sources → (row : Row) × HasSource row a × MeetsRuleOf version v k a row

@@ -1,5 +1,5 @@
 -- What stands before what under a function, and the responses of a sound recording as lists of numbers.
-use Rattle.std.proofs.Common.{◌≡◌, ℕ, ◌<◌, inl, inr, Some, List, [], ◌∷◌, map, length, get_or, Vec, Global, refl, sym, ◌∙◌, ap, subst, arith}
+use Rattle.std.proofs.Common.{◌≡◌, ℕ, ◌<◌, inl, inr, Some, List, [], ◌∷◌, map, length, get_or, refl, sym, ◌∙◌, ap, subst, arith}
 use Rattle.std.specs.Prelude.{All, unwrap_or, slice_get}
 use Rattle.std.proofs.lemmas.List.{get_or-map, length-map}
 use Rattle.std.proofs.lemmas.Option.{slice_get-get_or, get_or_from_slice_get, slice_get_within}
@@ -16,7 +16,7 @@ use Rattle.specification.proofs.OperationNames.{listed-operation, operation-list
 use Rattle.specification.proofs.SoundResponses.{response-elements, elements-differ}
 use Rattle.specification.proofs.Strong.{returned_by}
 use Rattle.element_numbers.proofs.NameNumbers.{number-at, number-some}
-use Rattle.cert_check.specs.Numbering.{IsOf, places_at}
+use Rattle.cert_check.specs.Numbering.{IsOf, lists_of, places_at}
 use Rattle.cert_check.specs.declared.numbered.Numbered.{Numbered}
 
 module _ {X Y : Type 0} (f : X → Y) where
@@ -67,20 +67,18 @@ module _ (h : History) (legal : IsLegal h) (sound : IsSound h) where
   once-response o i = Once-from_AllPairs (response h o) (sound.right o (listed-operation h o i)).contents.once
 
 -- the lists of numbers, of operations whose responses have elements alone
-pub lists-within : (h : History) (legal : IsLegal h) (sound : IsSound h) (places : List (Vec ℕ Global)) →
-    map (λ (v : Vec ℕ Global). v.items) places ≡ map (λ o. numbers_in (elements h) (response h o)) (operation_names h) →
-    All (λ (v : Vec ℕ Global). All (λ x. x < length (elements h)) v.items) places
-lists-within h legal sound places is =
-    All-from_members (λ (v : Vec ℕ Global). All (λ x. x < length (elements h)) v.items) places (λ v i.
-    let j : In v.items (map (λ (u : Vec ℕ Global). u.items) places) = In-map (λ (u : Vec ℕ Global). u.items) v places i in
-    let s = In-map_back (λ (o : Operation). numbers_in (elements h) (response h o)) v.items (operation_names h) (subst (λ (ls : List (List ℕ)). In v.items ls) is j) in
+pub lists-within : (h : History) (legal : IsLegal h) (sound : IsSound h) (lists : List (List ℕ)) →
+    lists ≡ map (λ o. numbers_in (elements h) (response h o)) (operation_names h) → All (λ list. All (λ x. x < length (elements h)) list) lists
+lists-within h legal sound lists is =
+    All-from_members (λ (list : List ℕ). All (λ x. x < length (elements h)) list) lists (λ list i.
+    let s = In-map_back (λ (o : Operation). numbers_in (elements h) (response h o)) list (operation_names h) (subst (λ (ls : List (List ℕ)). In list ls) is i) in
     subst (λ (l : List ℕ). All (λ x. x < length (elements h)) l) s.2 (numbers-within (elements h) (response h s.0) (once-elements h legal sound) (known-response h legal sound s.0 s.1)))
 
 module _ (h : History) (t : Numbered) (of : IsOf h t) where
   -- as many lists as operations
-  pub lists-count : length t.places.items ≡ length (operation_names h)
+  pub lists-count : length (lists_of t) ≡ length (operation_names h)
   lists-count =
-      sym (length-map {B = List ℕ} t.places.items (λ (v : Vec ℕ Global). v.items)) ∙ ap (λ (l : List (List ℕ)). length l) of.places
+      ap (λ (l : List (List ℕ)). length l) of.places
       ∙ length-map {B = List ℕ} (operation_names h) (λ o. numbers_in (elements h) (response h o))
 
   -- the list of an operation
@@ -91,7 +89,7 @@ module _ (h : History) (t : Numbered) (of : IsOf h t) where
       ∙ ap (λ p. numbers_in (elements h) (response h p)) (get_or_from_slice_get (operation_names h) j o o at)
 
   -- what holds of each list holds of each response, and back
-  pub each_response : (P : List ℕ → Type 0) → ((j : ℕ) → j < length t.places.items → P (places_at t j)) → (r : Returned) → In r (responses_of h).returned →
+  pub each_response : (P : List ℕ → Type 0) → ((j : ℕ) → j < length (lists_of t) → P (places_at t j)) → (r : Returned) → In r (responses_of h).returned →
       In r.by (operation_names h) × (r.names ≡ response h r.by) × P (numbers_in (elements h) (response h r.by))
   each_response P all r i =
       let by = returned_by h r i in
@@ -99,13 +97,9 @@ module _ (h : History) (t : Numbered) (of : IsOf h t) where
       let p = place_of_In (operation_names h) r.by listed in
       (listed, by.1, subst P (list_at p.0 r.by p.2) (all p.0 (omega (arith, p.1, lists-count))))
 
-  pub each_list : (P : List ℕ → Type 0) → ((o : Operation) → In o (operation_names h) → P (numbers_in (elements h) (response h o))) → (j : ℕ) → j < length t.places.items → P (places_at t j)
+  pub each_list : (P : List ℕ → Type 0) → ((o : Operation) → In o (operation_names h) → P (numbers_in (elements h) (response h o))) → (j : ℕ) → j < length (lists_of t) → P (places_at t j)
   each_list P all j lt =
       let none : Operation = record { replica = 0; n = 0 } in
       let o : Operation = get_or (operation_names h) j none in
       let at : slice_get (operation_names h) j ≡ Some o = slice_get-get_or (operation_names h) j none (omega (arith, lt, lists-count)) in
       subst P (sym (list_at j o at)) (all o (In-from_place (operation_names h) j o at))
-
--- the list at a place
-pub items-at : (t : Numbered) (i : ℕ) (v : Vec ℕ Global) → i < length t.places.items → v ≡ get_or t.places.items i v → places_at t i ≡ v.items
-items-at t i v lt is = get_or-map (λ (u : Vec ℕ Global). u.items) t.places.items i v [] lt ∙ ap (λ (u : Vec ℕ Global). u.items) (sym is)

@@ -1,17 +1,15 @@
 -- One name more is noted, or cannot be.
-use Rattle.std.proofs.Common.{◌≡◌, ◌≢◌, ℕ, zero, suc, ◌+◌, ◌<◌, inl, inr, Option, Some, None, List, [], ◌∷◌, ◌++◌, map, length, take, drop, set, refl, sym, ◌∙◌, ap, subst, arith, get_or-set_same, get_or-set_other, add-zero, append_assoc, append-nil}
+use Rattle.std.proofs.Common.{◌≡◌, ◌≢◌, ℕ, zero, suc, ◌+◌, ◌<◌, inl, inr, Some, None, List, [], ◌∷◌, ◌++◌, map, length, set, refl, sym, ◌∙◌, ap, subst, arith, get_or-set_same, get_or-set_other, add-zero}
 use Rattle.std.specs.Prelude.{slice_get, slice_index, replicate}
-use Rattle.std.proofs.lemmas.List.{length-set, map-append, take-append-drop, length-take-le}
+use Rattle.std.proofs.lemmas.List.{length-set, map-append}
 use Rattle.std.proofs.lemmas.Option.{slice_get_within}
 use native.Mathlib.Decide.{ℕ_discrete}
-use Rattle.visibility.proofs.Entries.{take_next}
 use Rattle.events.specs.Names.{NameBytes}
 use Rattle.specification.specs.Elements.{number_in}
-use Rattle.specification.specs.LayerRule.{Row}
 use Rattle.specification.proofs.Members.{In, Once, In-append_left, In-append_right, In-from_place, In-map, Once-middle}
 use Rattle.element_numbers.proofs.NameNumbers.{number-at, number-some, Once-front}
 use Rattle.cert_check.proofs.ValueTests.{In-push}
-use Rattle.cert_check.specs.Noted.{Noted, Holds, CanBeNoted, at_depth, pairs_from, placed_from}
+use Rattle.cert_check.specs.Noted.{Noted, Holds, CanBeNoted, placed_from}
 
 pub one_place : (names : List NameBytes) (a : NameBytes) (i j : ℕ) → Once names → slice_get names i ≡ Some a → slice_get names j ≡ Some a → i ≡ j
 one_place names a i j once p q =
@@ -114,57 +112,12 @@ hold_none names unset values size all = record {
   others = λ a i place has. absurd (has (all i (omega (arith, slice_get_within names i a place, size))));
 }
 
--- the depths of one layer more
-pub pairs-append : (d : ℕ) (xs ys : Row) → pairs_from d (xs ++ ys) ≡ pairs_from d xs ++ pairs_from (d + length xs) ys
-pairs-append d [] ys = ap (λ n. pairs_from n ys) (sym (add-zero d))
-pairs-append d (layer ∷ xs) ys =
-    let e : d + 1 + length xs ≡ d + suc (length xs) = omega arith in
-    ap (λ ps. at_depth d layer ++ ps) (pairs-append (d + 1) xs ys ∙ ap (λ n. pairs_from (d + 1) xs ++ pairs_from n ys) e)
-    ∙ sym (append_assoc (at_depth d layer) (pairs_from (d + 1) xs) (pairs_from (d + suc (length xs)) ys))
-
+-- the places of more names
 pub placed-append : (i : ℕ) (xs ys : List NameBytes) → placed_from i (xs ++ ys) ≡ placed_from i xs ++ placed_from (i + length xs) ys
 placed-append i [] ys = ap (λ n. placed_from n ys) (sym (add-zero i))
 placed-append i (a ∷ xs) ys =
     let e : i + 1 + length xs ≡ i + suc (length xs) = omega arith in
     ap (λ ps. (a, i) ∷ ps) (placed-append (i + 1) xs ys ∙ ap (λ n. placed_from (i + 1) xs ++ placed_from n ys) e)
-
--- one name of an order, of a layer, one layer of a row more
-pub placed_next : (order : List NameBytes) (i : ℕ) (a : NameBytes) → slice_get order i ≡ Some a → placed_from 0 (take (i + 1) order) ≡ placed_from 0 (take i order) ++ (a, i) ∷ []
-placed_next order i a at =
-    let size : 0 + length (take i order) ≡ i = omega (arith, length-take-le i order, slice_get_within order i a at) in
-    ap (placed_from 0) (take_next order i a at) ∙ placed-append 0 (take i order) (a ∷ [])
-    ∙ ap (λ (n : ℕ). placed_from 0 (take i order) ++ (a, n) ∷ []) size
-
-pub can_placed : (names order : List NameBytes) (i : ℕ) → CanBeNoted names (placed_from 0 order) → CanBeNoted names (placed_from 0 (take i order))
-can_placed names order i can =
-    can_front names (placed_from 0 (take i order)) (placed_from (0 + length (take i order)) (drop i order))
-    (subst (CanBeNoted names) (ap (placed_from 0) (sym (take-append-drop i order)) ∙ placed-append 0 (take i order) (drop i order)) can)
-
-pub layer_next : (d : ℕ) (ps : List Noted) (layer : List NameBytes) (i : ℕ) (a : NameBytes) → slice_get layer i ≡ Some a →
-    ps ++ at_depth d (take (i + 1) layer) ≡ (ps ++ at_depth d (take i layer)) ++ (a, d) ∷ []
-layer_next d ps layer i a at =
-    ap (λ l. ps ++ at_depth d l) (take_next layer i a at)
-    ∙ ap (λ l. ps ++ l) (map-append (λ b. (b, d)) (take i layer) (a ∷ []))
-    ∙ sym (append_assoc ps (at_depth d (take i layer)) ((a, d) ∷ []))
-
-pub can_layer : (names : List NameBytes) (d : ℕ) (ps : List Noted) (layer : List NameBytes) (i : ℕ) → CanBeNoted names (ps ++ at_depth d layer) → CanBeNoted names (ps ++ at_depth d (take i layer))
-can_layer names d ps layer i can =
-    can_front names (ps ++ at_depth d (take i layer)) (at_depth d (drop i layer))
-    (subst (CanBeNoted names)
-    (ap (λ l. ps ++ at_depth d l) (sym (take-append-drop i layer)) ∙ ap (λ l. ps ++ l) (map-append (λ b. (b, d)) (take i layer) (drop i layer))
-    ∙ sym (append_assoc ps (at_depth d (take i layer)) (at_depth d (drop i layer)))) can)
-
-pub row_next : (row : Row) (i : ℕ) (layer : List NameBytes) → slice_get row i ≡ Some layer → pairs_from 0 (take (i + 1) row) ≡ pairs_from 0 (take i row) ++ at_depth i layer
-row_next row i layer at =
-    let size : 0 + length (take i row) ≡ i = omega (arith, length-take-le i row, slice_get_within row i layer at) in
-    ap (pairs_from 0) (take_next row i layer at) ∙ pairs-append 0 (take i row) (layer ∷ [])
-    ∙ ap (λ (n : ℕ). pairs_from 0 (take i row) ++ (at_depth n layer ++ [])) size
-    ∙ ap (λ l. pairs_from 0 (take i row) ++ l) (append-nil (at_depth i layer))
-
-pub can_row : (names : List NameBytes) (row : Row) (i : ℕ) → CanBeNoted names (pairs_from 0 row) → CanBeNoted names (pairs_from 0 (take i row))
-can_row names row i can =
-    can_front names (pairs_from 0 (take i row)) (pairs_from (0 + length (take i row)) (drop i row))
-    (subst (CanBeNoted names) (ap (pairs_from 0) (sym (take-append-drop i row)) ∙ pairs-append 0 (take i row) (drop i row)) can)
 
 -- as many of one value
 pub all_the_same : (n x i : ℕ) → i < n → slice_index (replicate n x) i ≡ x
@@ -176,8 +129,3 @@ pub hold_unset : (names : List NameBytes) (unset n : ℕ) (values : List ℕ) �
 hold_unset names unset n values count is size =
     hold_none names unset values (size ∙ count)
     (λ i lt. ap (λ (l : List ℕ). slice_index l i) is ∙ all_the_same n unset i (omega (arith, size)))
-
-pub nothing_there : {X : Type 0} (xs : List X) (i : ℕ) (o : Option X) → o ≡ slice_get xs i → o ≡ None → i < length xs → ⊥
-nothing_there [] i o is none lt = omega arith
-nothing_there (x ∷ xs) zero o is none lt = let bad : None ≡ Some x = sym none ∙ is in Prim.cc
-nothing_there (x ∷ xs) (suc i) o is none lt = nothing_there xs i o is none (omega arith)

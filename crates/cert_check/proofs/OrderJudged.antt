@@ -20,7 +20,7 @@ use Rattle.cert_check.proofs.Listed.{once-elements, known-response, once-respons
 use Rattle.cert_check.proofs.Ranks.{follows_from_rising, rising_from_follows}
 use Rattle.cert_check.specs.Noted.{Holds, placed_from}
 use Rattle.cert_check.specs.Values.{IsRising}
-use Rattle.cert_check.specs.Numbering.{IsOf, places_at}
+use Rattle.cert_check.specs.Numbering.{IsOf, lists_of, places_at}
 use Rattle.cert_check.specs.declared.numbered.Numbered.{Numbered}
 
 module _ (h : History) (t : Numbered) (of : IsOf h t) (order : List NameBytes) (ranks : List ℕ) (perm_t : IsPermutation t.names.items order)
@@ -34,7 +34,7 @@ module _ (h : History) (t : Numbered) (of : IsOf h t) (order : List NameBytes) (
   holds : Holds (elements h) (length (elements h)) (placed_from 0 order) ranks
   holds = subst (λ (ns : List NameBytes). Holds ns (length ns) (placed_from 0 order) ranks) of.names holds_t
 
-  pub order_valid : ((j : ℕ) → j < length t.places.items → RisesAt j) → (version : Version) → IsValid version h (gives_order order)
+  pub order_valid : ((j : ℕ) → j < length (lists_of t) → RisesAt j) → (version : Version) → IsValid version h (gives_order order)
   order_valid all version = (
     of.sound,
     (

@@ -1,7 +1,6 @@
 -- An order of the elements by the places of its names.
-use Rattle.std.proofs.Common.{◌≡◌, ℕ, zero, suc, ◌+◌, ◌<◌, ◌≤◌, inl, inr, Some, List, [], ◌∷◌, map, take, length, refl, sym, ◌∙◌, ap, subst, arith, add-zero, zero-add}
+use Rattle.std.proofs.Common.{◌≡◌, ℕ, zero, suc, ◌+◌, ◌<◌, ◌≤◌, inl, inr, Some, List, [], ◌∷◌, map, length, refl, sym, ◌∙◌, ap, subst, arith, add-zero, zero-add}
 use Rattle.std.specs.Prelude.{unwrap_or, slice_get, slice_index, IsPermutation}
-use Rattle.std.proofs.lemmas.List.{take_all}
 use Rattle.events.specs.Names.{NameBytes}
 use Rattle.specification.specs.Elements.{numbers_in}
 use Rattle.specification.specs.Orders.{IsSubsequence}
@@ -93,12 +92,3 @@ module _ (names order : List NameBytes) (ranks : List ℕ) (unset : ℕ) (once :
         let ea : value r.0 ≡ c = ap (slice_index ranks) r.3 ∙ s.3 in
         let eb : value r.1 ≡ d = ap (slice_index ranks) r.4 ∙ s.4 in
         omega arith
-
--- all names of the order are noted
-pub ranks_done : (names order : List NameBytes) (unset i : ℕ) (ranks : List ℕ) → Once names → unset ≡ length names → length order ≡ length names → length order ≤ i →
-    Holds names unset (placed_from 0 (take i order)) ranks → IsPermutation names order × Holds names (length names) (placed_from 0 order) ranks
-ranks_done names order unset i ranks once count size le holds =
-    let all : Holds names (length names) (placed_from 0 order) ranks =
-    subst (λ (l : List NameBytes). Holds names (length names) (placed_from 0 l) ranks) (take_all i order le)
-    (subst (λ (n : ℕ). Holds names n (placed_from 0 (take i order)) ranks) count holds) in
-    (permutation_noted names order once size all.can, all)

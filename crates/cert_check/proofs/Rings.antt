@@ -31,7 +31,7 @@ ring_from-at first last (c ∷ rest) zero a b at (inr w) =
 ring_from-at first last (c ∷ rest) (suc i) a b at (inl w) = ring_from-at first c rest i a b at (inl ((let e : suc (suc i) ≡ suc (suc (length rest)) = w.0 in omega arith), w.1))
 ring_from-at first last (c ∷ rest) (suc i) a b at (inr w) = ring_from-at first c rest i a b at (inr ((let lt : suc (suc i) < suc (suc (length rest)) = w.0 in omega arith), w.1))
 
-next_is : (count i : ℕ) → i < count → ((suc i ≡ count) × (next_place count i ≡ 0)) ⊎ ((suc i < count) × (next_place count i ≡ suc i))
+pub next_is : (count i : ℕ) → i < count → ((suc i ≡ count) × (next_place count i ≡ 0)) ⊎ ((suc i < count) × (next_place count i ≡ suc i))
 next_is count i lt = go (eqb (i + 1) count) refl
   where
     go : (t : Bool) → eqb (i + 1) count ≡ t → ((suc i ≡ count) × (next_place count i ≡ 0)) ⊎ ((suc i < count) × (next_place count i ≡ suc i))

@@ -1,6 +1,7 @@
 -- Rows that are right at each element, and what is wrong with the others.
-use Rattle.std.proofs.Common.{◌≡◌, ℕ, suc, ◌≤◌, Some, None, List, [], ◌∷◌, length, refl, sym, ◌∙◌, subst, arith}
+use Rattle.std.proofs.Common.{◌≡◌, ℕ, suc, ◌<◌, ◌≤◌, Some, None, List, [], ◌∷◌, length, get_or, refl, sym, ◌∙◌, ap, subst, arith}
 use Rattle.std.specs.Prelude.{slice_get}
+use Rattle.events.proofs.Places.{slice_get-within}
 use Rattle.events.specs.Names.{NameBytes}
 use Rattle.events.specs.History.{History}
 use Rattle.specification.specs.Faults.{IsSound}
@@ -13,6 +14,10 @@ use Rattle.specification.specs.ValidCertificate.{HasSource, RowsMeetRule, RowIsR
 use Rattle.cert_check.specs.Judged.{IsRowFault, AreRowsFault, IsJudgedNo}
 use Rattle.cert_check.specs.declared.answer.Reason.{Reason}
 use Rattle.cert_check.specs.declared.answer.Reason.TheVariants.{Trace, CertText, WrongFault, NotOrder, NotFollowed, NoCycle, MissingLayer, ShortLayer, ExtraLayer}
+
+-- the element with this number, by the names that are the elements
+pub element_at : (names all : List NameBytes) (i : ℕ) (a : NameBytes) → i < length names → a ≡ get_or names i a → names ≡ all → slice_get all i ≡ Some a
+element_at names all i a lt is same = ap (λ (ns : List NameBytes). slice_get ns i) (sym same) ∙ slice_get-within names i a lt is
 
 pub rows_meet : (version : Version) (v : Responses) (k : ℕ) (sources : List NameBytes) (rows : List Row) → ((j : ℕ) (source : NameBytes) → slice_get sources j ≡ Some source → RowIsRight version v k rows j source) →
     length rows ≤ length sources → RowsMeetRule version v k sources rows

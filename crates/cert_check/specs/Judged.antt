@@ -10,6 +10,8 @@ use Rattle.specification.specs.ValidCertificate as valid
 use Rattle.specification.specs.ValidCertificate.{HasSource, LacksRow, RowIsRight, RowsRightBefore, RowsMeetRule}
 use Rattle.specification.specs.CertificateText as text
 use Rattle.specification.specs.Faults as fault
+use Rattle.certificate_text.specs.declared.outline.Outline.{Outline}
+use Rattle.certificate_text.specs.declared.outline.Outline.TheVariants as outline
 use Rattle.cert_check.specs.AnswerOf.{kind_of}
 use Rattle.cert_check.specs.Numbering.{IsOf}
 use Rattle.cert_check.specs.declared.answer.Answer.{Answer}
@@ -37,6 +39,14 @@ IsJudged version h c (No why) = IsJudgedNo version h c why
 -- what is judged, in either version, of a recording with this first fault
 abbrev pub IsJudgedByFault : text.Certificate → fault.Fault → Answer → Type 0
 IsJudgedByFault c found answer = (version : Version) (h : History) → fault.IsFirstFault h found → IsJudged version h c answer
+
+-- the fault that an outline names
+abbrev pub named : Outline → Option fault.Fault
+named (outline.Doubled first again) = Some (fault.doubled first again)
+named (outline.Contents at) = Some (fault.contents at)
+named (outline.Position at) = Some (fault.position at)
+named (outline.Accepted names) = None
+named (outline.Refused k steps rows) = None
 
 -- what is wrong with the row at a place
 abbrev pub IsRowFault : Version → Responses → ℕ → List Row → ℕ → Reason → Type 0

@@ -9,6 +9,7 @@ use Rattle.specification.specs.Faults.{IsSound}
 use Rattle.specification.specs.Elements.{elements, number_in, numbers_in}
 use Rattle.specification.specs.Members.{Once}
 use Rattle.specification.specs.Versions.{Version, one, two}
+use Rattle.element_numbers.specs.Cuts.{rows_of, IsCut}
 use Rattle.cert_check.specs.Values.{IsGradualFrom, IsDeepFrom}
 use Rattle.cert_check.specs.declared.numbered.Numbered.{Numbered}
 
@@ -18,7 +19,7 @@ number_of t a = get (pointwise ◌==◌) t.numbers a
 
 -- the lists of places
 abbrev pub lists_of : Numbered → List (List ℕ)
-lists_of t = map (λ list. list.items) t.places.items
+lists_of t = rows_of t.places
 
 -- the places of the operation with this number
 abbrev pub places_at : Numbered → ℕ → List ℕ
@@ -41,7 +42,7 @@ pub record IsNumbering (t : Numbered) : Type 0 where
 
 -- each place has a number below the bound
 abbrev pub AreWithin : ℕ → Numbered → Type 0
-AreWithin bound t = All (λ list. All (λ x. x < bound) list.items) t.places.items
+AreWithin bound t = All (λ list. All (λ x. x < bound) list) (lists_of t)
 
 -- the elements and the places of a sound recording
 pub record IsOf (h : History) (t : Numbered) : Type 0 where
@@ -50,5 +51,6 @@ pub record IsOf (h : History) (t : Numbered) : Type 0 where
   pub numbering : IsNumbering t
   pub names : t.names.items ≡ elements h
   pub operations : t.operations.items ≡ operation_names h
+  pub cut : IsCut t.places
   pub places : lists_of t ≡ map (λ o. numbers_in (elements h) (response h o)) (operation_names h)
   pub within : AreWithin (length t.names.items) t

@@ -6,7 +6,7 @@ ghost use Rattle.cert_check.specs.OutOfMemory.{CertTakesMemory, TakesMemory};
 
 use super::answer::{Answer, Reason};
 use super::judging::judge;
-use certificate_text::{CertCause, Certificate};
+use certificate_text::Outline;
 use events::{Memory, Recording, Refusal};
 use std::alloc::Global;
 use std::thread::Threads;
@@ -50,8 +50,8 @@ pub fn check<H: Threads + Sync>(
 /// `trace_text::Reader` does piece by piece. So the trace's text need not stand in memory.
 ///
 /// It costs what `check` does but for the reading of the trace. Beside the recording and the certificate's
-/// text it keeps the certificate, whose names take 33 bytes each, the numbers of the elements and of the
-/// places, and the table for the rows.
+/// text it keeps the numbers of the elements and of the places, the table for the rows, and the depths of one
+/// row.
 pub fn check_recording<H: Threads + Sync>(
     rt: &H,
     alloc: Global,
@@ -66,12 +66,9 @@ pub fn check_recording<H: Threads + Sync>(
 {
     // Each recording is legal.
     let _replicas = recording.replicas();
-    match Certificate::read(alloc, cert) {
-        Ok((version, certificate)) => judge(rt, alloc, recording, version, &certificate),
-        Err(fault) => match fault.cause {
-            CertCause::Memory => Err(Memory),
-            _ => Ok(Answer::No(Reason::CertText)),
-        },
+    match Outline::read(cert) {
+        Ok((version, outline)) => judge(rt, alloc, recording, version, &outline),
+        Err(_) => Ok(Answer::No(Reason::CertText)),
     }
 }
 

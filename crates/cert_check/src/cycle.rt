@@ -1,9 +1,12 @@
 //! Whether a certificate's cycle and rows bear a refusal.
 
-ghost use Rattle.std.specs.Prelude.{IfOk};
+ghost use Rattle.std.specs.Prelude.{◌≡◌, IfOk, List, map};
 ghost use Rattle.events.specs.History.{IsLegal};
+ghost use Rattle.specification.specs.Conflict.{Step};
 ghost use Rattle.specification.specs.Faults.{IsSound};
-ghost use Rattle.specification.specs.CertificateText.{gives_cycle, IsSpellable};
+ghost use Rattle.specification.specs.LayerRule.{Row};
+ghost use Rattle.specification.specs.Lines.{text_of};
+ghost use Rattle.specification.specs.CertificateText.{gives_cycle, row_line, step_line, IsSpellable};
 ghost use Rattle.certificate_text.specs.CertificateOf.{version_in};
 ghost use Rattle.cert_check.specs.Judged.{IsJudged};
 
@@ -14,25 +17,25 @@ use super::steps::first_wrong_step;
 use certificate_text::Version;
 use events::{Memory, Recording};
 use std::alloc::Global;
-use witnesses::{Layers, Steps};
 
 /// Whether the steps are a cycle of a sound recording and the rows, of this version, show that none is
-/// shorter.
+/// shorter. Steps and rows are given by their lines.
 pub fn judge_cycle(
     alloc: Global,
     recording: &Recording,
     version: Version,
     k: u32,
-    steps: &Steps,
-    rows: &Layers,
+    steps: &[u8],
+    rows: &[u8],
 ) -> Result<Answer, Memory>
     requires legal { IsLegal recording.now }
     requires sound { IsSound recording.now }
-    requires spellable { IsSpellable (gives_cycle k steps.now rows.now) }
-    ensures { IfOk result (λ answer. IsJudged (version_in version) recording.now
-        (gives_cycle k steps.now rows.now) answer) }
+    ensures { IfOk result (λ answer. (listed : List Step) (layers : List Row)
+        → IsSpellable (gives_cycle k listed layers) → steps.now ≡ text_of (map step_line listed)
+        → rows.now ≡ text_of (map row_line layers)
+        → IsJudged (version_in version) recording.now (gives_cycle k listed layers) answer) }
 {
-    if let Some(step) = first_wrong_step(recording, steps) {
+    if let Some(step) = first_wrong_step(recording, k, steps) {
         return Ok(Answer::No(Reason::NoCycle { step }));
     }
     if k < 3 {

@@ -1,26 +1,26 @@
 //! Whether a certificate names the first fault.
 
-ghost use Rattle.std.specs.Prelude.{◌≡◌, ◌↔◌, IsTrue};
-ghost use Rattle.specification.specs.CertificateText.{names_fault};
+ghost use Rattle.std.specs.Prelude.{◌≡◌, ◌↔◌, IsTrue, Some};
+ghost use Rattle.specification.specs.CertificateText.{Certificate, names_fault};
 ghost use Rattle.contents_check.specs.FaultOf.{fault_of};
-ghost use Rattle.certificate_text.specs.CertificateOf.{certificate_of};
+ghost use Rattle.certificate_text.specs.Outlines.{Outlines};
 ghost use Rattle.cert_check.specs.AnswerOf.{kind_of};
-ghost use Rattle.cert_check.specs.Judged.{IsJudgedByFault};
+ghost use Rattle.cert_check.specs.Judged.{IsJudgedByFault, named};
 
 use super::answer::{Answer, Kind, Reason};
-use certificate_text::Certificate;
+use certificate_text::Outline;
 use contents_check::Fault;
 
-/// Whether a certificate names this fault.
-fn names(certificate: &Certificate, fault: &Fault) -> bool
-    ensures { IsTrue result ↔ (certificate_of certificate.now ≡ names_fault (fault_of fault.now)) }
+/// Whether a certificate with this outline names this fault.
+fn names(outline: &Outline<'_>, fault: &Fault) -> bool
+    ensures { IsTrue result ↔ (named outline.now ≡ Some (fault_of fault.now)) }
 {
-    match (certificate, fault) {
-        (Certificate::Doubled { first, again }, Fault::Doubled { first: f, again: e }) => {
-            *first == *f && *again == *e
+    match (outline, fault) {
+        (Outline::Doubled { first, again }, Fault::Doubled { first: f, again: e }) => {
+            first == f && again == e
         }
-        (Certificate::Contents { at }, Fault::Contents { at: e }) => *at == *e,
-        (Certificate::Position { at }, Fault::Position { at: e }) => *at == *e,
+        (Outline::Contents { at }, Fault::Contents { at: e }) => at == e,
+        (Outline::Position { at }, Fault::Position { at: e }) => at == e,
         _ => false,
     }
 }
@@ -36,11 +36,11 @@ fn kind(fault: &Fault) -> Kind
     }
 }
 
-/// Whether a certificate names the first fault of a recording.
-pub fn judge_fault(certificate: &Certificate, fault: &Fault) -> Answer
-    ensures { IsJudgedByFault (certificate_of certificate.now) (fault_of fault.now) result }
+/// Whether the certificate with this outline names the first fault of a recording.
+pub fn judge_fault(outline: &Outline<'_>, fault: &Fault) -> Answer
+    ensures { (c : Certificate) → Outlines outline.now c → IsJudgedByFault c (fault_of fault.now) result }
 {
-    if names(certificate, fault) {
+    if names(outline, fault) {
         Answer::Yes(kind(fault))
     } else {
         Answer::No(Reason::WrongFault)

@@ -11,7 +11,6 @@ mod judging;
 mod laws;
 mod numbered;
 mod order;
-mod places;
 mod rows;
 mod shown;
 mod steps;

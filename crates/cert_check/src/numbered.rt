@@ -1,31 +1,44 @@
 //! A recording's elements by number, and its responses as lists of numbers.
 
-use super::places::places_of;
 use super::values::is_rising;
-use element_numbers::{inserted_names, numbers_of};
+use element_numbers::{Rows, inserted_names, numbers_of, places_of};
 use events::{Memory, Name, OpName, Recording};
+use format_words::{name_of, next_word};
 use indexmap::IndexMap;
 use std::alloc::Global;
-use witnesses::{Layer, Order, Row};
+
+/// Where the noting of a row's words stands: the layer of the next one, from 0, and the number that its name
+/// is likely to have.
+#[derive(Clone, Copy)]
+struct Place {
+    depth: u32,
+    likely: u32,
+}
 
 /// The elements of a recording with their numbers, and each operation's response as numbers.
 ///
-/// Elements are numbered from 0 in the order of their inserts' operations. There is one list of places for
+/// Elements are numbered from 0 in the order of their inserts' operations. There is one row of places for
 /// each operation, in the order of their names.
 #[derive(Drop)]
 pub struct Numbered {
     pub names: Vec<Name>,
     pub numbers: IndexMap<Name, u32>,
     pub operations: Vec<OpName>,
-    pub places: Vec<Vec<u32>>,
+    pub places: Rows<u32>,
 }
 
-ghost use Rattle.std.specs.Prelude.{◌≡◌, ◌+◌, ◌-◌, ◌<◌, ◌∷◌, ◌++◌, ◌↔◌, ◌^◌, [], ℕ, List, All, IfOk};
-ghost use Rattle.std.specs.Prelude.{IsPermutation, IsTrue, MatchBool, MatchOption, length, map, slice_index};
-ghost use Rattle.std.specs.Prelude.{slice_get, Some};
+ghost use Rattle.std.specs.Prelude.{◌≡◌, ◌+◌, ◌-◌, ◌<◌, ◌≤◌, ◌∷◌, ◌++◌, ◌↔◌, ◌^◌, [], ℕ, List, All, IfOk};
+ghost use Rattle.std.specs.Prelude.{IfSome, IsPermutation, IsTrue, MatchBool, MatchOption, length, map};
+ghost use Rattle.std.specs.Prelude.{slice_get, slice_index, Some, None};
+ghost use Rattle.events.specs.Names.{IsName};
+ghost use Rattle.specification.specs.Elements.{number_in};
 ghost use Rattle.specification.specs.Faults.{IsSound};
-ghost use Rattle.cert_check.specs.Numbering.{IsNumbering, IsOf, AreWithin, places_at};
-ghost use Rattle.cert_check.specs.Noted.{Noted, Holds, CanBeNoted, at_depth, pairs_from, placed_from};
+ghost use Rattle.specification.specs.LayerRule.{Row};
+ghost use Rattle.format_words.specs.Words.{words_behind};
+ghost use Rattle.element_numbers.specs.Cuts.{IsCut};
+ghost use Rattle.cert_check.specs.Numbering.{IsNumbering, IsOf, AreWithin, lists_of, places_at};
+ghost use Rattle.cert_check.specs.Noted.{Noted, Holds, CanBeNoted, pairs_from, placed_from};
+ghost use Rattle.cert_check.specs.RowWords.{GoesOn, IsRowWord, SaysRow, Stops, pairs_of, slashes};
 ghost use Rattle.cert_check.specs.Values.{IsRising};
 
 impl Numbered {
@@ -47,100 +60,207 @@ impl Numbered {
         })
     }
 
-    /// Notes a value below `unset` for the element of a name. False where the name is no element's, or has
-    /// a value.
-    fn note(&self, values: &mut [u32], name: &Name, value: u32, unset: u32) -> bool
-        requires numbering { IsNumbering self.now }
-        requires room { length values.old ≡ length self.now.names.items }
-        requires below { value < unset }
-        ensures { (noted : List Noted) → Holds self.now.names.items unset noted values.old →
-            MatchBool result (Holds self.now.names.items unset (noted ++ (name.now, value) ∷ []) values.new)
-            (¬ CanBeNoted self.now.names.items (noted ++ (name.now, value) ∷ [])) }
+    /// Whether the element with this number has this name.
+    fn is_named(&self, number: u32, word: &[u8]) -> bool
+        ensures { IsTrue result → slice_get self.now.names.items number ≡ Some word.now }
     {
-        let Some(number) = self.numbers.get(name) else {
-            return false;
-        };
-        let number = *number as usize;
-        if values[number] != unset {
-            return false;
+        match self.names.get(number as usize) {
+            Some(name) => name.bytes() == word,
+            None => false,
         }
-        values[number] = value;
-        true
     }
 
-    /// Notes the same value for each name of a layer.
-    fn note_layer(&self, values: &mut [u32], layer: &Layer, value: u32, unset: u32) -> bool
+    /// The number of the element with this name. The number that is likely is tried first, for speed alone.
+    fn find(&self, likely: u32, word: &[u8]) -> Option<u32>
+        requires { IsNumbering self.now }
+        ensures { MatchOption result (IsName word.now → number_in self.now.names.items word.now ≡ None)
+            (λ n. slice_get self.now.names.items n ≡ Some word.now) }
+    {
+        if self.is_named(likely, word) {
+            return Some(likely);
+        }
+        let Ok(name) = name_of(word) else {
+            return None;
+        };
+        match self.numbers.get(&name) {
+            Some(number) => Some(*number),
+            None => None,
+        }
+    }
+
+    /// Notes a value below `unset` for the element of a name, and gives its number. None where the name is no
+    /// element's, or has a value.
+    fn note(
+        &self,
+        values: &mut [u32],
+        likely: u32,
+        word: &[u8],
+        value: u32,
+        unset: u32,
+    ) -> Option<u32>
         requires numbering { IsNumbering self.now }
         requires room { length values.old ≡ length self.now.names.items }
         requires below { value < unset }
-        ensures { (noted : List Noted) → Holds self.now.names.items unset noted values.old →
-            MatchBool result (Holds self.now.names.items unset (noted ++ at_depth value layer.now) values.new)
-            (¬ CanBeNoted self.now.names.items (noted ++ at_depth value layer.now)) }
+        ensures room { length values.new ≡ length values.old }
+        ensures noted { (noted : List Noted) → Holds self.now.names.items unset noted values.old →
+            MatchOption result
+            (IsName word.now → ¬ CanBeNoted self.now.names.items (noted ++ (word.now, value) ∷ []))
+            (λ _. Holds self.now.names.items unset (noted ++ (word.now, value) ∷ []) values.new) }
     {
-        for i in 0..layer.len() {
-            if let Some(name) = layer.get(i) {
-                if !self.note(values, name, value, unset) {
-                    return false;
-                }
+        let Some(number) = self.find(likely, word) else {
+            return None;
+        };
+        if values[number as usize] != unset {
+            return None;
+        }
+        values[number as usize] = value;
+        Some(number)
+    }
+
+    /// Goes on by one word of a row: `/` ends a layer, and a name's depth is noted. None where the name cannot
+    /// be noted, or a layer too many begins.
+    fn note_word(&self, depths: &mut [u32], unset: u32, at: Place, word: &[u8]) -> Option<Place>
+        requires numbering { IsNumbering self.now }
+        requires room { length depths.old ≡ length self.now.names.items }
+        requires below { at.depth < unset }
+        ensures room { length depths.new ≡ length depths.old }
+        ensures below { IfSome result (λ next. next.depth < unset) }
+        ensures noted { (noted : List Noted) → Holds self.now.names.items unset noted depths.old
+            → MatchOption result
+            (IsRowWord word.now → Stops self.now.names.items unset noted at.depth word.now)
+            (λ next. GoesOn self.now.names.items unset noted at.depth word.now depths.new next.depth) }
+    {
+        if word == b"/".as_slice() {
+            let depth = at.depth + 1;
+            if depth == unset {
+                return None;
             }
+            return Some(Place {
+                depth,
+                likely: at.likely,
+            });
+        }
+        let Some(number) = self.note(depths, at.likely, word, at.depth, unset) else {
+            return None;
+        };
+        Some(Place {
+            depth: at.depth,
+            likely: number.saturating_add(1),
+        })
+    }
+
+    /// Notes the depths of a row's names, whose words these are. False where a name is no element's or stands
+    /// twice.
+    fn note_row(&self, depths: &mut [u32], unset: u32, words: &[u8]) -> bool
+        requires numbering { IsNumbering self.now }
+        requires fresh { Holds self.now.names.items unset [] depths.old }
+        requires some { 0 < unset }
+        ensures { MatchBool result
+            (Holds self.now.names.items unset (pairs_of 0 (words_behind words.now)) depths.new)
+            (All IsRowWord (words_behind words.now) → slashes (words_behind words.now) < unset
+            → ¬ CanBeNoted self.now.names.items (pairs_of 0 (words_behind words.now))) }
+    {
+        let mut at = Place {
+            depth: 0,
+            likely: 0,
+        };
+        let mut rest = words;
+        while !rest.is_empty() {
+            let Ok((word, behind)) = next_word(rest) else {
+                return false;
+            };
+            let Some(next) = self.note_word(depths, unset, at, word) else {
+                return false;
+            };
+            at = next;
+            rest = behind;
         }
         true
     }
 
     /// The depth of each element in a row of `k - 1` layers, `k - 1` where it stands in none; none where a
-    /// name of the row is no element's or stands in it twice.
-    pub fn depths_of(&self, alloc: Global, k: u32, row: &Row) -> Result<Option<Vec<u32>>, Memory>
+    /// name of the row is no element's or stands in it twice. The row is given by its line after `layers`.
+    pub fn depths_of(&self, alloc: Global, k: u32, words: &[u8]) -> Result<Option<Vec<u32>>, Memory>
         requires numbering { IsNumbering self.now }
-        requires layers { length row.now + 1 ≡ k }
+        requires layers { 2 ≤ k }
         ensures { IfOk result (λ found. MatchOption found
-            (¬ CanBeNoted self.now.names.items (pairs_from 0 row.now))
-            (λ depths. Holds self.now.names.items (k - 1) (pairs_from 0 row.now) depths.items)) }
+            ((row : Row) → SaysRow k (words_behind words.now) row
+            → ¬ CanBeNoted self.now.names.items (pairs_from 0 row))
+            (λ depths. Holds self.now.names.items (k - 1) (pairs_of 0 (words_behind words.now))
+            depths.items)) }
     {
         let mut depths = Vec::from_elem(alloc, k - 1, self.names.len())?;
-        for i in 0..k - 1 {
-            if let Some(layer) = row.get(i as usize) {
-                if !self.note_layer(&mut depths, layer, i, k - 1) {
-                    return Ok(None);
-                }
-            }
+        if self.note_row(&mut depths, k - 1, words) {
+            Ok(Some(depths))
+        } else {
+            Ok(None)
         }
-        Ok(Some(depths))
     }
 
-    /// The place of each element in an order; none where that is no permutation of the elements.
-    pub fn ranks_of(&self, alloc: Global, order: &Order) -> Result<Option<Vec<u32>>, Memory>
+    /// Notes the place of each name of an order, whose words these are. False where they are no permutation
+    /// of the elements, whose count this is.
+    fn note_order(&self, ranks: &mut [u32], count: u32, words: &[u8]) -> bool
         requires numbering { IsNumbering self.now }
-        ensures { IfOk result (λ found. MatchOption found (¬ IsPermutation self.now.names.items order.now)
-            (λ ranks. IsPermutation self.now.names.items order.now
+        requires count { count ≡ length self.now.names.items }
+        requires fresh { Holds self.now.names.items count [] ranks.old }
+        ensures { MatchBool result (IsPermutation self.now.names.items (words_behind words.now)
+            × Holds self.now.names.items count (placed_from 0 (words_behind words.now)) ranks.new)
+            (All IsName (words_behind words.now)
+            → ¬ IsPermutation self.now.names.items (words_behind words.now)) }
+    {
+        let mut place = 0u32;
+        let mut likely = 0u32;
+        let mut rest = words;
+        while !rest.is_empty() {
+            let Ok((word, behind)) = next_word(rest) else {
+                return false;
+            };
+            if place == count {
+                return false;
+            }
+            let Some(number) = self.note(ranks, likely, word, place, count) else {
+                return false;
+            };
+            place += 1;
+            likely = number.saturating_add(1);
+            rest = behind;
+        }
+        place == count
+    }
+
+    /// The place of each element in an order; none where that is no permutation of the elements. The order
+    /// is given by its names, each after one space; it is read no further than to the first name that is no
+    /// element's, stands twice or is one too many.
+    pub fn ranks_of(&self, alloc: Global, names: &[u8]) -> Result<Option<Vec<u32>>, Memory>
+        requires numbering { IsNumbering self.now }
+        ensures { IfOk result (λ found. MatchOption found
+            (All IsName (words_behind names.now)
+            → ¬ IsPermutation self.now.names.items (words_behind names.now))
+            (λ ranks. IsPermutation self.now.names.items (words_behind names.now)
             × Holds self.now.names.items (length self.now.names.items)
-            (placed_from 0 order.now) ranks.items)) }
+            (placed_from 0 (words_behind names.now)) ranks.items)) }
     {
         let count = self.names.len() as u32;
-        if order.len() != self.names.len() {
-            return Ok(None);
-        }
         let mut ranks = Vec::from_elem(alloc, count, self.names.len())?;
-        for i in 0..count {
-            if let Some(name) = order.get(i as usize) {
-                if !self.note(&mut ranks, name, i, count) {
-                    return Ok(None);
-                }
-            }
+        if self.note_order(&mut ranks, count, names) {
+            Ok(Some(ranks))
+        } else {
+            Ok(None)
         }
-        Ok(Some(ranks))
     }
 
     /// The first list of places along which these values do not rise.
     pub fn first_not_rising(&self, values: &[u32]) -> Option<usize>
-        requires { AreWithin (length values.now) self.now }
-        ensures { MatchOption result ((j : ℕ) → j < length self.now.places.items
+        requires cut { IsCut self.now.places }
+        requires within { AreWithin (length values.now) self.now }
+        ensures { MatchOption result ((j : ℕ) → j < length (lists_of self.now)
             → IsRising (map (slice_index values.now) (places_at self.now j)))
-            (λ i. (i < length self.now.places.items)
+            (λ i. (i < length (lists_of self.now))
             × (¬ IsRising (map (slice_index values.now) (places_at self.now i)))
             × ((j : ℕ) → j < i → IsRising (map (slice_index values.now) (places_at self.now j)))) }
     {
-        for (i, list) in self.places.iter().enumerate() {
-            if !is_rising(values, list) {
+        for i in 0..self.places.ends.len() {
+            if !is_rising(values, self.places.row(i)) {
                 return Some(i);
             }
         }

@@ -1,30 +1,34 @@
 //! Whether a certificate's order is an order of the elements that every response follows.
 
-ghost use Rattle.std.specs.Prelude.{◌≡◌, IfOk, IsPermutation, List, length};
-ghost use Rattle.events.specs.Names.{NameBytes};
+ghost use Rattle.std.specs.Prelude.{◌≡◌, All, IfOk, IsPermutation, List, length};
+ghost use Rattle.events.specs.Names.{IsName, NameBytes};
 ghost use Rattle.events.specs.History.{History};
 ghost use Rattle.specification.specs.Faults.{IsSound};
+ghost use Rattle.specification.specs.Lines.{names_text};
 ghost use Rattle.specification.specs.Versions.{Version};
 ghost use Rattle.specification.specs.CertificateText.{gives_order};
 ghost use Rattle.cert_check.specs.Judged.{IsJudged};
 ghost use Rattle.cert_check.specs.Noted.{Holds, placed_from};
-ghost use Rattle.cert_check.specs.Numbering.{IsOf, AreWithin};
+ghost use Rattle.element_numbers.specs.Cuts.{IsCut};
+ghost use Rattle.cert_check.specs.Numbering.{IsOf, AreWithin, lists_of};
 
 use super::answer::{Answer, Kind, Reason};
 use super::numbered::Numbered;
 use events::{Memory, Recording};
 use std::alloc::Global;
-use witnesses::Order;
 
 /// Whether each response of a sound recording follows the order, and that is one of all elements. That is
 /// asked of certificates of both versions.
-pub fn judge_order(alloc: Global, recording: &Recording, order: &Order) -> Result<Answer, Memory>
+///
+/// The order is given by its names, each after one space.
+pub fn judge_order(alloc: Global, recording: &Recording, names: &[u8]) -> Result<Answer, Memory>
     requires { IsSound recording.now }
-    ensures { IfOk result (λ answer. (version : Version)
-        → IsJudged version recording.now (gives_order order.now) answer) }
+    ensures { IfOk result (λ answer. (version : Version) (order : List NameBytes) → All IsName order
+        → names.now ≡ names_text order
+        → IsJudged version recording.now (gives_order order) answer) }
 {
     let numbered = Numbered::of(alloc, recording)?;
-    let found = numbered.ranks_of(alloc, order)?;
+    let found = numbered.ranks_of(alloc, names)?;
     match found {
         None => Ok(Answer::No(Reason::NotOrder)),
         Some(ranks) => Ok(judge_ranks(&numbered, &ranks)),
@@ -33,8 +37,9 @@ pub fn judge_order(alloc: Global, recording: &Recording, order: &Order) -> Resul
 
 /// The same by the places of the elements in a permutation of them.
 fn judge_ranks(numbered: &Numbered, ranks: &[u32]) -> Answer
+    requires cut { IsCut numbered.now.places }
     requires within { AreWithin (length ranks.now) numbered.now }
-    requires operations { length numbered.now.operations.items ≡ length numbered.now.places.items }
+    requires operations { length numbered.now.operations.items ≡ length (lists_of numbered.now) }
     ensures { (version : Version) (h : History) (order : List NameBytes) → IsOf h numbered.now
         → IsPermutation numbered.now.names.items order →
         Holds numbered.now.names.items (length numbered.now.names.items) (placed_from 0 order) ranks.now

@@ -1,13 +1,19 @@
 //! Rows of layers.
 
-ghost use Rattle.std.specs.Prelude.{◌≡◌, ◌↔◌, ◌+◌, ◌<◌, All, IfOk, IsTrue, MatchOption, length};
-ghost use Rattle.events.specs.Names.{NameBytes};
-ghost use Rattle.specification.specs.CertificateText.{IsRow};
+ghost use Rattle.std.specs.Prelude.{◌≡◌, ◌↔◌, ◌<◌, ◌≤◌, [], ℕ, All, IfOk, IsTrue, List};
+ghost use Rattle.std.specs.Prelude.{MatchOption, Some, length, map, slice_get};
+ghost use Rattle.events.specs.Names.{IsName};
+ghost use Rattle.specification.specs.LayerRule.{Row};
+ghost use Rattle.specification.specs.Lines.{text_of};
+ghost use Rattle.specification.specs.CertificateText.{IsRow, row_line};
 ghost use Rattle.specification.specs.ValidCertificate.{HasSource};
 ghost use Rattle.bit_tables.specs.Lists.{IsTableOf};
+ghost use Rattle.format_words.specs.Words.{words_behind};
 ghost use Rattle.certificate_text.specs.CertificateOf.{version_in};
+ghost use Rattle.element_numbers.specs.Cuts.{IsCut};
 ghost use Rattle.cert_check.specs.Numbering.{IsNumbering, AreWithin, first_of, lists_of};
 ghost use Rattle.cert_check.specs.Judged.{TellsLayerRule, TellsRow, TellsRows};
+ghost use Rattle.cert_check.specs.RowWords.{SaysRow};
 
 use super::answer::Reason;
 use super::numbered::Numbered;
@@ -15,27 +21,37 @@ use super::values::are_unset_below;
 use bit_tables::{AfterTable, are_deep};
 use certificate_text::Version;
 use events::{Memory, Name};
+use format_words::{first_word, name_of, next_word, split_line};
 use std::alloc::Global;
-use witnesses::{Layers, Row};
 
-/// The source of a row: the name that stands alone in its first layer.
-fn source_of(row: &Row) -> Option<Name>
-    ensures { MatchOption result ((a : NameBytes) → ¬ HasSource row.now a) (λ a. HasSource row.now a) }
+/// What follows `layers` in a row's line.
+fn words_of_row(line: &[u8]) -> &[u8]
+    ensures { (k : ℕ) (row : Row) → IsRow k row → line.now ≡ row_line row
+        → SaysRow k (words_behind result.now) row }
 {
-    let layer = row.get(0)?;
-    if layer.len() != 1 {
-        return None;
+    let (_, words) = first_word(line);
+    words
+}
+
+/// The source of a row: the first of its words.
+fn source_of(words: &[u8]) -> Option<&[u8]>
+    ensures { (k : ℕ) (row : Row) → SaysRow k (words_behind words.now) row
+        → MatchOption result ⊥ (λ a. HasSource row a.now × IsName a.now) }
+{
+    match next_word(words) {
+        Ok((source, _)) => Some(source),
+        Err(_) => None,
     }
-    layer.get(0).copied()
 }
 
 /// Whether a row has this source.
-fn has_source(row: &Row, source: &Name) -> bool
-    ensures { IsTrue result ↔ HasSource row.now source.now }
+fn has_source(words: &[u8], source: &Name) -> bool
+    ensures { (k : ℕ) (row : Row) → SaysRow k (words_behind words.now) row
+        → IsTrue result ↔ HasSource row source.now }
 {
-    match source_of(row) {
-        None => false,
-        Some(name) => name == *source,
+    match next_word(words) {
+        Ok((word, _)) => word == source.bytes(),
+        Err(_) => false,
     }
 }
 
@@ -59,17 +75,18 @@ fn meets_rule(
     version: Version,
     k: u32,
     source: u32,
-    row: &Row,
+    words: &[u8],
 ) -> Result<bool, Memory>
     requires numbering { IsNumbering numbered.now }
     requires within { AreWithin (length numbered.now.names.items) numbered.now }
     requires table { IsTableOf (length numbered.now.names.items) (lists_of numbered.now) table.now }
-    requires layers { length row.now + 1 ≡ k }
+    requires long { 2 ≤ k }
     requires element { source < length numbered.now.names.items }
-    ensures { IfOk result (TellsLayerRule (version_in version) numbered.now k source row.now) }
+    ensures { IfOk result (λ meets. (row : Row) → SaysRow k (words_behind words.now) row
+        → TellsLayerRule (version_in version) numbered.now k source row meets) }
 {
     let first = first_of(version, source);
-    let found = numbered.depths_of(alloc, k, row)?;
+    let found = numbered.depths_of(alloc, k, words)?;
     match found {
         None => Ok(false),
         Some(depths) => {
@@ -82,40 +99,69 @@ fn meets_rule(
     }
 }
 
-/// What is wrong with the row of the element with this number, if anything is.
+/// What is wrong with the row of the element with this number, if anything is. The row is given by its line.
 fn row_fault(
     alloc: Global,
     numbered: &Numbered,
     table: &AfterTable,
     version: Version,
     k: u32,
-    rows: &Layers,
+    line: &[u8],
     i: u32,
 ) -> Result<Option<Reason>, Memory>
     requires numbering { IsNumbering numbered.now }
     requires within { AreWithin (length numbered.now.names.items) numbered.now }
     requires table { IsTableOf (length numbered.now.names.items) (lists_of numbered.now) table.now }
-    requires rows { All (IsRow k) rows.now }
+    requires long { 2 ≤ k }
     requires element { i < length numbered.now.names.items }
-    ensures { IfOk result (TellsRow (version_in version) numbered.now k rows.now i) }
+    ensures { IfOk result (λ found. (rows : List Row) (row : Row) → slice_get rows i ≡ Some row
+        → IsRow k row → line.now ≡ row_line row
+        → TellsRow (version_in version) numbered.now k rows i found) }
 {
     let source = numbered.names[i as usize];
-    match rows.get(i as usize) {
-        None => Ok(Some(Reason::MissingLayer { source })),
-        Some(row) => {
-            if !has_source(row, &source) {
-                Ok(Some(Reason::MissingLayer { source }))
-            } else if meets_rule(alloc, numbered, table, version, k, i, row)? {
-                Ok(None)
-            } else {
-                Ok(Some(Reason::ShortLayer { source }))
-            }
-        }
+    let words = words_of_row(line);
+    if !has_source(words, &source) {
+        Ok(Some(Reason::MissingLayer { source }))
+    } else if meets_rule(alloc, numbered, table, version, k, i, words)? {
+        Ok(None)
+    } else {
+        Ok(Some(Reason::ShortLayer { source }))
     }
 }
 
+/// The source of the first of these rows, where there is one.
+fn first_source(rows: &[u8]) -> Option<Name>
+    ensures { (k : ℕ) (layers : List Row) → All (IsRow k) layers
+        → rows.now ≡ text_of (map row_line layers) → MatchOption result (layers ≡ [])
+        (λ a. (row : Row) × (slice_get layers 0 ≡ Some row) × HasSource row a) }
+{
+    let Some((line, _)) = split_line(rows) else {
+        return None;
+    };
+    let Some(source) = source_of(words_of_row(line)) else {
+        return None;
+    };
+    match name_of(source) {
+        Ok(name) => Some(name),
+        Err(_) => None,
+    }
+}
+
+/// Which elements are shown after which.
+fn shown_after(alloc: Global, numbered: &Numbered) -> Result<AfterTable, Memory>
+    requires cut { IsCut numbered.now.places }
+    requires within { AreWithin (length numbered.now.names.items) numbered.now }
+    ensures { IfOk result (λ t. IsTableOf (length numbered.now.names.items) (lists_of numbered.now) t) }
+{
+    let mut table = AfterTable::new(alloc, numbered.names.len())?;
+    for i in 0..numbered.places.ends.len() {
+        table.add(alloc, numbered.places.row(i))?;
+    }
+    Ok(table)
+}
+
 /// The first thing that is wrong with the rows of a certificate for `k` of 3 and more: one row after the
-/// other, in order of numbers, and then a row too many.
+/// other, in order of numbers, and then a row too many. The rows are given by their lines.
 ///
 /// It makes a table of which elements are shown after which, `n * n / 8` bytes for n elements, in `n / 64`
 /// steps for each place of a response.
@@ -124,14 +170,17 @@ pub fn rows_fault(
     numbered: &Numbered,
     version: Version,
     k: u32,
-    rows: &Layers,
+    rows: &[u8],
 ) -> Result<Option<Reason>, Memory>
     requires numbering { IsNumbering numbered.now }
+    requires cut { IsCut numbered.now.places }
     requires within { AreWithin (length numbered.now.names.items) numbered.now }
-    requires rows { All (IsRow k) rows.now }
-    ensures { IfOk result (TellsRows (version_in version) numbered.now k rows.now) }
+    requires long { 2 ≤ k }
+    ensures { IfOk result (λ found. (layers : List Row) → All (IsRow k) layers
+        → rows.now ≡ text_of (map row_line layers)
+        → TellsRows (version_in version) numbered.now k layers found) }
 {
-    let table = AfterTable::of(alloc, numbered.names.len(), &numbered.places)?;
+    let table = shown_after(alloc, numbered)?;
     first_row_fault(alloc, numbered, &table, version, k, rows)
 }
 
@@ -142,25 +191,30 @@ fn first_row_fault(
     table: &AfterTable,
     version: Version,
     k: u32,
-    rows: &Layers,
+    rows: &[u8],
 ) -> Result<Option<Reason>, Memory>
     requires numbering { IsNumbering numbered.now }
     requires within { AreWithin (length numbered.now.names.items) numbered.now }
     requires table { IsTableOf (length numbered.now.names.items) (lists_of numbered.now) table.now }
-    requires rows { All (IsRow k) rows.now }
-    ensures { IfOk result (TellsRows (version_in version) numbered.now k rows.now) }
+    requires long { 2 ≤ k }
+    ensures { IfOk result (λ found. (layers : List Row) → All (IsRow k) layers
+        → rows.now ≡ text_of (map row_line layers)
+        → TellsRows (version_in version) numbered.now k layers found) }
 {
     let count = numbered.names.len() as u32;
+    let mut rest = rows;
     for i in 0..count {
-        if let Some(fault) = row_fault(alloc, numbered, table, version, k, rows, i)? {
+        let Some((line, behind)) = split_line(rest) else {
+            let source = numbered.names[i as usize];
+            return Ok(Some(Reason::MissingLayer { source }));
+        };
+        if let Some(fault) = row_fault(alloc, numbered, table, version, k, line, i)? {
             return Ok(Some(fault));
         }
+        rest = behind;
     }
-    match rows.get(numbered.names.len()) {
+    match first_source(rest) {
         None => Ok(None),
-        Some(row) => match source_of(row) {
-            None => Ok(None),
-            Some(source) => Ok(Some(Reason::ExtraLayer { source })),
-        },
+        Some(source) => Ok(Some(Reason::ExtraLayer { source })),
     }
 }

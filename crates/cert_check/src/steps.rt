@@ -1,55 +1,73 @@
 //! Whether the steps of a cycle are shown and join.
 
-ghost use Rattle.std.specs.Prelude.{◌≡◌, ◌↔◌, ◌<◌, ◌^◌, ℕ, IsTrue, MatchOption, length, option_copied};
-ghost use Rattle.std.specs.Prelude.{slice_get};
+ghost use Rattle.std.specs.Prelude.{◌≡◌, ◌↔◌, ◌<◌, ◌≤◌, ◌∷◌, ℕ, All, IsTrue, List, MatchOption, Some, length};
+ghost use Rattle.std.specs.Prelude.{map, slice_get};
 ghost use Rattle.events.specs.History.{IsLegal};
+ghost use Rattle.specification.specs.Conflict.{Step};
+ghost use Rattle.specification.specs.CertificateText.{IsStep, step_line};
+ghost use Rattle.specification.specs.Lines.{text_of};
 ghost use Rattle.specification.specs.Responses.{responses_of};
 ghost use Rattle.specification.specs.ValidCertificate.{StepIsRight, IsFirstWrongStep};
 ghost use Rattle.cert_check.specs.Ring.{next_place};
 
 use super::shown::shows;
+use certificate_text::{Step, step_of};
 use events::Recording;
-use witnesses::{Step, Steps};
+use format_words::split_line;
 
-/// The step after the one at a place: after the last the first.
-fn next_step(steps: &Steps, i: usize) -> Option<&Step>
-    requires { i < length steps.now }
-    ensures { option_copied result ≡ slice_get steps.now (next_place (length steps.now) i) }
+/// The step of the first of these lines, and the lines after it.
+fn first_step(lines: &[u8]) -> Option<(Step, &[u8])>
+    ensures { (s : Step) (more : List Step) → IsStep s → lines.now ≡ text_of (map step_line (s ∷ more))
+        → MatchOption result ⊥ (λ x. (x.0 ≡ s) × (x.1.now ≡ text_of (map step_line more))) }
 {
-    let count = steps.len();
-    if i + 1 == count {
-        steps.get(0)
+    let Some((line, behind)) = split_line(lines) else {
+        return None;
+    };
+    match step_of(line) {
+        Ok(step) => Some((step, behind)),
+        Err(_) => None,
+    }
+}
+
+/// Whether a step is shown by its operation and ends where the next one begins.
+fn is_right_step(recording: &Recording, step: &Step, next: &Step) -> bool
+    requires legal { IsLegal recording.now }
+    ensures { (steps : List Step) (i : ℕ) → i < length steps → slice_get steps i ≡ Some step.now
+        → slice_get steps (next_place (length steps) i) ≡ Some next.now
+        → IsTrue result ↔ StepIsRight (responses_of recording.now) steps i }
+{
+    step.to == next.from && shows(recording, step.shown, &step.from, &step.to)
+}
+
+/// The number of the first step that is not right, counted from 1, of `k` steps that are given by their
+/// lines. They are read one after the other; after the last comes the first.
+pub fn first_wrong_step(recording: &Recording, k: u32, lines: &[u8]) -> Option<u32>
+    requires legal { IsLegal recording.now }
+    ensures { (steps : List Step) → 2 ≤ k → length steps ≡ k → All IsStep steps
+        → lines.now ≡ text_of (map step_line steps) →
+        MatchOption result ((i : ℕ) → i < length steps → StepIsRight (responses_of recording.now) steps i)
+        (IsFirstWrongStep (responses_of recording.now) steps) }
+{
+    let Some(start) = first_step(lines) else {
+        return None;
+    };
+    let first = start.0;
+    let mut step = first;
+    let mut rest = start.1;
+    for i in 1..k {
+        let Some(found) = first_step(rest) else {
+            return None;
+        };
+        let next = found.0;
+        if !is_right_step(recording, &step, &next) {
+            return Some(i);
+        }
+        step = next;
+        rest = found.1;
+    }
+    if is_right_step(recording, &step, &first) {
+        None
     } else {
-        steps.get(i + 1)
+        Some(k)
     }
-}
-
-/// Whether the step at a place is shown by its operation and ends where the next one begins.
-fn is_right_step(recording: &Recording, steps: &Steps, i: usize) -> bool
-    requires legal { IsLegal recording.now }
-    requires within { i < length steps.now }
-    ensures { IsTrue result ↔ StepIsRight (responses_of recording.now) steps.now i }
-{
-    match (steps.get(i), next_step(steps, i)) {
-        (Some(step), Some(next)) => {
-            step.to == next.from && shows(recording, step.shown, &step.from, &step.to)
-        }
-        _ => false,
-    }
-}
-
-/// The number of the first step that is not right, counted from 1.
-pub fn first_wrong_step(recording: &Recording, steps: &Steps) -> Option<u32>
-    requires legal { IsLegal recording.now }
-    requires few { length steps.now < 2 ^ 32 }
-    ensures { MatchOption result ((i : ℕ) → i < length steps.now
-        → StepIsRight (responses_of recording.now) steps.now i)
-        (IsFirstWrongStep (responses_of recording.now) steps.now) }
-{
-    for i in 0..steps.len() {
-        if !is_right_step(recording, steps, i) {
-            return Some(i as u32 + 1);
-        }
-    }
-    None
 }

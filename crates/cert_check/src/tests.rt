@@ -140,7 +140,7 @@ fn valid_certificates(rt: HostRuntime) {
 }
 
 /// Traces with certificates that are not valid, and why.
-static INVALID: [(&str, &str, Why); 20] = [
+static INVALID: [(&str, &str, Why); 27] = [
     ("trace 1\n", "cert 2\n", Why::Trace),
     (EMPTY, "", Why::CertText),
     (EMPTY, "cert 3\naccepted\norder :\n", Why::CertText),
@@ -153,6 +153,15 @@ static INVALID: [(&str, &str, Why); 20] = [
     ),
     (SHOWS_DELETED, "cert 1\ncontents 0.2\n", Why::WrongFault),
     (EMPTY, "cert 1\naccepted\norder : a\n", Why::NotOrder),
+    // A name too few, a name twice, one that is no element's, and a name too many.
+    (READ_BACK, "cert 1\naccepted\norder : b\n", Why::NotOrder),
+    (READ_BACK, "cert 1\naccepted\norder : b b\n", Why::NotOrder),
+    (READ_BACK, "cert 2\naccepted\norder : b c\n", Why::NotOrder),
+    (
+        READ_BACK,
+        "cert 2\naccepted\norder : b a b\n",
+        Why::NotOrder,
+    ),
     (
         READ_BACK,
         "cert 1\naccepted\norder : a b\n",
@@ -162,6 +171,23 @@ static INVALID: [(&str, &str, Why); 20] = [
         THREE_WAY,
         "cert 1\nrefused 3\nstep b x 2.1\nstep b a 0.3\nstep a x 1.1\nlayers x / b\nlayers a / x\nlayers b / a\n",
         Why::NoCycle { step: 1 },
+    ),
+    // The last step does not end where the first begins.
+    (
+        THREE_WAY,
+        "cert 1\nrefused 2\nstep x b 2.1\nstep b a 0.3\n",
+        Why::NoCycle { step: 2 },
+    ),
+    // A name twice in one layer, and a name that is no element's.
+    (
+        THREE_WAY,
+        "cert 1\nrefused 3\nstep x b 2.1\nstep b a 0.3\nstep a x 1.1\nlayers x / b b\nlayers a / x\nlayers b / a\n",
+        Why::ShortLayer { source: "x" },
+    ),
+    (
+        THREE_WAY,
+        "cert 2\nrefused 3\nstep x b 2.1\nstep b a 0.3\nstep a x 1.1\nlayers x / b\nlayers a / c\nlayers b /\n",
+        Why::ShortLayer { source: "a" },
     ),
     (
         THREE_WAY,

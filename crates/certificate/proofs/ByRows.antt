@@ -1,5 +1,5 @@
 -- A certificate is what its verdict says, with its rows; and its text is that without rows and the rows' lines.
-use Rattle.std.proofs.Common.{◌≡◌, ℕ, zero, suc, ◌<◌, ◌≤◌, List, [], ◌∷◌, ◌++◌, map, codes, decimal, refl, sym, ap, subst, ◌∙◌, arith}
+use Rattle.std.proofs.Common.{◌≡◌, ℕ, ◌≤◌, List, [], ◌∷◌, ◌++◌, map, codes, decimal, refl, sym, ap, subst, ◌∙◌, arith}
 use Rattle.std.proofs.lemmas.Grind.{flat_map-append}
 use Rattle.std.proofs.lemmas.List.{append-nil, flat_map_more, map_push}
 use Rattle.std.proofs.lemmas.List.Elements.{All-nil}
@@ -15,7 +15,9 @@ use Rattle.specification.specs.CertificateText.{IsRow, IsSpellable, certificate_
 use Rattle.specification.specs.ExactRows.{IsExactRow, AreExactRows, IsCertificateOf}
 use Rattle.specification.proofs.VerdictsDecide.{verdicts_decide}
 use Rattle.certificate_text.proofs.VerdictCertificates.{certificates_are_valid, refusal-spellable}
-use Rattle.certificate.specs.ByRows.{AppendsRows, HasNoRows, HasRows, certificate_with}
+use Rattle.order_graph.specs.Covers.{IsCoveredBy}
+use Rattle.certificate.specs.ByRows.{AppendsRows, HasNoRows, HasRows, IsTextOfCertificate, certificate_with}
+use Rattle.certificate.proofs.CoveredRows.{covered-rows}
 use Rattle.certificate.proofs.ExactRows.{exact_rows_push, certificate_of_two, certificate_of_more}
 
 pub without_rows : (h : History) (v : Verdict) → IsLegal h → IsVerdict h v → HasNoRows v → IsCertificateOf two h v (certificate_with [] v)
@@ -67,4 +69,17 @@ rows_appended v k sources old text new source row so_far is added = (
   added ∙ ap (λ t. t ++ (row_line row ++ 10 ∷ [])) so_far.2
       ∙ flat_map_more (λ (line : Line). line ++ 10 ∷ []) old (map row_line so_far.0) (row_line row)
       ∙ ap (λ (lines : List Line). old ++ text_of lines) (sym (map_push row_line so_far.0 row)),
+)
+
+-- the text of a certificate without rows, and that of one whose rows' lines were added
+pub is_text_without : (h : History) (v : Verdict) (text : List ℕ) → IsLegal h → IsVerdict h v → HasNoRows v → text ≡ certificate_text two (certificate_with [] v)
+    → IsTextOfCertificate h v text
+is_text_without h v text legal is none made = (certificate_with [] v, without_rows h v legal is none, made)
+
+pub is_text_with : (h : History) (v : Verdict) (w : Responses) (k : ℕ) (text new : List ℕ) → HasRows v k → IsCoveredBy (responses_of h) w
+    → text ≡ certificate_text two (certificate_with [] v) → AppendsRows w k w.elements text new → IsTextOfCertificate h v new
+is_text_with h v w k text new has cover made added = (
+  certificate_with added.0 v,
+  with_exact_rows h v k added.0 has (covered-rows (responses_of h) w cover k added.0 added.1),
+  added.2 ∙ ap (λ t. t ++ text_of (map row_line added.0)) made ∙ text_with_rows v k added.0 has,
 )

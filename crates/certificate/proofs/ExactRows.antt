@@ -18,6 +18,14 @@ exact_rows_push version v k [] (r ∷ rows) source row are is = absurd are
 exact_rows_push version v k (a ∷ sources) [] source row are is = absurd are
 exact_rows_push version v k (a ∷ sources) (r ∷ rows) source row are is = (are.0, exact_rows_push version v k sources rows source row are.1 is)
 
+-- the rows of some sources behind those of others
+pub exact_rows_append : (version : Version) (v : Responses) (k : ℕ) (first second : List NameBytes) (rows more : List Row) → AreExactRows version v k first rows
+    → AreExactRows version v k second more → AreExactRows version v k (first ++ second) (rows ++ more)
+exact_rows_append version v k [] second [] more are also = also
+exact_rows_append version v k [] second (r ∷ rows) more are also = absurd are
+exact_rows_append version v k (a ∷ first) second [] more are also = absurd are
+exact_rows_append version v k (a ∷ first) second (r ∷ rows) more are also = (are.0, exact_rows_append version v k first second rows more are.1 also)
+
 -- the certificate of a refusal
 pub certificate_of_two : (version : Version) (h : History) (k : ℕ) (steps : List Step) → 2 ≤ k → k < 3 → IsCertificateOf version h (refused k steps) (gives_cycle k steps [])
 certificate_of_two version h zero steps low high = absurd (omega arith)

@@ -4,3 +4,4 @@ pub mod TableWays
 pub mod ExactRows
 pub mod CoveredRows
 pub mod ByRows
+pub mod RowLines

@@ -1,8 +1,7 @@
 -- Ways along a table of numbers are ways among the elements from the source on, so the layers of numbers are those of an
 -- exact row.
-use Rattle.std.proofs.Common.{◌≡◌, ℕ, zero, suc, ◌+◌, ◌-◌, ◌/◌, ◌<◌, ◌≤◌, ◌⊎◌, inl, inr, Bool, true, false, Some, List, [], ◌∷◌, Vec, Global, cond, drop, map, get_or, length, refl, sym, ◌∙◌, arith, ap, subst}
-use Rattle.std.specs.Prelude.{◌↔◌, All, Contains, bytes_eq, slice_get}
-use Rattle.std.specs.List.Sorted.{IsStrictlyIncreasing}
+use Rattle.std.proofs.Common.{◌≡◌, ℕ, zero, suc, ◌+◌, ◌-◌, ◌/◌, ◌<◌, ◌≤◌, Bool, true, false, Some, List, [], ◌∷◌, Vec, Global, cond, drop, map, get_or, length, refl, sym, ◌∙◌, arith, ap, subst}
+use Rattle.std.specs.Prelude.{All, Contains, bytes_eq, slice_get}
 use Rattle.std.proofs.lemmas.List.{get_or-map, get_or_default, length-map}
 use Rattle.std.proofs.lemmas.Option.{slice_get_within, slice_get-get_or, get_or_from_slice_get}
 use Rattle.std.proofs.lemmas.Slice.Eq.{bytes_eq-Decides}
@@ -22,9 +21,8 @@ use Rattle.order_graph.specs.Kept.{names_at}
 use Rattle.order_graph.specs.Lists.{lists_of}
 use Rattle.level_search.specs.Graph.{Before}
 use Rattle.level_search.proofs.Joining.{name, number-name, stands-names, stands-numbers, before-known}
-use Rattle.bit_tables.specs.Lists.{HaveWidth, row_of}
+use Rattle.bit_tables.specs.Lists.{HaveWidth}
 use Rattle.bit_tables.specs.Rule.{layer_at}
-use Rattle.bit_tables.specs.Sets.{Has}
 use Rattle.bit_tables.specs.Ways.{IsStep, Way, IsDistance, IsLayerAt, IsTurned}
 use Rattle.bit_tables.proofs.WayLemmas.{row-within}
 use Rattle.shown_table.specs.Tables.{IsShown, IsShownTable}

@@ -1,7 +1,9 @@
 -- Certificates row by row: what a verdict gives beside the rows, and a text that grows by their lines.
-use Rattle.std.specs.Prelude.{◌≡◌, ℕ, ◌<◌, ◌≤◌, List, ◌++◌, map}
+use Rattle.std.specs.Prelude.{◌≡◌, ℕ, ◌+◌, ◌*◌, ◌<◌, ◌≤◌, List, [], ◌++◌, IfOk, Result, Vec, length, map, take, drop, slice_index_or}
+use Rattle.std.specs.Global.{Global}
 use Rattle.events.specs.Names.{NameBytes}
 use Rattle.events.specs.History.{History}
+use Rattle.events.specs.declared.memory.Memory.{Memory}
 use Rattle.specification.specs.CertificateText.{Certificate, names_fault, gives_order, gives_cycle, certificate_text, row_line}
 use Rattle.specification.specs.ExactRows.{AreExactRows, IsCertificateOf}
 use Rattle.specification.specs.LayerRule.{Row}
@@ -35,3 +37,9 @@ HasNoRows (refused n steps) = n < 3
 -- the text grew by the lines of the exact rows from these sources
 abbrev pub AppendsRows : Responses → ℕ → List NameBytes → List ℕ → List ℕ → Type 0
 AppendsRows v k sources old new = (rows : List Row) × AreExactRows two v k sources rows × (new ≡ old ++ text_of (map row_line rows))
+
+-- each of these texts that was made is of the lines of the exact rows from so many sources, the first one's from a place on, and the others' in turn
+abbrev pub ArePieces : Responses → ℕ → ℕ → ℕ → List (Result (Vec ℕ Global) Memory) → Type 0
+ArePieces v k count first pieces =
+    (i : ℕ) (d : Result (Vec ℕ Global) Memory) → i < length pieces
+    → IfOk (slice_index_or pieces i d) (λ piece. AppendsRows v k (take count (drop (first + count * i) v.elements)) [] piece.items)

@@ -105,7 +105,7 @@ pub fn with_rows(alloc: Global, verdict: &Verdict, rows: Vec<Row>) -> Result<Cer
         Verdict::Refused { k, steps } => Ok(Certificate::Refused {
             k: *k,
             steps: copied_steps(alloc, steps)?,
-            layers: Layers::from_rows(rows),
+            layers: Layers::from_items(rows),
         }),
     }
 }
@@ -121,5 +121,5 @@ fn copied_steps(alloc: Global, steps: &Steps) -> Result<Steps, Memory>
         };
         copies.push(*step)?;
     }
-    Ok(Steps::from_steps(copies))
+    Ok(Steps::from_items(copies))
 }

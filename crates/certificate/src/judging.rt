@@ -1,6 +1,6 @@
 //! The verdict on a recording.
 
-ghost use Rattle.std.specs.Prelude.{◌⊎◌, ◌↔◌, ◌<◌, IfOk, IsErrOf};
+ghost use Rattle.std.specs.Prelude.{◌⊎◌, ◌↔◌, ◌<◌, IfOk, IfSome, IsErrOf};
 ghost use Rattle.specification.specs.Faults.{IsSound};
 ghost use Rattle.specification.specs.Orders.{HasNoOrder, IsLeastOrder};
 ghost use Rattle.specification.specs.Responses.{responses_of};
@@ -43,21 +43,54 @@ pub fn judge<H: Threads + Sync, G: Gate>(
     ensures proof { IfOk result (λ v. ProvesItself recording.now (verdict_of v)) }
     ensures workers { IsErrOf result SearchFault.Workers ↔ ((workers < 1) ⊎ (MOST_WORKERS < workers)) }
 {
+    // Its contract has that the recording is legal.
+    let _ = recording.replicas();
+    let found = verdict_and_graph(rt, alloc, recording, workers, gate)?;
+    Ok(found.verdict)
+}
+
+/// A verdict, and the graph of the recording's responses where the verdict is a refusal.
+#[derive(Drop)]
+pub struct Judged {
+    pub verdict: Verdict,
+    pub graph: Option<OrderGraph>,
+}
+
+/// The verdict on a recording, as `judge` has it, and the graph that it was found in.
+pub fn verdict_and_graph<H: Threads + Sync, G: Gate>(
+    rt: &H,
+    alloc: Global,
+    recording: &Recording,
+    workers: u32,
+    gate: &G,
+) -> Result<Judged, SearchFault>
+    ensures verdict { IfOk result (λ found. IsVerdict recording.now (verdict_of found.verdict)) }
+    ensures graph { IfOk result (λ found. IfSome found.graph (IsCoveredBy (responses_of recording.now))) }
+    ensures workers { IsErrOf result SearchFault.Workers ↔ ((workers < 1) ⊎ (MOST_WORKERS < workers)) }
+{
     if workers == 0 || workers > MOST_WORKERS {
         return Err(SearchFault::Workers);
     }
-    // Its contract has that the recording is legal.
-    let _ = recording.replicas();
     let sight = Sight::of(alloc, recording)?;
     if let Some(fault) = first_fault_by(rt, alloc, workers, recording, &sight)? {
-        return Ok(Verdict::of_fault(fault));
+        return Ok(Judged {
+            verdict: Verdict::of_fault(fault),
+            graph: None,
+        });
     }
     let graph = OrderGraph::covering(alloc, recording)?;
     if let Some(order) = order(alloc, &graph)? {
-        return Ok(accepted(recording, &graph, order));
+        return Ok(Judged {
+            verdict: accepted(recording, &graph, order),
+            graph: None,
+        });
     }
     let found = least_conflict(rt, alloc, &graph, workers, gate)?;
-    Ok(refused(recording, &graph, found))
+    let verdict = refused(recording, &graph, found);
+    Ok(Judged {
+        verdict,
+        graph: Some(graph),
+    })
 }
 
 /// The verdict on a recording without a fault: this is the least order that all responses follow.

@@ -2,11 +2,12 @@
 //!
 //! `judge` looks for the first fault, then for the least order that every response follows, and only where
 //! there is none for the conflict number and the least cycle. `certify` shows why a verdict is right,
-//! and `write_certificate` gives the text of that.
+//! and `write_certificate` gives the text of that. `judge_and_write` does both, with threads.
 #![tactic(auto)]
 
 mod certifying;
 mod judging;
+mod pieces;
 mod rows;
 mod verdict;
 mod writing;
@@ -18,7 +19,7 @@ pub use level_search::{Gate, NoGate, SearchFault};
 pub use specification::{conflict_numbers_fall, verdicts_follow};
 pub use verdict::Verdict;
 pub use witnesses::{Order, Step, Steps};
-pub use writing::write_certificate;
+pub use writing::{Certified, judge_and_write, write_certificate};
 
 #[cfg(test)]
 mod tests;

@@ -56,7 +56,7 @@ pub fn row_of_layers(
     let elements = graph.elements();
     let numbers = layers_from(alloc, table, elements, source, source, k - 1)?;
     let layers = layers_of(alloc, graph, &numbers)?;
-    Ok(Row::from_layers(layers))
+    Ok(Row::from_items(layers))
 }
 
 /// The layers of the elements with these numbers.
@@ -68,7 +68,7 @@ fn layers_of(alloc: Global, graph: &OrderGraph, numbers: &[Vec<u32>]) -> Result<
     let mut layers = Vec::with_capacity(alloc, numbers.len())?;
     for layer in numbers {
         let names = names_of(alloc, graph, layer)?;
-        layers.push(Layer::from_names(names))?;
+        layers.push(Layer::from_items(names))?;
     }
     Ok(layers)
 }

@@ -1,17 +1,25 @@
-//! The text of the certificate of a verdict, whose rows are made and written one by one.
+//! The text of the certificate of a verdict, whose rows are made and written piece by piece.
 
-ghost use Rattle.std.specs.Prelude.{◌≤◌, IfOk, OnOk};
+ghost use Rattle.std.specs.Prelude.{◌≡◌, ◌⊎◌, ◌↔◌, ◌<◌, [], IfOk, IfSome, IsErrOf};
+ghost use Rattle.specification.specs.CertificateText.{certificate_text};
+ghost use Rattle.specification.specs.Faults.{IsSound};
+ghost use Rattle.specification.specs.Responses.{responses_of};
 ghost use Rattle.specification.specs.Verdict.{IsVerdict};
-ghost use Rattle.certificate.specs.ByRows.{AppendsRows, IsTextOfCertificate};
+ghost use Rattle.specification.specs.Versions.{two};
+ghost use Rattle.order_graph.specs.Covers.{IsCoveredBy};
+ghost use Rattle.certificate.specs.ByRows.{IsTextOfCertificate, certificate_with};
 ghost use Rattle.certificate.specs.VerdictOf.{verdict_of};
 
 use super::certifying::{number_with_rows, with_rows};
-use super::rows::{after_table, row_of_layers};
+use super::judging::{Judged, verdict_and_graph};
+use super::pieces::{push_rows, push_rows_by};
 use super::verdict::Verdict;
-use certificate_text::{Version, push_row};
+use certificate_text::Version;
 use events::{Memory, Recording};
+use level_search::{Gate, MOST_WORKERS, SearchFault};
 use order_graph::OrderGraph;
 use std::alloc::Global;
+use std::thread::Threads;
 
 /// The text of the certificate of a verdict, in version two: the same bytes as `certify` and then
 /// `Certificate::write` give, in less memory.
@@ -31,8 +39,7 @@ pub fn write_certificate(
 {
     // The contract of this call has that the recording is legal.
     let _ = recording.replicas();
-    let head = with_rows(alloc, verdict, Vec::new(alloc))?;
-    let mut text = head.write(alloc, Version::Two)?;
+    let mut text = text_without_rows(alloc, recording, verdict)?;
     let Some(k) = number_with_rows(verdict) else {
         return Ok(text);
     };
@@ -41,15 +48,89 @@ pub fn write_certificate(
     Ok(text)
 }
 
-/// Adds the lines of the rows of layers, one for each element.
-fn push_rows(alloc: Global, graph: &OrderGraph, k: u32, text: &mut Vec<u8>) -> Result<(), Memory>
-    requires { 1 ≤ k }
-    ensures { OnOk result (AppendsRows graph.now k graph.now.elements text.old.items text.new.items) }
+/// A verdict, and the text of its certificate.
+#[derive(Drop)]
+pub struct Certified {
+    pub verdict: Verdict,
+    pub text: Vec<u8>,
+}
+
+/// The verdict on a recording, as `judge` gives it, and the text of its certificate, as `write_certificate`
+/// gives it.
+///
+/// The responses that cover all others are found once for both. With one worker the rows are made one after
+/// the other in the caller's thread; with more, in pieces of 64 rows, four of them side by side, each of
+/// which has its own text until that is added. So memory is for the text and for 256 rows of it, and else
+/// time and memory are those of the two calls.
+pub fn judge_and_write<H: Threads + Sync, G: Gate>(
+    rt: &H,
+    alloc: Global,
+    recording: &Recording,
+    workers: u32,
+    gate: &G,
+) -> Result<Certified, SearchFault>
+    ensures verdict { IfOk result (λ c. IsVerdict recording.now (verdict_of c.verdict)) }
+    ensures text { IfOk result (λ c. IsTextOfCertificate recording.now (verdict_of c.verdict) c.text.items) }
+    ensures workers { IsErrOf result SearchFault.Workers ↔ ((workers < 1) ⊎ (MOST_WORKERS < workers)) }
 {
-    let table = after_table(alloc, graph)?;
-    for source in 0..graph.elements() {
-        let row = row_of_layers(alloc, graph, &table, source, k)?;
-        push_row(text, &row)?;
+    let Judged { verdict, graph } = verdict_and_graph(rt, alloc, recording, workers, gate)?;
+    let text = text_by(rt, alloc, workers, recording, &verdict, graph)?;
+    Ok(Certified { verdict, text })
+}
+
+/// The text of the certificate of a verdict, where the graph may have been made.
+fn text_by<H: Threads + Sync>(
+    rt: &H,
+    alloc: Global,
+    workers: u32,
+    recording: &Recording,
+    verdict: &Verdict,
+    made: Option<OrderGraph>,
+) -> Result<Vec<u8>, Memory>
+    requires verdict { IsVerdict recording.now (verdict_of verdict.now) }
+    requires made { IfSome made (IsCoveredBy (responses_of recording.now)) }
+    ensures { IfOk result (λ bytes. IsTextOfCertificate recording.now (verdict_of verdict.now) bytes.items) }
+{
+    // The contract of this call has that the recording is legal.
+    let _ = recording.replicas();
+    let mut text = text_without_rows(alloc, recording, verdict)?;
+    let Some(k) = number_with_rows(verdict) else {
+        return Ok(text);
+    };
+    let graph = made_or_new(alloc, recording, made)?;
+    push_rows_by(rt, alloc, workers, &graph, k, &mut text)?;
+    Ok(text)
+}
+
+/// The graph that was made, or else a new one.
+fn made_or_new(
+    alloc: Global,
+    recording: &Recording,
+    made: Option<OrderGraph>,
+) -> Result<OrderGraph, Memory>
+    requires sound { IsSound recording.now }
+    requires made { IfSome made (IsCoveredBy (responses_of recording.now)) }
+    ensures { IfOk result (IsCoveredBy (responses_of recording.now)) }
+{
+    match made {
+        Some(graph) => Ok(graph),
+        None => OrderGraph::covering(alloc, recording),
     }
-    Ok(())
+}
+
+/// The text of the certificate of a verdict up to its rows.
+fn text_without_rows(
+    alloc: Global,
+    recording: &Recording,
+    verdict: &Verdict,
+) -> Result<Vec<u8>, Memory>
+    requires { IsVerdict recording.now (verdict_of verdict.now) }
+    ensures { IfOk result (λ text. text.items
+        ≡ certificate_text two (certificate_with [] (verdict_of verdict.now))) }
+{
+    // The contract of this call has that the recording is legal.
+    let _ = recording.replicas();
+    let head = with_rows(alloc, verdict, Vec::new(alloc))?;
+    let text = head.write(alloc, Version::Two)?;
+    Ok(text)
 }

@@ -15,3 +15,5 @@ pub mod Nameable
 pub mod VerdictCertificates
 pub mod TakingLines
 pub mod RowForms
+pub mod OutlineFaults
+pub mod OutlineTexts

@@ -161,7 +161,7 @@ no-fault version c text line format.shape s (inl wrong) = no-wrong-line version 
 no-fault version c text line format.shape s (inr lacks) = none-lacking version c text line format.shape s lacks
 no-fault version c text line format.cut s cut = not-cut version c text line s cut
 
-only-memory : (text : List ℕ) (version : Version) (c : Certificate) → SpellsCertificate text version c → (line : ℕ) (why : CertCause) → IfSome (cause_of why) (IsFirstCertFault text line) → why ≡ cause.Memory
+pub only-memory : (text : List ℕ) (version : Version) (c : Certificate) → SpellsCertificate text version c → (line : ℕ) (why : CertCause) → IfSome (cause_of why) (IsFirstCertFault text line) → why ≡ cause.Memory
 only-memory text version c s line cause.Header fault = absurd (no-fault version c text line format.header s fault)
 only-memory text version c s line cause.Kind fault = absurd (no-fault version c text line format.kind s fault)
 only-memory text version c s line cause.Shape fault = absurd (no-fault version c text line format.shape s fault)

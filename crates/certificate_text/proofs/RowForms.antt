@@ -7,6 +7,7 @@ use Rattle.events.specs.Names.{NameBytes}
 use Rattle.specification.specs.LayerRule.{Row}
 use Rattle.format_words.specs.Words.{Word}
 use Rattle.format_words.specs.Reading.{◌>>=◌, after_word, name_of, GivesOne}
+use Rattle.certificate_text.specs.Outlines.{Tells}
 use Rattle.certificate_text.specs.Reading.{layers_at, onto_layers, has_form, row_at, form_of, is_form, HasForm, GoesOn}
 use Rattle.format_words.proofs.WordsBack.{word-again}
 use Rattle.certificate_text.proofs.RowLines.{last-layer}
@@ -77,17 +78,21 @@ onto-none None = refl
 onto-none (Some row) = refl
 
 -- whether a line's words are a row
-pub row-there : (k : ℕ) (ws more : List Word) (row : Row) (form : ℕ × ℕ) → ws ≡ codes "layers" ∷ more → layers_at [] more ≡ Some row → form_of row ≡ form → is_form k form ≡ true → GivesOne (λ row. Unit {0}) (row_at k ws)
+row-there : (k : ℕ) (ws more : List Word) (row : Row) (form : ℕ × ℕ) → ws ≡ codes "layers" ∷ more → layers_at [] more ≡ Some row → form_of row ≡ form → is_form k form ≡ true → GivesOne (λ row. Unit {0}) (row_at k ws)
 unfolding row_at
 row-there k ws more row form is e f t =
     let has : has_form k row ≡ true = ap (is_form k) f ∙ t in
     rw (is, word-again (codes "layers") more, e, has) tt
 
-pub row-unformed : (k : ℕ) (ws more : List Word) (row : Row) (form : ℕ × ℕ) → ws ≡ codes "layers" ∷ more → layers_at [] more ≡ Some row → form_of row ≡ form → is_form k form ≡ false → row_at k ws ≡ None
+row-unformed : (k : ℕ) (ws more : List Word) (row : Row) (form : ℕ × ℕ) → ws ≡ codes "layers" ∷ more → layers_at [] more ≡ Some row → form_of row ≡ form → is_form k form ≡ false → row_at k ws ≡ None
 unfolding row_at
 row-unformed k ws more row form is e f t =
     let has : has_form k row ≡ false = ap (is_form k) f ∙ t in
     rw (is, word-again (codes "layers") more, e, has) refl
+
+pub row-formed : (k : ℕ) (ws more : List Word) (row : Row) (form : ℕ × ℕ) (t : Bool) → ws ≡ codes "layers" ∷ more → layers_at [] more ≡ Some row → form_of row ≡ form → is_form k form ≡ t → Tells t (row_at k ws)
+row-formed k ws more row form true is e f t = row-there k ws more row form is e f t
+row-formed k ws more row form false is e f t = row-unformed k ws more row form is e f t
 
 pub row-unlayered : (k : ℕ) (ws more : List Word) → ws ≡ codes "layers" ∷ more → layers_at [] more ≡ None → row_at k ws ≡ None
 unfolding row_at

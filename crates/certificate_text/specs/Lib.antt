@@ -2,4 +2,5 @@ pub mod CertificateOf
 pub mod Reading
 pub mod Progress
 pub mod Place
+pub mod Outlines
 pub mod Laws

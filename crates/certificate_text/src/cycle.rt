@@ -106,8 +106,8 @@ impl Cycle {
         }
         let certificate = Certificate::Refused {
             k: self.k,
-            steps: Steps::from_steps(self.steps),
-            layers: Layers::from_rows(self.rows),
+            steps: Steps::from_items(self.steps),
+            layers: Layers::from_items(self.rows),
         };
         Ok((self.version, certificate))
     }

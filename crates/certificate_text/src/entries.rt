@@ -2,17 +2,22 @@
 
 ghost use Rattle.std.specs.Prelude.{◌≡◌, ◌+◌, ◌<◌, ◌≤◌, ◌^◌, ◌∷◌, [], List, Some, None, IfOk, IfErr};
 ghost use Rattle.events.specs.Names.{NameBytes};
+ghost use Rattle.specification.specs.Lines.{names_text};
 ghost use Rattle.format_words.specs.Words.{Word, words_of, words_behind};
-ghost use Rattle.format_words.specs.Reading.{Fails, Gives, Grows, HasSome, Says};
+ghost use Rattle.format_words.specs.Reading.{Fails, Gives, GivesOne, Grows, HasSome, Says};
+ghost use Rattle.certificate_text.specs.Outlines.{Tells};
 ghost use Rattle.certificate_text.specs.Reading.{order_at, step_at, layers_at, onto_layers, has_form, row_at};
 ghost use Rattle.certificate_text.specs.Reading.{form_of, is_form, HasForm, GoesOn};
 
 use events::Name;
 use format_words::{
-    Shape, Stop, end, first_word, name_of, names, next_word, operation_of, skip_word,
+    Shape, Stop, check_names, end, first_word, name_of, names, next_word, operation_of, skip_word,
 };
 use std::alloc::Global;
 use witnesses::{Layer, Order, Row, Step};
+
+/// How many bytes stand before the names in an order's line: those of `order :`.
+const BEFORE_NAMES: usize = 7;
 
 /// `order :` and names.
 #[tactic(auto, unfolding(crate::specs::Reading::order_at, format_words::specs::Reading::after_word))]
@@ -26,6 +31,31 @@ pub fn order_of(alloc: Global, line: &[u8]) -> Result<Order, Stop>
     let rest = skip_word(rest, b":")?;
     let names = names(alloc, rest)?;
     Ok(Order::from_names(names))
+}
+
+/// Looks whether the line is `order :` and names.
+#[tactic(auto, unfolding(crate::specs::Reading::order_at, format_words::specs::Reading::after_word))]
+fn check_order(line: &[u8]) -> Result<(), Shape>
+    ensures ok { IfOk result (λ _. GivesOne (λ _. Unit {0}) (order_at (words_of line.now))) }
+    ensures shape { IfErr result (λ _. order_at (words_of line.now) ≡ None) }
+{
+    let (word, rest) = first_word(line);
+    if word != b"order".as_slice() {
+        return Err(Shape);
+    }
+    let rest = skip_word(rest, b":")?;
+    check_names(rest)
+}
+
+/// What follows `order :` in an order's line: its names, each after a space. It takes no memory.
+pub fn order_names(line: &[u8]) -> Result<&[u8], Shape>
+    ensures ok { IfOk result (λ rest. (order : List NameBytes) × (order_at (words_of line.now) ≡ Some order)
+        × (rest.now ≡ names_text order)) }
+    ensures shape { IfErr result (λ _. order_at (words_of line.now) ≡ None) }
+{
+    check_order(line)?;
+    let (_, names) = line.split_at(BEFORE_NAMES);
+    Ok(names)
 }
 
 /// `step`, two names and an operation.
@@ -62,7 +92,7 @@ fn with_word(
         → layers_at layer.items (word.now ∷ ws) ≡ None) }
 {
     if word == b"/".as_slice() {
-        row.push(Layer::from_names(layer))?;
+        row.push(Layer::from_items(layer))?;
         return Ok(Vec::new(alloc));
     }
     let name = name_of(word)?;
@@ -82,7 +112,7 @@ fn layers(alloc: Global, rest: &[u8]) -> Result<Vec<Layer>, Stop>
         layer = with_word(alloc, &mut row, layer, word)?;
         rest = behind;
     }
-    row.push(Layer::from_names(layer))?;
+    row.push(Layer::from_items(layer))?;
     Ok(row)
 }
 
@@ -142,19 +172,26 @@ fn is_form(k: u32, form: (usize, usize)) -> bool
     form.0 == 1 && form.1 as u64 + 1 == u64::from(k)
 }
 
+/// Whether the line is `layers` and `k - 1` layers, the first of them with one name. It takes no memory.
+pub fn is_row(k: u32, line: &[u8]) -> bool
+    ensures { Tells result (row_at k (words_of line.now)) }
+{
+    let (word, rest) = first_word(line);
+    let is_layers = word == b"layers".as_slice();
+    if !is_layers {
+        return false;
+    }
+    let Ok(form) = form_of(rest) else {
+        return false;
+    };
+    is_form(k, form)
+}
+
 /// Why a row's reading stopped which found no memory: the line is no row, or memory ran out.
 fn stop_of(k: u32, line: &[u8]) -> Stop
     ensures { Fails (λ row. Unit {0}) result (row_at k (words_of line.now)) }
 {
-    let (word, rest) = first_word(line);
-    let is_row = word == b"layers".as_slice();
-    if !is_row {
-        return Stop::Shape;
-    }
-    let Ok(form) = form_of(rest) else {
-        return Stop::Shape;
-    };
-    if is_form(k, form) {
+    if is_row(k, line) {
         Stop::Memory
     } else {
         Stop::Shape
@@ -184,7 +221,7 @@ fn grown_row(alloc: Global, k: u32, line: &[u8]) -> Result<Row, Stop>
     }
     let layers = layers(alloc, rest)?;
     if has_form(k, &layers) {
-        Ok(Row::from_layers(layers))
+        Ok(Row::from_items(layers))
     } else {
         Err(Stop::Shape)
     }

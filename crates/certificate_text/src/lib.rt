@@ -14,20 +14,24 @@ mod certificate;
 mod cycle;
 mod entries;
 mod fault;
+mod first_lines;
 mod kind;
 mod laws;
+mod outline;
 mod progress;
 mod reading;
 mod version;
 mod writing;
 
 pub use certificate::Certificate;
+pub use entries::step_of;
 pub use fault::{CertCause, CertFault};
 pub use laws::{
     certificates_are_of_streams, certificates_are_unique, certificates_are_valid,
     each_text_spells_or_has_a_fault, spelled_texts_have_no_fault, texts_have_one_first_fault,
     texts_spell_one_certificate,
 };
+pub use outline::Outline;
 pub use version::Version;
 pub use witnesses::{Layer, Layers, Order, Row, Step, Steps};
 pub use writing::push_row;

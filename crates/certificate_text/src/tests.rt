@@ -4,7 +4,7 @@ ghost use Rattle.std.specs.Prelude.{IfOk};
 ghost use Rattle.specification.specs.CertificateText.{IsSpellable};
 ghost use Rattle.certificate_text.specs.CertificateOf.{certificate_of};
 
-use super::{CertCause, CertFault, Certificate, Layer, Row, Step, Version};
+use super::{CertCause, CertFault, Certificate, Layer, Outline, Row, Step, Version};
 use events::Memory;
 use std::alloc::Global;
 use std::test::Fail;
@@ -128,6 +128,45 @@ fn a_text_gives_its_cycle(rt: HostRuntime) -> Result<(), Fail> {
     assert!(rt; version == Version::One);
     assert!(rt; is_cycle(&certificate));
     Ok(())
+}
+
+/// The names that the text gives as an order, as the outline leaves them.
+fn names_in(text: &[u8]) -> Option<&[u8]> {
+    match Outline::read(text) {
+        Ok((_, Outline::Accepted { names })) => Some(names),
+        _ => None,
+    }
+}
+
+/// The number of steps, the lines of the steps and those of the rows, as the outline leaves them.
+fn cycle_in(text: &[u8]) -> Option<(u32, &[u8], &[u8])> {
+    match Outline::read(text) {
+        Ok((_, Outline::Refused { k, steps, rows })) => Some((k, steps, rows)),
+        _ => None,
+    }
+}
+
+#[test]
+fn an_outline_leaves_long_parts_as_text(rt: HostRuntime) {
+    assert!(rt; names_in(b"cert 1\naccepted\norder : b a\n") == Some(b" b a".as_slice()));
+    assert!(rt; names_in(b"cert 2\naccepted\norder :\n") == Some(b"".as_slice()));
+    let steps = b"step x b 2.1\nstep b a 0.3\nstep a x 1.1\n".as_slice();
+    let rows = b"layers x / b\nlayers a /\n".as_slice();
+    let text =
+        b"cert 2\nrefused 3\nstep x b 2.1\nstep b a 0.3\nstep a x 1.1\nlayers x / b\nlayers a /\n";
+    assert!(rt; cycle_in(text) == Some((3, steps, rows)));
+}
+
+/// Whether the text has an outline.
+fn has_outline(text: &str) -> bool {
+    Outline::read(text.as_bytes()).is_ok()
+}
+
+#[test]
+fn certificates_have_outlines(rt: HostRuntime) {
+    for text in TEXTS.iter().copied() {
+        assert!(rt; has_outline(text), "at {text}");
+    }
 }
 
 /// Whether reading the text tells this fault.

@@ -137,5 +137,5 @@ fn push_layer_at(text: &mut Vec<u8>, place: usize, layer: &Layer) -> Result<(), 
     if place > 0 {
         text.extend_from_slice(b" /")?;
     }
-    push_list(text, layer.names())
+    push_list(text, layer.items())
 }

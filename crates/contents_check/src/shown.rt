@@ -11,6 +11,7 @@ ghost use Rattle.contents_check.specs.Shown.{ShowJust, ShowsLive};
 ghost use Rattle.contents_check.specs.Standings.{AreBehind};
 
 use super::elements::Elements;
+use super::recent::Recent;
 use super::rightness::is_view;
 use super::standings::Standings;
 use events::{OpName, Recording, Response};
@@ -37,6 +38,7 @@ impl Standings {
     /// differ is a name looked up. It takes time linear in both.
     pub fn shows_live(
         &mut self,
+        recent: &mut Recent,
         elements: &Elements,
         last: &Response,
         w: &Response,
@@ -53,7 +55,7 @@ impl Standings {
         ensures shows { IsTrue result
             ↔ ShowsLive (IsView recording.now e) elements.now self.new.list.items w.now }
     {
-        self.show(elements, last, w) && self.has_what_it_must(recording, e)
+        self.show(recent, elements, last, w) && self.has_what_it_must(recording, e)
     }
 
     /// Whether none is shown that is not live, and no live element is left out unless `e` is a view.
@@ -65,7 +67,13 @@ impl Standings {
 
     /// Notes what a response shows, where `last` is noted; false where it repeats a name or has one that is
     /// no element's.
-    fn show(&mut self, elements: &Elements, last: &Response, w: &Response) -> bool
+    fn show(
+        &mut self,
+        recent: &mut Recent,
+        elements: &Elements,
+        last: &Response,
+        w: &Response,
+    ) -> bool
         requires numbers { AreNumbered elements.now }
         requires fits { Fits elements.now self.old }
         requires shown { ShowJust elements.now self.old.list.items last.now }
@@ -81,20 +89,21 @@ impl Standings {
             let run = w.same_names(i, last, j);
             i += run;
             j += run;
-            match self.step(elements, last, j, w, i) {
+            match self.step(recent, elements, last, j, w, i) {
                 Step::End => {}
                 Step::New => i += 1,
                 Step::Gone => j += 1,
                 Step::Wrong => return false,
             }
         }
-        self.hide_from(elements, last, j);
+        self.hide_from(recent, elements, last, j);
         true
     }
 
     /// Notes what differs at these places: that the one's name is shown, or that the other's is not any more.
     fn step(
         &mut self,
+        recent: &mut Recent,
         elements: &Elements,
         last: &Response,
         j: usize,
@@ -110,7 +119,7 @@ impl Standings {
         let Some(name) = w.get(i) else {
             return Step::End;
         };
-        let Some(number) = elements.number(name) else {
+        let Some(number) = recent.number(elements, name) else {
             return Step::Wrong;
         };
         if !self.list[number].shown {
@@ -118,14 +127,14 @@ impl Standings {
             return Step::New;
         }
         if j < last.len() {
-            self.hide(elements, last, j);
+            self.hide(recent, elements, last, j);
             return Step::Gone;
         }
         Step::Wrong
     }
 
     /// Notes that the name at a place of a response is not shown any more.
-    fn hide(&mut self, elements: &Elements, last: &Response, j: usize)
+    fn hide(&mut self, recent: &mut Recent, elements: &Elements, last: &Response, j: usize)
         requires numbers { AreNumbered elements.now }
         requires fits { Fits elements.now self.old }
         requires inside { j < length last.now }
@@ -135,14 +144,14 @@ impl Standings {
             → ShowJust elements.now self.new.list.items (front ++ drop (j + 1) last.now) }
     {
         if let Some(name) = last.get(j) {
-            if let Some(number) = elements.number(name) {
+            if let Some(number) = recent.number(elements, name) {
                 self.note(number, false);
             }
         }
     }
 
     /// Notes that the names of a response from a place on are not shown any more.
-    fn hide_from(&mut self, elements: &Elements, last: &Response, j: usize)
+    fn hide_from(&mut self, recent: &mut Recent, elements: &Elements, last: &Response, j: usize)
         requires numbers { AreNumbered elements.now }
         requires fits { Fits elements.now self.old }
         ensures notes { OnlyNotes elements.now self.old self.new }
@@ -151,7 +160,7 @@ impl Standings {
             → ShowJust elements.now self.new.list.items front }
     {
         for k in j..last.len() {
-            self.hide(elements, last, k);
+            self.hide(recent, elements, last, k);
         }
     }
 }

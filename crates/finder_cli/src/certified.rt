@@ -6,17 +6,18 @@ ghost use Rattle.byte_streams.specs.Streams.{IsClosed};
 ghost use Rattle.finder_cli.specs.Runs.{NamesFirstFault, IsOfRun};
 ghost use Rattle.finder_cli.specs.Certified.{IsCertificateFor, Certifies, CertifiesFront};
 
-use super::output::{Output, status_of, verdict_on, write_output};
+use super::output::{Output, status_of, write_output};
 use super::status::{RunFault, Status};
 use super::trace_source::recording_from;
 use byte_streams::{Reader, Sink, Source, Writer};
-use certificate::write_certificate;
+use certificate::{NoGate, SearchFault, judge_and_write};
 use command_line::WORKERS;
 use events::{Memory, Recording};
 use std::alloc::Global;
 use std::thread::Threads;
 
-/// Reads a trace to its end, and writes the certificate of its verdict, in version two. Four workers search.
+/// Reads a trace to its end, and writes the certificate of its verdict, in version two. Four workers search,
+/// and rows are made in four threads.
 ///
 /// Nothing is written before the whole text is made. A trace line that is refused for out of memory is
 /// `Memory`.
@@ -51,10 +52,12 @@ fn certificate_on<H: Threads + Sync>(
 ) -> Result<Output, Memory>
     ensures { IfOk result (λ output. IsCertificateFor recording.now output.bytes.items output.status) }
 {
-    let verdict = verdict_on(rt, alloc, recording, WORKERS)?;
-    let bytes = write_certificate(alloc, recording, &verdict)?;
-    Ok(Output {
-        bytes,
-        status: status_of(&verdict),
-    })
+    match judge_and_write(rt, alloc, recording, WORKERS, &NoGate) {
+        Ok(certified) => Ok(Output {
+            status: status_of(&certified.verdict),
+            bytes: certified.text,
+        }),
+        Err(SearchFault::Memory) => Err(Memory),
+        Err(SearchFault::Workers) => unreachable!(),
+    }
 }

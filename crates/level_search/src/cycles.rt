@@ -53,5 +53,5 @@ pub fn least_cycle_by_table(
 {
     let ring = least_ring(alloc, graph, table, k)?;
     let steps = steps_of(alloc, graph, &ring)?;
-    Ok(Steps::from_steps(steps))
+    Ok(Steps::from_items(steps))
 }

@@ -1,6 +1,5 @@
--- Lemmas: on rows cut from a list, on names read back from their numbers, on spots, on the limits, on responses
+-- Lemmas: on names read back from their numbers, on spots, on the limits, on responses
 -- that cover others, on what is left where some elements alone are kept.
-pub mod Cuts
 pub mod ReadBack
 pub mod AllSpots
 pub mod Adding
@@ -9,7 +8,6 @@ pub mod Shown
 pub mod Totals
 pub mod Parts
 pub mod CoverSteps
-pub mod Copying
 pub mod Made
 pub mod Listed
 pub mod Covers

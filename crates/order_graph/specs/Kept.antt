@@ -4,10 +4,10 @@ use Rattle.events.specs.Names.{NameBytes}
 use Rattle.events.specs.Operation.{Operation}
 use Rattle.specification.specs.Elements.{number_in}
 use Rattle.specification.specs.Responses.{Responses, Returned, AreProper}
-use Rattle.order_graph.specs.Cuts.{rows_of, IsCut}
+use Rattle.element_numbers.specs.Cuts.{rows_of, IsCut}
 use Rattle.order_graph.specs.Lists.{lists_of, AreFew}
 use Rattle.order_graph.specs.Spots.{spots_of}
-use Rattle.order_graph.specs.declared.rows.Rows.{Rows}
+use Rattle.element_numbers.specs.declared.rows.Rows.{Rows}
 use Rattle.order_graph.specs.declared.spot.Spot.{Spot}
 
 -- the names with these numbers

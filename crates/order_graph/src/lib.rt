@@ -9,8 +9,6 @@ mod looked;
 mod narrowing;
 mod order_graph;
 mod pairs;
-mod places;
-mod rows;
 mod spot;
 mod spots;
 

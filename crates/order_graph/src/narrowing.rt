@@ -5,13 +5,13 @@ ghost use Rattle.indexmap.specs.IndexMap.{get};
 ghost use Rattle.events.specs.Names.{NameBytes};
 ghost use Rattle.order_graph.specs.Renumbered.{numbers_left};
 ghost use Rattle.order_graph.specs.Lists.{row};
-ghost use Rattle.order_graph.specs.Cuts.{rows_of, IsCut};
+ghost use Rattle.element_numbers.specs.Cuts.{rows_of, IsCut};
 ghost use Rattle.std.specs.Cmp.Lexicographic.{pointwise};
 ghost use Rattle.specification.specs.Elements.{number_in};
 ghost use Rattle.order_graph.specs.Kept.{names_at};
 ghost use Rattle.std.specs.List.{cons_option};
 
-use super::rows::Rows;
+use element_numbers::Rows;
 use events::{Memory, Name};
 use indexmap::IndexMap;
 use std::alloc::Global;

@@ -12,11 +12,9 @@ use super::covering::covering_operations;
 use super::looked::Looked;
 use super::narrowing::{names_kept, new_numbers, places_left};
 use super::pairs::first_list;
-use super::places::places_of;
-use super::rows::Rows;
 use super::spot::Spot;
 use super::spots::spots_in_lists;
-use element_numbers::{inserted_names, numbers_of};
+use element_numbers::{Rows, inserted_names, numbers_of, places_of};
 use events::{Memory, Name, OpName, Recording};
 use indexmap::IndexMap;
 use std::alloc::Global;
@@ -45,7 +43,7 @@ impl Model for OrderGraph {
     ghost use Rattle.std.specs.Cmp.Lexicographic.{pointwise};
     ghost use Rattle.indexmap.specs.IndexMap.{get};
     ghost use Rattle.specification.specs.Responses.{Responses};
-    ghost use Rattle.order_graph.specs.Cuts.{rows_of};
+    ghost use Rattle.element_numbers.specs.Cuts.{rows_of};
     ghost use Rattle.order_graph.specs.Kept.{responses_kept, AreKept};
 
     ghost Value = { Responses };
@@ -59,7 +57,7 @@ impl Model for OrderGraph {
 impl OrderGraph {
     ghost use Rattle.order_graph.specs.Covers.{IsCoveredBy, IsPart, responses_on};
     ghost use Rattle.order_graph.specs.Lists.{lists_of, row, ticked, AreFew};
-    ghost use Rattle.order_graph.specs.Cuts.{rows_of};
+    ghost use Rattle.element_numbers.specs.Cuts.{rows_of};
     ghost use Rattle.order_graph.specs.Kept.{names_at, responses_kept, AreListed};
     ghost use Rattle.order_graph.specs.Spots.{spots_of};
     ghost use Rattle.std.specs.Prelude.{◌==◌};

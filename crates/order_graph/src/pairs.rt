@@ -1,12 +1,12 @@
 //! Whether one element stands before another, and in which list first.
 
 ghost use Rattle.std.specs.Prelude.{◌≡◌, ℕ, MatchOption, true, false};
-ghost use Rattle.order_graph.specs.Cuts.{rows_of, IsCut};
+ghost use Rattle.element_numbers.specs.Cuts.{rows_of, IsCut};
 ghost use Rattle.order_graph.specs.Lists.{BeforeIn, IsLeastList, IsBehind};
 ghost use Rattle.order_graph.specs.Spots.{spots_of};
 
-use super::rows::Rows;
 use super::spot::Spot;
+use element_numbers::Rows;
 
 /// Whether an element stands in a row after a place.
 fn stands_behind(row: &[u32], place: u32, b: u32) -> bool

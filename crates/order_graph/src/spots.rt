@@ -2,13 +2,13 @@
 
 ghost use Rattle.std.specs.Prelude.{◌≡◌, ℕ, ◌<◌, ◌≤◌, ◌^◌, ◌++◌, [], All, IfOk, OnOk, length, map};
 ghost use Rattle.std.specs.Prelude.{slice_index_or, vec_len};
-ghost use Rattle.order_graph.specs.Cuts.{rows_of, IsCut};
+ghost use Rattle.element_numbers.specs.Cuts.{rows_of, IsCut};
 ghost use Rattle.order_graph.specs.Lists.{row};
 ghost use Rattle.order_graph.specs.Spots.{spots_in, spots_of};
 
-use super::rows::Rows;
 use super::spot::Spot;
 use bit_tables::empty_lists;
+use element_numbers::Rows;
 use events::Memory;
 use std::alloc::Global;
 

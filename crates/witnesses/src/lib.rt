@@ -3,10 +3,12 @@
 #![tactic(auto)]
 
 mod element_order;
+mod fixed_list;
 mod layers;
 mod steps;
 
 pub use element_order::Order;
+pub use fixed_list::FixedList;
 pub use layers::{Layer, Layers, Row};
 pub use steps::{Step, Steps};
 

@@ -1,5 +1,6 @@
 //! The steps of a cycle.
 
+use super::fixed_list::FixedList;
 use events::{Name, OpName};
 use std::marker::Model;
 
@@ -26,49 +27,4 @@ impl Model for Step {
 }
 
 /// The steps of a cycle, round it from its first element: as many as it has elements.
-#[derive(Drop)]
-pub struct Steps {
-    steps: Vec<Step>,
-}
-
-impl Model for Steps {
-    ghost use Rattle.std.specs.Prelude.{List};
-    ghost use Rattle.specification.specs.Conflict as conflicts;
-
-    ghost Value = { List conflicts.Step };
-
-    ghost view = { λ s. s.steps.items };
-}
-
-impl Steps {
-    ghost use Rattle.std.specs.Prelude.{◌≡◌, length, option_copied, slice_get};
-
-    /// The list of these steps. It takes no memory.
-    pub fn from_steps(steps: Vec<Step>) -> Steps
-        ensures { result ≡ steps.items }
-    {
-        Steps { steps }
-    }
-
-    /// The steps, given back as the vector that holds them. It takes no memory.
-    pub fn into_steps(self) -> Vec<Step>
-        ensures { result.items ≡ self }
-    {
-        let Steps { steps: kept } = self;
-        kept
-    }
-
-    /// How many steps there are.
-    pub fn len(&self) -> usize
-        ensures { result ≡ length self.now }
-    {
-        self.steps.len()
-    }
-
-    /// The step at a place, counted from 0; none past the end.
-    pub fn get(&self, i: usize) -> Option<&Step>
-        ensures { option_copied result ≡ slice_get self.now i }
-    {
-        self.steps.get(i)
-    }
-}
+pub type Steps = FixedList<Step>;

@@ -56,7 +56,7 @@ fn given_back(alloc: Global, step: Step) -> Result<Steps, Fail> {
     if steps.push(step).is_err() {
         steps.push(step)?;
     }
-    Ok(Steps::from_steps(Steps::from_steps(steps).into_steps()))
+    Ok(Steps::from_items(Steps::from_items(steps).into_items()))
 }
 
 /// Whether steps are this one alone.
@@ -77,7 +77,7 @@ fn layers(alloc: Global) -> Result<Vec<Layer>, Fail> {
     let mut layers = Vec::new(alloc);
     let texts: [&[&str]; 3] = [&["s"], &[], &["b", "c"]];
     for texts in texts {
-        let layer = Layer::from_names(names(alloc, texts)?);
+        let layer = Layer::from_items(names(alloc, texts)?);
         if layers.reserve(1).is_err() {
             layers.reserve(1)?;
         }
@@ -109,7 +109,7 @@ fn has_c_in_last(row: &Row) -> bool {
 
 #[test]
 fn rows_have_layers_of_names(rt: HostRuntime) -> Result<(), Fail> {
-    let row = Row::from_layers(layers(rt.alloc())?);
+    let row = Row::from_items(layers(rt.alloc())?);
     assert!(&rt; has_lengths(&row));
     assert!(&rt; has_c_in_last(&row));
     Ok(())
@@ -122,7 +122,7 @@ fn of_row(alloc: Global, row: Row) -> Result<Layers, Fail> {
         rows.reserve(1)?;
     }
     rows.push(row)?;
-    Ok(Layers::from_rows(rows))
+    Ok(Layers::from_items(rows))
 }
 
 /// Whether there is one row, of three layers.
@@ -135,7 +135,7 @@ fn is_one_row(all: &Layers) -> bool {
 
 #[test]
 fn layers_have_rows(rt: HostRuntime) -> Result<(), Fail> {
-    let row = Row::from_layers(layers(rt.alloc())?);
+    let row = Row::from_items(layers(rt.alloc())?);
     let all = of_row(rt.alloc(), row)?;
     assert!(&rt; is_one_row(&all));
     Ok(())

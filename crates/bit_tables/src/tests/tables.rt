@@ -19,16 +19,40 @@ pub fn list_of(alloc: Global, numbers: &[u32]) -> Result<Vec<u32>, Fail>
     Ok(list)
 }
 
-/// The table of two lists of numbers below 70. A call that finds no memory is made again.
+/// The table of no list of numbers below 70. A call that finds no memory is made again.
+pub fn empty_table(alloc: Global) -> Result<AfterTable, Fail>
+    ensures len { IfOk result (λ table. length table ≡ 70) }
+    ensures width { IfOk result (HaveWidth 2) }
+{
+    match AfterTable::new(alloc, 70) {
+        Ok(table) => Ok(table),
+        Err(_) => Ok(AfterTable::new(alloc, 70)?),
+    }
+}
+
+/// Notes a list of those of the numbers that are below 70. A call that finds no memory is made again.
+pub fn add_list(alloc: Global, table: &mut AfterTable, numbers: &[u32]) -> Result<(), Fail>
+    requires len { length table.old ≡ 70 }
+    requires width { HaveWidth 2 table.old }
+    ensures len { length table.new ≡ 70 }
+    ensures width { HaveWidth 2 table.new }
+{
+    let list = list_of(alloc, numbers)?;
+    if table.add(alloc, &list).is_err() {
+        table.add(alloc, &list)?;
+    }
+    Ok(())
+}
+
+/// The table of two lists of numbers below 70.
 fn table_of(alloc: Global, first: &[u32], second: &[u32]) -> Result<AfterTable, Fail>
     ensures len { IfOk result (λ table. length table ≡ 70) }
     ensures width { IfOk result (HaveWidth 2) }
 {
-    let lists = [list_of(alloc, first)?, list_of(alloc, second)?];
-    match AfterTable::of(alloc, 70, lists.as_slice()) {
-        Ok(table) => Ok(table),
-        Err(_) => Ok(AfterTable::of(alloc, 70, lists.as_slice())?),
-    }
+    let mut table = empty_table(alloc)?;
+    add_list(alloc, &mut table, first)?;
+    add_list(alloc, &mut table, second)?;
+    Ok(table)
 }
 
 #[test]

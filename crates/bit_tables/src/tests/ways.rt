@@ -2,27 +2,21 @@
 ghost use Rattle.std.specs.Prelude.{◌≡◌, ◌<◌, ◌≤◌, IfOk, length};
 ghost use Rattle.bit_tables.specs.Lists.{HaveWidth};
 
-use super::tables::list_of;
+use super::tables::{add_list, empty_table};
 use crate::{AfterTable, empty_rows, layers_from};
 use std::alloc::Global;
 use std::test::Fail;
 
-/// The table of five lists of two numbers. A call that finds no memory is made again.
+/// The table of five lists of two numbers.
 fn table_of_pairs(alloc: Global, pairs: [[u32; 2]; 5]) -> Result<AfterTable, Fail>
     ensures len { IfOk result (λ table. length table ≡ 70) }
     ensures width { IfOk result (λ table. HaveWidth 2 table) }
 {
-    let lists = [
-        list_of(alloc, pairs[0].as_slice())?,
-        list_of(alloc, pairs[1].as_slice())?,
-        list_of(alloc, pairs[2].as_slice())?,
-        list_of(alloc, pairs[3].as_slice())?,
-        list_of(alloc, pairs[4].as_slice())?,
-    ];
-    match AfterTable::of(alloc, 70, lists.as_slice()) {
-        Ok(table) => Ok(table),
-        Err(_) => Ok(AfterTable::of(alloc, 70, lists.as_slice())?),
+    let mut table = empty_table(alloc)?;
+    for i in 0..5usize {
+        add_list(alloc, &mut table, pairs[i].as_slice())?;
     }
+    Ok(table)
 }
 
 /// Whether these are the first four layers of a table of 70 rows. A call that finds no memory is made again.

@@ -1,6 +1,6 @@
 //! Tests of certificates of worked recordings.
 
-use crate::{NoGate, Version, certify, judge, write_certificate};
+use crate::{NoGate, SearchFault, Version, certify, judge, judge_and_write, write_certificate};
 use sample_recordings::{
     EMPTY, OPPOSITE_PAIR, PAST_A_NEIGHBOUR, READ_THE_OTHER_WAY, RING_OF_FOUR, THREE_WAY_CYCLE,
     recording,
@@ -15,6 +15,8 @@ enum Way {
     Whole,
     /// Row by row.
     RowByRow,
+    /// With the verdict, by so many workers.
+    WithVerdict(u32),
 }
 
 /// The text of the certificate of the recording that a text spells.
@@ -25,13 +27,20 @@ fn certified_once<H: Threads + Sync>(
     way: Way,
 ) -> Option<Vec<u8>> {
     let recording = recording(alloc, text).ok()?;
-    let verdict = judge(rt, alloc, &recording, 4, &NoGate).ok()?;
     match way {
         Way::Whole => {
+            let verdict = judge(rt, alloc, &recording, 4, &NoGate).ok()?;
             let certificate = certify(alloc, &recording, &verdict).ok()?;
             certificate.write(alloc, Version::Two).ok()
         },
-        Way::RowByRow => write_certificate(alloc, &recording, &verdict).ok(),
+        Way::RowByRow => {
+            let verdict = judge(rt, alloc, &recording, 4, &NoGate).ok()?;
+            write_certificate(alloc, &recording, &verdict).ok()
+        },
+        Way::WithVerdict(workers) => {
+            let certified = judge_and_write(rt, alloc, &recording, workers, &NoGate).ok()?;
+            Some(certified.text)
+        },
     }
 }
 
@@ -114,5 +123,37 @@ fn certificates_written_row_by_row(rt: HostRuntime) {
     for (text, certificate) in ROWS.iter().copied() {
         let written = has_certificate(&rt, rt.alloc(), text, Way::RowByRow, certificate);
         assert!(rt; written, "at {text}");
+    }
+}
+
+#[test]
+fn certificates_with_their_verdicts(rt: HostRuntime) {
+    for (text, certificate) in ROWS.iter().copied() {
+        for workers in [1, 2, 4] {
+            let way = Way::WithVerdict(workers);
+            let written = has_certificate(&rt, rt.alloc(), text, way, certificate);
+            assert!(rt; written, "at {text}, {workers}");
+        }
+    }
+}
+
+/// Whether so many workers are refused.
+fn are_refused<H: Threads + Sync>(rt: &H, alloc: Global, workers: u32) -> bool {
+    let Ok(recording) = recording(alloc, THREE_WAY_CYCLE) else {
+        return false;
+    };
+    match judge_and_write(rt, alloc, &recording, workers, &NoGate) {
+        Err(SearchFault::Workers) => true,
+        _ => false,
+    }
+}
+
+#[test]
+fn certificates_by_workers_out_of_range(rt: HostRuntime) {
+    for workers in [0, 65] {
+        let alloc = rt.alloc();
+        // Where the recording finds no memory, it is made again.
+        let refused = are_refused(&rt, alloc, workers) || are_refused(&rt, alloc, workers);
+        assert!(rt; refused, "{workers}");
     }
 }

@@ -6,16 +6,19 @@ use Rattle.cert_check.proofs.RowsJudged.{judged_no}
 use Rattle.cert_check.proofs.cycle.judge_cycle.Goals as goal
 
 pub returns-then-k-lt3 : goal.returns-then-k-lt3
-returns-then-k-lt3 c =
-    ((c.requires.sound, all_right c.args.recording.now c.args.steps.now c.in_default.ensures, c.requires.spellable.2, (λ le. absurd (omega (arith, c.if-k-lt3.true)))), refl)
+returns-then-k-lt3 c = λ steps rows spellable lines row_lines.
+    let right = c.in_default.ensures steps spellable.0 spellable.2 spellable.3 lines in
+    ((c.requires.sound, all_right c.args.recording.now steps right, spellable.2, (λ le. absurd (omega (arith, c.if-k-lt3.true)))), refl)
 
 pub returns-in-None : goal.returns-in-None
-returns-in-None c =
-    let rows = rw c.in-None.is at c.in_ok-rows_fault.ensures in
-    ((c.requires.sound, all_right c.args.recording.now c.args.steps.now c.in_default.ensures, c.requires.spellable.2, (λ le. rows c.args.recording.now c.in_ok-numbered.ensures)), refl)
+returns-in-None c = λ steps rows spellable lines row_lines.
+    let right = c.in_default.ensures steps spellable.0 spellable.2 spellable.3 lines in
+    let judged = rw c.in-None.is at c.in_ok-rows_fault.ensures in
+    ((c.requires.sound, all_right c.args.recording.now steps right, spellable.2, (λ le. judged rows spellable.5 row_lines c.args.recording.now c.in_ok-numbered.ensures)), refl)
 
 pub returns : goal.returns
-returns c =
+returns c = λ steps rows spellable lines row_lines.
+    let right = c.in_default.ensures steps spellable.0 spellable.2 spellable.3 lines in
     let fault = rw c.in-Some-2.is at c.in_ok-rows_fault.ensures in
-    judged_no (version_in c.args.version) c.args.recording.now c.args.k c.args.steps.now c.args.rows.now c.in-Some-2.why c.requires.sound
-    (all_right c.args.recording.now c.args.steps.now c.in_default.ensures) (omega (arith, c.if-k-lt3.false)) (fault c.args.recording.now c.in_ok-numbered.ensures)
+    judged_no (version_in c.args.version) c.args.recording.now c.args.k steps rows c.in-Some-2.why c.requires.sound
+    (all_right c.args.recording.now steps right) (omega (arith, c.if-k-lt3.false)) (fault rows spellable.5 row_lines c.args.recording.now c.in_ok-numbered.ensures)

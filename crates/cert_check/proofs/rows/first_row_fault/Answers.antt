@@ -1,43 +1,75 @@
--- All rows of elements are right: there is no other, or one too many.
-use Rattle.std.proofs.Common.{◌≡◌, ◌∙◌, ◌≤◌, Some, List, length, sym, ap, arith}
-use Rattle.std.specs.Prelude.{slice_get, option_copied}
+-- Each row is judged at its place; then there is no other, or one too many.
+use Rattle.std.proofs.Common.{◌≡◌, ◌∙◌, ◌<◌, ◌≤◌, ℕ, [], inl, inr, Some, List, drop, map, length, sym, ap, subst, arith}
+use Rattle.std.specs.Prelude.{All, slice_get}
+use Rattle.std.proofs.lemmas.Bool.{cases_lt}
+use Rattle.std.proofs.lemmas.List.Elements.{All-head}
 use Rattle.std.proofs.lemmas.Option.{slice_get_within}
-use Rattle.events.proofs.Places.{slice_get-none}
 use Rattle.events.specs.Names.{NameBytes}
 use Rattle.specification.specs.LayerRule.{Row}
-use Rattle.specification.specs.CertificateText.{IsRow}
-use Rattle.specification.specs.Responses.{responses_of}
+use Rattle.specification.specs.Lines.{text_of}
+use Rattle.specification.specs.CertificateText.{IsRow, row_line}
+use Rattle.specification.specs.ValidCertificate.{RowIsRight}
 use Rattle.specification.specs.Elements.{elements}
-use Rattle.specification.proofs.Members.{All-member, In-from_place}
+use Rattle.specification.specs.Responses.{responses_of}
 use Rattle.certificate_text.specs.CertificateOf.{version_in}
-use Rattle.cert_check.proofs.RowsJudged.{rows_meet, row_source, first_fault}
+use Rattle.cert_check.proofs.RowsJudged.{element_at, rows_meet, first_fault}
+use Rattle.cert_check.proofs.TextLines.{no-rows, row-off, drop-is, drop-none, first-of-drop, drop-all}
 use Rattle.cert_check.proofs.rows.first_row_fault.Goals as goal
 
-pub returns-in-Some : goal.returns-in-Some
-returns-in-Some c = λ h of.
-    let fault = rw c.in-Some.is at c.in_ok-fault.ensures in
-    first_fault (version_in c.args.version) (responses_of h) c.args.k c.args.rows.now c.loop-i.i c.in-Some.fault (fault h of) (c.loop-i.invariant h of)
+pub returns-in_default : goal.returns-in_default
+returns-in_default c = λ layers each text h of.
+    let so = c.loop-i.invariant layers each text in
+    let none : drop c.loop-i.i layers ≡ [] = no-rows (drop c.loop-i.i layers) c.loop-i.rest.now so.0 c.in_default.ensures in
+    let short : length layers ≤ c.loop-i.i = drop-none layers c.loop-i.i none in
+    let here : c.loop-i.i < length c.args.numbered.now.names.items = omega (arith, c.len-count.ensures, c.loop-i-test.true) in (
+      c.loop-i.i,
+      element_at c.args.numbered.now.names.items (elements h) c.loop-i.i c.index-source.result.now here c.index-source.ensures of.names,
+      so.1 h of,
+      λ row at has. omega (arith, short, slice_get_within layers c.loop-i.i row at),
+    )
+
+pub returns-in-Some-2 : goal.returns-in-Some-2
+returns-in-Some-2 c = λ layers each text h of.
+    let so = c.loop-i.invariant layers each text in
+    let left = drop-all (IsRow c.args.k) layers c.loop-i.i each in
+    let off = row-off c.args.k (drop c.loop-i.i layers) c.loop-i.rest.now c.in-Some.line.now c.in-Some.behind.now left so.0 c.in-Some.ensures.0 c.in-Some.ensures.1 in
+    let is = All-head (IsRow c.args.k) off.0 off.1 (subst (All (IsRow c.args.k)) off.2 left) in
+    let at = drop-is layers c.loop-i.i off.0 off.1 off.2 in
+    let fault = rw c.in-Some-2.is at c.in_ok-fault.ensures in
+    first_fault (version_in c.args.version) (responses_of h) c.args.k layers c.loop-i.i c.in-Some-2.fault (fault layers off.0 at.0 is off.3 h of) (so.1 h of)
+
+pub loop-i-preserved : goal.loop-i-preserved
+loop-i-preserved c = λ layers each text.
+    let so = c.loop-i.invariant layers each text in
+    let left = drop-all (IsRow c.args.k) layers c.loop-i.i each in
+    let off = row-off c.args.k (drop c.loop-i.i layers) c.loop-i.rest.now c.in-Some.line.now c.in-Some.behind.now left so.0 c.in-Some.ensures.0 c.in-Some.ensures.1 in
+    let is = All-head (IsRow c.args.k) off.0 off.1 (subst (All (IsRow c.args.k)) off.2 left) in
+    let at = drop-is layers c.loop-i.i off.0 off.1 off.2 in
+    let right = rw c.in_default-2.is at c.in_ok-fault.ensures in (
+      off.4 ∙ ap (λ (l : List Row). text_of (map row_line l)) at.1,
+      λ h of j source lt there. elim (cases_lt j c.loop-i.i) [
+        | inl low ↦ so.1 h of j source low there
+        | inr high ↦
+            let same : j ≡ c.loop-i.i = omega (arith, high, lt) in
+            subst (λ (m : ℕ). RowIsRight (version_in c.args.version) (responses_of h) c.args.k layers m source) (sym same)
+            (right layers off.0 at.0 is off.3 h of source (subst (λ (m : ℕ). slice_get (elements h) m ≡ Some source) same there))
+      ],
+    )
 
 pub returns-in-None : goal.returns-in-None
-returns-in-None c = λ h of.
+returns-in-None c = λ layers each text h of.
+    let so = c.loop-i.invariant layers each text in
+    let none : drop c.loop-i.i layers ≡ [] = c.in-None.ensures c.args.k (drop c.loop-i.i layers) (drop-all (IsRow c.args.k) layers c.loop-i.i each) so.0 in
+    let short : length layers ≤ c.loop-i.i = drop-none layers c.loop-i.i none in
     let count : length (elements h) ≡ c.len-count.result = omega (arith, c.len-count.ensures, ap (λ (l : List NameBytes). length l) of.names) in
-    let size : length c.args.rows.now ≤ c.len.result = slice_get-none c.args.rows.now c.len.result (sym c.get.ensures ∙ ap option_copied c.in-None.is) in
-    rows_meet (version_in c.args.version) (responses_of h) c.args.k (elements h) c.args.rows.now
-    (λ j source at. c.loop-i.invariant h of j source (omega (arith, slice_get_within (elements h) j source at, c.loop-i-test.false)) at)
-    (omega (arith, c.len.ensures, c.len-count.ensures))
+    rows_meet (version_in c.args.version) (responses_of h) c.args.k (elements h) layers
+    (λ j source at. so.1 h of j source (omega (arith, slice_get_within (elements h) j source at, count, c.loop-i-test.false)) at)
+    (omega (arith, short, count, c.loop-i.auto.i-end))
 
-pub returns-in-None-source_of : goal.returns-in-None-source_of
-returns-in-None-source_of c = λ h of.
-    let row : Row = c.in-Some-get.row.now in
-    let at : slice_get c.args.rows.now c.len.result ≡ Some row = sym c.in-Some-get.ensures in
-    let source = row_source c.args.k row (All-member (IsRow c.args.k) c.args.rows.now row c.requires.rows (In-from_place c.args.rows.now c.len.result row at)) in
-    absurd (c.in-None-source_of.ensures source.0 source.1)
-
-pub returns-in-Some-source_of : goal.returns-in-Some-source_of
-returns-in-Some-source_of c = λ h of.
-    let row : Row = c.in-Some-get.row.now in
-    let at : slice_get c.args.rows.now c.len.result ≡ Some row = sym c.in-Some-get.ensures in
-    let names : length (elements h) ≡ length c.args.numbered.now.names.items = ap (λ (l : List NameBytes). length l) (sym of.names) in
-    let size : length (elements h) ≡ c.len.result = omega (arith, c.len.ensures) in
-    let passed : length (elements h) ≤ c.loop-i.i = omega (arith, c.len-count.ensures, c.loop-i-test.false) in
-    ((λ j source lt there. c.loop-i.invariant h of j source (omega arith) there), row, ap (slice_get c.args.rows.now) size ∙ at, c.in-Some-source_of.ensures)
+pub returns-in-Some-first_source : goal.returns-in-Some-first_source
+returns-in-Some-first_source c = λ layers each text h of.
+    let so = c.loop-i.invariant layers each text in
+    let source = c.in-Some-first_source.ensures c.args.k (drop c.loop-i.i layers) (drop-all (IsRow c.args.k) layers c.loop-i.i each) so.0 in
+    let count : length (elements h) ≡ c.len-count.result = omega (arith, c.len-count.ensures, ap (λ (l : List NameBytes). length l) of.names) in
+    let end : c.loop-i.i ≡ length (elements h) = omega (arith, count, c.loop-i.auto.i-end, c.loop-i-test.false) in
+    ((λ j a lt there. so.1 h of j a (omega (arith, lt, end)) there), source.0, ap (slice_get layers) (sym end) ∙ sym (first-of-drop layers c.loop-i.i) ∙ source.1, source.2)

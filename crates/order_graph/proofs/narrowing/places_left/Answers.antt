@@ -1,10 +1,10 @@
 -- What is left of one row more is a row more.
 use Rattle.std.proofs.Common.{◌≡◌, ℕ, ◌<◌, ◌≤◌, Option, List, [], ◌∷◌, ◌++◌, get_or, take, map, length, sym, ◌∙◌, ap, arith}
 use Rattle.std.proofs.lemmas.List.{map_push, take_more, take_all}
-use Rattle.order_graph.specs.Cuts.{rows_of}
+use Rattle.element_numbers.specs.Cuts.{rows_of}
 use Rattle.order_graph.specs.Renumbered.{numbers_left}
-use Rattle.order_graph.specs.declared.rows.Rows.{Rows}
-use Rattle.order_graph.proofs.Cuts.{length-cut, row-ended}
+use Rattle.element_numbers.specs.declared.rows.Rows.{Rows}
+use Rattle.element_numbers.proofs.Cuts.{length-cut, row-ended}
 use Rattle.order_graph.proofs.narrowing.places_left.Goals as goal
 
 pub loop-list-preserved : goal.loop-list-preserved

@@ -1,5 +1,5 @@
 use Rattle.std.proofs.Common.{◌≡◌, map, take}
-use Rattle.order_graph.specs.Cuts.{rows_of, IsCut}
+use Rattle.element_numbers.specs.Cuts.{rows_of, IsCut}
 use Rattle.order_graph.specs.Renumbered.{numbers_left}
 use Rattle.order_graph.proofs.narrowing.places_left.Given as goal
 

@@ -1,5 +1,5 @@
 use Rattle.std.proofs.Common.{◌≡◌, ℕ, ◌<◌, Some, slice_get}
-use Rattle.order_graph.specs.Cuts.{rows_of}
+use Rattle.element_numbers.specs.Cuts.{rows_of}
 use Rattle.order_graph.specs.Lists.{row, IsBehind}
 use Rattle.order_graph.specs.declared.spot.Spot.{Spot}
 use Rattle.order_graph.proofs.pairs.first_list.Given as goal

@@ -1,10 +1,10 @@
 -- One list more.
 use Rattle.std.proofs.Common.{◌≡◌, ℕ, ◌<◌, ◌≤◌, List, ◌++◌, take, length, vec_len, ap, ◌∙◌, arith}
 use Rattle.std.proofs.lemmas.List.{take_all}
-use Rattle.order_graph.specs.Cuts.{rows_of}
+use Rattle.element_numbers.specs.Cuts.{rows_of}
 use Rattle.order_graph.specs.Spots.{spots_in, spots_from}
 use Rattle.order_graph.proofs.Adding.{one_more_list}
-use Rattle.order_graph.proofs.Cuts.{length-cut}
+use Rattle.element_numbers.proofs.Cuts.{length-cut}
 use Rattle.order_graph.proofs.spots.all_spots.Goals as goal
 
 pub overflow_cast-list : goal.overflow_cast-list

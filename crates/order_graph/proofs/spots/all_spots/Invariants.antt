@@ -1,5 +1,5 @@
 use Rattle.std.proofs.Common.{◌≡◌, ℕ, ◌<◌, [], map, take, slice_index_or, vec_len}
-use Rattle.order_graph.specs.Cuts.{rows_of}
+use Rattle.element_numbers.specs.Cuts.{rows_of}
 use Rattle.order_graph.specs.Spots.{spots_from}
 use Rattle.order_graph.proofs.spots.all_spots.Given as goal
 

@@ -2,8 +2,8 @@
 use Rattle.std.proofs.Common.{◌≡◌, ℕ, List, [], ◌∷◌, ◌++◌, Vec, Global, take, map, length, sym, ◌∙◌, ap}
 use Rattle.std.proofs.lemmas.List.{map_push}
 use Rattle.order_graph.specs.declared.spot.Spot.{Spot}
-use Rattle.order_graph.specs.declared.rows.Rows.{Rows}
-use Rattle.order_graph.proofs.Cuts.{row-ended}
+use Rattle.element_numbers.specs.declared.rows.Rows.{Rows}
+use Rattle.element_numbers.proofs.Cuts.{row-ended}
 use Rattle.element_numbers.proofs.OneMore.{take-next}
 use Rattle.order_graph.proofs.spots.joined.Goals as goal
 

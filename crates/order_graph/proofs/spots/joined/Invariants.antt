@@ -1,5 +1,5 @@
 use Rattle.std.proofs.Common.{◌≡◌, map, take}
-use Rattle.order_graph.specs.Cuts.{rows_of, IsCut}
+use Rattle.element_numbers.specs.Cuts.{rows_of, IsCut}
 use Rattle.order_graph.proofs.spots.joined.Given as goal
 
 abbrev pub invariant-loop-list : goal.invariant-loop-list

@@ -3,7 +3,7 @@ use Rattle.std.proofs.Common.{◌≡◌, ℕ, inl, inr, [], List, Vec, Global, m
 use Rattle.std.proofs.lemmas.Bool.{cases_lt}
 use Rattle.std.proofs.lemmas.List.{get_or_past, length-map}
 use Rattle.std.proofs.lemmas.Result.{IfOk-weaker}
-use Rattle.order_graph.specs.Cuts.{rows_of}
+use Rattle.element_numbers.specs.Cuts.{rows_of}
 use Rattle.order_graph.specs.Spots.{spots_of}
 use Rattle.order_graph.specs.declared.spot.Spot.{Spot}
 use Rattle.order_graph.proofs.Adding.{items_of, no_spots_past}

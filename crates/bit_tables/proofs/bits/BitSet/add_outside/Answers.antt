@@ -1,4 +1,4 @@
-use Rattle.std.proofs.Common.{◌≡◌, ℕ, ◌+◌, ◌*◌, ◌/◌, ◌<◌, ◌^◌, Bool, true, false, eqb, arith, ltb-true, sym, ◌∙◌, subst}
+use Rattle.std.proofs.Common.{◌≡◌, ℕ, ◌+◌, ◌*◌, ◌/◌, ◌<◌, ◌^◌, true, eqb, arith, ltb-true, sym, ◌∙◌, subst}
 use Rattle.std.specs.Prelude.{◌↔◌, bit_and}
 use Rattle.std.specs.Int.{bit_not}
 use Rattle.std.proofs.Common.{w64}

@@ -1,4 +1,4 @@
-use Rattle.std.proofs.Common.{◌≡◌, ◌≤◌, ◌*◌, [], subst, sym, arith}
+use Rattle.std.proofs.Common.{◌≤◌, ◌*◌, subst, sym, arith}
 use Rattle.bit_tables.specs.Sets.{Has}
 use Rattle.bit_tables.specs.Ways.{AreThoseBelow, IsOutside}
 use Rattle.bit_tables.proofs.Those.{those_none, those_below}

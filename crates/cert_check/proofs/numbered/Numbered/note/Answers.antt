@@ -1,31 +1,23 @@
 -- The name's element has no value, or has one, or there is none.
-use Rattle.std.proofs.Common.{◌≡◌, ◌∙◌, ℕ, Some, None, List, sym, ap}
-use Rattle.std.specs.Prelude.{slice_get, option_copied}
-use Rattle.events.specs.Names.{NameBytes}
-use Rattle.specification.specs.Elements.{number_in}
-use Rattle.element_numbers.proofs.NameNumbers.{name-at}
+use Rattle.std.proofs.Common.{◌<◌, length, arith}
+use Rattle.std.proofs.lemmas.Option.{slice_get_within}
 use Rattle.cert_check.proofs.NotedNames.{none_unknown, none_twice, hold_more}
 use Rattle.cert_check.proofs.numbered.Numbered.note.Goals as goal
 
-pub returns-in_default : goal.returns-in_default
-returns-in_default c = λ noted holds can.
-    let names : List NameBytes = c.args.self.now.names.items in
-    let a : NameBytes = c.args.name.now in
-    let none : number_in names a ≡ None = sym (c.requires.numbering.numbers a) ∙ sym c.get.ensures.value ∙ ap option_copied c.in_default.is in
-    none_unknown names noted a c.args.value c.requires.numbering.once none can
+pub returns-in_default-clause-noted : goal.returns-in_default-clause-noted
+returns-in_default-clause-noted c = λ noted holds name can.
+    let none = rw c.in_default.is at c.find.ensures in
+    none_unknown c.args.self.now.names.items noted c.args.word.now c.args.value c.requires.numbering.once (none name) can
 
-pub returns-then-values-number : goal.returns-then-values-number
-returns-then-values-number c = λ noted holds can.
-    let names : List NameBytes = c.args.self.now.names.items in
-    let a : NameBytes = c.args.name.now in
-    let n : ℕ = c.in-Some.number.now in
-    let at : slice_get names n ≡ Some a = name-at names n a (sym (c.requires.numbering.numbers a) ∙ sym c.in-Some.ensures.value) in
-    none_twice names c.args.unset noted c.args.values.now c.requires.numbering.once holds a n c.args.value at c.if-values-number.true can
+pub bounds-values-number : goal.bounds-values-number
+bounds-values-number c =
+    let lt : c.in-Some.number < length c.args.self.now.names.items = slice_get_within c.args.self.now.names.items c.in-Some.number c.args.word.now c.in-Some.ensures in
+    omega (arith, lt, c.requires.room)
 
-pub returns : goal.returns
-returns c = λ noted holds.
-    let names : List NameBytes = c.args.self.now.names.items in
-    let a : NameBytes = c.args.name.now in
-    let n : ℕ = c.in-Some.number.now in
-    let at : slice_get names n ≡ Some a = name-at names n a (sym (c.requires.numbering.numbers a) ∙ sym c.in-Some.ensures.value) in
-    hold_more names c.args.unset noted c.args.values.now c.requires.numbering.once holds a n c.args.value at c.if-values-number.false c.requires.below
+pub returns-then-values-number-clause-noted : goal.returns-then-values-number-clause-noted
+returns-then-values-number-clause-noted c = λ noted holds name can.
+    none_twice c.args.self.now.names.items c.args.unset noted c.args.values.now c.requires.numbering.once holds c.args.word.now c.in-Some.number c.args.value c.in-Some.ensures c.if-values-number.true can
+
+pub returns-clause-noted : goal.returns-clause-noted
+returns-clause-noted c = λ noted holds.
+    hold_more c.args.self.now.names.items c.args.unset noted c.args.values.now c.requires.numbering.once holds c.args.word.now c.in-Some.number c.args.value c.in-Some.ensures c.if-values-number.false c.requires.below

@@ -1,11 +1,12 @@
 -- What is kept of a sound recording.
-use Rattle.std.proofs.Common.{◌≡◌, ℕ, ◌<◌, List, Vec, Global, length, map, sym, ◌∙◌, ap, subst}
+use Rattle.std.proofs.Common.{◌≡◌, ℕ, ◌<◌, List, length, map, sym, ◌∙◌, ap, subst}
 use Rattle.std.specs.Prelude.{All}
 use Rattle.events.specs.Names.{NameBytes}
 use Rattle.events.specs.History.{IsLegal}
 use Rattle.events.specs.Operations.{operation_names, response}
 use Rattle.specification.specs.Elements.{elements, number_in, numbers_in}
 use Rattle.specification.proofs.Members.{Once}
+use Rattle.element_numbers.specs.Cuts.{rows_of}
 use Rattle.element_numbers.proofs.Elements.{distinct-names, few-names, names-are}
 use Rattle.cert_check.proofs.Listed.{once-elements, lists-within}
 use Rattle.cert_check.proofs.numbered.Numbered.of.Goals as goal
@@ -34,9 +35,9 @@ returns c =
     let legal : IsLegal h = c.in_ok-operations.ensures.legal in
     let names : List NameBytes = c.in_ok-names.names.items in
     let is : names ≡ elements h = names-are h c.deref.result.now names (c.deref.ensures.value ∙ c.in_ok-operations.ensures.names) c.in_ok-names.ensures in
-    let places : List (Vec ℕ Global) = c.in_ok-places.places.items in
-    let lists : map (λ (v : Vec ℕ Global). v.items) places ≡ map (λ o. numbers_in (elements h) (response h o)) (operation_names h) =
-    c.in_ok-places.ensures
+    let places : List (List ℕ) = rows_of c.in_ok-places.places in
+    let lists : places ≡ map (λ o. numbers_in (elements h) (response h o)) (operation_names h) =
+    c.in_ok-places.ensures.rows
     ∙ ap (λ (ns : List NameBytes). map (λ o. numbers_in ns (response h o)) c.deref-3.result.now) (c.deref-4.ensures.value ∙ is)
     ∙ ap (map (λ o. numbers_in (elements h) (response h o))) (c.deref-3.ensures.value ∙ c.in_ok-operations.ensures.names) in
     record {
@@ -49,6 +50,7 @@ returns c =
       };
       names = is;
       operations = c.in_ok-operations.ensures.names;
+      cut = c.in_ok-places.ensures.cut;
       places = lists;
-      within = subst (λ (ns : List NameBytes). All (λ (v : Vec ℕ Global). All (λ x. x < length ns) v.items) places) (sym is) (lists-within h legal c.requires places lists);
+      within = subst (λ (ns : List NameBytes). All (λ list. All (λ x. x < length ns) list) places) (sym is) (lists-within h legal c.requires places lists);
     }

@@ -3,7 +3,7 @@ use Rattle.std.proofs.Common.{◌≡◌, ℕ, Some, None, Option, List, sym, ◌
 use Rattle.std.specs.Prelude.{slice_get, option_map}
 use Rattle.events.specs.Operation.{Operation}
 use Rattle.specification.specs.Responses.{Responses, Returned, AreProper, IsLeastShowing}
-use Rattle.order_graph.specs.Cuts.{rows_of}
+use Rattle.element_numbers.specs.Cuts.{rows_of}
 use Rattle.order_graph.specs.Kept.{responses_kept}
 use Rattle.order_graph.specs.Lists.{lists_of, BeforeIn, IsLeastList}
 use Rattle.order_graph.proofs.Shown.{none-shown, least-shown, named-stands}

@@ -1,7 +1,7 @@
 -- A list is no longer than all together, which fit.
 use Rattle.std.proofs.Common.{◌≡◌, ℕ, List, length, sym, ◌∙◌, ap, arith}
 use Rattle.std.specs.Prelude.{sum_by}
-use Rattle.order_graph.specs.Cuts.{rows_of}
+use Rattle.element_numbers.specs.Cuts.{rows_of}
 use Rattle.order_graph.specs.Kept.{responses_kept}
 use Rattle.order_graph.proofs.Shown.{row-le, lists-total}
 use Rattle.order_graph.proofs.order_graph.OrderGraph.length.Goals as goal

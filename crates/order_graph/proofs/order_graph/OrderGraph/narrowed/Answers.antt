@@ -8,7 +8,7 @@ use Rattle.events.specs.Operation.{Operation}
 use Rattle.specification.specs.Elements.{number_in}
 use Rattle.specification.specs.LayerRule.{narrowed}
 use Rattle.specification.specs.Responses.{Responses, AreProper}
-use Rattle.order_graph.specs.Cuts.{rows_of}
+use Rattle.element_numbers.specs.Cuts.{rows_of}
 use Rattle.order_graph.specs.Kept.{names_at, responses_kept}
 use Rattle.order_graph.specs.Lists.{lists_of, row, AreFew}
 use Rattle.order_graph.specs.Renumbered.{numbers_left}

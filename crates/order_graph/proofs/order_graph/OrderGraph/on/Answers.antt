@@ -6,7 +6,7 @@ use Rattle.events.specs.Operation.{Operation}
 use Rattle.events.specs.History.{History}
 use Rattle.specification.specs.Elements.{number_in}
 use Rattle.element_numbers.proofs.Elements.{distinct-names, few-names}
-use Rattle.order_graph.specs.Cuts.{rows_of}
+use Rattle.element_numbers.specs.Cuts.{rows_of}
 use Rattle.order_graph.specs.Lists.{row}
 use Rattle.order_graph.proofs.Made.{answers, kept-is, kept-lists, kept-proper, kept-few, kept-count}
 use Rattle.order_graph.proofs.order_graph.OrderGraph.on.Goals as goal

@@ -4,7 +4,7 @@ use Rattle.std.specs.Prelude.{slice_get, Some}
 use Rattle.std.proofs.lemmas.Grind.{common_steps}
 use Rattle.std.proofs.lemmas.Option.{gets, slice_get_within, get_or_from_slice_get}
 use Rattle.specification.specs.Responses.{Responses}
-use Rattle.order_graph.specs.Cuts.{rows_of}
+use Rattle.element_numbers.specs.Cuts.{rows_of}
 use Rattle.order_graph.specs.Kept.{responses_kept}
 use Rattle.order_graph.specs.Lists.{row, lists_of}
 use Rattle.order_graph.proofs.Shown.{known-numbers}

@@ -1,7 +1,7 @@
 -- The places are few, and numbers of elements.
 use Rattle.std.proofs.Common.{◌≡◌, ℕ, ◌<◌, length, subst, arith}
 use Rattle.std.specs.Prelude.{All}
-use Rattle.order_graph.specs.Cuts.{rows_of}
+use Rattle.element_numbers.specs.Cuts.{rows_of}
 use Rattle.order_graph.specs.Lists.{row}
 use Rattle.order_graph.proofs.Listed.{listed-few, listed-known, listed-short}
 use Rattle.order_graph.proofs.order_graph.OrderGraph.with_spots.Goals as goal

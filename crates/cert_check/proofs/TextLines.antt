@@ -1,0 +1,109 @@
+-- A text of lines, taken apart line by line.
+use Rattle.std.proofs.Common.{◌≡◌, ℕ, zero, suc, ◌+◌, ◌<◌, ◌≤◌, Some, List, [], ◌∷◌, ◌++◌, map, drop, length, codes, refl, sym, ◌∙◌, ap, subst, arith, append_assoc}
+use Rattle.std.specs.Prelude.{All, slice_get}
+use Rattle.std.proofs.lemmas.List.Elements.{All-head, All-tail, Contains-append_left, Contains-push}
+use Rattle.events.specs.Names.{NameBytes, IsName}
+use Rattle.specification.specs.Conflict.{Step}
+use Rattle.specification.specs.LayerRule.{Row}
+use Rattle.specification.specs.Lines.{Line, text_of, names_text, IsOneLine}
+use Rattle.specification.specs.CertificateText.{row_line, step_line, IsRow, IsStep}
+use Rattle.format_words.specs.Words.{words_behind}
+use Rattle.format_words.proofs.LineWords.{name-lacks, names-lack, names-words}
+use Rattle.format_words.proofs.Spaced.{spaced-lacks}
+use Rattle.format_words.proofs.TextLines.{LacksLf, lines_of, line-then, lacks-lf}
+use Rattle.format_words.proofs.TwoCuts.{same-cut}
+use Rattle.certificate_text.proofs.RowLines.{layers_words, row-spaced, plain-layers, row-plain}
+use Rattle.certificate_text.proofs.StepLines.{step_words, step-spaced, plain-step, step-plain}
+
+first-same : (x y : Line) (xs ys : List Line) → x ∷ xs ≡ y ∷ ys → x ≡ y
+first-same x y xs ys e = Prim.cc
+
+-- the first line of a text of lines
+pub line-off : (line : Line) (behind : List ℕ) (l : Line) (lines : List Line) → LacksLf l → IsOneLine line → text_of (l ∷ lines) ≡ line ++ 10 ∷ behind → (line ≡ l) × (behind ≡ text_of lines)
+line-off line behind l lines lacks one is =
+    let e : line ++ 10 ∷ behind ≡ l ++ 10 ∷ text_of lines = sym is ∙ append_assoc l (10 ∷ []) (text_of lines) in
+    let heads : line ∷ lines_of behind ≡ l ∷ lines_of (text_of lines) =
+    sym (line-then line behind (lacks-lf line one)) ∙ ap lines_of e ∙ line-then l (text_of lines) lacks in
+    let same : line ≡ l = first-same line l (lines_of behind) (lines_of (text_of lines)) heads in
+    (same, (same-cut line l 10 10 behind (text_of lines) e (ap length same)).2)
+
+row-lacks : (k : ℕ) (r : Row) → IsRow k r → LacksLf (row_line r)
+row-lacks k r h = subst LacksLf (sym (row-spaced r)) (spaced-lacks (codes "layers") (layers_words r) plain-layers (row-plain r h.names))
+
+step-lacks : (s : Step) → IsStep s → LacksLf (step_line s)
+step-lacks s h = subst LacksLf (sym (step-spaced s)) (spaced-lacks (codes "step") (step_words s) plain-step (step-plain s h))
+
+pub some-line : (l : Line) (lines : List Line) → IsOneLine (text_of (l ∷ lines)) → ⊥
+some-line l lines one = one (Contains-append_left (l ++ 10 ∷ []) (text_of lines) 10 (Contains-push l 10))
+
+nothing-cut : (line behind : List ℕ) → [] ≡ line ++ 10 ∷ behind → ⊥
+nothing-cut [] behind e = absurd Prim.cc
+nothing-cut (b ∷ line) behind e = absurd Prim.cc
+
+-- a text that is one line has no rows
+pub no-rows : (rows : List Row) (text : List ℕ) → text ≡ text_of (map row_line rows) → IsOneLine text → rows ≡ []
+no-rows [] text is one = refl
+no-rows (row ∷ rows) text is one = absurd (some-line (row_line row) (map row_line rows) (subst IsOneLine is one))
+
+-- rows, the first of which has this line
+pub row-off : (k : ℕ) (rows : List Row) (text line behind : List ℕ) → All (IsRow k) rows → text ≡ text_of (map row_line rows) → IsOneLine line → text ≡ line ++ 10 ∷ behind →
+    (row : Row) × (more : List Row) × (rows ≡ row ∷ more) × (line ≡ row_line row) × (behind ≡ text_of (map row_line more))
+row-off k [] text line behind h is one cut = absurd (nothing-cut line behind (sym is ∙ cut))
+row-off k (row ∷ rows) text line behind h is one cut =
+    let p = line-off line behind (row_line row) (map row_line rows) (row-lacks k row (All-head (IsRow k) row rows h)) one (sym is ∙ cut) in
+    (row, rows, refl, p.0, p.1)
+
+-- steps
+pub no-steps : (steps : List Step) (text : List ℕ) → text ≡ text_of (map step_line steps) → IsOneLine text → steps ≡ []
+no-steps [] text is one = refl
+no-steps (s ∷ steps) text is one = absurd (some-line (step_line s) (map step_line steps) (subst IsOneLine is one))
+
+pub step-off : (s : Step) (steps : List Step) (text line behind : List ℕ) → IsStep s → text ≡ text_of (map step_line (s ∷ steps)) → IsOneLine line → text ≡ line ++ 10 ∷ behind →
+    (line ≡ step_line s) × (behind ≡ text_of (map step_line steps))
+step-off s steps text line behind h is one cut = line-off line behind (step_line s) (map step_line steps) (step-lacks s h) one (sym is ∙ cut)
+
+-- names after spaces
+pub names-behind : (order : List NameBytes) → All IsName order → words_behind (names_text order) ≡ order
+names-behind [] h = refl
+names-behind (a ∷ order) h = names-words a order (name-lacks a (All-head IsName a order h)) (names-lack order (All-tail IsName a order h))
+
+-- what is left from a place on
+drop-suc : {X : Type 0} (xs : List X) (i : ℕ) → i < length xs → (x : X) × (slice_get xs i ≡ Some x) × (drop i xs ≡ x ∷ drop (suc i) xs)
+drop-suc [] i lt = absurd (omega arith)
+drop-suc (x ∷ xs) zero lt = (x, refl, refl)
+drop-suc (x ∷ xs) (suc i) lt = drop-suc xs i (omega arith)
+
+pub drop-next : {X : Type 0} (xs : List X) (i : ℕ) → i < length xs → (x : X) × (slice_get xs i ≡ Some x) × (drop i xs ≡ x ∷ drop (i + 1) xs)
+drop-next xs i lt =
+    let p = drop-suc xs i lt in
+    let one : suc i ≡ i + 1 = omega arith in
+    (p.0, p.1, p.2 ∙ ap (λ (n : ℕ). p.0 ∷ drop n xs) one)
+
+suc-is : {X : Type 0} (xs : List X) (i : ℕ) (x : X) (more : List X) → drop i xs ≡ x ∷ more → (slice_get xs i ≡ Some x) × (more ≡ drop (suc i) xs)
+suc-is [] zero x more e = absurd Prim.cc
+suc-is [] (suc i) x more e = absurd Prim.cc
+suc-is (y ∷ xs) zero x more e = (let f : y ≡ x = Prim.cc in ap Some f, (let f : more ≡ xs = Prim.cc in f))
+suc-is (y ∷ xs) (suc i) x more e = suc-is xs i x more e
+
+pub drop-is : {X : Type 0} (xs : List X) (i : ℕ) (x : X) (more : List X) → drop i xs ≡ x ∷ more → (slice_get xs i ≡ Some x) × (more ≡ drop (i + 1) xs)
+drop-is xs i x more e =
+    let p = suc-is xs i x more e in
+    let one : suc i ≡ i + 1 = omega arith in
+    (p.0, p.1 ∙ ap (λ (n : ℕ). drop n xs) one)
+
+pub drop-none : {X : Type 0} (xs : List X) (i : ℕ) → drop i xs ≡ [] → length xs ≤ i
+drop-none [] i e = omega arith
+drop-none (x ∷ xs) zero e = absurd Prim.cc
+drop-none (x ∷ xs) (suc i) e = let le : length xs ≤ i = drop-none xs i e in omega (arith, le)
+
+pub first-of-drop : {X : Type 0} (xs : List X) (i : ℕ) → slice_get (drop i xs) 0 ≡ slice_get xs i
+first-of-drop [] zero = refl
+first-of-drop [] (suc i) = refl
+first-of-drop (x ∷ xs) zero = refl
+first-of-drop (x ∷ xs) (suc i) = first-of-drop xs i
+
+pub drop-all : {X : Type 0} (P : X → Type 0) (xs : List X) (i : ℕ) → All P xs → All P (drop i xs)
+drop-all P [] zero h = h
+drop-all P [] (suc i) h = h
+drop-all P (x ∷ xs) zero h = h
+drop-all P (x ∷ xs) (suc i) h = drop-all P xs i (All-tail P x xs h)

@@ -1,0 +1,52 @@
+-- What an outline says of a certificate, and what reading one line by line answers.
+use Rattle.std.specs.Prelude.{◌≡◌, ◌≢◌, ℕ, ◌≤◌, ◌⊎◌, List, [], ◌∷◌, ◌++◌, length, map, IfSome, Bool, true, false, Option, None}
+use Rattle.events.specs.Names.{NameBytes}
+use Rattle.specification.specs.Conflict.{Step}
+use Rattle.specification.specs.Faults as fault
+use Rattle.specification.specs.LayerRule.{Row}
+use Rattle.specification.specs.Lines.{Line, text_of, names_text, IsOneLine}
+use Rattle.specification.specs.CertificateText.{Certificate, names_fault, gives_order, gives_cycle, step_line, row_line, kind_lines, version_line, IsSpellable, IsFirstCertFault}
+use Rattle.specification.specs.Versions.{Version}
+use Rattle.format_words.specs.Reading.{GivesOne}
+use Rattle.certificate_text.specs.CertificateOf.{cause_of}
+use Rattle.certificate_text.specs.declared.fault.CertCause.{CertCause}
+use Rattle.certificate_text.specs.declared.fault.CertCause.TheVariants as cause
+use Rattle.certificate_text.specs.declared.kind.Kind.{Kind}
+use Rattle.certificate_text.specs.Progress.{kind_line}
+use Rattle.certificate_text.specs.declared.outline.Outline.{Outline}
+use Rattle.certificate_text.specs.declared.outline.Outline.TheVariants.{Doubled, Contents, Position, Accepted, Refused}
+
+-- its short parts are those of the certificate, and its texts those of the certificate's long parts
+abbrev pub Outlines : Outline → Certificate → Type 0
+Outlines (Doubled first again) c = c ≡ names_fault (fault.doubled first again)
+Outlines (Contents at) c = c ≡ names_fault (fault.contents at)
+Outlines (Position at) c = c ≡ names_fault (fault.position at)
+Outlines (Accepted names) c = (order : List NameBytes) × (c ≡ gives_order order) × (names.now ≡ names_text order)
+Outlines (Refused k steps rows) c =
+    (ss : List Step) × (layers : List Row) × (c ≡ gives_cycle k ss layers) × (steps.now ≡ text_of (map step_line ss)) × (rows.now ≡ text_of (map row_line layers))
+
+-- there is something to be read
+abbrev pub Tells : {Y : Type 0} → Bool → Option Y → Type 0
+Tells true read = GivesOne (λ _. Unit {0}) read
+Tells false read = read ≡ None
+
+-- the text has no byte, or begins with a line of which this holds
+abbrev pub LacksLine : (Line → Type 0) → List ℕ → Type 0
+LacksLine Unread text = (text ≡ []) ⊎ ((line : Line) × (more : List ℕ) × IsOneLine line × (text ≡ line ++ 10 ∷ more) × Unread line)
+
+-- why no line that is read stands first in the text: it is missing or says another thing, which has the cause `unsaid`,
+-- or it has no LF
+abbrev pub Misses : CertCause → (Line → Type 0) → List ℕ → CertCause → Type 0
+Misses unsaid Unread text why = ((why ≡ unsaid) × LacksLine Unread text) ⊎ ((why ≡ cause.Cut) × (1 ≤ length text) × IsOneLine text)
+
+-- where the text goes on so after right lines, this is its first fault, and it is none of memory
+abbrev pub IsFaultBehind : List Line → List ℕ → ℕ → CertCause → Type 0
+IsFaultBehind lines text line why = IfSome (cause_of why) (IsFirstCertFault (text_of lines ++ text) line) × (why ≢ cause.Memory)
+
+-- after a second line of this kind, the text ends a certificate of this outline
+abbrev pub EndsOutline : Kind → List ℕ → Outline → Type 0
+EndsOutline k text outline = (c : Certificate) × IsSpellable c × (text_of (kind_line k ∷ []) ++ text ≡ text_of (kind_lines c)) × Outlines outline c
+
+-- after the first line of any version and a second line of this kind, this is the first fault
+abbrev pub IsFaultOfKind : Kind → List ℕ → ℕ → CertCause → Type 0
+IsFaultOfKind k text line why = (version : Version) → IsFaultBehind (version_line version ∷ kind_line k ∷ []) text line why

@@ -1,0 +1,69 @@
+//! The numbers of names that were looked up lately, so that they are found again without a look into the map.
+
+ghost use Rattle.std.specs.Prelude.{◌≡◌, ◌<◌};
+ghost use Rattle.contents_check.specs.Known.{number_of, AreNumbered};
+
+use super::changes::Change;
+use super::elements::Elements;
+use events::Name;
+
+/// How many numbers are kept.
+const SLOTS: usize = 256;
+
+/// For each slot the number of an element whose name was looked up lately. Names share slots, so a number
+/// is believed only where its element has the name.
+#[derive(Drop)]
+pub struct Recent {
+    slots: [usize; SLOTS],
+}
+
+impl Recent {
+    /// Nothing was looked up: any number stands in a slot.
+    pub fn new() -> Recent {
+        Recent { slots: [0; SLOTS] }
+    }
+
+    /// The number of a name. It costs one comparison of names where the name was looked up lately, and
+    /// else a look into the map as well.
+    pub fn number(&mut self, elements: &Elements, name: Name) -> Option<usize>
+        requires { AreNumbered elements.now }
+        ensures { result ≡ number_of elements.now name }
+    {
+        let slot = slot_of(name);
+        let kept = self.slots[slot];
+        if elements.is_number_of(kept, name) {
+            return Some(kept);
+        }
+        let number = elements.number(name)?;
+        self.slots[slot] = number;
+        Some(number)
+    }
+
+    /// Keeps the number of the element that a change inserts: the next response probably shows its name.
+    pub fn expect_shown(&mut self, elements: &Elements, change: Change) {
+        if let Change::Insert(number) = change {
+            if let Some(element) = elements.list.get(number) {
+                self.slots[slot_of(element.name)] = number;
+            }
+        }
+    }
+}
+
+/// The slot of a name, by its last three bytes, in which the names of a recording differ most.
+fn slot_of(name: Name) -> usize
+    ensures { result < 256 }
+{
+    let bytes = name.bytes();
+    let mixed = byte_before(bytes, 1) + 11 * byte_before(bytes, 2) + 121 * byte_before(bytes, 3);
+    mixed % SLOTS
+}
+
+/// The byte so many places before the end; 0 where there is none.
+fn byte_before(bytes: &[u8], places: usize) -> usize
+    ensures { result < 256 }
+{
+    match bytes.len().checked_sub(places) {
+        None => 0,
+        Some(at) => bytes.get(at).map_or(0, |byte| *byte as usize),
+    }
+}

@@ -1,0 +1,75 @@
+//! Rows of different lengths in one flat list, with their ends.
+
+ghost use Rattle.std.specs.Prelude.{◌≡◌, ◌<◌, ◌≤◌, ◌-◌, take, drop, [], ◌∷◌, ◌++◌, OnOk, length};
+ghost use Rattle.std.specs.Prelude.{slice_index_or, vec_len};
+
+use events::Memory;
+use std::alloc::Global;
+
+/// Rows of values, one after the other, and where each ends. What stands after the last end is a row
+/// that is begun.
+#[derive(Drop)]
+pub struct Rows<T: Copy + Drop> {
+    pub items: Vec<T>,
+    pub ends: Vec<usize>,
+}
+
+impl<T: Copy + Drop> Rows<T> {
+    ghost use Rattle.element_numbers.specs.Cuts.{rows_of, IsCut, begin_of};
+
+    /// No rows. It takes no memory.
+    pub fn new(alloc: Global) -> Rows<T>
+        ensures items { result.items.items ≡ [] }
+        ensures ends { result.ends.items ≡ [] }
+    {
+        Rows {
+            items: Vec::new(alloc),
+            ends: Vec::new(alloc),
+        }
+    }
+
+    /// Ends the row that is begun.
+    pub fn end_row(&mut self) -> Result<(), Memory>
+        ensures items { self.new.items.items ≡ self.old.items.items }
+        ensures ends { OnOk result (self.new.ends.items ≡ self.old.ends.items ++ (length self.old.items.items)
+            ∷ []) }
+    {
+        self.ends.push(self.items.len())?;
+        Ok(())
+    }
+
+    /// The row with a number, counted from 0; an empty one past the last.
+    pub fn row(&self, number: usize) -> &[T]
+        requires { IsCut self.now }
+        ensures { result.now ≡ slice_index_or (rows_of self.now) number [] }
+    {
+        let (start, end) = self.bounds(number);
+        &self.items[start..end]
+    }
+
+    /// Where a row begins and ends; both 0 past the last.
+    fn bounds(&self, number: usize) -> (usize, usize)
+        requires { IsCut self.now }
+        ensures rising { result.0 ≤ result.1 }
+        ensures within { result.1 ≤ vec_len self.now.items }
+        ensures row { slice_index_or (rows_of self.now) number []
+            ≡ take (result.1 - result.0) (drop result.0 self.now.items.items) }
+    {
+        match self.ends.get(number) {
+            None => (0, 0),
+            Some(end) => (self.begin(number), *end),
+        }
+    }
+
+    /// Where a row begins.
+    fn begin(&self, number: usize) -> usize
+        requires { number < vec_len self.now.ends }
+        ensures { result ≡ begin_of 0 self.now.ends.items number }
+    {
+        if number == 0 {
+            0
+        } else {
+            self.ends[number - 1]
+        }
+    }
+}
