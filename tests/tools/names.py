@@ -78,6 +78,8 @@ WORDS = {
     "the options `--workers` and `--json`": ("command_line", "read_words workers_rule json_rule WORKERS MOST_WORKERS"),
     "`--version`, `--help`": ("command_line", "finder_app WordsFault"),
     "standard input `-`, the file that a word names": ("finder_cli", "Machine World::open"),
+    "out of memory": ("events", "Memory"),
+    "line that takes memory": ("trace_text", "TakesMemory"),
     "exit status": ("finder_cli", "Status ProgramFault"),
     "line on standard error, as `finder: cannot write`": ("finder_cli", "ProgramFault World::complain"),
 }
@@ -94,7 +96,8 @@ FILES = {
     "logs of several machines": "recorders/merge.py",
     "environment variable `DOMEPEELER`": "tools/explaining/programs.py recorders/domepeeler.py",
     "property-based tests": "recorders/properties",
-    "random sessions of real editors": "recorders/engines",
+    "random sessions of real editors, how they are shrunk": "recorders/engines recorders/engines/record.py",
+    "gallery, recordings of real editors": "docs/gallery.md examples",
     "recorder thread, its 1,000,000 tries": "crates/rehearsal/src/recorder.rt",
     "watcher, its four snapshots": "crates/rehearsal/src/watcher.rt",
     "wrong body, must-fail edit": "crates/*/must-fail tests/proofs/wrong_bodies tests/proofs/wrong_bodies.py",
