@@ -2,8 +2,8 @@
 """names.py: is docs/names.md, which says where each name stands, what the sources say? With --write it is written anew.
 
 A name is a function, method, type, variant, trait or constant of a crate that has the word `pub`, a method of such a trait, a
-function of a program's main file, a test, or a definition of the crate's specs. Before the names stand the words of the documents, the crates with their files of definitions and
-lemmas, and the scripts by folder. No word, or --write."""
+function of a program's main file, a test, or a definition of the crate's specs. Before the names stand the words of the
+documents, the crates with their files of definitions and lemmas, and the scripts by folder. No word, or --write."""
 import re
 import sys
 from pathlib import Path
@@ -13,7 +13,13 @@ PAGE = ROOT / "docs" / "names.md"
 
 HEAD = """# Where each name stands
 
-Search this page for a word of the documents, or for a name: a definition, a law, a crate, a file of definitions or lemmas, a script, a public function or type, a method as `Certificate::read`, a variant as `Refusal::NotYet`. The file stands in the same line. Where a document writes `certificate::judge`, search for `judge`: functions stand under the heading of their crate. Functions without `pub` are not listed, but for the methods of a public trait, those of a `main.rt`, and tests. What the definitions mean is in [definitions.md](definitions.md), what the calls promise in [proved.md](proved.md), what each script tries in [tests/README.md](../tests/README.md). `tests/tools/names.py --write` makes this page from the sources.
+Search this page for a word of the documents, or for a name: a definition, a law, a crate, a file of definitions or \
+lemmas, a script, a public function or type, a method as `Certificate::read`, a variant as `Refusal::NotYet`. The file \
+stands in the same line. Where a document writes `certificate::judge`, search for `judge`: functions stand under the \
+heading of their crate. Functions without `pub` are not listed, but for the methods of a public trait, those of a \
+`main.rt`, and tests. What the definitions mean is in [definitions.md](definitions.md), what the calls promise in \
+[proved.md](proved.md), what each script tries in [tests/README.md](../tests/README.md). `tests/tools/names.py --write` \
+makes this page from the sources.
 
 ## Words
 """
