@@ -23,7 +23,8 @@ use witnesses::Order;
 /// The verdict on a recording.
 ///
 /// The number of workers, 1 to 64, is tested before the recording is looked at. With more than one the
-/// contents are checked on all processors, with one in the caller's thread. The search for the conflict
+/// contents are checked on all processors and the responses that cover all others are found by four threads,
+/// with one all is done in the caller's thread. The search for the conflict
 /// number is made only where no order follows every response; the gate is called round each of its searches.
 /// The least cycle is then found in the caller's thread.
 ///
@@ -78,7 +79,7 @@ pub fn verdict_and_graph<H: Threads + Sync, G: Gate>(
             graph: None,
         });
     }
-    let graph = OrderGraph::covering(alloc, recording)?;
+    let graph = OrderGraph::covering_by(rt, alloc, workers, recording)?;
     if let Some(order) = order(alloc, &graph)? {
         return Ok(Judged {
             verdict: accepted(recording, &graph, order),

@@ -1,8 +1,10 @@
 -- Responses that cover others: what these show, they show, by the same operation or one that comes before.
-use Rattle.std.specs.Prelude.{◌≡◌, ◌⊎◌, ⊤, List, [], ◌∷◌, map, Contains}
+use Rattle.std.specs.Prelude.{◌≡◌, ◌⊎◌, ℕ, ◌*◌, ◌<◌, ⊤, List, [], ◌∷◌, map, take, drop, length, slice_index_or, Contains, IfOk, Result, Vec}
+use Rattle.std.specs.Global.{Global}
 use Rattle.events.specs.Operation.{Operation, ComesBefore}
 use Rattle.events.specs.History.{History}
 use Rattle.events.specs.Operations.{response}
+use Rattle.events.specs.declared.memory.Memory.{Memory}
 use Rattle.specification.specs.Elements.{elements}
 use Rattle.specification.specs.Orders.{IsSubsequence}
 use Rattle.specification.specs.Responses.{Responses, Returned}
@@ -30,3 +32,10 @@ pub record AreCovering (h : History) (all some : List Operation) : Type 0 where
   pub part : IsPart some all
   pub covered : (o : Operation) → Contains all o
       → (p : Operation) × Contains some p × ((p ≡ o) ⊎ ComesBefore p o) × IsSubsequence (response h o) (response h p)
+
+-- of each of these that was found: some operations that cover those of one piece of all, where each piece has so many, the last
+-- one perhaps fewer
+abbrev pub ArePieces : History → ℕ → List Operation → List (Result (Vec Operation Global) Memory) → Type 0
+ArePieces h size all pieces =
+    (n : ℕ) (d : Result (Vec Operation Global) Memory) → n < length pieces
+    → IfOk (slice_index_or pieces n d) (λ kept. AreCovering h (take size (drop (n * size) all)) kept.items)

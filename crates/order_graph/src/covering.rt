@@ -1,13 +1,18 @@
 //! The operations whose responses cover all others.
 
-ghost use Rattle.std.specs.Prelude.{◌≡◌, true, AllPairs, IfOk, Contains};
+ghost use Rattle.std.specs.Prelude.{◌≡◌, ◌*◌, ◌++◌, true, AllPairs, IfOk, IsOkAnd, OnOk, Contains, length, take};
 ghost use Rattle.events.specs.Operation.{Operation, ComesBefore};
 ghost use Rattle.events.specs.Operations.{response};
 ghost use Rattle.specification.specs.Orders.{IsSubsequence};
-ghost use Rattle.order_graph.specs.Covers.{AreCovering};
+ghost use Rattle.order_graph.specs.Covers.{AreCovering, ArePieces};
 
 use events::{Memory, OpName, Recording, Response};
 use std::alloc::Global;
+use std::thread;
+use std::thread::Threads;
+
+/// How many pieces of the operations are gone through side by side.
+const PIECES: usize = 4;
 
 /// Whether the names of a response are found in another in the same order; it may miss this where the
 /// response has not half as many. Names are compared in runs, as far as both go on alike; after each run one
@@ -74,4 +79,79 @@ pub fn covering_operations(
         }
     }
     Ok(kept)
+}
+
+/// The same, where the number of workers says whether threads are used: with 1 the operations are gone
+/// through one after the other in the caller's thread, with any other number in four pieces side by side, of
+/// each of which the first is kept.
+pub fn covering_operations_by(
+    rt: &(impl Threads + Sync),
+    alloc: Global,
+    workers: u32,
+    recording: &Recording,
+    operations: &[OpName],
+) -> Result<Vec<OpName>, Memory>
+    requires in_order { AllPairs (λ f e. ComesBefore f e) operations.now }
+    ensures { IfOk result (λ kept. AreCovering recording.now operations.now kept.items) }
+{
+    if workers == 1 {
+        return covering_operations(alloc, recording, operations);
+    }
+    covering_side_by_side(rt, alloc, recording, operations)
+}
+
+/// The same, in pieces side by side.
+fn covering_side_by_side(
+    rt: &(impl Threads + Sync),
+    alloc: Global,
+    recording: &Recording,
+    operations: &[OpName],
+) -> Result<Vec<OpName>, Memory>
+    requires in_order { AllPairs (λ f e. ComesBefore f e) operations.now }
+    ensures { IfOk result (λ kept. AreCovering recording.now operations.now kept.items) }
+{
+    let size = operations.len() / PIECES + 1;
+    let pieces = thread::map_chunks(
+        rt,
+        alloc,
+        operations,
+        size,
+        &|_begin: usize, piece: &[OpName]| -> Result<Vec<OpName>, Memory>
+            requires { AllPairs (λ f e. ComesBefore f e) piece.now }
+            ensures { IfOk result (λ kept. AreCovering recording.entry.now piece.now kept.items) }
+        { covering_operations(alloc, recording, piece) },
+    )?;
+    joined(alloc, recording, operations, size, pieces.as_slice())
+}
+
+/// The operations kept of each piece, one after the other.
+fn joined(
+    alloc: Global,
+    recording: &Recording,
+    operations: &[OpName],
+    size: usize,
+    pieces: &[Result<Vec<OpName>, Memory>],
+) -> Result<Vec<OpName>, Memory>
+    requires { ArePieces recording.now size operations.now pieces.now }
+    ensures { IfOk result (λ kept. AreCovering recording.now
+        (take (length pieces.now * size) operations.now) kept.items) }
+{
+    let mut kept = Vec::new(alloc);
+    for piece in pieces {
+        push_piece(piece, &mut kept)?;
+    }
+    Ok(kept)
+}
+
+/// Adds the operations kept of a piece, if they were found.
+fn push_piece(piece: &Result<Vec<OpName>, Memory>, kept: &mut Vec<OpName>) -> Result<(), Memory>
+    ensures { OnOk result (IsOkAnd piece.now (λ more. kept.new.items ≡ kept.old.items ++ more.items)) }
+{
+    match piece {
+        Ok(more) => {
+            kept.extend_from_slice(more.as_slice())?;
+            Ok(())
+        },
+        Err(_) => Err(Memory),
+    }
 }

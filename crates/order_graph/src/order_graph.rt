@@ -8,7 +8,7 @@ ghost use Rattle.specification.specs.Elements.{elements, number_in};
 ghost use Rattle.specification.specs.LayerRule.{narrowed};
 ghost use Rattle.specification.specs.Responses.{responses_of, AreProper, IsLeastShowing};
 
-use super::covering::covering_operations;
+use super::covering::{covering_operations, covering_operations_by};
 use super::looked::Looked;
 use super::narrowing::{names_kept, new_numbers, places_left};
 use super::pairs::first_list;
@@ -19,6 +19,7 @@ use events::{Memory, Name, OpName, Recording};
 use indexmap::IndexMap;
 use std::alloc::Global;
 use std::marker::Model;
+use std::thread::Threads;
 
 /// The elements of a recording and its responses, as lists of the elements' numbers.
 ///
@@ -55,7 +56,7 @@ impl Model for OrderGraph {
 }
 
 impl OrderGraph {
-    ghost use Rattle.order_graph.specs.Covers.{IsCoveredBy, IsPart, responses_on};
+    ghost use Rattle.order_graph.specs.Covers.{AreCovering, IsCoveredBy, IsPart, responses_on};
     ghost use Rattle.order_graph.specs.Lists.{lists_of, row, ticked, AreFew};
     ghost use Rattle.element_numbers.specs.Cuts.{rows_of};
     ghost use Rattle.order_graph.specs.Kept.{names_at, responses_kept, AreListed};
@@ -88,8 +89,39 @@ impl OrderGraph {
         ensures { IfOk result (λ g. IsCoveredBy (responses_of recording.now) g) }
     {
         let operations = recording.operations(alloc)?;
-        let names = inserted_names(alloc, recording, &operations)?;
         let shown = covering_operations(alloc, recording, &operations)?;
+        OrderGraph::covered(alloc, recording, &operations, shown)
+    }
+
+    /// The same, where the number of workers says whether threads are used: with any other number than 1 four
+    /// parts of the operations are gone through side by side, and of each part the first response is kept.
+    pub fn covering_by(
+        rt: &(impl Threads + Sync),
+        alloc: Global,
+        workers: u32,
+        recording: &Recording,
+    ) -> Result<OrderGraph, Memory>
+        requires { IsSound recording.now }
+        ensures { IfOk result (λ g. IsCoveredBy (responses_of recording.now) g) }
+    {
+        let operations = recording.operations(alloc)?;
+        let shown = covering_operations_by(rt, alloc, workers, recording, &operations)?;
+        OrderGraph::covered(alloc, recording, &operations, shown)
+    }
+
+    /// The graph of operations whose responses cover those of all operations.
+    fn covered(
+        alloc: Global,
+        recording: &Recording,
+        operations: &[OpName],
+        shown: Vec<OpName>,
+    ) -> Result<OrderGraph, Memory>
+        requires sound { IsSound recording.now }
+        requires operations { operations.now ≡ operation_names recording.now }
+        requires covering { AreCovering recording.now (operation_names recording.now) shown.items }
+        ensures { IfOk result (λ g. IsCoveredBy (responses_of recording.now) g) }
+    {
+        let names = inserted_names(alloc, recording, operations)?;
         OrderGraph::on(alloc, recording, names, shown)
     }
 

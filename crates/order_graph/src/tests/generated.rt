@@ -23,7 +23,7 @@ fn next_agrees(
         |recording, graph| {
             Ok(match kept {
                 Kept::All => agrees(recording, graph),
-                Kept::Covering => tells_the_same(recording, graph),
+                Kept::Covering | Kept::CoveringByThreads => tells_the_same(recording, graph),
             })
         },
     )
@@ -31,7 +31,11 @@ fn next_agrees(
 
 #[test]
 fn generated_recordings_agree_with_the_plain_programs(rt: HostRuntime) -> Result<(), Fail> {
-    for (seed, kept) in [(2016, Kept::All), (1936, Kept::Covering)] {
+    for (seed, kept) in [
+        (2016, Kept::All),
+        (1936, Kept::Covering),
+        (1936, Kept::CoveringByThreads),
+    ] {
         let mut random = Random(seed);
         for _ in 0..300 {
             assert!(rt;

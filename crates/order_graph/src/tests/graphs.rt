@@ -14,14 +14,22 @@ use std::thread::Threads;
 pub enum Kept {
     All,
     Covering,
+    /// Those that cover all, found by threads.
+    CoveringByThreads,
 }
 
-fn graph_of(alloc: Global, recording: &Recording, kept: Kept) -> Result<OrderGraph, Memory>
+fn graph_of(
+    rt: &(impl Threads + Sync),
+    alloc: Global,
+    recording: &Recording,
+    kept: Kept,
+) -> Result<OrderGraph, Memory>
     requires { IsSound recording.now }
 {
     match kept {
         Kept::All => OrderGraph::of(alloc, recording),
         Kept::Covering => OrderGraph::covering(alloc, recording),
+        Kept::CoveringByThreads => OrderGraph::covering_by(rt, alloc, 4, recording),
     }
 }
 
@@ -36,9 +44,9 @@ pub fn ask<Q: FnOnce(&Recording, &OrderGraph) -> Result<bool, Fail>>(
     requires { Q.IsAlwaysCallable question }
 {
     check_sound(rt, alloc, &recording)?;
-    let graph = match graph_of(alloc, &recording, kept) {
+    let graph = match graph_of(rt, alloc, &recording, kept) {
         Ok(graph) => graph,
-        Err(Memory) => graph_of(alloc, &recording, kept)?,
+        Err(Memory) => graph_of(rt, alloc, &recording, kept)?,
     };
     question(&recording, &graph)
 }

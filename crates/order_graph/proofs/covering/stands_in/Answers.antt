@@ -1,7 +1,6 @@
 -- Both go on alike for a run, and one place of the other is passed, if one is left.
-use Rattle.std.proofs.Common.{◌≡◌, ◌+◌, ◌<◌, ◌≤◌, ℕ, List, drop, length, arith, length-drop}
+use Rattle.std.proofs.Common.{List, arith, length-drop}
 use Rattle.events.specs.Names.{NameBytes}
-use Rattle.specification.specs.Orders.{IsSubsequence}
 use Rattle.order_graph.proofs.CoverSteps.{goes_on_alike, passes}
 use Rattle.order_graph.proofs.covering.stands_in.Goals as goal
 

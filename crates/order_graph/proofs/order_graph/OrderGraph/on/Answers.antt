@@ -1,5 +1,5 @@
 -- What is kept of these operations reads as their responses.
-use Rattle.std.proofs.Common.{◌≡◌, ℕ, ◌<◌, List, length, ◌∙◌, ap, subst, arith}
+use Rattle.std.proofs.Common.{◌≡◌, ℕ, List, ◌∙◌, ap}
 use Rattle.std.proofs.lemmas.Result.{IfOk-weaker}
 use Rattle.events.specs.Names.{NameBytes}
 use Rattle.events.specs.Operation.{Operation}
@@ -7,7 +7,6 @@ use Rattle.events.specs.History.{History}
 use Rattle.specification.specs.Elements.{number_in}
 use Rattle.element_numbers.proofs.Elements.{distinct-names, few-names}
 use Rattle.element_numbers.specs.Cuts.{rows_of}
-use Rattle.order_graph.specs.Lists.{row}
 use Rattle.order_graph.proofs.Made.{answers, kept-is, kept-lists, kept-proper, kept-few, kept-count}
 use Rattle.order_graph.proofs.order_graph.OrderGraph.on.Goals as goal
 
