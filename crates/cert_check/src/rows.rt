@@ -159,7 +159,7 @@ fn shown_after(alloc: Global, numbered: &Numbered) -> Result<AfterTable, Memory>
     let mut last = 0;
     for i in 0..numbered.places.ends.len() {
         let row = numbered.places.row(i);
-        if i == 0 || !stands_in(row, numbered.places.row(last)) {
+        if last >= i || !stands_in(row, numbered.places.row(last)) {
             table.add(alloc, row)?;
             last = i;
         }
