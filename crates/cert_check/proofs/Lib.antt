@@ -10,6 +10,7 @@ pub mod Ranks
 pub mod Noting
 pub mod RulesFrom
 pub mod Depths
+pub mod PartLemmas
 pub mod TableRule
 pub mod Rings
 pub mod StepsRight

@@ -11,6 +11,7 @@ mod judging;
 mod laws;
 mod numbered;
 mod order;
+mod parts;
 mod rows;
 mod shown;
 mod steps;

@@ -17,6 +17,7 @@ ghost use Rattle.cert_check.specs.RowWords.{SaysRow};
 
 use super::answer::Reason;
 use super::numbered::Numbered;
+use super::parts::stands_in;
 use super::values::are_unset_below;
 use bit_tables::{AfterTable, are_deep};
 use certificate_text::Version;
@@ -147,15 +148,21 @@ fn first_source(rows: &[u8]) -> Option<Name>
     }
 }
 
-/// Which elements are shown after which.
+/// Which elements are shown after which. A response whose elements stand in the last one noted in the same
+/// order shows nothing new, and is passed over.
 fn shown_after(alloc: Global, numbered: &Numbered) -> Result<AfterTable, Memory>
     requires cut { IsCut numbered.now.places }
     requires within { AreWithin (length numbered.now.names.items) numbered.now }
     ensures { IfOk result (λ t. IsTableOf (length numbered.now.names.items) (lists_of numbered.now) t) }
 {
     let mut table = AfterTable::new(alloc, numbered.names.len())?;
+    let mut last = 0;
     for i in 0..numbered.places.ends.len() {
-        table.add(alloc, numbered.places.row(i))?;
+        let row = numbered.places.row(i);
+        if last >= i || !stands_in(row, numbered.places.row(last)) {
+            table.add(alloc, row)?;
+            last = i;
+        }
     }
     Ok(table)
 }

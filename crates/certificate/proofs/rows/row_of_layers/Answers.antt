@@ -23,8 +23,8 @@ returns c =
     let v = c.args.graph.now in
     let name = get_or v.elements c.args.source [] in
     let count : length c.in_ok-numbers.numbers.items ≡ c.args.k - 1 = omega (arith, c.in_ok-numbers.numbers.ok, c.in_ok-numbers.ensures.count) in
-    let is : c.from_layers.result ≡ map (λ (layer : Vec ℕ Global). names_at v.elements layer.items) c.in_ok-numbers.numbers.items =
-    c.from_layers.ensures ∙ c.in_ok-layers.ensures ∙ ap (map (λ (layer : Vec ℕ Global). names_at v.elements layer.items)) c.deref.ensures.value in
+    let is : c.from_items.result ≡ map (λ (layer : Vec ℕ Global). names_at v.elements layer.items) c.in_ok-numbers.numbers.items =
+    c.from_items.ensures ∙ c.in_ok-layers.ensures ∙ ap (map (λ (layer : Vec ℕ Global). names_at v.elements layer.items)) c.deref.ensures.value in
     subst (λ (row : Row). IsExactRow (row_responses two v name) c.args.k name row) (sym is)
     (exact_row v c.elements-elements.ensures.proper c.args.table.now c.requires.table c.args.source c.requires.element c.args.k c.in_ok-numbers.numbers.items c.requires.some count
     (subst (λ m. (d : ℕ) → d < c.args.k - 1 → IsLayerAt m c.args.table.now c.args.source c.args.source d (layer_at c.in_ok-numbers.numbers.items d)) c.elements-elements.ensures.value
