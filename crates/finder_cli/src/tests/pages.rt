@@ -119,15 +119,10 @@ pub fn tried<'a, H: Threads + Sync>(
         let mut cert = Script::new(certificate.unwrap_or(""), 7, 0);
         let mut page = Page::new(1, write_fails);
         let mut source = Source::new(&mut trace);
+        let mut beside = Source::new(&mut cert);
         let mut sink = Sink::new(&mut page);
         let answer = if certificate.is_some() {
-            run_verify(
-                rt,
-                alloc,
-                &mut source,
-                &mut Source::new(&mut cert),
-                &mut sink,
-            )
+            run_verify(rt, alloc, &mut source, &mut beside, &mut sink)
         } else {
             run(rt, alloc, &mut source, &mut sink, 4, Form::Text)
         };
