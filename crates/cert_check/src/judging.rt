@@ -2,6 +2,7 @@
 
 ghost use Rattle.std.specs.Prelude.{IfOk};
 ghost use Rattle.events.specs.History.{IsLegal};
+ghost use Rattle.specification.specs.Faults.{IsSound};
 ghost use Rattle.specification.specs.CertificateText.{Certificate, IsSpellable};
 ghost use Rattle.certificate_text.specs.CertificateOf.{version_in};
 ghost use Rattle.certificate_text.specs.Outlines.{Outlines};
@@ -34,12 +35,27 @@ pub fn judge<H: Threads + Sync>(
     let sight = Sight::of(alloc, recording)?;
     match first_fault(rt, alloc, recording, &sight)? {
         Some(fault) => Ok(judge_fault(outline, &fault)),
-        None => match outline {
-            Outline::Accepted { names } => judge_order(alloc, recording, names),
-            Outline::Refused { k, steps, rows } => {
-                judge_cycle(alloc, recording, version, *k, steps, rows)
-            }
-            _ => Ok(Answer::No(Reason::WrongFault)),
-        },
+        None => judge_sound(alloc, recording, version, outline),
+    }
+}
+
+/// The same, of a recording that has no fault.
+fn judge_sound(
+    alloc: Global,
+    recording: &Recording,
+    version: Version,
+    outline: &Outline<'_>,
+) -> Result<Answer, Memory>
+    requires legal { IsLegal recording.now }
+    requires sound { IsSound recording.now }
+    ensures { IfOk result (λ answer. (c : Certificate) → IsSpellable c → Outlines outline.now c
+        → IsJudged (version_in version) recording.now c answer) }
+{
+    match outline {
+        Outline::Accepted { names } => judge_order(alloc, recording, names),
+        Outline::Refused { k, steps, rows } => {
+            judge_cycle(alloc, recording, version, *k, steps, rows)
+        }
+        _ => Ok(Answer::No(Reason::WrongFault)),
     }
 }

@@ -181,6 +181,26 @@ pub fn rows_fault(
         → TellsRows (version_in version) numbered.now k layers found) }
 {
     let table = shown_after(alloc, numbered)?;
+    first_row_fault(alloc, numbered, &table, version, k, rows)
+}
+
+/// The first thing that is wrong with the rows, by a table of which elements are shown after which.
+fn first_row_fault(
+    alloc: Global,
+    numbered: &Numbered,
+    table: &AfterTable,
+    version: Version,
+    k: u32,
+    rows: &[u8],
+) -> Result<Option<Reason>, Memory>
+    requires numbering { IsNumbering numbered.now }
+    requires within { AreWithin (length numbered.now.names.items) numbered.now }
+    requires table { IsTableOf (length numbered.now.names.items) (lists_of numbered.now) table.now }
+    requires long { 2 ≤ k }
+    ensures { IfOk result (λ found. (layers : List Row) → All (IsRow k) layers
+        → rows.now ≡ text_of (map row_line layers)
+        → TellsRows (version_in version) numbered.now k layers found) }
+{
     let count = numbered.names.len() as u32;
     let mut rest = rows;
     for i in 0..count {
@@ -188,7 +208,7 @@ pub fn rows_fault(
             let source = numbered.names[i as usize];
             return Ok(Some(Reason::MissingLayer { source }));
         };
-        if let Some(fault) = row_fault(alloc, numbered, &table, version, k, line, i)? {
+        if let Some(fault) = row_fault(alloc, numbered, table, version, k, line, i)? {
             return Ok(Some(fault));
         }
         rest = behind;

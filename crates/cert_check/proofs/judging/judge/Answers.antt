@@ -1,34 +1,7 @@
--- There is a first fault; or the certificate gives an order or a cycle, or it names a fault.
-use Rattle.std.proofs.Common.{sym, subst}
-use Rattle.specification.specs.CertificateText.{Certificate, IsSpellable, gives_order, gives_cycle}
+-- The first fault is known.
 use Rattle.certificate_text.specs.CertificateOf.{version_in}
-use Rattle.certificate_text.specs.Outlines.{Outlines}
-use Rattle.certificate_text.specs.declared.outline.Outline.{Outline}
-use Rattle.certificate_text.specs.declared.outline.Outline.TheVariants.{Accepted, Refused}
-use Rattle.cert_check.specs.Judged.{IsJudged}
-use Rattle.cert_check.proofs.FaultReasons.{no_fault, names_some}
-use Rattle.std.proofs.lemmas.Result.{IfOk-weaker}
 use Rattle.cert_check.proofs.judging.judge.Goals as goal
 
 pub returns-in-Some : goal.returns-in-Some
 returns-in-Some g c = λ d spellable outlines.
     c.judge_fault.ensures d outlines (version_in c.args.version) c.args.recording.now (let first = rw c.in-Some.is at c.in_ok-fault.ensures in first)
-
-pub returns-in-Accepted : goal.returns-in-Accepted
-returns-in-Accepted g c =
-    IfOk-weaker c.judge_order.result _ _ (λ a judged d spellable outlines.
-    let o : Outlines (Accepted c.in-Accepted.names) d = subst (λ (o : Outline). Outlines o d) c.in-Accepted.is outlines in
-    let each : IsSpellable (gives_order o.0) = subst IsSpellable o.1 spellable in
-    subst (λ (z : Certificate). IsJudged (version_in c.args.version) c.args.recording.now z a) (sym o.1) (judged (version_in c.args.version) o.0 each o.2)) c.judge_order.ensures
-
-pub returns-in-Refused : goal.returns-in-Refused
-returns-in-Refused g c =
-    IfOk-weaker c.judge_cycle.result _ _ (λ a judged d spellable outlines.
-    let o : Outlines (Refused c.in-Refused.k c.in-Refused.steps c.in-Refused.rows) d = subst (λ (o : Outline). Outlines o d) c.in-Refused.is outlines in
-    let good : IsSpellable (gives_cycle c.in-Refused.k o.0 o.1) = subst IsSpellable o.2 spellable in
-    subst (λ (z : Certificate). IsJudged (version_in c.args.version) c.args.recording.now z a) (sym o.2) (judged o.0 o.1 good o.3 o.4)) c.judge_cycle.ensures
-
-pub returns-in_default : goal.returns-in_default
-returns-in_default g c = λ d spellable outlines.
-    let f = names_some c.args.outline.now d outlines c.in_default.not-Accepted c.in_default.not-Refused in
-    no_fault c.args.recording.now d f.0 (let sound = rw c.in-None.is at c.in_ok-fault.ensures in sound) f.1

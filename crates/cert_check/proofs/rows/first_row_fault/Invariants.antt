@@ -8,7 +8,7 @@ use Rattle.specification.specs.Responses.{responses_of}
 use Rattle.specification.specs.ValidCertificate.{RowsRightBefore}
 use Rattle.certificate_text.specs.CertificateOf.{version_in}
 use Rattle.cert_check.specs.Numbering.{IsOf}
-use Rattle.cert_check.proofs.rows.rows_fault.Given as goal
+use Rattle.cert_check.proofs.rows.first_row_fault.Given as goal
 
 abbrev pub invariant-loop-i : goal.invariant-loop-i
 invariant-loop-i l = (layers : List Row) → All (IsRow l.k) layers → l.rows ≡ text_of (map row_line layers) →

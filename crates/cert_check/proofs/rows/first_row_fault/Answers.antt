@@ -14,7 +14,7 @@ use Rattle.specification.specs.Responses.{responses_of}
 use Rattle.certificate_text.specs.CertificateOf.{version_in}
 use Rattle.cert_check.proofs.RowsJudged.{element_at, rows_meet, first_fault}
 use Rattle.cert_check.proofs.TextLines.{no-rows, row-off, drop-is, drop-none, first-of-drop, drop-all}
-use Rattle.cert_check.proofs.rows.rows_fault.Goals as goal
+use Rattle.cert_check.proofs.rows.first_row_fault.Goals as goal
 
 pub returns-in_default : goal.returns-in_default
 returns-in_default c = λ layers each text h of.
