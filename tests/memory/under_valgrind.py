@@ -34,10 +34,10 @@ def changed_texts(many: int) -> list[bytes]:
     return made
 
 
-def asked(program: str, folder: str, many: int):
+def asked(program: str, folder: str, many: int, has_live: bool = False):
     """What is run: words and standard input."""
     for trace in sorted(VECTORS.glob("*.trace")):
-        for words in (["verdict"], ["verdict", "--json"], ["cert"]):
+        for words in (["verdict"], ["verdict", "--json"], ["cert"], *([["live"]] if has_live else [])):
             yield [*words, str(trace)], b""
         made = run(program, ["cert", str(trace)])
         if made.status < 2:

@@ -22,7 +22,7 @@ from reference.checker import certificate_of, line_on  # noqa: E402
 from reference.traces import line_fault  # noqa: E402
 from reference.verdicts import Fault, Recording, first_fault, recording_of, report_of  # noqa: E402
 from shared.forger import line  # noqa: E402
-from shared.program import Ended, Tally, fault, is_short, program_of, run  # noqa: E402
+from shared.program import Ended, Quick, Tally, fault, is_short, program_of  # noqa: E402
 
 VECTORS = ROOT / "tests" / "vectors"
 THREE_WAY_CERTIFICATE = VECTORS / "all-three-way-cycle.cert2"
@@ -79,23 +79,23 @@ def certificates_of(trace: Path) -> list[Path]:
     return [path for path in (trace.with_suffix(suffix) for suffix in (".cert1", ".cert2", ".cert")) if path.exists()]
 
 
-def try_trace(tally: Tally, counted: Counter, program: str, trace: Path, text: bytes) -> None:
+def try_trace(tally: Tally, counted: Counter, program: Quick, trace: Path, text: bytes) -> None:
     """The commands on a prefix of a trace; `verify` with the whole certificates."""
     name = f"{len(text)} bytes of {trace.name}"
     runs = of_trace(text)
     counted["traces' prefixes" if runs else "traces' prefixes too large for the reference of reports"] += 1
     counted["of these spell a recording"] += line_fault(text) is None
     for words, wanted in runs:
-        tally.same(f"{words} of {name}", run(program, words, text), wanted)
+        tally.same(f"{words} of {name}", program.run(words, text), wanted)
     for cert in certificates_of(trace)[:2] or [THREE_WAY_CERTIFICATE]:
         wanted = checked(text, cert.read_bytes())
         if wanted is None:
             counted["runs of verify too large for the reference of certificates"] += 1
         else:
-            tally.same(f"verify of {name} with {cert.name}", run(program, ["verify", "-", str(cert)], text), wanted)
+            tally.same(f"verify of {name} with {cert.name}", program.run(["verify", "-", str(cert)], text), wanted)
 
 
-def try_certificate(tally: Tally, counted: Counter, program: str, trace: Path, cert: Path, text: bytes) -> None:
+def try_certificate(tally: Tally, counted: Counter, program: Quick, trace: Path, cert: Path, text: bytes) -> None:
     """`verify` with a prefix of a certificate."""
     wanted = checked(trace.read_bytes(), text)
     if wanted is None:
@@ -103,7 +103,7 @@ def try_certificate(tally: Tally, counted: Counter, program: str, trace: Path, c
         return
     counted["certificates' prefixes"] += 1
     counted[f"of these {' '.join(wanted.out.decode().split()[:2])}"] += 1
-    got = run(program, ["verify", str(trace), "-"], text)
+    got = program.run(["verify", str(trace), "-"], text)
     tally.same(f"verify of {trace.name} with {len(text)} bytes of {cert.name}", got, wanted)
 
 
@@ -113,7 +113,7 @@ def main() -> None:
     words.add_argument("--one-in", type=int, default=1, help="try one in so many prefixes")
     words.add_argument("--vectors", type=Path, default=VECTORS, help="the folder of the vectors")
     given = words.parse_args()
-    program = program_of([sys.argv[0], given.program])
+    program = Quick(program_of([sys.argv[0], given.program]))
     rnd, tally, counted = random.Random(SEED), Tally(), Counter()
     with tempfile.TemporaryDirectory() as folder:
         os.chdir(folder)

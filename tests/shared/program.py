@@ -1,6 +1,8 @@
 """Runs the built program as a user would, and keeps count of what holds."""
 import os
+import select
 import shutil
+import signal
 import subprocess
 import sys
 from pathlib import Path
@@ -23,6 +25,37 @@ def run(program: str, words: list = (), trace: bytes = b"", out=subprocess.PIPE,
     given = {"input": trace} if stdin is None else {"stdin": stdin}
     done = subprocess.run([program, *words], stdout=out, stderr=subprocess.PIPE, timeout=SECONDS, **given)
     return Ended(done.returncode, done.stdout or b"", done.stderr)
+
+
+class Quick:
+    """Runs the program as `run` does, with the same limit of time, but with little to do for a run: its three streams are files in
+    memory that are used again, so no thread has to read them. One run at a time."""
+
+    def __init__(self, program: str):
+        self.program = program
+        self.streams = [os.memfd_create(name) for name in ("in", "out", "err")]
+        self.actions = [(os.POSIX_SPAWN_DUP2, stream, place) for place, stream in enumerate(self.streams)]
+
+    def run(self, words: list, trace: bytes = b"") -> Ended:
+        for stream in self.streams:
+            os.ftruncate(stream, 0)
+            os.lseek(stream, 0, os.SEEK_SET)
+        os.pwrite(self.streams[0], trace, 0)
+        child = os.posix_spawn(self.program, [self.program, *words], os.environ, file_actions=self.actions,
+                               setsigdef=[signal.SIGPIPE, signal.SIGXFSZ])  # as Python's subprocess does
+        status = os.waitstatus_to_exitcode(self.awaited(child))
+        out, err = (os.pread(stream, os.fstat(stream).st_size, 0) for stream in self.streams[1:])
+        return Ended(status, out, err)
+
+    def awaited(self, child: int) -> int:
+        """How the child ended. One that takes too long is killed, which is not what anybody wants of it."""
+        handle = os.pidfd_open(child)
+        end = select.poll()
+        end.register(handle, select.POLLIN)
+        if not end.poll(SECONDS * 1000):
+            os.kill(child, signal.SIGKILL)
+        os.close(handle)
+        return os.waitpid(child, 0)[1]
 
 
 def is_short(path: Path) -> bool:
@@ -52,7 +85,7 @@ class Tally:
             self.passed += 1
         else:
             self.failed += 1
-            print(f"FAILED {name} {shown}")
+            print(f"FAILED {name} {shown}", flush=True)
 
     def same(self, name: str, got: Ended, wanted: Ended) -> None:
         self.check(name, got == wanted, f"got {short(got)}, wanted {short(wanted)}")

@@ -1,12 +1,14 @@
 //! Recorders hand in the streams of a recording in a hundred interleavings, and then in threads: each
 //! session's recording has the same verdict, and the same reports byte for byte. The recording is read
-//! from standard input. Before that, replays stall and are resumed.
+//! from standard input. Before that, recorders may be refused memory, and replays stall and are resumed.
 #![tactic(auto)]
 
 mod interleaved;
+mod planned;
 mod reports;
 mod stalled;
 mod threads;
+mod told;
 
 use anyhow::{Result, anyhow};
 use events::Recording;
@@ -18,6 +20,7 @@ use std::io::{Read, Write};
 use std::sync::Wait;
 use std::thread::Threads;
 use threads::replayed_by_threads;
+use told::{SESSIONS, refusals_met};
 
 /// How many interleavings are tried, and how many runs of threads.
 const INTERLEAVINGS: u64 = 100;
@@ -76,6 +79,9 @@ fn threads_agree<H: AllocGlobal + Threads + Wait + Sync>(
 }
 
 fn main(rt: HostRuntime) -> Result<()> {
+    let met = refusals_met(&rt)?;
+    println!(rt; "{SESSIONS} sessions, each with what its recorders were told")?;
+    println!(rt; "in {met} of them memory was refused")?;
     let alloc = rt.alloc();
     let mut trace = Vec::new(alloc);
     rt.reader().read_to_end(&mut trace)?;
