@@ -1,5 +1,5 @@
 -- How the noting of words goes on, stops and ends.
-use Rattle.std.proofs.Common.{◌≡◌, ℕ, suc, ◌+◌, ◌<◌, ◌==◌, inl, inr, Bool, true, false, List, [], ◌∷◌, ◌++◌, length, codes, refl, sym, ◌∙◌, ap, subst, arith, append_assoc, length-append}
+use Rattle.std.proofs.Common.{◌≡◌, ℕ, suc, ◌+◌, ◌<◌, ◌==◌, inl, inr, Some, Bool, true, false, List, [], ◌∷◌, ◌++◌, length, codes, refl, sym, ◌∙◌, ap, subst, arith, append_assoc, length-append}
 use Rattle.std.specs.Prelude.{All, IsPermutation, MatchBool, bytes_eq}
 use Rattle.std.specs.Cmp.Lexicographic.{bytes_decides}
 use Rattle.std.proofs.lemmas.Bool.{eqb-true, eqb-false}
@@ -9,6 +9,8 @@ use Rattle.std.proofs.lemmas.List.Sorted.{length_permutation}
 use Rattle.events.specs.Names.{NameBytes, IsName}
 use Rattle.specification.proofs.Members.{Once}
 use Rattle.format_words.specs.Words.{Word}
+use Rattle.format_words.specs.Reading.{word_at}
+use Rattle.format_words.proofs.NamesRead.{word-at-some}
 use Rattle.cert_check.specs.Noted.{Noted, Holds, CanBeNoted, placed_from}
 use Rattle.cert_check.specs.RowWords.{pairs_of, slashes, IsRowWord, GoesOn, Stops}
 use Rattle.cert_check.proofs.NotedNames.{can_front, placed-append}
@@ -59,7 +61,10 @@ module _ (names : List NameBytes) (unset : ℕ) (all : List Word) where
   pub state-size : (values : List ℕ) (d : ℕ) (ws : List Word) → State values d ws → length values ≡ length names
   state-size values d ws state = state.1.size
 
-  module _ (values : List ℕ) (d : ℕ) (w : Word) (ws : List Word) (state : State values d (w ∷ ws)) where
+  module _ (values : List ℕ) (d : ℕ) (left : List Word) (w : Word) (ws : List Word) (is : word_at left ≡ Some (w, ws)) (so_far : State values d left) where
+    state : State values d (w ∷ ws)
+    state = subst (State values d) (word-at-some left w ws is) so_far
+
     pub state-next : (more : List ℕ) (next : ℕ) → ((noted : List Noted) → Holds names unset noted values → GoesOn names unset noted d w more next) → State more next ws
     state-next more next on =
         let g = on state.0 state.1 in
@@ -84,37 +89,40 @@ module _ (names : List NameBytes) (count : ℕ) (all : List Word) where
   pub placed-size : (values : List ℕ) (place : ℕ) (ws : List Word) → Placed values place ws → length values ≡ length names
   placed-size values place ws state = state.1.size
 
-  module _ (values : List ℕ) (place : ℕ) (w : Word) (ws : List Word) (state : Placed values place (w ∷ ws)) where
-    front-next : placed_from 0 (state.0 ++ w ∷ []) ≡ placed_from 0 state.0 ++ (w, place) ∷ []
+  module _ (values : List ℕ) (place : ℕ) (left : List Word) (w : Word) (ws : List Word) (is : word_at left ≡ Some (w, ws)) (so_far : Placed values place left) where
+    stands : Placed values place (w ∷ ws)
+    stands = subst (Placed values place) (word-at-some left w ws is) so_far
+
+    front-next : placed_from 0 (stands.0 ++ w ∷ []) ≡ placed_from 0 stands.0 ++ (w, place) ∷ []
     front-next =
-        let size : 0 + length state.0 ≡ place = omega (arith, state.3) in
-        placed-append 0 state.0 (w ∷ []) ∙ ap (λ (n : ℕ). placed_from 0 state.0 ++ (w, n) ∷ []) size
+        let size : 0 + length stands.0 ≡ place = omega (arith, stands.3) in
+        placed-append 0 stands.0 (w ∷ []) ∙ ap (λ (n : ℕ). placed_from 0 stands.0 ++ (w, n) ∷ []) size
 
     pub placed-next : (more : List ℕ) → ((noted : List Noted) → Holds names count noted values → Holds names count (noted ++ (w, place) ∷ []) more) → Placed more (place + 1) ws
     placed-next more on = (
-      state.0 ++ w ∷ [],
-      subst (λ (ps : List Noted). Holds names count ps more) (sym front-next) (on (placed_from 0 state.0) state.1),
-      state.2 ∙ sym (append_assoc state.0 (w ∷ []) ws),
-      (let n : length (state.0 ++ w ∷ []) ≡ length state.0 + 1 = length-append state.0 (w ∷ []) in omega (arith, n, state.3)),
-      λ h. All-tail IsName w ws (state.4 h),
+      stands.0 ++ w ∷ [],
+      subst (λ (ps : List Noted). Holds names count ps more) (sym front-next) (on (placed_from 0 stands.0) stands.1),
+      stands.2 ∙ sym (append_assoc stands.0 (w ∷ []) ws),
+      (let n : length (stands.0 ++ w ∷ []) ≡ length stands.0 + 1 = length-append stands.0 (w ∷ []) in omega (arith, n, stands.3)),
+      λ h. All-tail IsName w ws (stands.4 h),
     )
 
-    placed-all : placed_from 0 all ≡ (placed_from 0 state.0 ++ (w, place) ∷ []) ++ placed_from (0 + length (state.0 ++ w ∷ [])) ws
+    placed-all : placed_from 0 all ≡ (placed_from 0 stands.0 ++ (w, place) ∷ []) ++ placed_from (0 + length (stands.0 ++ w ∷ [])) ws
     placed-all =
-        ap (placed_from 0) (state.2 ∙ sym (append_assoc state.0 (w ∷ []) ws)) ∙ placed-append 0 (state.0 ++ w ∷ []) ws
-        ∙ ap (λ (ps : List Noted). ps ++ placed_from (0 + length (state.0 ++ w ∷ [])) ws) front-next
+        ap (placed_from 0) (stands.2 ∙ sym (append_assoc stands.0 (w ∷ []) ws)) ∙ placed-append 0 (stands.0 ++ w ∷ []) ws
+        ∙ ap (λ (ps : List Noted). ps ++ placed_from (0 + length (stands.0 ++ w ∷ [])) ws) front-next
 
     pub placed-stop : Once names → ((noted : List Noted) → Holds names count noted values → IsName w → CanBeNoted names (noted ++ (w, place) ∷ []) → ⊥) → All IsName all → IsPermutation names all → ⊥
     placed-stop once stops each perm =
-        stops (placed_from 0 state.0) state.1 (All-head IsName w ws (state.4 each))
-        (can_front names (placed_from 0 state.0 ++ (w, place) ∷ []) (placed_from (0 + length (state.0 ++ w ∷ [])) ws)
+        stops (placed_from 0 stands.0) stands.1 (All-head IsName w ws (stands.4 each))
+        (can_front names (placed_from 0 stands.0 ++ (w, place) ∷ []) (placed_from (0 + length (stands.0 ++ w ∷ [])) ws)
         (subst (CanBeNoted names) placed-all (can_permutation names all once perm)))
 
     pub placed-many : count ≡ length names → place ≡ count → IsPermutation names all → ⊥
-    placed-many is most perm =
+    placed-many size most perm =
         let e : length all ≡ length names = length_permutation names all perm in
-        let n : length all ≡ length state.0 + suc (length ws) = ap (λ (l : List Word). length l) state.2 ∙ length-append state.0 (w ∷ ws) in
-        omega (arith, e, n, state.3, is, most)
+        let n : length all ≡ length stands.0 + suc (length ws) = ap (λ (l : List Word). length l) stands.2 ∙ length-append stands.0 (w ∷ ws) in
+        omega (arith, e, n, stands.3, size, most)
 
   pub placed-end : (values : List ℕ) (place : ℕ) → Once names → count ≡ length names → Placed values place [] → (t : Bool) → (place == count) ≡ t →
       MatchBool t (IsPermutation names all × Holds names count (placed_from 0 all) values) (All IsName all → IsPermutation names all → ⊥)

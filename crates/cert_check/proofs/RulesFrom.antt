@@ -35,37 +35,42 @@ Before-last a b (x ∷ xs) ys h = inr (Before-last a b xs ys h)
 
 -- the elements from one of them on are those that are not numbered below it
 module _ (names : List NameBytes) (once : Once names) (s : NameBytes) (listed : In s names) where
-  pub from-numbered : (x : NameBytes) → In x (elements_from names s) → number names s ≤ number names x
-  from-numbered x i =
+  -- what stands before that one and what after it; from it on stand it and the latter
+  parts : (l : List NameBytes) × (r : List NameBytes) × (names ≡ l ++ s ∷ r) × (elements_from names s ≡ s ∷ r)
+  parts =
       let split = In-split s names listed in
       let l : List NameBytes = split.0 in
       let r : List NameBytes = split.1 in
-      let is : names ≡ l ++ s ∷ r = split.2 in
-      let rest : elements_from names s ≡ s ∷ r =
-      ap (λ ns. elements_from ns s) is ∙ from-first l r s (λ j. Once-middle s l r (subst Once is once) (In-append_left s l r j)) in
-      let j : In x (s ∷ r) = subst (In x) rest i in
+      let is : names ≡ l ++ s ∷ r = split.2 in (
+        l,
+        r,
+        is,
+        ap (λ ns. elements_from ns s) is ∙ from-first l r s (λ j. Once-middle s l r (subst Once is once) (In-append_left s l r j)),
+      )
+
+  pub from-numbered : (x : NameBytes) → In x (elements_from names s) → number names s ≤ number names x
+  from-numbered x i =
+      let l : List NameBytes = parts.0 in
+      let r : List NameBytes = parts.1 in
+      let j : In x (s ∷ r) = subst (In x) parts.3 i in
       elim j [
         | inl e ↦ let same : number names x ≡ number names s = ap (number names) e in omega arith
         | inr k ↦
-            let h : Before s x names = subst (Before s x) (sym is) (Before-last s x l (s ∷ r) (inl (refl, k))) in
+            let h : Before s x names = subst (Before s x) (sym parts.2) (Before-last s x l (s ∷ r) (inl (refl, k))) in
             let lt : number names s < number names x = number-rises names once s x h in
             omega arith
       ]
 
   pub numbered-from : (x : NameBytes) → In x names → number names s ≤ number names x → In x (elements_from names s)
   numbered-from x i le =
-      let split = In-split s names listed in
-      let l : List NameBytes = split.0 in
-      let r : List NameBytes = split.1 in
-      let is : names ≡ l ++ s ∷ r = split.2 in
-      let rest : elements_from names s ≡ s ∷ r =
-      ap (λ ns. elements_from ns s) is ∙ from-first l r s (λ j. Once-middle s l r (subst Once is once) (In-append_left s l r j)) in
-      elim (In-append_cases x l (s ∷ r) (subst (In x) is i)) [
+      let l : List NameBytes = parts.0 in
+      let r : List NameBytes = parts.1 in
+      elim (In-append_cases x l (s ∷ r) (subst (In x) parts.2 i)) [
         | inl k ↦
-            let h : Before x s names = subst (Before x s) (sym is) (Before-across x s l (s ∷ r) k (inl refl)) in
+            let h : Before x s names = subst (Before x s) (sym parts.2) (Before-across x s l (s ∷ r) k (inl refl)) in
             let lt : number names x < number names s = number-rises names once x s h in
             absurd (omega arith)
-        | inr k ↦ subst (In x) (sym rest) k
+        | inr k ↦ subst (In x) (sym parts.3) k
       ]
 
 module _ (v : Responses) (proper : AreProper v) (k source : ℕ) (a : NameBytes) (row : Row) (at : slice_get v.elements source ≡ Some a) where

@@ -20,6 +20,12 @@ const READ_BACK: &str =
 /// A read that shows a deleted element.
 const SHOWS_DELETED: &str = "trace 1\nreplicas 1\n0 ins a 0 : a\n0 del a :\n0 read : a\n";
 
+/// An element that its insert does not show where it was asked for.
+const MISPLACED: &str = "trace 1\nreplicas 1\n0 ins a 0 : a\n0 ins b 0 : a b\n";
+
+/// A name that two replicas insert.
+const TWICE: &str = "trace 1\nreplicas 2\n0 ins a 0 : a\n1 ins a 0 : a\n";
+
 const EMPTY: &str = "trace 1\nreplicas 1\n";
 
 /// The checker's answer; a call that finds no memory is made again.
@@ -92,50 +98,75 @@ fn is_invalid<H: Threads + Sync>(rt: &H, alloc: Global, trace: &str, cert: &str,
     }
 }
 
-/// Traces with valid certificates.
-static VALID: [(&str, &str, Kind); 12] = [
-    (
-        THREE_WAY,
-        "cert 1\nrefused 3\nstep x b 2.1\nstep b a 0.3\nstep a x 1.1\nlayers x / b\nlayers a / x\nlayers b / a\n",
-        Kind::Refused,
-    ),
-    (
-        THREE_WAY,
-        "cert 2\nrefused 3\nstep x b 2.1\nstep b a 0.3\nstep a x 1.1\nlayers x / b\nlayers a /\nlayers b /\n",
-        Kind::Refused,
-    ),
+/// Traces with the lines of a valid certificate of either version, after the first.
+static VALID: [(&str, &str, Kind); 6] = [
     (
         OPPOSITE,
-        "cert 1\nrefused 2\nstep a b 0.2\nstep b a 1.2\n",
+        "refused 2\nstep a b 0.2\nstep b a 1.2\n",
         Kind::Refused,
     ),
-    (
-        OPPOSITE,
-        "cert 2\nrefused 2\nstep a b 0.2\nstep b a 1.2\n",
-        Kind::Refused,
-    ),
-    (READ_BACK, "cert 1\naccepted\norder : b a\n", Kind::Accepted),
-    (READ_BACK, "cert 2\naccepted\norder : b a\n", Kind::Accepted),
-    (EMPTY, "cert 1\naccepted\norder :\n", Kind::Accepted),
-    (EMPTY, "cert 2\naccepted\norder :\n", Kind::Accepted),
-    (SHOWS_DELETED, "cert 1\ncontents 0.3\n", Kind::Contents),
-    (SHOWS_DELETED, "cert 2\ncontents 0.3\n", Kind::Contents),
-    (
-        "trace 1\nreplicas 1\n0 ins a 0 : a\n0 ins b 0 : a b\n",
-        "cert 1\nposition 0.2\n",
-        Kind::Position,
-    ),
-    (
-        "trace 1\nreplicas 2\n0 ins a 0 : a\n1 ins a 0 : a\n",
-        "cert 1\ndoubled 0.1 1.1\n",
-        Kind::Doubled,
-    ),
+    (READ_BACK, "accepted\norder : b a\n", Kind::Accepted),
+    (EMPTY, "accepted\norder :\n", Kind::Accepted),
+    (SHOWS_DELETED, "contents 0.3\n", Kind::Contents),
+    (MISPLACED, "position 0.2\n", Kind::Position),
+    (TWICE, "doubled 0.1 1.1\n", Kind::Doubled),
 ];
+
+/// The first line of a version, and these lines.
+fn headed(alloc: Global, version: &str, lines: &str) -> Result<String, Memory> {
+    let mut text = String::new(alloc);
+    text.push_str(version)?;
+    text.push_str(lines)?;
+    Ok(text)
+}
+
+/// Whether the lines of a row, after the first line of a version, are valid. Where there is no memory to join
+/// them, they are joined again.
+fn is_valid_in<H: Threads + Sync>(
+    rt: &H,
+    alloc: Global,
+    version: &str,
+    row: (&str, &str, Kind),
+) -> bool {
+    let (trace, lines, kind) = row;
+    let joined = match headed(alloc, version, lines) {
+        Ok(cert) => Ok(cert),
+        Err(Memory) => headed(alloc, version, lines),
+    };
+    match joined {
+        Ok(cert) => is_valid(rt, alloc, trace, cert.as_str(), kind),
+        Err(Memory) => false,
+    }
+}
 
 #[test]
 fn valid_certificates(rt: HostRuntime) {
-    for (trace, cert, kind) in VALID.iter().copied() {
-        assert!(rt; is_valid(&rt, rt.alloc(), trace, cert, kind), "at {cert}");
+    for row in VALID.iter().copied() {
+        let (_, lines, _) = row;
+        assert!(rt;
+            is_valid_in(&rt, rt.alloc(), "cert 1\n", row),
+            "in version 1, at {lines}"
+        );
+        assert!(rt;
+            is_valid_in(&rt, rt.alloc(), "cert 2\n", row),
+            "in version 2, at {lines}"
+        );
+    }
+}
+
+/// A valid certificate with rows in each version.
+static WITH_ROWS: [&str; 2] = [
+    "cert 1\nrefused 3\nstep x b 2.1\nstep b a 0.3\nstep a x 1.1\nlayers x / b\nlayers a / x\nlayers b / a\n",
+    "cert 2\nrefused 3\nstep x b 2.1\nstep b a 0.3\nstep a x 1.1\nlayers x / b\nlayers a /\nlayers b /\n",
+];
+
+#[test]
+fn valid_rows(rt: HostRuntime) {
+    for cert in WITH_ROWS.iter().copied() {
+        assert!(rt;
+            is_valid(&rt, rt.alloc(), THREE_WAY, cert, Kind::Refused),
+            "at {cert}"
+        );
     }
 }
 

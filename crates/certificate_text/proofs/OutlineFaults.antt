@@ -7,7 +7,7 @@ use Rattle.std.proofs.lemmas.List.Elements.{All-nil}
 use Rattle.std.proofs.lemmas.Option.{none-some}
 use Rattle.events.specs.Names.{NameBytes, IsName}
 use Rattle.specification.specs.Conflict.{Step}
-use Rattle.specification.specs.Faults.{Fault, doubled, contents, position}
+use Rattle.specification.specs.Faults.{doubled, contents, position}
 use Rattle.specification.specs.LayerRule.{Row}
 use Rattle.specification.specs.Lines.{Line, text_of, IsOneLine, order_line}
 use Rattle.specification.specs.CertificateText as format
@@ -15,7 +15,7 @@ use Rattle.specification.specs.CertificateText.{Certificate, names_fault, gives_
 use Rattle.specification.specs.Versions.{Version}
 use Rattle.format_words.specs.Words.{words_of}
 use Rattle.certificate_text.specs.CertificateOf.{cause_of}
-use Rattle.certificate_text.specs.Outlines.{Misses, IsFaultBehind}
+use Rattle.certificate_text.specs.Outlines.{Misses, IsFaultBehind, IsFaultOfKind, NamesFault}
 use Rattle.certificate_text.specs.Progress.{IsKind, IsPartOfCycle, IsWrongBehind, LacksMore, kind_line}
 use Rattle.certificate_text.specs.Reading.{kind_at, order_at, step_at, row_at}
 use Rattle.certificate_text.specs.declared.fault.CertCause.{CertCause}
@@ -26,14 +26,8 @@ use Rattle.certificate_text.proofs.Begins.{cycle-begins, empty-order, headed-beg
 use Rattle.certificate_text.proofs.FirstFaults.{wrong-fault, lacking-fault, cut-fault}
 use Rattle.certificate_text.proofs.GoingOn.{kind_of, rest_lines, kind-behind, no-kind, no-order, no-step, no-row, no-more-of-two, lacks-step, no-steps}
 
--- a line that is not read for one reason is not read for another that holds of none
-pub misses-more : (unsaid : CertCause) (Unread : Line → Type 0) (text : List ℕ) (why : CertCause) → Misses unsaid (λ line. ⊥) text why → Misses unsaid Unread text why
-misses-more unsaid Unread text why (inl (e, inl none)) = inl (e, inl none)
-misses-more unsaid Unread text why (inl (e, inr (line, more, one, cut, never))) = absurd never
-misses-more unsaid Unread text why (inr cut) = inr cut
-
 pub unread-line : (unsaid : CertCause) (Unread : Line → Type 0) (text line more : List ℕ) → IsOneLine line × (text ≡ line ++ 10 ∷ more) → Unread line → Misses unsaid Unread text unsaid
-unread-line unsaid Unread text line more cut unread = inl (refl, inr (line, more, cut.0, cut.1, unread))
+unread-line unsaid Unread text line more cut unread = inr (refl, (line, more, cut.0, cut.1, unread))
 
 said : (P : format.CertCause → Type 0) (unsaid why : CertCause) (x : format.CertCause) → why ≡ unsaid → cause_of unsaid ≡ Some x → IfSome (cause_of unsaid) P → IfSome (cause_of why) P × (why ≢ cause.Memory)
 said P unsaid why x e is h =
@@ -43,15 +37,15 @@ said P unsaid why x e is h =
 pub misses-fault : (lines : List Line) (text : List ℕ) (unsaid why : CertCause) (Unread : Line → Type 0) (number : ℕ) →
     number ≡ length lines + 1 → BeginsCertificate lines → cause_of unsaid ≡ Some (cause_behind lines) → (text ≡ [] → ¬ IsWholeCertificate lines) → ((line : Line) → Unread line → ¬ BeginsCertificate (lines ++ line ∷ [])) →
     Misses unsaid Unread text why → IsFaultBehind lines text number why
-misses-fault lines text unsaid why Unread number at begins is whole wrong (inl (e, inl none)) =
+misses-fault lines text unsaid why Unread number at begins is whole wrong (inl (inl (e, none))) =
     said (IsFirstCertFault (text_of lines ++ text) number) unsaid why (cause_behind lines) e is
     (lacking-fault (text_of lines ++ text) number lines (cause_of unsaid) (ap (λ t. text_of lines ++ t) none ∙ append-nil (text_of lines)) at begins
     (subst (λ o. IfSome o (LacksMore lines)) (sym is) (refl, whole none)))
-misses-fault lines text unsaid why Unread number at begins is whole wrong (inl (e, inr (line, more, one, cut, unread))) =
+misses-fault lines text unsaid why Unread number at begins is whole wrong (inr (e, (line, more, one, cut, unread))) =
     said (IsFirstCertFault (text_of lines ++ text) number) unsaid why (cause_behind lines) e is
     (wrong-fault (text_of lines ++ text) number lines line text more (cause_of unsaid) refl cut one at begins
     (subst (λ o. IfSome o (IsWrongBehind lines line)) (sym is) (refl, wrong line unread)))
-misses-fault lines text unsaid why Unread number at begins is whole wrong (inr (e, some, one)) =
+misses-fault lines text unsaid why Unread number at begins is whole wrong (inl (inr (e, some, one))) =
     subst (λ (w : CertCause). IsFaultBehind lines text number w) (sym e) (cut-fault (text_of lines ++ text) number lines text some one refl at begins, (λ m. cc))
 
 -- a fault after more right lines is one after the first of them
@@ -64,6 +58,10 @@ fault-behind lines more text rest number why is h =
 -- a line and what follows
 pub one-text : (text line rest : List ℕ) → text ≡ line ++ 10 ∷ rest → text ≡ text_of (line ∷ []) ++ rest
 one-text text line rest is = is ∙ sym (ap (λ t. t ++ rest) (append-nil (line ++ 10 ∷ [])) ∙ append_assoc line (10 ∷ []) rest)
+
+-- a fault after the first line is one of the text
+pub headed-fault : (version : Version) (text rest : List ℕ) (number : ℕ) (why : CertCause) → text ≡ version_line version ++ 10 ∷ rest → ((v : Version) → IsFaultBehind (version_line v ∷ []) rest number why) → IsFaultBehind [] text number why
+headed-fault version text rest number why is behind = fault-behind [] (version_line version ∷ []) text rest number why (one-text text (version_line version) rest is) (behind version)
 
 -- one line more
 pub next-text : (text : List ℕ) (lines : List Line) (rest line more : List ℕ) → text ≡ text_of lines ++ rest → rest ≡ line ++ 10 ∷ more → text ≡ text_of (lines ++ line ∷ []) ++ more
@@ -101,35 +99,18 @@ kind-fault version text why misses =
 
 -- after a fault's name nothing stands
 
-module _ (version : Version) (k : Kind) (good : IsKind k) (none : (c : Certificate) (line : Line) (more : List Line) → kind_of c ≡ k → line ∷ more ≡ rest_lines c → ⊥) where
-  none-behind : (line : Line) → ¬ BeginsCertificate ((version_line version ∷ kind_line k ∷ []) ++ line ∷ [])
-  none-behind line (w, c, spellable, more, is) =
-      let p = kind-behind w (version_line version) c k (line ∷ more) spellable good is in none c line more p.0 p.1
+nothing-behind : (k : Kind) → NamesFault k → (c : Certificate) (line : Line) (more : List Line) → kind_of c ≡ k → line ∷ more ≡ rest_lines c → ⊥
+nothing-behind k fault (names_fault f) line more e is = cc
+nothing-behind k fault (gives_order order) line more e is = subst NamesFault (sym e) fault
+nothing-behind k fault (gives_cycle n steps rows) line more e is = subst NamesFault (sym e) fault
 
-  ended-fault : (text : List ℕ) (why : CertCause) → 1 ≤ length text → Misses cause.Shape (λ line. Unit {0}) text why → IsFaultBehind (version_line version ∷ kind_line k ∷ []) text 3 why
-  ended-fault text why some misses =
-      misses-fault (version_line version ∷ kind_line k ∷ []) text cause.Shape why (λ line. Unit {0}) 3 refl (kind-begins version k good) refl (λ empty. absurd (omega (arith, ap length empty, some))) (λ line _. none-behind line) misses
-
-pub alone-fault : (version : Version) (f : Fault) (text : List ℕ) (why : CertCause) → IsSpellable (names_fault f) → 1 ≤ length text → Misses cause.Shape (λ line. Unit {0}) text why →
-    IsFaultBehind (certificate_lines version (names_fault f)) text 3 why
-alone-fault version (doubled first again) text why h some misses = ended-fault version (kind.Doubled first again) h no-doubled text why some misses
+pub alone-fault : (k : Kind) (text : List ℕ) (why : CertCause) → IsKind k → NamesFault k → 1 ≤ length text → Misses cause.Shape (λ line. Unit {0}) text why → IsFaultOfKind k text 3 why
+alone-fault k text why good fault some misses = λ version.
+    misses-fault (version_line version ∷ kind_line k ∷ []) text cause.Shape why (λ line. Unit {0}) 3 refl (kind-begins version k good) refl (λ empty. absurd (omega (arith, ap length empty, some))) (λ line _. none-behind version line) misses
   where
-    no-doubled : (c : Certificate) (line : Line) (more : List Line) → kind_of c ≡ kind.Doubled first again → line ∷ more ≡ rest_lines c → ⊥
-    no-doubled (names_fault f) line more e is = cc
-    no-doubled (gives_order order) line more e is = cc
-    no-doubled (gives_cycle k steps rows) line more e is = cc
-alone-fault version (contents at) text why h some misses = ended-fault version (kind.Contents at) h no-contents text why some misses
-  where
-    no-contents : (c : Certificate) (line : Line) (more : List Line) → kind_of c ≡ kind.Contents at → line ∷ more ≡ rest_lines c → ⊥
-    no-contents (names_fault f) line more e is = cc
-    no-contents (gives_order order) line more e is = cc
-    no-contents (gives_cycle k steps rows) line more e is = cc
-alone-fault version (position at) text why h some misses = ended-fault version (kind.Position at) h no-position text why some misses
-  where
-    no-position : (c : Certificate) (line : Line) (more : List Line) → kind_of c ≡ kind.Position at → line ∷ more ≡ rest_lines c → ⊥
-    no-position (names_fault f) line more e is = cc
-    no-position (gives_order order) line more e is = cc
-    no-position (gives_cycle k steps rows) line more e is = cc
+    none-behind : (version : Version) (line : Line) → ¬ BeginsCertificate ((version_line version ∷ kind_line k ∷ []) ++ line ∷ [])
+    none-behind version line (w, c, spellable, more, is) =
+        let p = kind-behind w (version_line version) c k (line ∷ more) spellable good is in nothing-behind k fault c line more p.0 p.1
 
 -- orders
 

@@ -15,10 +15,11 @@ use Rattle.specification.specs.Versions.{Version}
 use Rattle.certificate_text.specs.CertificateOf.{version_in, cause_of}
 use Rattle.format_words.specs.Words.{words_of}
 use Rattle.format_words.specs.Reading.{GivesOne}
-use Rattle.certificate_text.specs.Outlines.{Outlines, Tells, EndsOutline, IsFaultBehind, IsFaultOfKind}
+use Rattle.certificate_text.specs.Outlines.{Outlines, Tells, EndsOutline, IsFaultBehind, IsFaultOfKind, SaysAll}
 use Rattle.certificate_text.specs.Progress.{IsKind, kind_line}
 use Rattle.certificate_text.specs.Reading.{order_at, row_at}
 use Rattle.certificate_text.specs.declared.kind.Kind.{Kind}
+use Rattle.certificate_text.specs.declared.kind.Kind.TheVariants as kind
 use Rattle.certificate_text.specs.declared.version.Version as declared_version
 use Rattle.certificate_text.specs.declared.outline.Outline.{Outline}
 use Rattle.certificate_text.specs.declared.fault.CertFault.{CertFault}
@@ -39,8 +40,19 @@ two-lines-text first line text rest is none =
     ap (λ t. text_of (first ∷ []) ++ t) (one-text text line rest is ∙ ap (λ t. text_of (line ∷ []) ++ t) none ∙ append-nil (text_of (line ∷ []))) ∙ text-then first (line ∷ [])
 
 -- nothing after a line
-pub one-line-text : (first : Line) (text : List ℕ) → text ≡ [] → text_of (first ∷ []) ++ text ≡ text_of (first ∷ [])
+one-line-text : (first : Line) (text : List ℕ) → text ≡ [] → text_of (first ∷ []) ++ text ≡ text_of (first ∷ [])
 one-line-text first text none = ap (λ t. text_of (first ∷ []) ++ t) none ∙ append-nil (text_of (first ∷ []))
+
+-- nothing after a fault's name
+pub alone-ends : (k : Kind) (outline : Outline) (text : List ℕ) → IsKind k → SaysAll k outline → text ≡ [] → EndsOutline k text outline
+alone-ends (kind.Doubled first again) outline text good all none =
+    (names_fault (doubled first again), good, one-line-text (kind_line (kind.Doubled first again)) text none, subst (λ (o : Outline). Outlines o (names_fault (doubled first again))) (sym all) refl)
+alone-ends (kind.Contents at) outline text good all none =
+    (names_fault (contents at), good, one-line-text (kind_line (kind.Contents at)) text none, subst (λ (o : Outline). Outlines o (names_fault (contents at))) (sym all) refl)
+alone-ends (kind.Position at) outline text good all none =
+    (names_fault (position at), good, one-line-text (kind_line (kind.Position at)) text none, subst (λ (o : Outline). Outlines o (names_fault (position at))) (sym all) refl)
+alone-ends kind.Accepted outline text good all none = absurd all
+alone-ends (kind.Refused k) outline text good all none = absurd all
 
 -- one line of a kind more
 pub one-more : {X : Type 0} (f : X → Line) (xs : List X) (x : X) (text rest more : List ℕ) → text ≡ text_of (map f xs) ++ rest → rest ≡ f x ++ 10 ∷ more → text ≡ text_of (map f (xs ++ x ∷ [])) ++ more

@@ -12,6 +12,7 @@ use Rattle.certificate_text.specs.CertificateOf.{cause_of}
 use Rattle.certificate_text.specs.declared.fault.CertCause.{CertCause}
 use Rattle.certificate_text.specs.declared.fault.CertCause.TheVariants as cause
 use Rattle.certificate_text.specs.declared.kind.Kind.{Kind}
+use Rattle.certificate_text.specs.declared.kind.Kind.TheVariants as kind
 use Rattle.certificate_text.specs.Progress.{kind_line}
 use Rattle.certificate_text.specs.declared.outline.Outline.{Outline}
 use Rattle.certificate_text.specs.declared.outline.Outline.TheVariants.{Doubled, Contents, Position, Accepted, Refused}
@@ -30,14 +31,17 @@ abbrev pub Tells : {Y : Type 0} → Bool → Option Y → Type 0
 Tells true read = GivesOne (λ _. Unit {0}) read
 Tells false read = read ≡ None
 
--- the text has no byte, or begins with a line of which this holds
-abbrev pub LacksLine : (Line → Type 0) → List ℕ → Type 0
-LacksLine Unread text = (text ≡ []) ⊎ ((line : Line) × (more : List ℕ) × IsOneLine line × (text ≡ line ++ 10 ∷ more) × Unread line)
+-- why no line stands first in the text: it is missing, which has the cause `unsaid`, or it has no LF
+abbrev pub HasNoLine : CertCause → List ℕ → CertCause → Type 0
+HasNoLine unsaid text why = ((why ≡ unsaid) × (text ≡ [])) ⊎ ((why ≡ cause.Cut) × (1 ≤ length text) × IsOneLine text)
 
--- why no line that is read stands first in the text: it is missing or says another thing, which has the cause `unsaid`,
--- or it has no LF
+-- the text begins with a line of which this holds
+abbrev pub BeginsUnread : (Line → Type 0) → List ℕ → Type 0
+BeginsUnread Unread text = (line : Line) × (more : List ℕ) × IsOneLine line × (text ≡ line ++ 10 ∷ more) × Unread line
+
+-- why no line that is read stands first in the text: no line does, or it says another thing, which has the cause `unsaid`
 abbrev pub Misses : CertCause → (Line → Type 0) → List ℕ → CertCause → Type 0
-Misses unsaid Unread text why = ((why ≡ unsaid) × LacksLine Unread text) ⊎ ((why ≡ cause.Cut) × (1 ≤ length text) × IsOneLine text)
+Misses unsaid Unread text why = HasNoLine unsaid text why ⊎ ((why ≡ unsaid) × BeginsUnread Unread text)
 
 -- where the text goes on so after right lines, this is its first fault, and it is none of memory
 abbrev pub IsFaultBehind : List Line → List ℕ → ℕ → CertCause → Type 0
@@ -46,6 +50,22 @@ IsFaultBehind lines text line why = IfSome (cause_of why) (IsFirstCertFault (tex
 -- after a second line of this kind, the text ends a certificate of this outline
 abbrev pub EndsOutline : Kind → List ℕ → Outline → Type 0
 EndsOutline k text outline = (c : Certificate) × IsSpellable c × (text_of (kind_line k ∷ []) ++ text ≡ text_of (kind_lines c)) × Outlines outline c
+
+-- a second line of this kind names a fault
+abbrev pub NamesFault : Kind → Type 0
+NamesFault (kind.Doubled first again) = Unit {0}
+NamesFault (kind.Contents at) = Unit {0}
+NamesFault (kind.Position at) = Unit {0}
+NamesFault kind.Accepted = ⊥
+NamesFault (kind.Refused k) = ⊥
+
+-- the fault that a second line of this kind names is all that this outline says
+abbrev pub SaysAll : Kind → Outline → Type 0
+SaysAll (kind.Doubled first again) outline = outline ≡ Doubled first again
+SaysAll (kind.Contents at) outline = outline ≡ Contents at
+SaysAll (kind.Position at) outline = outline ≡ Position at
+SaysAll kind.Accepted outline = ⊥
+SaysAll (kind.Refused k) outline = ⊥
 
 -- after the first line of any version and a second line of this kind, this is the first fault
 abbrev pub IsFaultOfKind : Kind → List ℕ → ℕ → CertCause → Type 0

@@ -4,14 +4,16 @@ use Rattle.specification.specs.Conflict.{Step}
 use Rattle.specification.specs.LayerRule.{Row}
 use Rattle.specification.specs.Lines.{Line, operation_text}
 use Rattle.specification.specs.CertificateText as format
-use Rattle.specification.specs.CertificateText.{version_line, certificate_lines, IsOperationName, IsStep, IsRow, BeginsCertificate, IsWholeCertificate, cause_behind}
+use Rattle.specification.specs.CertificateText.{version_line, certificate_lines, IsOperationName, IsStep, IsRow, IsSpellable, BeginsCertificate, IsWholeCertificate, cause_behind}
 use Rattle.events.specs.Names.{IsName}
-use Rattle.certificate_text.specs.CertificateOf.{version_in}
+use Rattle.certificate_text.specs.CertificateOf.{certificate_of, version_in}
+use Rattle.certificate_text.specs.declared.certificate.Certificate.{Certificate}
 use Rattle.certificate_text.specs.declared.kind.Kind.{Kind}
 use Rattle.certificate_text.specs.declared.kind.Kind.TheVariants as kind
 use Rattle.certificate_text.specs.declared.cycle.Cycle.{Cycle}
 use Rattle.certificate_text.specs.declared.progress.Progress.{Progress}
 use Rattle.certificate_text.specs.declared.progress.Progress.TheVariants as progress
+use Rattle.certificate_text.specs.declared.version.Version.{Version}
 
 abbrev pub kind_line : Kind → Line
 kind_line (kind.Doubled first again) = codes "doubled " ++ operation_text first ++ 32 ∷ operation_text again
@@ -67,3 +69,7 @@ IsWrongBehind lines line cause = (cause ≡ cause_behind lines) × (¬ BeginsCer
 -- after these lines another must stand
 abbrev pub LacksMore : List Line → format.CertCause → Type 0
 LacksMore lines cause = (cause ≡ cause_behind lines) × (¬ IsWholeCertificate lines)
+
+-- these lines are the spelling of this certificate in this version
+abbrev pub AreSpelling : List Line → Version × Certificate → Type 0
+AreSpelling lines r = IsSpellable (certificate_of r.1) × (lines ≡ certificate_lines (version_in r.0) (certificate_of r.1))

@@ -1,10 +1,9 @@
 //! A cycle's lines: its steps, then its rows.
 
 ghost use Rattle.std.specs.Prelude.{◌≡◌, ◌≢◌, ◌∷◌, [], ◌++◌, ◌<◌, ◌≤◌, ◌^◌, length, IfOk, IfErr, IfSome};
-ghost use Rattle.specification.specs.CertificateText.{IsSpellable, certificate_lines};
-ghost use Rattle.certificate_text.specs.CertificateOf.{certificate_of, version_in, cause_of};
+ghost use Rattle.certificate_text.specs.CertificateOf.{cause_of};
 ghost use Rattle.certificate_text.specs.Place.{TakesMemory};
-ghost use Rattle.certificate_text.specs.Progress.{IsRightCycle, IsWrongBehind, LacksMore, cycle_lines};
+ghost use Rattle.certificate_text.specs.Progress.{AreSpelling, IsRightCycle, IsWrongBehind, LacksMore, cycle_lines};
 
 use super::certificate::Certificate;
 use super::entries::{row_of, step_of};
@@ -96,8 +95,7 @@ impl Cycle {
     /// The certificate with its version, where no step is missing.
     pub fn end(self) -> Result<(Version, Certificate), CertCause>
         requires { IsRightCycle self }
-        ensures ok { IfOk result (λ r. IsSpellable (certificate_of r.1)
-            × (cycle_lines self ≡ certificate_lines (version_in r.0) (certificate_of r.1))) }
+        ensures ok { IfOk result (AreSpelling (cycle_lines self)) }
         ensures fault { IfErr result (λ cause. IfSome (cause_of cause) (LacksMore (cycle_lines self))) }
         ensures memory { IfErr result (λ cause. cause ≢ CertCause.Memory) }
     {

@@ -9,7 +9,7 @@ ghost use Rattle.specification.specs.CertificateText.{IsStep, IsRow, version_lin
 ghost use Rattle.specification.specs.Versions as versions;
 ghost use Rattle.format_words.specs.Words.{words_of};
 ghost use Rattle.certificate_text.specs.CertificateOf.{version_in};
-ghost use Rattle.certificate_text.specs.Outlines.{Misses};
+ghost use Rattle.certificate_text.specs.Outlines.{HasNoLine, Misses};
 ghost use Rattle.certificate_text.specs.Progress.{IsKind, kind_line};
 ghost use Rattle.certificate_text.specs.Reading.{kind_at, order_at, step_at, row_at};
 
@@ -22,7 +22,7 @@ use format_words::split_line;
 /// The first line of the text, and what follows its LF. Where there is no line, the cause `unsaid`.
 fn line_first(text: &[u8], unsaid: CertCause) -> Result<(&[u8], &[u8]), CertCause>
     ensures ok { IfOk result (λ x. IsOneLine x.0.now × (text.now ≡ x.0.now ++ 10 ∷ x.1.now)) }
-    ensures cause { IfErr result (Misses unsaid (λ _. ⊥) text.now) }
+    ensures cause { IfErr result (HasNoLine unsaid text.now) }
 {
     match split_line(text) {
         Some(found) => Ok(found),

@@ -12,6 +12,7 @@ ghost use Rattle.specification.specs.CertificateText.{certificate_lines};
 ghost use Rattle.specification.specs.Versions as versions;
 ghost use Rattle.certificate_text.specs.CertificateOf.{version_in, cause_of};
 ghost use Rattle.certificate_text.specs.Outlines.{Outlines, EndsOutline, IsFaultBehind, IsFaultOfKind};
+ghost use Rattle.certificate_text.specs.Outlines.{NamesFault, SaysAll};
 ghost use Rattle.certificate_text.specs.Progress.{IsKind};
 
 use super::fault::{CertCause, CertFault};
@@ -108,47 +109,32 @@ fn behind_kind(kind: Kind, text: &[u8]) -> Result<Outline<'_>, CertFault>
     ensures fault { IfErr result (λ fault. IsFaultOfKind kind text.now fault.line fault.cause) }
 {
     match kind {
-        Kind::Doubled { first, again } => doubled(first, again, text),
-        Kind::Contents { at } => contents(at, text),
-        Kind::Position { at } => position(at, text),
+        Kind::Doubled { first, again } => match check_end(text) {
+            Ok(()) => Ok(Outline::Doubled { first, again }),
+            Err(fault) => Err(fault),
+        },
+        Kind::Contents { at } => match check_end(text) {
+            Ok(()) => Ok(Outline::Contents { at }),
+            Err(fault) => Err(fault),
+        },
+        Kind::Position { at } => match check_end(text) {
+            Ok(()) => Ok(Outline::Position { at }),
+            Err(fault) => Err(fault),
+        },
         Kind::Accepted => order(text),
         Kind::Refused { k } => cycle(k, text),
     }
 }
 
-/// The outline of a name that is inserted twice, where no line follows.
-fn doubled(first: OpName, again: OpName, text: &[u8]) -> Result<Outline<'_>, CertFault>
-    requires { IsKind (Kind.Doubled first again) }
-    ensures ok { IfOk result (EndsOutline (Kind.Doubled first again) text.now) }
-    ensures fault { IfErr result (λ fault.
-        IsFaultOfKind (Kind.Doubled first again) text.now fault.line fault.cause) }
+/// Looks whether no line follows the second, which names a fault.
+fn check_end(text: &[u8]) -> Result<(), CertFault>
+    ensures ok { IfOk result (λ _. (kind : Kind) (outline : Outline) → IsKind kind
+        → SaysAll kind outline → EndsOutline kind text.now outline) }
+    ensures fault { IfErr result (λ fault. (kind : Kind) → IsKind kind → NamesFault kind
+        → IsFaultOfKind kind text.now fault.line fault.cause) }
 {
     match end_first(text) {
-        Ok(()) => Ok(Outline::Doubled { first, again }),
-        Err(cause) => Err(CertFault { line: 3, cause }),
-    }
-}
-
-/// The outline of wrong contents, where no line follows.
-fn contents(at: OpName, text: &[u8]) -> Result<Outline<'_>, CertFault>
-    requires { IsKind (Kind.Contents at) }
-    ensures ok { IfOk result (EndsOutline (Kind.Contents at) text.now) }
-    ensures fault { IfErr result (λ fault. IsFaultOfKind (Kind.Contents at) text.now fault.line fault.cause) }
-{
-    match end_first(text) {
-        Ok(()) => Ok(Outline::Contents { at }),
-        Err(cause) => Err(CertFault { line: 3, cause }),
-    }
-}
-
-/// The outline of an insertion at the wrong place, where no line follows.
-fn position(at: OpName, text: &[u8]) -> Result<Outline<'_>, CertFault>
-    requires { IsKind (Kind.Position at) }
-    ensures ok { IfOk result (EndsOutline (Kind.Position at) text.now) }
-    ensures fault { IfErr result (λ fault. IsFaultOfKind (Kind.Position at) text.now fault.line fault.cause) }
-{
-    match end_first(text) {
-        Ok(()) => Ok(Outline::Position { at }),
+        Ok(()) => Ok(()),
         Err(cause) => Err(CertFault { line: 3, cause }),
     }
 }

@@ -1,10 +1,11 @@
 //! How far a text is read, and one line more.
 
 ghost use Rattle.std.specs.Prelude.{◌≡◌, ◌≢◌, ◌∷◌, [], ◌++◌, IfOk, IfErr, IfSome};
-ghost use Rattle.specification.specs.CertificateText.{IsSpellable, version_line, certificate_lines};
-ghost use Rattle.certificate_text.specs.CertificateOf.{certificate_of, version_in, cause_of};
+ghost use Rattle.specification.specs.CertificateText.{version_line};
+ghost use Rattle.certificate_text.specs.CertificateOf.{version_in, cause_of};
 ghost use Rattle.certificate_text.specs.Place.{TakesMemory};
-ghost use Rattle.certificate_text.specs.Progress.{IsKind, IsRight, IsWrongBehind, LacksMore, good, kind_line};
+ghost use Rattle.certificate_text.specs.Progress.{AreSpelling, IsKind, IsRight, IsWrongBehind, LacksMore};
+ghost use Rattle.certificate_text.specs.Progress.{good, kind_line};
 ghost use Rattle.std.specs.Prelude.{codes};
 
 use super::certificate::Certificate;
@@ -84,9 +85,7 @@ fn third(alloc: Global, version: Version, kind: Kind, line: &[u8]) -> Result<Pro
 /// The certificate of two lines, with its version.
 fn fault_alone(version: Version, kind: Kind) -> Result<(Version, Certificate), CertCause>
     requires { IsKind kind }
-    ensures ok { IfOk result (λ r. IsSpellable (certificate_of r.1)
-        × (version_line (version_in version) ∷ kind_line kind ∷ []
-        ≡ certificate_lines (version_in r.0) (certificate_of r.1))) }
+    ensures ok { IfOk result (AreSpelling (version_line (version_in version) ∷ kind_line kind ∷ [])) }
     ensures fault { IfErr result (λ cause. IfSome (cause_of cause)
         (LacksMore (version_line (version_in version) ∷ kind_line kind ∷ []))) }
     ensures memory { IfErr result (λ cause. cause ≢ CertCause.Memory) }
@@ -126,8 +125,7 @@ impl Progress {
     /// The certificate with its version, where no line is missing.
     pub fn end(self) -> Result<(Version, Certificate), CertCause>
         requires { IsRight self }
-        ensures ok { IfOk result (λ r. IsSpellable (certificate_of r.1)
-            × (good self ≡ certificate_lines (version_in r.0) (certificate_of r.1))) }
+        ensures ok { IfOk result (AreSpelling (good self)) }
         ensures fault { IfErr result (λ cause. IfSome (cause_of cause) (LacksMore (good self))) }
         ensures memory { IfErr result (λ cause. cause ≢ CertCause.Memory) }
     {

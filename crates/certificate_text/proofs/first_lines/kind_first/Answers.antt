@@ -1,21 +1,15 @@
 use Rattle.std.proofs.Common.{◌≡◌, None}
-use Rattle.std.proofs.lemmas.Result.{err_from_is_err_and}
 use Rattle.specification.specs.Lines.{Line}
 use Rattle.format_words.specs.Words.{words_of}
 use Rattle.certificate_text.specs.Reading.{kind_at}
 use Rattle.certificate_text.specs.declared.fault.CertCause.TheVariants as cause
 use Rattle.certificate_text.proofs.KindLines.{kind-spells}
-use Rattle.certificate_text.proofs.OutlineFaults.{misses-more, unread-line}
+use Rattle.certificate_text.proofs.OutlineFaults.{unread-line}
 use Rattle.certificate_text.proofs.OutlineTexts.{line-is}
 use Rattle.certificate_text.proofs.first_lines.kind_first.Goals as goal
 
 abbrev unread : Line → Type 0
 unread line = kind_at (words_of line) ≡ None
-
-pub returns-in_err-line-clause-cause : goal.returns-in_err-line-clause-cause
-returns-in_err-line-clause-cause c =
-    let p = err_from_is_err_and c.from_residual.result c.from_residual.ensures.1 in
-    rw (p.1, p.2) (misses-more cause.Kind unread c.args.text.now _ c.in_err-line.ensures.cause)
 
 pub returns-in-Ok-clause-ok : goal.returns-in-Ok-clause-ok
 returns-in-Ok-clause-ok c =

@@ -1,17 +1,11 @@
 use Rattle.std.proofs.Common.{◌≡◌, None}
-use Rattle.std.proofs.lemmas.Result.{err_from_is_err_and}
 use Rattle.specification.specs.Lines.{Line}
 use Rattle.format_words.specs.Words.{words_of}
 use Rattle.certificate_text.specs.Reading.{row_at}
 use Rattle.certificate_text.specs.declared.fault.CertCause.TheVariants as cause
-use Rattle.certificate_text.proofs.OutlineFaults.{misses-more, unread-line}
+use Rattle.certificate_text.proofs.OutlineFaults.{unread-line}
 use Rattle.certificate_text.proofs.OutlineTexts.{line-is, row-told, untold, shorter-rest}
 use Rattle.certificate_text.proofs.first_lines.row_first.Goals as goal
-
-pub returns-in_err-line-clause-cause : goal.returns-in_err-line-clause-cause
-returns-in_err-line-clause-cause c =
-    let p = err_from_is_err_and c.from_residual.result c.from_residual.ensures.1 in
-    rw (p.1, p.2) (misses-more cause.Shape (λ (line : Line). row_at c.args.k (words_of line) ≡ None) c.args.text.now _ c.in_err-line.ensures.cause)
 
 pub returns-then-is_row-clause-ok : goal.returns-then-is_row-clause-ok
 returns-then-is_row-clause-ok c =

@@ -1,20 +1,14 @@
 use Rattle.std.proofs.Common.{◌≢◌}
-use Rattle.std.proofs.lemmas.Result.{err_from_is_err_and}
 use Rattle.specification.specs.Lines.{Line}
 use Rattle.specification.specs.CertificateText.{version_line}
 use Rattle.specification.specs.Versions.{Version}
 use Rattle.certificate_text.specs.declared.fault.CertCause.TheVariants as cause
-use Rattle.certificate_text.proofs.OutlineFaults.{misses-more, unread-line}
+use Rattle.certificate_text.proofs.OutlineFaults.{unread-line}
 use Rattle.certificate_text.proofs.OutlineTexts.{line-is}
 use Rattle.certificate_text.proofs.first_lines.version_first.Goals as goal
 
 abbrev unread : Line → Type 0
 unread line = (version : Version) → line ≢ version_line version
-
-pub returns-in_err-line-clause-cause : goal.returns-in_err-line-clause-cause
-returns-in_err-line-clause-cause c =
-    let p = err_from_is_err_and c.from_residual.result c.from_residual.ensures.1 in
-    rw (p.1, p.2) (misses-more cause.Header unread c.args.text.now _ c.in_err-line.ensures.cause)
 
 pub returns-in-Some-clause-ok : goal.returns-in-Some-clause-ok
 returns-in-Some-clause-ok c = line-is _ _ _ _ c.in_ok-line.ensures.ok.1 c.in-Some.ensures

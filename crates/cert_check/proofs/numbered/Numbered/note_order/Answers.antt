@@ -3,7 +3,7 @@ use Rattle.std.proofs.Common.{◌≡◌, ◌<◌, ◌==◌, List, length, refl, 
 use Rattle.std.proofs.lemmas.Grind.{common_steps}
 use Rattle.format_words.specs.Words.{Word, words_behind}
 use Rattle.format_words.proofs.FirstWord.{none-behind}
-use Rattle.format_words.proofs.NamesRead.{some-word-at, word-at-some}
+use Rattle.format_words.proofs.NamesRead.{some-word-at}
 use Rattle.cert_check.proofs.Noting.{Placed, placed-next, placed-stop, placed-many, placed-end}
 use Rattle.cert_check.proofs.numbered.Numbered.note_order.Goals as goal
 
@@ -14,34 +14,21 @@ returns-in_default c =
 
 pub returns-then-place-count : goal.returns-then-place-count
 returns-then-place-count c = λ each perm.
-    let all : List Word = words_behind c.args.words.now in
-    let names = c.args.self.now.names.items in
-    let w : Word = c.in-Ok.word.now in
-    let ws : List Word = words_behind c.in-Ok.behind.now in
-    let state = subst (λ (l : List Word). Placed names c.args.count all c.loop-rest.ranks c.loop-rest.place l) (word-at-some (words_behind c.loop-rest.rest.now) w ws c.in-Ok.ensures.word) c.loop-rest.invariant.placed in
-    placed-many names c.args.count all c.loop-rest.ranks c.loop-rest.place w ws state c.requires.count c.if-place-count.true perm
+    placed-many c.args.self.now.names.items c.args.count (words_behind c.args.words.now) c.loop-rest.ranks c.loop-rest.place (words_behind c.loop-rest.rest.now) c.in-Ok.word.now (words_behind c.in-Ok.behind.now) c.in-Ok.ensures.word c.loop-rest.invariant.placed
+    c.requires.count c.if-place-count.true perm
 
 pub returns-in_default-note : goal.returns-in_default-note
 returns-in_default-note c = λ each perm.
-    let all : List Word = words_behind c.args.words.now in
-    let names = c.args.self.now.names.items in
-    let w : Word = c.in-Ok.word.now in
-    let ws : List Word = words_behind c.in-Ok.behind.now in
-    let state = subst (λ (l : List Word). Placed names c.args.count all c.loop-rest.ranks c.loop-rest.place l) (word-at-some (words_behind c.loop-rest.rest.now) w ws c.in-Ok.ensures.word) c.loop-rest.invariant.placed in
     let none = rw c.in_default-note.is at c.note.ensures.noted in
-    placed-stop names c.args.count all c.loop-rest.ranks c.loop-rest.place w ws state c.requires.numbering.once (λ noted holds name. none noted holds name) each perm
+    placed-stop c.args.self.now.names.items c.args.count (words_behind c.args.words.now) c.loop-rest.ranks c.loop-rest.place (words_behind c.loop-rest.rest.now) c.in-Ok.word.now (words_behind c.in-Ok.behind.now) c.in-Ok.ensures.word c.loop-rest.invariant.placed
+    c.requires.numbering.once (λ noted holds name. none noted holds name) each perm
 
 pub loop-rest-preserved : goal.loop-rest-preserved
-loop-rest-preserved c =
-    let all : List Word = words_behind c.args.words.now in
-    let names = c.args.self.now.names.items in
-    let w : Word = c.in-Ok.word.now in
-    let ws : List Word = words_behind c.in-Ok.behind.now in
-    let state = subst (λ (l : List Word). Placed names c.args.count all c.loop-rest.ranks c.loop-rest.place l) (word-at-some (words_behind c.loop-rest.rest.now) w ws c.in-Ok.ensures.word) c.loop-rest.invariant.placed in
-    record {
-      most = omega (arith, c.loop-rest.invariant.most, c.if-place-count.false);
-      placed = placed-next names c.args.count all c.loop-rest.ranks c.loop-rest.place w ws state c.note.new.values c.in-Some.ensures.noted;
-    }
+loop-rest-preserved c = record {
+  most = omega (arith, c.loop-rest.invariant.most, c.if-place-count.false);
+  placed = placed-next c.args.self.now.names.items c.args.count (words_behind c.args.words.now) c.loop-rest.ranks c.loop-rest.place (words_behind c.loop-rest.rest.now) c.in-Ok.word.now (words_behind c.in-Ok.behind.now) c.in-Ok.ensures.word c.loop-rest.invariant.placed
+      c.note.new.values c.in-Some.ensures.noted;
+}
 
 pub returns : goal.returns
 returns c =
