@@ -32,7 +32,7 @@ from shared.sessions import session, with_fault  # noqa: E402
 VECTORS = ROOT / "tests" / "vectors"
 # The references try all orders of the elements, and all sets of responses.
 MOST_INSERTS, MOST_OPERATIONS = 6, 12
-# How many workers share a search. Each is a thread, which a small recording is no work for, and a run with 64 takes ten times as long.
+# How many workers share a search. Each is a thread, for which a small recording is no work; a run with 64 takes ten times as long.
 WORKERS = [1] * 10 + [2] * 5 + [4] * 4 + [64]
 # A folder in memory, where there is one.
 SHARED = "/dev/shm" if os.path.isdir("/dev/shm") else None
@@ -88,7 +88,8 @@ class Fuzzer:
         status = 0 if report.kind == "accepted" else 1
         for command, wanted in ((["verdict"], report.text), (["verdict", "--json"], report.json), (["cert"], report.certificate),
                                 (["live"], report.text)):
-            words = [*command, "--workers", str(rnd.choice(WORKERS)), "-"]
+            workers = [] if command == ["cert"] else ["--workers", str(rnd.choice(WORKERS))]
+            words = [*command, *workers, "-"]
             got = self.program.run(words, text.encode())
             self.tally.same(f"{words} of\n{text}", got, Ended(status, wanted.encode(), b""))
         first = first_fault(recording)
