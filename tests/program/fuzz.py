@@ -32,7 +32,7 @@ from shared.sessions import session, with_fault  # noqa: E402
 VECTORS = ROOT / "tests" / "vectors"
 # The references try all orders of the elements, and all sets of responses.
 MOST_INSERTS, MOST_OPERATIONS = 6, 12
-# How many workers share a search. Each is a thread, for which a small recording is no work; a run with 64 takes ten times as long.
+# How many workers share a search. Each is a thread, for which a small recording is no work; 64 take ten times as long.
 WORKERS = [1] * 10 + [2] * 5 + [4] * 4 + [64]
 # A folder in memory, where there is one.
 SHARED = "/dev/shm" if os.path.isdir("/dev/shm") else None
