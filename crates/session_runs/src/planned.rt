@@ -10,8 +10,8 @@ pub const PLANNED: u32 = 64;
 
 /// A letter for the replica, and two digits for the number.
 fn name_of(replica: u32, n: u32) -> Option<Name> {
-    let letter = b'a'.wrapping_add(replica as u8);
-    let tens = b'0'.wrapping_add((n / 10) as u8);
+    let letter = b'a'.wrapping_add((replica % 10) as u8);
+    let tens = b'0'.wrapping_add((n / 10 % 10) as u8);
     let ones = b'0'.wrapping_add((n % 10) as u8);
     Name::new(&[letter, tens, ones]).ok()
 }
