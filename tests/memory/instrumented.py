@@ -70,8 +70,11 @@ def build(root: Path, crate: str, out: Path) -> None:
 
     def place(library: str) -> Path:
         return root / "crates" / library / "out" / "rlib" if library in libraries else rattle / "rlibs"
-    words = [word for library in ["std", *libraries[crate]] for word in ("--extern", f"{library}={place(library)}/{library}.rlib")]
-    words += [word for library in ["std", *below(libraries, crate)] for word in ("-L", f"dependency={place(library)}")]
+    words = []
+    for library in ["std", *libraries[crate]]:
+        words += ["--extern", f"{library}={place(library)}/{library}.rlib"]
+    for library in ["std", *below(libraries, crate)]:
+        words += ["-L", f"dependency={place(library)}"]
     words += ["--antt-project", f"{rattle}/rattle/logic/antt-project.json", "--logic-built", f"{rattle}/logic_built"]
     with tempfile.TemporaryDirectory() as folder:
         toolchain = toolchain_with_sanitizer(Path(folder) / "toolchain", rattle)
@@ -79,7 +82,8 @@ def build(root: Path, crate: str, out: Path) -> None:
         subprocess.run([f"{rattle}/bin/rattle", "build", "--crate-name", crate, "src/main.rt", *words,
                         "--toolchain", str(toolchain), "-o", made], cwd=root / "crates" / crate, check=True)
         linked = [made, *(f"{rattle}/c/{library}" for library in ("libos_c.a", "liblibc_c.a", "asan.a"))]
-        subprocess.run([f"{rattle}/bin/rattle-link", "--target", TARGET, "--toolchain", f"{rattle}/toolchain", "-o", str(out), *linked], check=True)
+        subprocess.run([f"{rattle}/bin/rattle-link", "--target", TARGET, "--toolchain", f"{rattle}/toolchain",
+                        "-o", str(out), *linked], check=True)
 
 
 def main() -> None:

@@ -1,4 +1,4 @@
-/* Looks for lost memory where a program ends by _exit, as programs of Rattle do: the sanitizer's runtime does it at exit alone. */
+/* Looks for lost memory where a program ends by _exit, as Rattle's do: the sanitizer's runtime looks at exit alone. */
 #define _GNU_SOURCE
 #include <dlfcn.h>
 #include <stdlib.h>

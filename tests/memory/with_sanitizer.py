@@ -9,7 +9,8 @@ library: a block that is freed twice or was never given out, a copy (memcpy, mem
 leaves its block, a copy onto itself, one from or to a freed block, and blocks that nothing points to when the program ends. What
 is not seen: the program's own loads and stores, and the stack. First a small C program with such faults, compiled without the
 sanitizer like the program, must be reported for each fault. A program that was compiled with AddressSanitizer (instrumented.py
-makes one) is run without another runtime: then each load and store is checked, on the stack too, and lost blocks are not looked for."""
+makes one) is run without another runtime: then each load and store is checked, on the stack too, and lost blocks are not looked
+for."""
 import os
 import subprocess
 import sys
@@ -53,7 +54,8 @@ def try_faults(tally: Tally, loaded: str, folder: str) -> None:
     subprocess.run(["cc", "-O1", "-w", "-fno-builtin", "-o", faulty, str(HERE / "faults.c")], check=True)
     for fault, size in FAULTS.items():
         got = checked(loaded, [faulty, str(fault), str(size)])
-        tally.check(f"fault {fault} of faults.c", (got.status == REPORTED and b"Sanitizer" in got.err) if fault else got == Ended(0, b"", b""), got)
+        is_right = got.status == REPORTED and b"Sanitizer" in got.err if fault else got == Ended(0, b"", b"")
+        tally.check(f"fault {fault} of faults.c", is_right, got)
 
 
 def main() -> None:

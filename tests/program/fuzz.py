@@ -32,8 +32,8 @@ from shared.sessions import session, with_fault  # noqa: E402
 VECTORS = ROOT / "tests" / "vectors"
 # The references try all orders of the elements, and all sets of responses.
 MOST_INSERTS, MOST_OPERATIONS = 6, 12
-# A run with 64 of them takes ten times as long as others.
-WORKERS = [1, 1, 2, 2, 4, 4, 4, 64]
+# How many workers share a search. Each is a thread, for which a small recording is no work; 64 take ten times as long.
+WORKERS = [1] * 10 + [2] * 5 + [4] * 4 + [64]
 # A folder in memory, where there is one.
 SHARED = "/dev/shm" if os.path.isdir("/dev/shm") else None
 # After so many cases of a process it says how far it is.
@@ -86,9 +86,10 @@ class Fuzzer:
         """All commands on a small recording. Answers its verdict."""
         report, rnd = report_of(text), self.rnd
         status = 0 if report.kind == "accepted" else 1
-        workers = str(rnd.choice(WORKERS))
-        for words, wanted in ((["verdict", "--workers", workers, "-"], report.text), (["verdict", "--json", "-"], report.json),
-                              (["cert", "-"], report.certificate), (["live", "--workers", workers, "-"], report.text)):
+        for command, wanted in ((["verdict"], report.text), (["verdict", "--json"], report.json), (["cert"], report.certificate),
+                                (["live"], report.text)):
+            workers = [] if command == ["cert"] else ["--workers", str(rnd.choice(WORKERS))]
+            words = [*command, *workers, "-"]
             got = self.program.run(words, text.encode())
             self.tally.same(f"{words} of\n{text}", got, Ended(status, wanted.encode(), b""))
         first = first_fault(recording)

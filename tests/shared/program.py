@@ -28,8 +28,8 @@ def run(program: str, words: list = (), trace: bytes = b"", out=subprocess.PIPE,
 
 
 class Quick:
-    """Runs the program as `run` does, with the same limit of time, but with little to do for a run: its three streams are files in
-    memory that are used again, so no thread has to read them. One run at a time."""
+    """Runs the program as `run` does, with the same limit of time, but with little to do for a run: its three streams are files
+    in memory that are used again, so no thread has to read them. One run at a time."""
 
     def __init__(self, program: str):
         self.program = program
