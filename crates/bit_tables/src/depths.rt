@@ -7,6 +7,7 @@ ghost use Rattle.bit_tables.specs.Rule.{MeetsRule, layer_at};
 
 use super::layers::meets_rule;
 use super::lists::empty_lists;
+use super::narrow::narrow_depths;
 use super::table::AfterTable;
 use std::alloc::{AllocError, Global};
 
@@ -43,13 +44,11 @@ fn layers_by_depth(
 }
 
 /// Whether the numbers from `first` on, below `n`, at these depths of at most the count, meet the layer rule
-/// for a source: no number is more than one deeper than one that stands before it in some list of the table,
-/// and what stands before the source is as deep as the count. Of the numbers below `first`, and of their
-/// depths, nothing is asked: the lists are taken with these numbers left out.
+/// for a source, as `are_deep` asks it.
 ///
 /// It takes `n` steps, and `n / 64` for each number of a lesser depth than the count and each depth, and
-/// memory for these numbers and two sets.
-pub fn are_deep(
+/// memory for these numbers, as many layers as the count and two sets.
+fn are_deep_in_layers(
     alloc: Global,
     table: &AfterTable,
     depths: &[u32],
@@ -75,4 +74,35 @@ pub fn are_deep(
         source as usize,
     )?;
     Ok(deep)
+}
+
+/// Whether the numbers from `first` on, below `n`, at these depths of at most the count, meet the layer rule
+/// for a source: no number is more than one deeper than one that stands before it in some list of the table,
+/// and what stands before the source is as deep as the count. Of the numbers below `first`, and of their
+/// depths, nothing is asked: the lists are taken with these numbers left out.
+///
+/// It takes `n` steps, and `n / 64` for each number of a lesser depth than the count and each layer, and
+/// memory for these numbers, the layers and two sets. There are as many layers as the count; where that is
+/// more than `n`, there are at most `2 * n + 2`, found in about `n * log n` further steps.
+pub fn are_deep(
+    alloc: Global,
+    table: &AfterTable,
+    depths: &[u32],
+    count: u32,
+    first: u32,
+    source: u32,
+) -> Result<bool, AllocError>
+    requires few { length depths.now < 2 ^ 32 }
+    requires first { first ≤ length depths.now }
+    requires most { All (λ d. d ≤ count) depths.now }
+    requires len { length table.now ≡ length depths.now }
+    requires width { HaveWidth (length depths.now / 64 + 1) table.now }
+    ensures { IfOk result (λ deep. (lists : List (List ℕ)) → IsTableOf (length depths.now) lists table.now
+        → IsTrue deep ↔ MeetsRule lists first source count (λ x. slice_index_or depths.now x count)) }
+{
+    if count as usize <= depths.len() {
+        return are_deep_in_layers(alloc, table, depths, count, first, source);
+    }
+    let (small, most) = narrow_depths(alloc, depths, count)?;
+    are_deep_in_layers(alloc, table, &small, most, first, source)
 }

@@ -2,7 +2,7 @@ use Rattle.std.proofs.Common.{◌≡◌, ◌<◌, ◌≤◌, ℕ, ◌∙◌, Lis
 use Rattle.std.specs.Prelude.{◌↔◌, All, IsTrue, slice_index_or}
 use Rattle.bit_tables.specs.Rule.{AreDepths, MeetsRule}
 use Rattle.bit_tables.proofs.DepthLemmas.{are-depths, within-layers, from-layers}
-use Rattle.bit_tables.proofs.depths.are_deep.Goals as goal
+use Rattle.bit_tables.proofs.depths.are_deep_in_layers.Goals as goal
 
 pub meets_rule-requires-clause-within : goal.meets_rule-requires-clause-within
 meets_rule-requires-clause-within c =
