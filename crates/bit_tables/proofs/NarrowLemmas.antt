@@ -1,11 +1,10 @@
 -- Small numbers in place of depths: one depth after the other, each depth of a list, and what the layer rule
 -- says of them.
-use Rattle.std.proofs.Common.{◌≡◌, ℕ, ◌+◌, ◌-◌, ◌<◌, ◌≤◌, ◌⊎◌, inl, inr, List, [], ◌∷◌, ◌++◌, length, get_or, arith, refl, sym, ◌∙◌, ap, subst}
-use Rattle.std.specs.Prelude.{◌↔◌, All, min, slice_index, slice_index_or}
+use Rattle.std.proofs.Common.{◌≡◌, ℕ, ◌+◌, ◌-◌, ◌<◌, ◌≤◌, inl, inr, List, [], ◌∷◌, ◌++◌, length, get_or, arith, refl, sym, ◌∙◌, ap, subst}
+use Rattle.std.specs.Prelude.{◌↔◌, All, min, slice_index_or}
 use Rattle.std.proofs.Math.Nat.{min-eq_left, min-eq_right}
 use Rattle.std.proofs.lemmas.Bool.{cases_eq, cases_lt}
 use Rattle.std.proofs.lemmas.List.{get_or_default, get_or_past, get_or_append_left, get_or-append_right, length-append}
-use Rattle.bit_tables.specs.Lists.{IsShown}
 use Rattle.bit_tables.specs.Rule.{MeetsRule}
 use Rattle.bit_tables.specs.Narrow.{AreAlike, AreNarrowed, AreSmall, StandsFor}
 
@@ -17,17 +16,17 @@ pub record IsAhead (a b small_a small_b : ℕ) : Type 0 where
   pub near : small_b ≤ small_a + 1 → small_b + a ≡ b + small_a
 
 pub ahead-same : (a small : ℕ) → IsAhead a a small small
-ahead-same a small = record { rise = omega arith; less = omega arith; near = λ h. omega arith; }
+ahead-same a small = record { rise = omega arith; less = omega arith; near = λ h. omega arith }
 
 -- 0, 1 or 2 more, as the depth is the same, one more, or more than that
 pub ahead-by : (last depth small step : ℕ) → last ≤ depth → step ≡ min (depth - last) 2 → IsAhead last depth small (small + step)
 ahead-by last depth small step le is = elim (cases_lt (depth - last) 2) [
   | inl low ↦
       let e : min (depth - last) 2 ≡ depth - last = min-eq_left (omega (arith, low)) in
-      record { rise = omega arith; less = omega (arith, is, e, le); near = λ h. omega (arith, is, e, le); }
+      record { rise = omega arith; less = omega (arith, is, e, le); near = λ h. omega (arith, is, e, le) }
   | inr high ↦
       let e : min (depth - last) 2 ≡ 2 = min-eq_right high in
-      record { rise = omega arith; less = omega (arith, is, e, le, high); near = λ h. absurd (omega (arith, is, e, h)); }
+      record { rise = omega arith; less = omega (arith, is, e, le, high); near = λ h. absurd (omega (arith, is, e, h)) }
 ]
 
 pub ahead-then : (a b c small_a small_b small_c : ℕ) → IsAhead a b small_a small_b → IsAhead b c small_b small_c → IsAhead a c small_a small_c

@@ -1,6 +1,6 @@
 //! The layer rule of numbers whose depths are known.
 
-ghost use Rattle.std.specs.Prelude.{◌≡◌, ◌<◌, ◌≤◌, ◌+◌, ◌/◌, ◌⊎◌, ◌↔◌, ◌^◌, ℕ, All, Contains, IfOk, IsTrue, List, OnOk};
+ghost use Rattle.std.specs.Prelude.{◌≡◌, ◌<◌, ◌≤◌, ◌+◌, ◌*◌, ◌/◌, ◌⊎◌, ◌↔◌, ◌^◌, ℕ, All, Contains, IfOk, IsTrue, List, OnOk};
 ghost use Rattle.std.specs.Prelude.{length, map, slice_index, slice_index_or, vec_len};
 ghost use Rattle.bit_tables.specs.Lists.{HaveWidth, IsTableOf};
 ghost use Rattle.bit_tables.specs.Rule.{MeetsRule, layer_at};
@@ -23,7 +23,8 @@ fn put(layers: &mut Vec<Vec<u32>>, depth: u32, number: u32) -> Result<(), AllocE
     Ok(())
 }
 
-/// The numbers from `first` on by depth, as many layers as the count.
+/// The numbers from `first` on by depth, as many layers as the count, which is at most two more than twice the
+/// number of the depths: so its memory and its steps are linear in that number.
 fn layers_by_depth(
     alloc: Global,
     depths: &[u32],
@@ -31,6 +32,7 @@ fn layers_by_depth(
     first: u32,
 ) -> Result<Vec<Vec<u32>>, AllocError>
     requires few { length depths.now < 2 ^ 32 }
+    requires narrow { count ≤ 2 * (length depths.now + 1) }
     requires first { first ≤ length depths.now }
     ensures count { IfOk result (λ layers. length layers.items ≡ count) }
     ensures layers { IfOk result (λ layers. (d x : ℕ) → d < count → Contains (layer_at layers.items d) x
@@ -44,9 +46,9 @@ fn layers_by_depth(
 }
 
 /// Whether the numbers from `first` on, below `n`, at these depths of at most the count, meet the layer rule
-/// for a source, as `are_deep` asks it.
+/// for a source, as `are_deep` asks it. The count is at most two more than twice the number of the depths.
 ///
-/// It takes `n` steps, and `n / 64` for each number of a lesser depth than the count and each depth, and
+/// It takes `n` steps, and `n / 64` for each number of a lesser depth than the count and each layer, and
 /// memory for these numbers, as many layers as the count and two sets.
 fn are_deep_in_layers(
     alloc: Global,
@@ -57,6 +59,7 @@ fn are_deep_in_layers(
     source: u32,
 ) -> Result<bool, AllocError>
     requires few { length depths.now < 2 ^ 32 }
+    requires narrow { count ≤ 2 * (length depths.now + 1) }
     requires first { first ≤ length depths.now }
     requires most { All (λ d. d ≤ count) depths.now }
     requires len { length table.now ≡ length depths.now }

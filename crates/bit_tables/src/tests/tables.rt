@@ -185,7 +185,11 @@ fn depths_that_lie_far_apart(rt: HostRuntime) -> Result<(), Fail> {
             Ok(deep) => deep,
             Err(_) => are_deep(rt.alloc(), &table, &depths, count, 4, source)?,
         };
-        assert_eq!(rt; deep, expected, "at {count}, {source}, {five}, {next}, {last}");
+        assert_eq!(rt;
+            deep,
+            expected,
+            "at {count}, {source}, {five}, {next}, {last}"
+        );
     }
     Ok(())
 }

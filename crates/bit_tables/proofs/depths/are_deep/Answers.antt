@@ -1,4 +1,4 @@
-use Rattle.std.proofs.Common.{◌≡◌, ℕ, Bool, ◌≤◌, List, length, subst, sym}
+use Rattle.std.proofs.Common.{ℕ, Bool, ◌≤◌, List, length, subst, sym}
 use Rattle.std.specs.Prelude.{◌↔◌, All, IfOk, IsTrue, slice_index_or}
 use Rattle.std.proofs.lemmas.Result.{IfOk-weaker}
 use Rattle.bit_tables.specs.Lists.{IsTableOf}
@@ -25,7 +25,7 @@ returns c =
     let alike : AreSmall depths c.args.count small c.in_ok-small.most = c.in_ok-small.ensures.alike in
     IfOk-weaker c.are_deep_in_layers-2.result (Tells small c.in_ok-small.most rows c.args.first c.args.source) (Tells depths c.args.count rows c.args.first c.args.source)
     (λ deep tells lists table.
-        let it = tells lists (subst (λ n. IsTableOf n lists rows) (sym alike.len) table) in
-        let both = meets-alike depths small c.args.count c.in_ok-small.most alike lists c.args.first c.args.source in
-        (λ t. both.0 (it.0 t), λ meets. it.1 (both.1 meets)))
+    let it = tells lists (subst (λ n. IsTableOf n lists rows) (sym alike.len) table) in
+    let both = meets-alike depths small c.args.count c.in_ok-small.most alike lists c.args.first c.args.source in
+    (λ t. both.0 (it.0 t), λ meets. it.1 (both.1 meets)))
     (subst (λ (l : List ℕ). IfOk c.are_deep_in_layers-2.result (Tells l c.in_ok-small.most rows c.args.first c.args.source)) c.deref.ensures.value c.are_deep_in_layers-2.ensures)
