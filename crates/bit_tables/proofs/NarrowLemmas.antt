@@ -80,9 +80,6 @@ narrowed-none wide narrow last small none = record {
 
 -- one depth more
 module _ (wide : List ℕ) (i : ℕ) (narrow : List ℕ) (last small next : ℕ) (is : IsNarrowedTo wide i narrow last small) (grown : IsAhead last (get_or wide i 0) small next) where
-  new : List ℕ
-  new = narrow ++ next ∷ []
-
   old-there : (k : ℕ) → k < i → get_or (narrow ++ next ∷ []) k 0 ≡ get_or narrow k 0
   old-there k lt = get_or_append_left narrow (next ∷ []) 0 k (let e = is.len in omega arith)
 

@@ -85,8 +85,9 @@ fn are_deep_in_layers(
 /// depths, nothing is asked: the lists are taken with these numbers left out.
 ///
 /// It takes `n` steps, and `n / 64` for each number of a lesser depth than the count and each layer, and
-/// memory for these numbers, the layers and two sets. There are as many layers as the count; where that is
-/// more than `n`, there are at most `2 * n + 2`, found in about `n * log n` further steps.
+/// memory for these numbers, the layers and two sets. There are as many layers as the count where that is at
+/// most `n`, and else at most `2 * n + 2`, found in about `n * log n` further steps. So memory is linear in
+/// `n`, whatever the count.
 pub fn are_deep(
     alloc: Global,
     table: &AfterTable,
