@@ -4,4 +4,3 @@ pub mod Places
 pub mod SetLemmas
 pub mod Those
 pub mod WayLemmas
-mod NarrowLemmas

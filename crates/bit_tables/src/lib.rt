@@ -6,7 +6,6 @@ mod bits;
 mod depths;
 mod layers;
 mod lists;
-mod narrow;
 mod table;
 mod ways;
 mod words;
