@@ -2,15 +2,8 @@
 
 ghost use Rattle.std.specs.Prelude.{◌≤◌};
 
-use crate::run::run;
-use crate::status::{RunFault, Status};
-use crate::verified::run_verify;
-use byte_streams::{Sink, Source};
-use command_line::Form;
-use std::alloc::Global;
 use std::io;
 use std::io::{Error, ErrorKind, Read, Write};
-use std::thread::Threads;
 
 /// How many bytes a page holds.
 const ROOM: usize = 512;
@@ -93,49 +86,4 @@ impl Write for Page {
     fn flush(&mut self) -> io::Result<()> {
         Ok(())
     }
-}
-
-/// What an engine answered, with its readers of 7 bytes a read and its writer of one byte a write.
-#[derive(Drop)]
-pub struct Trial<'a> {
-    pub trace: Script<'a>,
-    pub cert: Script<'a>,
-    pub page: Page,
-    pub answer: Result<Status, RunFault>,
-}
-
-/// A run on the trace in which this read of it and this write fail, or, where a certificate is given, a check
-/// of that; where the first finds no memory, the second.
-pub fn tried<'a, H: Threads + Sync>(
-    rt: &H,
-    alloc: Global,
-    text: &'a str,
-    certificate: Option<&'a str>,
-    read_fails: u32,
-    write_fails: u32,
-) -> Trial<'a> {
-    let once = || {
-        let mut trace = Script::new(text, 7, read_fails);
-        let mut cert = Script::new(certificate.unwrap_or(""), 7, 0);
-        let mut page = Page::new(1, write_fails);
-        let mut source = Source::new(&mut trace);
-        let mut beside = Source::new(&mut cert);
-        let mut sink = Sink::new(&mut page);
-        let answer = if certificate.is_some() {
-            run_verify(rt, alloc, &mut source, &mut beside, &mut sink)
-        } else {
-            run(rt, alloc, &mut source, &mut sink, 4, Form::Text)
-        };
-        Trial {
-            trace,
-            cert,
-            page,
-            answer,
-        }
-    };
-    let first = once();
-    if first.answer == Err(RunFault::Memory) {
-        return once();
-    }
-    first
 }
