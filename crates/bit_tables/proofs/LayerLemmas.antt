@@ -1,8 +1,9 @@
 -- Layers of numbers, one after the other.
-use Rattle.std.proofs.Common.{◌≡◌, ℕ, ◌+◌, ◌<◌, ◌≤◌, ◌⊎◌, ◌∙◌, Bool, true, false, not, List, [], length, get_or, ap, sym, refl, inl, inr, arith, true≢false}
+use Rattle.std.proofs.Common.{◌≡◌, ℕ, ◌+◌, ◌<◌, ◌≤◌, ◌⊎◌, ◌∙◌, Bool, true, false, not, List, [], length, map, get_or, ap, sym, refl, inl, inr, arith, true≢false}
 use Rattle.std.specs.Prelude.{◌↔◌, All, Contains, IsTrue}
 use Rattle.std.proofs.lemmas.Bool.{cases_eq, cases_lt}
-use Rattle.std.proofs.lemmas.List.{get_or_past, get_or_default}
+use Rattle.std.proofs.lemmas.List.{get_or-map, get_or_past, get_or_default}
+use Rattle.std.proofs.lemmas.List.Elements.{All-map}
 use Rattle.bit_tables.specs.Sets.{Has}
 use Rattle.bit_tables.specs.Lists.{row_of, IsShown, IsTableOf}
 use Rattle.bit_tables.specs.Rule.{StandsBelow, AreDepths, MeetsRule}
@@ -45,6 +46,17 @@ successors_step rows w i old into new row within is before grown y =
                 ]
           ]),
     )
+
+-- what is known of what has lists, of the lists
+module _ {V : Type 0} (list : V → List ℕ) (vs : List V) where
+  pub list-here : (i : ℕ) (v : V) → i < length vs → v ≡ get_or vs i v → get_or (map list vs) i [] ≡ list v
+  list-here i v within is = get_or-map list vs i v [] within ∙ ap list (sym is)
+
+  pub all-within : (n : ℕ) → All (λ v. All (λ x. x < n) (list v)) vs → All (λ l. All (λ x. x < n) l) (map list vs)
+  all-within n h = All-map (λ l. All (λ x. x < n) l) list vs h
+
+  pub all-from : (first : ℕ) → All (λ v. All (λ x. first ≤ x) (list v)) vs → All (λ l. All (λ x. first ≤ x) l) (map list vs)
+  all-from first h = All-map (λ l. All (λ x. first ≤ x) l) list vs h
 
 stands_more : (m : ℕ) (layers : List (List ℕ)) (x : ℕ) → StandsBelow (m + 1) layers x → StandsBelow m layers x ⊎ Contains (get_or layers m []) x
 stands_more m layers x s =

@@ -4,3 +4,4 @@ pub mod Places
 pub mod SetLemmas
 pub mod Those
 pub mod WayLemmas
+mod NarrowLemmas

@@ -1,12 +1,13 @@
 //! The layer rule of numbers whose depths are known.
 
-ghost use Rattle.std.specs.Prelude.{◌≡◌, ◌<◌, ◌≤◌, ◌+◌, ◌/◌, ◌⊎◌, ◌↔◌, ◌^◌, ℕ, All, Contains, IfOk, IsTrue, List, OnOk};
+ghost use Rattle.std.specs.Prelude.{◌≡◌, ◌<◌, ◌≤◌, ◌+◌, ◌*◌, ◌/◌, ◌⊎◌, ◌↔◌, ◌^◌, ℕ, All, Contains, IfOk, IsTrue, List, OnOk};
 ghost use Rattle.std.specs.Prelude.{length, map, slice_index, slice_index_or, vec_len};
 ghost use Rattle.bit_tables.specs.Lists.{HaveWidth, IsTableOf};
 ghost use Rattle.bit_tables.specs.Rule.{MeetsRule, layer_at};
 
 use super::layers::meets_rule;
 use super::lists::empty_lists;
+use super::narrow::narrow_depths;
 use super::table::AfterTable;
 use std::alloc::{AllocError, Global};
 
@@ -22,7 +23,8 @@ fn put(layers: &mut Vec<Vec<u32>>, depth: u32, number: u32) -> Result<(), AllocE
     Ok(())
 }
 
-/// The numbers from `first` on by depth, as many layers as the count.
+/// The numbers from `first` on by depth, as many layers as the count, which is at most two more than twice the
+/// number of the depths: so its memory and its steps are linear in that number.
 fn layers_by_depth(
     alloc: Global,
     depths: &[u32],
@@ -30,6 +32,7 @@ fn layers_by_depth(
     first: u32,
 ) -> Result<Vec<Vec<u32>>, AllocError>
     requires few { length depths.now < 2 ^ 32 }
+    requires narrow { count ≤ 2 * (length depths.now + 1) }
     requires first { first ≤ length depths.now }
     ensures count { IfOk result (λ layers. length layers.items ≡ count) }
     ensures layers { IfOk result (λ layers. (d x : ℕ) → d < count → Contains (layer_at layers.items d) x
@@ -43,13 +46,11 @@ fn layers_by_depth(
 }
 
 /// Whether the numbers from `first` on, below `n`, at these depths of at most the count, meet the layer rule
-/// for a source: no number is more than one deeper than one that stands before it in some list of the table,
-/// and what stands before the source is as deep as the count. Of the numbers below `first`, and of their
-/// depths, nothing is asked: the lists are taken with these numbers left out.
+/// for a source, as `are_deep` asks it. The count is at most two more than twice the number of the depths.
 ///
-/// It takes `n` steps, and `n / 64` for each number of a lesser depth than the count and each depth, and
-/// memory for these numbers and two sets.
-pub fn are_deep(
+/// It takes `n` steps, and `n / 64` for each number of a lesser depth than the count and each layer, and
+/// memory for these numbers, as many layers as the count and two sets.
+fn are_deep_in_layers(
     alloc: Global,
     table: &AfterTable,
     depths: &[u32],
@@ -58,6 +59,7 @@ pub fn are_deep(
     source: u32,
 ) -> Result<bool, AllocError>
     requires few { length depths.now < 2 ^ 32 }
+    requires narrow { count ≤ 2 * (length depths.now + 1) }
     requires first { first ≤ length depths.now }
     requires most { All (λ d. d ≤ count) depths.now }
     requires len { length table.now ≡ length depths.now }
@@ -75,4 +77,36 @@ pub fn are_deep(
         source as usize,
     )?;
     Ok(deep)
+}
+
+/// Whether the numbers from `first` on, below `n`, at these depths of at most the count, meet the layer rule
+/// for a source: no number is more than one deeper than one that stands before it in some list of the table,
+/// and what stands before the source is as deep as the count. Of the numbers below `first`, and of their
+/// depths, nothing is asked: the lists are taken with these numbers left out.
+///
+/// It takes `n` steps, and `n / 64` for each number of a lesser depth than the count and each layer, and
+/// memory for these numbers, the layers and two sets. There are as many layers as the count where that is at
+/// most `n`, and else at most `2 * n + 2`, found in about `n * log n` further steps. So memory is linear in
+/// `n`, whatever the count.
+pub fn are_deep(
+    alloc: Global,
+    table: &AfterTable,
+    depths: &[u32],
+    count: u32,
+    first: u32,
+    source: u32,
+) -> Result<bool, AllocError>
+    requires few { length depths.now < 2 ^ 32 }
+    requires first { first ≤ length depths.now }
+    requires most { All (λ d. d ≤ count) depths.now }
+    requires len { length table.now ≡ length depths.now }
+    requires width { HaveWidth (length depths.now / 64 + 1) table.now }
+    ensures { IfOk result (λ deep. (lists : List (List ℕ)) → IsTableOf (length depths.now) lists table.now
+        → IsTrue deep ↔ MeetsRule lists first source count (λ x. slice_index_or depths.now x count)) }
+{
+    if count as usize <= depths.len() {
+        return are_deep_in_layers(alloc, table, depths, count, first, source);
+    }
+    let (small, most) = narrow_depths(alloc, depths, count)?;
+    are_deep_in_layers(alloc, table, &small, most, first, source)
 }

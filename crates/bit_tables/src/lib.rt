@@ -6,6 +6,7 @@ mod bits;
 mod depths;
 mod layers;
 mod lists;
+mod narrow;
 mod table;
 mod ways;
 mod words;

@@ -39,11 +39,15 @@ impl Recent {
         Some(number)
     }
 
-    /// Keeps the number of the element that a change inserts: the next response probably shows its name.
-    pub fn expect_shown(&mut self, elements: &Elements, change: Change) {
-        if let Change::Insert(number) = change {
-            if let Some(element) = elements.list.get(number) {
-                self.slots[slot_of(element.name)] = number;
+    /// Keeps the number of the element that a change inserts or deletes: probably the next response shows its
+    /// name, or shows it no more.
+    pub fn expect(&mut self, elements: &Elements, change: Change) {
+        match change {
+            Change::Nothing => {}
+            Change::Insert(number) | Change::Delete(number) => {
+                if let Some(element) = elements.list.get(number) {
+                    self.slots[slot_of(element.name)] = number;
+                }
             }
         }
     }

@@ -1,10 +1,10 @@
 //! The checker's line for an answer.
 
-ghost use Rattle.std.specs.Prelude.{◌≡◌, ◌++◌, IfOk, OnOk};
+ghost use Rattle.std.specs.Prelude.{◌≡◌, ◌++◌, ◌∷◌, IfOk, OnOk};
 ghost use Rattle.finder_cli.specs.Lines.{kind_words, reason_words, answer_words, answer_line};
 
 use cert_check::{Answer, Kind, Reason};
-use events::Memory;
+use events::{Memory, Name};
 use format_words::{push_name, push_number, push_operation};
 use std::alloc::Global;
 
@@ -19,6 +19,14 @@ fn kind_word(kind: Kind) -> &'static str
         Kind::Accepted => "accepted",
         Kind::Refused => "refused",
     }
+}
+
+/// Adds what is wrong with the row of an element, and its name.
+fn push_source(text: &mut Vec<u8>, wrong: &[u8], source: &Name) -> Result<(), Memory>
+    ensures { OnOk result (text.new.items ≡ text.old.items ++ (wrong.now ++ (32 ∷ source.now))) }
+{
+    text.extend_from_slice(wrong)?;
+    push_name(text, source)
 }
 
 /// Adds the words for a reason.
@@ -38,18 +46,9 @@ fn push_reason(alloc: Global, text: &mut Vec<u8>, why: &Reason) -> Result<(), Me
             text.extend_from_slice(b"cycle ")?;
             push_number(alloc, text, *step)?;
         }
-        Reason::MissingLayer { source } => {
-            text.extend_from_slice(b"missing")?;
-            push_name(text, source)?;
-        }
-        Reason::ShortLayer { source } => {
-            text.extend_from_slice(b"short")?;
-            push_name(text, source)?;
-        }
-        Reason::ExtraLayer { source } => {
-            text.extend_from_slice(b"extra")?;
-            push_name(text, source)?;
-        }
+        Reason::MissingLayer { source } => push_source(text, b"missing", source)?,
+        Reason::ShortLayer { source } => push_source(text, b"short", source)?,
+        Reason::ExtraLayer { source } => push_source(text, b"extra", source)?,
     }
     Ok(())
 }

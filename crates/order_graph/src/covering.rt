@@ -97,19 +97,6 @@ pub fn covering_operations_by(
     if workers == 1 {
         return covering_operations(alloc, recording, operations);
     }
-    covering_side_by_side(rt, alloc, recording, operations)
-}
-
-/// The same, in pieces side by side.
-fn covering_side_by_side(
-    rt: &(impl Threads + Sync),
-    alloc: Global,
-    recording: &Recording,
-    operations: &[OpName],
-) -> Result<Vec<OpName>, Memory>
-    requires in_order { AllPairs (λ f e. ComesBefore f e) operations.now }
-    ensures { IfOk result (λ kept. AreCovering recording.now operations.now kept.items) }
-{
     let size = operations.len() / PIECES + 1;
     let pieces = thread::map_chunks(
         rt,

@@ -122,3 +122,74 @@ fn the_rule_from_a_number_on(rt: HostRuntime) -> Result<(), Fail> {
     }
     Ok(())
 }
+
+/// The depths of the numbers below 70: those of 5, 64 and 69, and for each other the count.
+fn depths_with(alloc: Global, count: u32, five: u32, next: u32, last: u32) -> Result<Vec<u32>, Fail>
+    requires five { five ≤ count }
+    requires next { next ≤ count }
+    requires last { last ≤ count }
+    ensures len { IfOk result (λ depths. length depths.items ≡ 70) }
+    ensures most { IfOk result (λ depths. All (λ d. d ≤ count) depths.items) }
+{
+    let mut depths = Vec::new(alloc);
+    for x in 0..70u32 {
+        let depth = match x {
+            5 => five,
+            64 => next,
+            69 => last,
+            _ => count,
+        };
+        if depths.push(depth).is_err() {
+            depths.push(depth)?;
+        }
+    }
+    Ok(depths)
+}
+
+#[test]
+fn depths_that_lie_far_apart(rt: HostRuntime) -> Result<(), Fail> {
+    let table = table_of(rt.alloc(), [3, 69, 5].as_slice(), [5, 64, 3].as_slice())?;
+    let most = 4_294_967_294;
+    // The count, the source, the depths of 5, 64 and 69, and whether they meet the rule: from 4 on, 5 stands
+    // after 69 and 64 after 5, and no other pair of numbers stands in a list.
+    let rows = [
+        (most, 69, 1, 2, 0, true),
+        (most, 69, 2, 2, 0, false),
+        (most, 69, 8, 9, 7, true),
+        (most, 69, 8, 10, 7, false),
+        (most, 69, 8, 9, 6, false),
+        (most, 69, 8, 1_000, 7, false),
+        (most, 69, 8, most, 7, false),
+        (most, 69, 1_000, 1_001, 7, false),
+        (most, 69, 7, 8, 1_000, true),
+        (most, 69, 7, 9, 1_000, false),
+        (most, 69, most, most, most - 1, true),
+        (most, 69, most, most, most - 2, false),
+        (most, 69, most - 1, most, most - 2, true),
+        (most, 64, most, 0, most, true),
+        (most, 64, most, 0, most - 1, true),
+        (most, 64, most, 0, most - 2, false),
+        (most, 64, most - 1, 0, most, false),
+        (most, 64, 0, 0, most, false),
+        (most + 1, 64, most + 1, 3, most, true),
+        (most + 1, 64, most, 3, most, false),
+        (70, 69, 8, 9, 7, true),
+        (70, 69, 8, 10, 7, false),
+        (71, 69, 8, 9, 7, true),
+        (71, 69, 8, 10, 7, false),
+    ];
+    for (count, source, five, next, last, expected) in rows {
+        assert!(rt; five <= count && next <= count && last <= count);
+        let depths = depths_with(rt.alloc(), count, five, next, last)?;
+        let deep = match are_deep(rt.alloc(), &table, &depths, count, 4, source) {
+            Ok(deep) => deep,
+            Err(_) => are_deep(rt.alloc(), &table, &depths, count, 4, source)?,
+        };
+        assert_eq!(rt;
+            deep,
+            expected,
+            "at {count}, {source}, {five}, {next}, {last}"
+        );
+    }
+    Ok(())
+}

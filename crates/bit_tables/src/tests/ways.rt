@@ -29,9 +29,10 @@ fn has_layers(
 ) -> Result<bool, Fail>
     requires len { length table.now ≡ 70 }
     requires width { HaveWidth 2 table.now }
-    requires counts { first ≤ source }
-    requires within { source < 70 }
 {
+    if source >= 70 || first > source {
+        return Ok(false);
+    }
     let layers = match layers_from(alloc, table, 70, source, first, 4) {
         Ok(layers) => layers,
         Err(_) => layers_from(alloc, table, 70, source, first, 4)?,
@@ -52,41 +53,27 @@ fn are_alike(layers: &[Vec<u32>], expected: &[&[u32]]) -> bool {
     true
 }
 
-#[test]
-fn a_shorter_way_through_a_number_that_does_not_count(rt: HostRuntime) -> Result<(), Fail> {
-    let pairs = [[10, 2], [2, 65], [10, 11], [11, 12], [12, 65]];
-    let table = table_of_pairs(rt.alloc(), pairs)?;
-    let all: [&[u32]; 4] = [
-        [10].as_slice(),
-        [2, 11].as_slice(),
-        [12, 65].as_slice(),
-        [].as_slice(),
-    ];
-    assert!(rt; has_layers(rt.alloc(), &table, 10, 0, all)?);
-    let some: [&[u32]; 4] = [
-        [10].as_slice(),
-        [11].as_slice(),
-        [12].as_slice(),
-        [65].as_slice(),
-    ];
-    assert!(rt; has_layers(rt.alloc(), &table, 10, 3, some)?);
-    assert!(rt; has_layers(rt.alloc(), &table, 10, 10, some)?);
-    Ok(())
-}
+/// A shorter way from 10 leads through a number that does not count.
+const SHORTER: [[u32; 2]; 5] = [[10, 2], [2, 65], [10, 11], [11, 12], [12, 65]];
+
+const ROUND: [[u32; 2]; 5] = [[1, 2], [2, 3], [3, 1], [1, 69], [69, 3]];
+
+/// Lists, a source, the first number that counts, and the first four layers.
+const WAYS: &[([[u32; 2]; 5], u32, u32, [&[u32]; 4])] = &[
+    (SHORTER, 10, 0, [&[10], &[2, 11], &[12, 65], &[]]),
+    (SHORTER, 10, 3, [&[10], &[11], &[12], &[65]]),
+    (SHORTER, 10, 10, [&[10], &[11], &[12], &[65]]),
+    (ROUND, 1, 1, [&[1], &[2, 69], &[3], &[]]),
+    (ROUND, 3, 3, [&[3], &[], &[], &[]]),
+];
 
 #[test]
-fn a_way_round(rt: HostRuntime) -> Result<(), Fail> {
-    let pairs = [[1, 2], [2, 3], [3, 1], [1, 69], [69, 3]];
-    let table = table_of_pairs(rt.alloc(), pairs)?;
-    let from_one: [&[u32]; 4] = [
-        [1].as_slice(),
-        [2, 69].as_slice(),
-        [3].as_slice(),
-        [].as_slice(),
-    ];
-    assert!(rt; has_layers(rt.alloc(), &table, 1, 1, from_one)?);
-    let from_three: [&[u32]; 4] = [[3].as_slice(), [].as_slice(), [].as_slice(), [].as_slice()];
-    assert!(rt; has_layers(rt.alloc(), &table, 3, 3, from_three)?);
+fn layers_of_numbers(rt: HostRuntime) -> Result<(), Fail> {
+    for (pairs, source, first, expected) in WAYS.iter().copied() {
+        let table = table_of_pairs(rt.alloc(), pairs)?;
+        let is_so = has_layers(rt.alloc(), &table, source, first, expected)?;
+        assert!(rt; is_so, "at {source} {first}");
+    }
     Ok(())
 }
 

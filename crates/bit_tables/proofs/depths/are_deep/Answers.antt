@@ -1,24 +1,31 @@
-use Rattle.std.proofs.Common.{◌≡◌, ◌<◌, ◌≤◌, ℕ, ◌∙◌, List, Vec, Global, map, length, ap, sym, subst}
-use Rattle.std.specs.Prelude.{◌↔◌, All, IsTrue, slice_index_or}
-use Rattle.bit_tables.specs.Rule.{AreDepths, MeetsRule}
-use Rattle.bit_tables.proofs.DepthLemmas.{are-depths, within-layers, from-layers}
+use Rattle.std.proofs.Common.{ℕ, Bool, ◌≤◌, List, length, subst, sym}
+use Rattle.std.specs.Prelude.{◌↔◌, All, IfOk, IsTrue, slice_index_or}
+use Rattle.std.proofs.lemmas.Result.{IfOk-weaker}
+use Rattle.bit_tables.specs.Lists.{IsTableOf}
+use Rattle.bit_tables.specs.Rule.{MeetsRule}
+use Rattle.bit_tables.specs.Narrow.{AreSmall}
+use Rattle.bit_tables.proofs.NarrowLemmas.{meets-alike, small-most}
 use Rattle.bit_tables.proofs.depths.are_deep.Goals as goal
 
-pub meets_rule-requires-clause-within : goal.meets_rule-requires-clause-within
-meets_rule-requires-clause-within c =
-    subst (λ (layers : List (Vec ℕ Global)). All (λ (layer : Vec ℕ Global). All (λ x. x < length c.args.depths.now) layer.items) layers) (sym c.deref.ensures.value)
-    (within-layers c.args.depths.now c.args.count c.args.first c.in_ok-layers.layers.items c.in_ok-layers.ensures.count c.requires.most c.in_ok-layers.ensures.layers)
+-- what the answer says of these depths
+abbrev Tells : List ℕ → ℕ → List (List ℕ) → ℕ → ℕ → Bool → Type 0
+Tells depths count rows first source deep =
+    (lists : List (List ℕ)) → IsTableOf (length depths) lists rows → IsTrue deep ↔ MeetsRule lists first source count (λ x. slice_index_or depths x count)
 
-pub meets_rule-requires-clause-from : goal.meets_rule-requires-clause-from
-meets_rule-requires-clause-from c =
-    subst (λ (layers : List (Vec ℕ Global)). All (λ (layer : Vec ℕ Global). All (λ x. c.args.first ≤ x) layer.items) layers) (sym c.deref.ensures.value)
-    (from-layers c.args.depths.now c.args.count c.args.first c.in_ok-layers.layers.items c.in_ok-layers.ensures.count c.requires.most c.in_ok-layers.ensures.layers)
+pub are_deep_in_layers-requires-2-clause-most : goal.are_deep_in_layers-requires-2-clause-most
+are_deep_in_layers-requires-2-clause-most c =
+    subst (λ (l : List ℕ). All (λ d. d ≤ c.in_ok-small.most) l) (sym c.deref.ensures.value)
+    (small-most c.args.depths.now c.in_ok-small.small.items c.args.count c.in_ok-small.most c.in_ok-small.ensures.alike c.requires.most)
 
 pub returns : goal.returns
-returns c = λ lists table.
-    let depth : ℕ → ℕ = λ x. slice_index_or c.args.depths.now x c.args.count in
-    let depths : AreDepths c.args.first (map (λ (layer : Vec ℕ Global). layer.items) c.deref.result.now) depth =
-    subst (λ (layers : List (Vec ℕ Global)). AreDepths c.args.first (map (λ (layer : Vec ℕ Global). layer.items) layers) depth) (sym c.deref.ensures.value)
-    (are-depths c.args.depths.now c.args.count c.args.first c.in_ok-layers.layers.items c.in_ok-layers.ensures.count c.requires.most c.in_ok-layers.ensures.layers) in
-    let size : length c.deref.result.now ≡ c.args.count = ap length c.deref.ensures.value ∙ c.in_ok-layers.ensures.count in
-    subst (λ (m : ℕ). IsTrue c.in_ok-deep.deep ↔ MeetsRule lists c.args.first c.args.source m depth) size (c.in_ok-deep.ensures lists depth table depths)
+returns c =
+    let depths : List ℕ = c.args.depths.now in
+    let small : List ℕ = c.in_ok-small.small.items in
+    let rows : List (List ℕ) = c.args.table.now in
+    let alike : AreSmall depths c.args.count small c.in_ok-small.most = c.in_ok-small.ensures.alike in
+    IfOk-weaker c.are_deep_in_layers-2.result (Tells small c.in_ok-small.most rows c.args.first c.args.source) (Tells depths c.args.count rows c.args.first c.args.source)
+    (λ deep tells lists table.
+    let it = tells lists (subst (λ n. IsTableOf n lists rows) (sym alike.len) table) in
+    let both = meets-alike depths small c.args.count c.in_ok-small.most alike lists c.args.first c.args.source in
+    (λ t. both.0 (it.0 t), λ meets. it.1 (both.1 meets)))
+    (subst (λ (l : List ℕ). IfOk c.are_deep_in_layers-2.result (Tells l c.in_ok-small.most rows c.args.first c.args.source)) c.deref.ensures.value c.are_deep_in_layers-2.ensures)
