@@ -264,8 +264,8 @@ def most_threads(program: str, words: list) -> int:
 
 def threads(tally: Tally, program: str, folder: str) -> None:
     """As many threads search as were asked for, in one run of several near the limits on names: a search may end before all
-    have begun. The check of contents before it has two threads, where more than one worker was asked for; in an accepted recording
-    no search follows."""
+    have begun. The check of contents before it, or the search for covering responses, has more than one where more than one worker
+    was asked for; in an accepted recording no other search follows."""
     path = os.path.join(folder, "ring")
     for name, family in ((path, "wide_ring"), (os.path.join(folder, "accepted"), "accepted")):
         with open(name, "wb") as out:
@@ -277,7 +277,7 @@ def threads(tally: Tally, program: str, folder: str) -> None:
     for _ in range(20):
         if seen <= 1:
             seen = most_threads(program, ["verdict", "--workers", "2", os.path.join(folder, "accepted")])
-    tally.check("contents in threads", seen > 1 or processors == 1, f"saw {seen}")
+    tally.check("threads before the search", seen > 1 or processors == 1, f"saw {seen}")
     runs = 0
     while seen < many and runs < 20:
         seen = max(seen, most_threads(program, ["verdict", "--workers", str(many), path]))

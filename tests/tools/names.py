@@ -33,7 +33,8 @@ WORDS = {
     "receipt": ("events", "received Body::Recv"),
     "name of an element": ("events", "NameBytes Name"),
     "response": ("events", "Response"),
-    "refused entry, and its words on the error line": ("events", "Refusal Recording::record"),
+    "refused entry, and its words on the error line, as `not yet, have H`, `entries full` or `places full`":
+        ("events", "Refusal Recording::record"),
     "limits of a recording": ("events", "KeepsLimits MOST_REPLICAS MOST_ENTRIES MOST_INSERTS MOST_NAMES MOST_PLACES MOST_BYTES"),
     "legal recording": ("events", "IsLegal"),
     "element number": ("specification", "elements number_in"),
@@ -51,7 +52,9 @@ WORDS = {
     "conflict number": ("specification", "IsConflictNumber HasConflictNumber"),
     "least cycle": ("specification", "IsLeastCycle AreLeastSteps"),
     "layer rule": ("specification", "MeetsLayerRule MeetsRuleOf RowsMeetRule"),
-    "row of a certificate": ("specification", "Row IsExactRow"),
+    "limit of reads, 268,435,456": ("byte_streams", "READS IsClosed"),
+    "row of a certificate, the line `layers x / b`": ("specification", "Row IsExactRow row_line"),
+    "the line `layers x / b`, written": ("certificate_text", "push_row"),
     "verdict": ("specification", "Verdict IsVerdict"),
     "the finder, what makes verdicts": ("certificate", "judge judge_and_write"),
     "the function `finder`, the program in any world": ("finder_cli", "finder World"),
@@ -60,7 +63,7 @@ WORDS = {
     "what a trace spells": ("specification", "Spells"),
     "version of a trace, version of a certificate": ("specification", "Version IsOfVersion header_line version_line"),
     "faulty line of a trace": ("specification", "IsFirstLineFault"),
-    "cause of a faulty line, and its words on the error line": ("trace_text", "Cause LineFault"),
+    "cause of a faulty line, and its words on the error line, as `header`, `shape` or `cut`": ("trace_text", "Cause LineFault"),
     "what a certificate's text spells": ("specification", "SpellsCertificate"),
     "outline of a certificate": ("certificate_text", "Outlines Outline"),
     "report": ("specification", "report_text"),
@@ -97,8 +100,9 @@ FILES = {
     "gate of the repository, every check": ".ci/run tests/every_check",
     "handles, `Threads` and `Wait`": "HANDLES",
     "what each crate stands on, `may_wait`": "crates.txt",
-    "recorder of a language": "recorders/domepeeler.py recorders/domepeeler.mjs recorders/domepeeler.rs recorders/domepeeler.h "
-                              "recorders/domepeeler.el",
+    "recorder of a language, with its calls `insert`, `delete`, `read`, `view`, `received` and `judge()`":
+        "recorders/domepeeler.py recorders/domepeeler.mjs recorders/domepeeler.rs recorders/domepeeler.h "
+        "recorders/domepeeler.el",
     "logs of several machines": "recorders/merge.py",
     "environment variable `DOMEPEELER`": "tools/explaining/programs.py recorders/domepeeler.py",
     "property-based tests": "recorders/properties",
@@ -109,6 +113,11 @@ FILES = {
     "wrong body, must-fail edit": "crates/*/must-fail tests/proofs/wrong_bodies tests/proofs/wrong_bodies.py",
     "changed definition": "tests/proofs/changed_definitions.py",
     "vectors": "tests/vectors",
+    "`finder_gets_yes`, the proof that what the finder writes gets yes": "crates/cert_check/proofs/FinderGetsYes.antt",
+    "lines of the report, as `replicas R operations N inserts M`, `refused k`, `contents E`, `position E`, `doubled F G`, `strong no`, `weak yes`":
+        "crates/specification/specs/ReportText.antt crates/report/src/lines.rt crates/format_words/src/verdicts.rt",
+    "requests for memory refused": "tests/memory/refused_memory.py tests/memory/refused_calls.py "
+                                   "tests/memory/refused_memory_of_tests.py tests/memory/refused_sessions.py",
     "slow reader, reference checker": "tests/reference/traces.py tests/reference/verdicts.py tests/reference/checker.py",
     "generator of traces near the limits, XL": "tests/shared/traces.py",
     "`explain`, installed as `domepeeler-explain`": "tools/explain tools/explaining/words.py tools/explaining/evidence.py",
