@@ -72,7 +72,7 @@ def measured(program: str, path: str, times: int) -> Measured:
 
 
 def by_workers(tally: Tally, program: str, size: str, path: str, times: int) -> None:
-    """The whole program's time with fewer and more workers, in turn. With more than one, two threads check contents."""
+    """The whole program's time with fewer and more workers, in turn. With more than one, contents are checked in several threads."""
     runs, reports = {1: [], 2: [], 4: []}, set()
     for _ in range(times):
         for workers, of_these in runs.items():

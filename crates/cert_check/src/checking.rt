@@ -18,8 +18,8 @@ use trace_text::{Cause, read};
 /// It searches nothing. Beyond reading the texts and looking for a fault, a step of a certificate costs the
 /// response of its operation, and a row the n elements of the recording, and `n / 64` steps for each of its
 /// names and layers. So it is in both versions; the rows of version two have about half as many names. For
-/// the rows a table is made once, in `n / 64` steps for each place of a response. Contents are checked by
-/// two threads. Its memory is linear in the texts but for that table, which takes `n * n / 8` bytes, 2 MB for
+/// the rows a table is made once, in `n / 64` steps for each place of a response. Contents are checked on all
+/// processors. Its memory is linear in the texts but for that table, which takes `n * n / 8` bytes, 2 MB for
 /// 4,096 elements and 512 MB for 65,536. Out of memory is answered only where a line of the trace takes
 /// memory, or where the trace spells a recording and the certificate's text takes memory.
 pub fn check<H: Threads + Sync>(

@@ -11,9 +11,8 @@ use std::alloc::Global;
 use std::thread;
 use std::thread::Threads;
 
-/// How many pieces of the operations are gone through side by side. More save little wall time, and on
-/// processors that share a core they cost more processor time than they save.
-const PIECES: usize = 2;
+/// How many pieces of the operations are gone through side by side.
+const PIECES: usize = 4;
 
 /// Whether the names of a response are found in another in the same order; it may miss this where the
 /// response has not half as many. Names are compared in runs, as far as both go on alike; after each run one
@@ -83,7 +82,7 @@ pub fn covering_operations(
 }
 
 /// The same, where the number of workers says whether threads are used: with 1 the operations are gone
-/// through one after the other in the caller's thread, with any other number in two pieces side by side, of
+/// through one after the other in the caller's thread, with any other number in four pieces side by side, of
 /// each of which the first is kept.
 pub fn covering_operations_by(
     rt: &(impl Threads + Sync),
