@@ -18,38 +18,21 @@ pub struct Trial<'t, 'c> {
     pub answer: Result<Status, RunFault>,
 }
 
-/// A run on the trace.
-fn ran<H: Threads + Sync>(
+/// What a run on the trace answers, or a check of the certificate.
+fn answered<H: Threads + Sync>(
     rt: &H,
     alloc: Global,
-    trace: &mut Script<'_>,
-    page: &mut Page,
-) -> Result<Status, RunFault> {
-    run(
-        rt,
-        alloc,
-        &mut Source::new(trace),
-        &mut Sink::new(page),
-        4,
-        Form::Text,
-    )
-}
-
-/// A check of the certificate.
-fn checked<H: Threads + Sync>(
-    rt: &H,
-    alloc: Global,
+    is_check: bool,
     trace: &mut Script<'_>,
     cert: &mut Script<'_>,
     page: &mut Page,
 ) -> Result<Status, RunFault> {
-    run_verify(
-        rt,
-        alloc,
-        &mut Source::new(trace),
-        &mut Source::new(cert),
-        &mut Sink::new(page),
-    )
+    let mut source = Source::new(trace);
+    let mut sink = Sink::new(page);
+    if is_check {
+        return run_verify(rt, alloc, &mut source, &mut Source::new(cert), &mut sink);
+    }
+    run(rt, alloc, &mut source, &mut sink, 4, Form::Text)
 }
 
 /// A run on the trace, or a check of the certificate that is given, in which this read of the trace fails and
@@ -62,16 +45,13 @@ pub fn tried<'t, 'c, H: Threads + Sync>(
     read_fails: u32,
     write_fails: u32,
 ) -> Trial<'t, 'c> {
+    let is_check = certificate.is_some();
     let claim = certificate.unwrap_or("");
     let once = || {
         let mut trace = Script::new(text, 7, read_fails);
         let mut cert = Script::new(claim, 7, 0);
         let mut page = Page::new(1, write_fails);
-        let answer = if certificate.is_some() {
-            checked(rt, alloc, &mut trace, &mut cert, &mut page)
-        } else {
-            ran(rt, alloc, &mut trace, &mut page)
-        };
+        let answer = answered(rt, alloc, is_check, &mut trace, &mut cert, &mut page);
         Trial {
             trace,
             cert,
