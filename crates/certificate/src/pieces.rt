@@ -20,85 +20,127 @@ const ROWS: usize = 64;
 /// How many pieces are made side by side.
 const PIECES: usize = 4;
 
-/// Adds the line of the row of an element.
-fn push_known_row(
+/// Makes the rows of layers of a graph for a k, of which there are some.
+#[derive(Drop)]
+pub struct RowMaker<'a> {
     alloc: Global,
-    graph: &OrderGraph,
-    table: &AfterTable,
+    graph: &'a OrderGraph,
+    table: AfterTable,
     k: u32,
-    source: u32,
-    text: &mut Vec<u8>,
-) -> Result<(), Memory>
-    requires some { 1 ≤ k }
-    requires table { IsAfterTable graph.now table.now }
-    requires known { source < length graph.now.elements }
-    ensures { OnOk result (AppendsRows graph.now k (take 1 (drop source graph.now.elements)) text.old.items
-        text.new.items) }
-{
-    let row = row_of_layers(alloc, graph, table, source, k)?;
-    push_row(text, &row)?;
-    Ok(())
+    ghost some: { 1 ≤ k },
 }
 
-/// Adds the line of the row of an element, if there is one with this number.
-fn push_row_at(
-    alloc: Global,
-    graph: &OrderGraph,
-    table: &AfterTable,
-    k: u32,
-    source: usize,
-    text: &mut Vec<u8>,
-) -> Result<(), Memory>
-    requires some { 1 ≤ k }
-    requires table { IsAfterTable graph.now table.now }
-    ensures { OnOk result (AppendsRows graph.now k (take 1 (drop source graph.now.elements)) text.old.items
-        text.new.items) }
+/// The maker of the rows of a graph.
+pub fn row_maker(alloc: Global, graph: &OrderGraph, k: u32) -> Result<RowMaker<'_>, Memory>
+    requires { 1 ≤ k }
+    ensures { IfOk result (λ maker. (maker.graph.now ≡ graph.now) × (maker.k ≡ k)
+        × IsAfterTable maker.graph.now maker.table) }
 {
-    if source < graph.elements() as usize {
-        return push_known_row(alloc, graph, table, k, source as u32, text);
+    let table = after_table(alloc, graph)?;
+    Ok(RowMaker {
+        alloc,
+        graph,
+        table,
+        k,
+    })
+}
+
+impl RowMaker<'_> {
+    /// Adds the line of the row of an element.
+    fn push_known_row(&self, source: u32, text: &mut Vec<u8>) -> Result<(), Memory>
+        requires table { IsAfterTable self.now.graph.now self.now.table }
+        requires known { source < length self.now.graph.now.elements }
+        ensures { OnOk result (AppendsRows self.now.graph.now self.now.k
+            (take 1 (drop source self.now.graph.now.elements)) text.old.items text.new.items) }
+    {
+        let row = row_of_layers(self.alloc, self.graph, &self.table, source, self.k)?;
+        push_row(text, &row)?;
+        Ok(())
     }
-    Ok(())
-}
 
-/// Adds the lines of the rows of so many elements from one number on, or of as many as there are.
-fn push_rows_from(
-    alloc: Global,
-    graph: &OrderGraph,
-    table: &AfterTable,
-    k: u32,
-    first: usize,
-    count: usize,
-    text: &mut Vec<u8>,
-) -> Result<(), Memory>
-    requires some { 1 ≤ k }
-    requires table { IsAfterTable graph.now table.now }
-    requires few { first + count < 2 ^ 64 }
-    ensures { OnOk result (AppendsRows graph.now k (take count (drop first graph.now.elements)) text.old.items
-        text.new.items) }
-{
-    for i in 0..count {
-        push_row_at(alloc, graph, table, k, first + i, text)?;
+    /// Adds the line of the row of an element, if there is one with this number.
+    fn push_row_at(&self, source: usize, text: &mut Vec<u8>) -> Result<(), Memory>
+        requires table { IsAfterTable self.now.graph.now self.now.table }
+        ensures { OnOk result (AppendsRows self.now.graph.now self.now.k
+            (take 1 (drop source self.now.graph.now.elements)) text.old.items text.new.items) }
+    {
+        if source < self.graph.elements() as usize {
+            return self.push_known_row(source as u32, text);
+        }
+        Ok(())
     }
-    Ok(())
-}
 
-/// The lines of the rows of the elements from one number on, as many as stand in one piece.
-fn piece_from(
-    alloc: Global,
-    graph: &OrderGraph,
-    table: &AfterTable,
-    k: u32,
-    first: usize,
-) -> Result<Vec<u8>, Memory>
-    requires some { 1 ≤ k }
-    requires table { IsAfterTable graph.now table.now }
-    requires few { first < 2 ^ 40 }
-    ensures { IfOk result (λ piece. AppendsRows graph.now k (take ROWS (drop first graph.now.elements)) []
-        piece.items) }
-{
-    let mut piece = Vec::new(alloc);
-    push_rows_from(alloc, graph, table, k, first, ROWS, &mut piece)?;
-    Ok(piece)
+    /// Adds the lines of the rows of so many elements from one number on, or of as many as there are.
+    fn push_rows_from(&self, first: usize, count: usize, text: &mut Vec<u8>) -> Result<(), Memory>
+        requires table { IsAfterTable self.now.graph.now self.now.table }
+        requires few { first + count < 2 ^ 64 }
+        ensures { OnOk result (AppendsRows self.now.graph.now self.now.k
+            (take count (drop first self.now.graph.now.elements)) text.old.items text.new.items) }
+    {
+        for i in 0..count {
+            self.push_row_at(first + i, text)?;
+        }
+        Ok(())
+    }
+
+    /// Adds the lines of the rows of all elements, in the caller's thread.
+    pub fn push_rows(&self, text: &mut Vec<u8>) -> Result<(), Memory>
+        requires table { IsAfterTable self.now.graph.now self.now.table }
+        ensures { OnOk result (AppendsRows self.now.graph.now self.now.k self.now.graph.now.elements
+            text.old.items text.new.items) }
+    {
+        self.push_rows_from(0, self.graph.elements() as usize, text)
+    }
+
+    /// The lines of the rows of the elements from one number on, as many as stand in one piece.
+    fn piece_from(&self, first: usize) -> Result<Vec<u8>, Memory>
+        requires table { IsAfterTable self.now.graph.now self.now.table }
+        requires few { first < 2 ^ 40 }
+        ensures { IfOk result (λ piece. AppendsRows self.now.graph.now self.now.k
+            (take ROWS (drop first self.now.graph.now.elements)) [] piece.items) }
+    {
+        let mut piece = Vec::new(self.alloc);
+        self.push_rows_from(first, ROWS, &mut piece)?;
+        Ok(piece)
+    }
+
+    /// Adds the lines of the rows of the elements from one number on, in pieces that are made side by side.
+    fn push_side_by_side<H: Threads + Sync>(
+        &self,
+        rt: &H,
+        first: usize,
+        text: &mut Vec<u8>,
+    ) -> Result<(), Memory>
+        requires table { IsAfterTable self.now.graph.now self.now.table }
+        requires few { first < 2 ^ 39 }
+        ensures { OnOk result (AppendsRows self.now.graph.now self.now.k
+            (take (ROWS * PIECES) (drop first self.now.graph.now.elements)) text.old.items text.new.items) }
+    {
+        let pieces = thread::map_indices(
+            rt,
+            self.alloc,
+            PIECES,
+            &|i: usize| -> Result<Vec<u8>, Memory>
+                requires { IsAfterTable self.now.graph.now self.now.table × (first < 2 ^ 39) × (i < PIECES) }
+                ensures { IfOk result (λ piece. AppendsRows self.entry.now.graph.now self.entry.now.k
+                    (take ROWS (drop (first + ROWS * i) self.entry.now.graph.now.elements)) [] piece.items) }
+            { self.piece_from(first + ROWS * i) },
+        )?;
+        push_pieces(self.graph, self.k, first, pieces.as_slice(), text)
+    }
+
+    /// Adds the lines of the rows of all elements, in pieces that are made side by side.
+    fn push_in_pieces<H: Threads + Sync>(&self, rt: &H, text: &mut Vec<u8>) -> Result<(), Memory>
+        requires table { IsAfterTable self.now.graph.now self.now.table }
+        ensures { OnOk result (AppendsRows self.now.graph.now self.now.k self.now.graph.now.elements
+            text.old.items text.new.items) }
+    {
+        let elements = self.graph.elements() as usize;
+        for batch in 0..elements / (ROWS * PIECES) + 1 {
+            self.push_side_by_side(rt, batch * (ROWS * PIECES), text)?;
+        }
+        Ok(())
+    }
 }
 
 /// Adds a piece, if it was made.
@@ -132,73 +174,8 @@ fn push_pieces(
     Ok(())
 }
 
-/// Adds the lines of the rows of the elements from one number on, in pieces that are made side by side.
-fn push_side_by_side<H: Threads + Sync>(
-    rt: &H,
-    alloc: Global,
-    graph: &OrderGraph,
-    table: &AfterTable,
-    k: u32,
-    first: usize,
-    text: &mut Vec<u8>,
-) -> Result<(), Memory>
-    requires some { 1 ≤ k }
-    requires table { IsAfterTable graph.now table.now }
-    requires few { first < 2 ^ 39 }
-    ensures { OnOk result (AppendsRows graph.now k (take (ROWS * PIECES) (drop first graph.now.elements))
-        text.old.items text.new.items) }
-{
-    let pieces = thread::map_indices(
-        rt,
-        alloc,
-        PIECES,
-        &|i: usize| -> Result<Vec<u8>, Memory>
-            requires { (1 ≤ k) × IsAfterTable graph.now table.now × (first < 2 ^ 39) × (i < PIECES) }
-            ensures { IfOk result (λ piece. AppendsRows graph.entry.now k
-                (take ROWS (drop (first + ROWS * i) graph.entry.now.elements)) [] piece.items) }
-        { piece_from(alloc, graph, table, k, first + ROWS * i) },
-    )?;
-    push_pieces(graph, k, first, pieces.as_slice(), text)
-}
-
-/// Adds the lines of the rows of all elements, in pieces that are made side by side.
-fn push_in_pieces<H: Threads + Sync>(
-    rt: &H,
-    alloc: Global,
-    graph: &OrderGraph,
-    table: &AfterTable,
-    k: u32,
-    text: &mut Vec<u8>,
-) -> Result<(), Memory>
-    requires some { 1 ≤ k }
-    requires table { IsAfterTable graph.now table.now }
-    ensures { OnOk result (AppendsRows graph.now k graph.now.elements text.old.items text.new.items) }
-{
-    let elements = graph.elements() as usize;
-    for batch in 0..elements / (ROWS * PIECES) + 1 {
-        let first = batch * (ROWS * PIECES);
-        push_side_by_side(rt, alloc, graph, table, k, first, text)?;
-    }
-    Ok(())
-}
-
-/// Adds the lines of the rows of layers, one for each element, in the caller's thread.
-pub fn push_rows(
-    alloc: Global,
-    graph: &OrderGraph,
-    k: u32,
-    text: &mut Vec<u8>,
-) -> Result<(), Memory>
-    requires { 1 ≤ k }
-    ensures { OnOk result (AppendsRows graph.now k graph.now.elements text.old.items text.new.items) }
-{
-    let table = after_table(alloc, graph)?;
-    let elements = graph.elements() as usize;
-    push_rows_from(alloc, graph, &table, k, 0, elements, text)
-}
-
-/// The same, where the number of workers says whether threads are used: with 1 the rows are made one after
-/// the other in the caller's thread, with any other number in pieces of 64, four of them side by side.
+/// Adds the lines of the rows of layers, one for each element. The number of workers says whether threads are
+/// used: with 1 the rows are made one after the other in the caller's thread, with any other number in pieces of 64, four of them side by side.
 pub fn push_rows_by<H: Threads + Sync>(
     rt: &H,
     alloc: Global,
@@ -210,9 +187,9 @@ pub fn push_rows_by<H: Threads + Sync>(
     requires { 1 ≤ k }
     ensures { OnOk result (AppendsRows graph.now k graph.now.elements text.old.items text.new.items) }
 {
+    let maker = row_maker(alloc, graph, k)?;
     if workers == 1 {
-        return push_rows(alloc, graph, k, text);
+        return maker.push_rows(text);
     }
-    let table = after_table(alloc, graph)?;
-    push_in_pieces(rt, alloc, graph, &table, k, text)
+    maker.push_in_pieces(rt, text)
 }

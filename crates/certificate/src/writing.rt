@@ -12,7 +12,7 @@ ghost use Rattle.certificate.specs.VerdictOf.{verdict_of};
 
 use super::certifying::{number_with_rows, with_rows};
 use super::judging::{Judged, verdict_and_graph};
-use super::pieces::{push_rows, push_rows_by};
+use super::pieces::{push_rows_by, row_maker};
 use super::verdict::Verdict;
 use certificate_text::Version;
 use events::{Memory, Recording};
@@ -44,7 +44,8 @@ pub fn write_certificate(
         return Ok(text);
     };
     let graph = OrderGraph::covering(alloc, recording)?;
-    push_rows(alloc, &graph, k, &mut text)?;
+    let maker = row_maker(alloc, &graph, k)?;
+    maker.push_rows(&mut text)?;
     Ok(text)
 }
 

@@ -5,4 +5,5 @@ mod pages;
 mod recordings;
 mod streams;
 mod texts;
+mod trials;
 mod verifying;

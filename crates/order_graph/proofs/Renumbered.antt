@@ -115,6 +115,14 @@ module _ (names among : List NameBytes) (once : Once among) where
       let one : Returned = record { by = r.by; names = left r.names } in
       omega (arith, places-left rs, length-left r.names, sum_by-cons (λ (r : Returned). length r.names) r rs, sum_by-cons (λ (r : Returned). length r.names) one (map (λ (r : Returned). record { by = r.by; names = left r.names }) rs))
 
+-- names, operations and rows of what is left of responses that have these names
+pub record AreLeft (whole : Responses) (wanted among : List NameBytes) (shown : List Operation) (fewer : List (List ℕ)) : Type 0 where
+  pub narrowed_is : responses_kept among shown fewer ≡ narrowed whole wanted
+  pub proper : AreProper (responses_kept among shown fewer)
+  pub few : AreFew (responses_kept among shown fewer)
+  pub lists_are : lists_of (responses_kept among shown fewer) ≡ fewer
+  pub count : length shown ≡ length fewer
+
 module _ (names among : List NameBytes) (kept : List ℕ) (shown : List Operation) (rows fewer : List (List ℕ))
     (proper : AreProper (responses_kept names shown rows)) (few : AreFew (responses_kept names shown rows))
     (lists_are : lists_of (responses_kept names shown rows) ≡ rows) (count : length shown ≡ length rows)
@@ -140,25 +148,18 @@ module _ (names among : List NameBytes) (kept : List ℕ) (shown : List Operatio
       let same = left-returned names among once shown rows known-rows in
       ap (responses_kept among shown) fewer_is ∙ (λ i. record { elements = among; returned = same i })
 
-  pub narrowed-is : part ≡ narrowed whole (names_at names kept)
-  narrowed-is = part-is ∙ ap (narrowed whole) among_is
-
-  pub part-proper : AreProper part
-  part-proper =
-      subst AreProper (sym part-is)
-      (narrowed-proper whole among proper once (subst (λ (l : List NameBytes). length l ≤ length names) (sym among_is) (count-kept names proper.distinct kept rising known)))
-
-  pub part-few : AreFew part
-  part-few = subst AreFew (sym part-is) (record {
-    lists = omega (arith, few.lists, length-map {B = Returned} whole.returned (λ (r : Returned). record { by = r.by; names = filter (λ x. list_any (bytes_eq x) among) r.names }));
-    places = omega (arith, few.places, places-left names among once whole.returned);
-  })
-
-  pub part-lists : lists_of part ≡ fewer
-  part-lists = ap (λ l. lists_of (responses_kept among shown l)) fewer_is ∙ left-lists names among once shown rows known-rows count ∙ sym fewer_is
-
-  pub part-count : length shown ≡ length fewer
-  part-count = omega (arith, count, ap (λ (l : List (List ℕ)). length l) fewer_is, length-map {B = List ℕ} rows (numbers_left (map (number_in among) names)))
+  pub are-left : AreLeft whole (names_at names kept) among shown fewer
+  are-left = record {
+    narrowed_is = part-is ∙ ap (narrowed whole) among_is;
+    proper = subst AreProper (sym part-is)
+        (narrowed-proper whole among proper once (subst (λ (l : List NameBytes). length l ≤ length names) (sym among_is) (count-kept names proper.distinct kept rising known)));
+    few = subst AreFew (sym part-is) (record {
+      lists = omega (arith, few.lists, length-map {B = Returned} whole.returned (λ (r : Returned). record { by = r.by; names = filter (λ x. list_any (bytes_eq x) among) r.names }));
+      places = omega (arith, few.places, places-left names among once whole.returned);
+    });
+    lists_are = ap (λ l. lists_of (responses_kept among shown l)) fewer_is ∙ left-lists names among once shown rows known-rows count ∙ sym fewer_is;
+    count = omega (arith, count, ap (λ (l : List (List ℕ)). length l) fewer_is, length-map {B = List ℕ} rows (numbers_left (map (number_in among) names)));
+  }
 
   pub whole-known : (l : ℕ) → All (λ x. x < length names) (row rows l)
   whole-known l = subst (λ (rs : List (List ℕ)). All (λ x. x < length names) (row rs l)) lists_are (known-numbers whole proper l)

@@ -5,6 +5,7 @@
 
 mod interleaved;
 mod planned;
+mod recorders;
 mod reports;
 mod stalled;
 mod threads;

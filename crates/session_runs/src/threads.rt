@@ -1,39 +1,23 @@
 //! Each pass replays its stream in a thread of its own.
-ghost use Rattle.std.specs.Prelude.{◌≡◌, All};
-
+use super::recorders::{Task, record_all};
 use anyhow::{Result, anyhow};
 use events::Recording;
 use sessions::{Pass, Session};
 use std::alloc::Global;
 use std::sync::Wait;
-use std::thread;
 use std::thread::Threads;
 
 /// How often a recorder tries to hand in a receipt.
 const TRIES: u32 = 1_000_000;
 
-/// Each pass records its stream.
-fn replay_all<H: Threads + Wait + Sync>(
-    rt: &H,
-    alloc: Global,
-    session: &Session,
-    passes: &mut [Pass],
-    recording: &Recording,
-)
-    requires { All (λ p. p.session ≡ session.now) passes.old }
-    ensures { All (λ p. p.session ≡ session.now) passes.new }
-{
-    thread::for_each_mut(
-        rt,
-        passes,
-        16,
-        &|_: usize, pass: &mut Pass|
-            requires { pass.old.session ≡ session.now }
-            ensures { pass.new.session ≡ session.entry.now }
-        {
-            let _ = session.replay(rt, alloc, pass, recording, TRIES);
-        },
-    );
+/// Each recorder records its replica's stream of this recording.
+#[derive(Drop)]
+struct Replay<'a>(&'a Recording);
+
+impl Task for Replay<'_> {
+    fn act<R: Wait>(&self, rt: &R, alloc: Global, session: &Session, _at: usize, pass: &mut Pass) {
+        let _ = session.replay(rt, alloc, pass, self.0, TRIES);
+    }
 }
 
 /// The recording of a session whose passes have replayed this one. A replay that stopped would leave
@@ -45,7 +29,13 @@ pub fn replayed_by_threads<H: Threads + Wait + Sync>(
 ) -> Result<Recording> {
     let (session, passes) = Session::open(alloc, recording.replicas())?;
     let mut passes = passes;
-    replay_all(rt, alloc, &session, passes.as_mut_slice(), recording);
+    record_all(
+        rt,
+        alloc,
+        &session,
+        passes.as_mut_slice(),
+        &Replay(recording),
+    );
     match session.close(passes) {
         Ok(merged) => Ok(merged),
         Err(_) => Err(anyhow!("not closed")),

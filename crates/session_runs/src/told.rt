@@ -2,6 +2,7 @@
 ghost use Rattle.std.specs.Prelude.{◌≡◌, All, IfOk};
 
 use super::planned::{PLANNED, REPLICAS, is_planned, planned};
+use super::recorders::{Task, record_all};
 use anyhow::{Result, anyhow};
 use events::{Body, Memory, NewFault, Recording, Refusal};
 use sessions::{Pass, RefusedBody, Session};
@@ -139,29 +140,24 @@ fn record_plan<R: Wait>(
     }
 }
 
-/// Each pass records its plan, in a thread of its own.
-fn record_plans<H: Threads + Wait + Sync>(
-    rt: &H,
-    alloc: Global,
-    session: &Session,
-    passes: &mut [Pass],
+/// Each recorder records its plan, with a seed of its own, and notes what it was told.
+#[derive(Drop)]
+struct Plan<'a> {
     seed: u64,
-    told: &Told,
-)
-    requires { All (λ p. p.session ≡ session.now) passes.old }
-    ensures { All (λ p. p.session ≡ session.now) passes.new }
-{
-    thread::for_each_mut(
-        rt,
-        passes,
-        16,
-        &|at: usize, pass: &mut Pass|
-            requires { pass.old.session ≡ session.now }
-            ensures { pass.new.session ≡ session.entry.now }
-        {
-            record_plan(rt, alloc, session, pass, next(seed ^ at as u64), told);
-        },
-    );
+    told: &'a Told,
+}
+
+impl Task for Plan<'_> {
+    fn act<R: Wait>(&self, rt: &R, alloc: Global, session: &Session, at: usize, pass: &mut Pass) {
+        record_plan(
+            rt,
+            alloc,
+            session,
+            pass,
+            next(self.seed ^ at as u64),
+            self.told,
+        );
+    }
 }
 
 /// Whether the replica's stream is exactly the planned entries that its recorder was told were recorded.
@@ -214,7 +210,8 @@ fn met_refusal<H: AllocGlobal + Threads + Wait + Sync>(rt: &H, seed: u64) -> Res
     let told = nothing();
     let (session, passes) = opened(alloc)?;
     let mut passes = passes;
-    record_plans(rt, alloc, &session, passes.as_mut_slice(), seed, &told);
+    let plan = Plan { seed, told: &told };
+    record_all(rt, alloc, &session, passes.as_mut_slice(), &plan);
     let Ok(recording) = session.close(passes) else {
         return Err(anyhow!("session {seed} was not closed"));
     };

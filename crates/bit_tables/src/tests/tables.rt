@@ -73,20 +73,26 @@ fn what_stands_after_what(rt: HostRuntime) -> Result<(), Fail> {
     Ok(())
 }
 
-/// The depths of the numbers below 70: each 2 but for that of `source`, 0, and that of `next`, 1.
-fn depths_of(alloc: Global, source: u32, next: u32) -> Result<Vec<u32>, Fail>
+/// The depth of a number, which is the count at most: that of the first pair of the number, or else the count.
+fn depth_of(known: &[(u32, u32)], count: u32, x: u32) -> u32
+    ensures { result ≤ count }
+{
+    for (number, depth) in known {
+        if *number == x {
+            return (*depth).min(count);
+        }
+    }
+    count
+}
+
+/// The depths of the numbers below 70, where those of some numbers are known: for each other the count.
+fn depths_of(alloc: Global, count: u32, known: &[(u32, u32)]) -> Result<Vec<u32>, Fail>
     ensures len { IfOk result (λ depths. length depths.items ≡ 70) }
-    ensures most { IfOk result (λ depths. All (λ d. d ≤ 2) depths.items) }
+    ensures most { IfOk result (λ depths. All (λ d. d ≤ count) depths.items) }
 {
     let mut depths = Vec::new(alloc);
     for x in 0..70u32 {
-        let depth = if x == source {
-            0
-        } else if x == next {
-            1
-        } else {
-            2
-        };
+        let depth = depth_of(known, count, x);
         if depths.push(depth).is_err() {
             depths.push(depth)?;
         }
@@ -113,7 +119,7 @@ fn the_rule_from_a_number_on(rt: HostRuntime) -> Result<(), Fail> {
     ];
     for (source, next, count, first, expected) in rows {
         assert!(rt; count >= 2 && first <= 70);
-        let depths = depths_of(rt.alloc(), source, next)?;
+        let depths = depths_of(rt.alloc(), 2, [(source, 0), (next, 1)].as_slice())?;
         let deep = match are_deep(rt.alloc(), &table, &depths, count, first, source) {
             Ok(deep) => deep,
             Err(_) => are_deep(rt.alloc(), &table, &depths, count, first, source)?,
@@ -121,29 +127,6 @@ fn the_rule_from_a_number_on(rt: HostRuntime) -> Result<(), Fail> {
         assert_eq!(rt; deep, expected, "at {source}, {next}, {count}, {first}");
     }
     Ok(())
-}
-
-/// The depths of the numbers below 70: those of 5, 64 and 69, and for each other the count.
-fn depths_with(alloc: Global, count: u32, five: u32, next: u32, last: u32) -> Result<Vec<u32>, Fail>
-    requires five { five ≤ count }
-    requires next { next ≤ count }
-    requires last { last ≤ count }
-    ensures len { IfOk result (λ depths. length depths.items ≡ 70) }
-    ensures most { IfOk result (λ depths. All (λ d. d ≤ count) depths.items) }
-{
-    let mut depths = Vec::new(alloc);
-    for x in 0..70u32 {
-        let depth = match x {
-            5 => five,
-            64 => next,
-            69 => last,
-            _ => count,
-        };
-        if depths.push(depth).is_err() {
-            depths.push(depth)?;
-        }
-    }
-    Ok(depths)
 }
 
 #[test]
@@ -180,7 +163,11 @@ fn depths_that_lie_far_apart(rt: HostRuntime) -> Result<(), Fail> {
     ];
     for (count, source, five, next, last, expected) in rows {
         assert!(rt; five <= count && next <= count && last <= count);
-        let depths = depths_with(rt.alloc(), count, five, next, last)?;
+        let depths = depths_of(
+            rt.alloc(),
+            count,
+            [(5, five), (64, next), (69, last)].as_slice(),
+        )?;
         let deep = match are_deep(rt.alloc(), &table, &depths, count, 4, source) {
             Ok(deep) => deep,
             Err(_) => are_deep(rt.alloc(), &table, &depths, count, 4, source)?,

@@ -1,73 +1,30 @@
 //! Engines over readers and writers that fail.
 
 use super::pages::{Page, Script};
-use crate::run::run;
+use super::trials::{Trial, tried};
 use crate::status::{RunFault, Status};
 use byte_streams::{ReadFault, Sink, Source, WriteFault};
-use command_line::Form;
 use std::alloc::Global;
-use std::thread::Threads;
 
 const DELETED: &str = "trace 1\nreplicas 1\n0 ins a 0 : a\n0 del a :\n0 read :\n";
 
 const REPORT: &[u8] =
     b"replicas 1 operations 3 inserts 1\naccepted\nstrong yes\nweak yes\norder : a\n";
 
-/// A run on the text with a reader of 7 bytes a read and a writer of one byte a write.
-#[derive(Drop)]
-struct Trial<'a> {
-    script: Script<'a>,
-    page: Page,
-    answer: Result<Status, RunFault>,
-}
-
-/// A run of which these reads and writes fail; where the first finds no memory, the second.
-fn tried<'a, H: Threads + Sync>(
-    rt: &H,
-    alloc: Global,
-    text: &'a str,
-    read_fails: u32,
-    write_fails: u32,
-) -> Trial<'a> {
-    let once = || {
-        let mut script = Script::new(text, 7, read_fails);
-        let mut page = Page::new(1, write_fails);
-        let mut source = Source::new(&mut script);
-        let answer = run(
-            rt,
-            alloc,
-            &mut source,
-            &mut Sink::new(&mut page),
-            4,
-            Form::Text,
-        );
-        Trial {
-            script,
-            page,
-            answer,
-        }
-    };
-    let first = once();
-    if first.answer == Err(RunFault::Memory) {
-        return once();
-    }
-    first
-}
-
 /// Whether the run failed to read, at its last of so many reads, and wrote nothing.
-fn fails_to_read(trial: &Trial<'_>, reads: u32) -> bool {
-    trial.answer == Err(RunFault::Read) && trial.script.reads == reads && trial.page.writes == 0
+fn fails_to_read(trial: &Trial<'_, '_>, reads: u32) -> bool {
+    trial.answer == Err(RunFault::Read) && trial.trace.reads == reads && trial.page.writes == 0
 }
 
 /// Whether the run failed to write, at its last of so many writes, after the beginning of the report.
-fn fails_to_write(trial: &Trial<'_>, writes: u32, front: &[u8]) -> bool {
+fn fails_to_write(trial: &Trial<'_, '_>, writes: u32, front: &[u8]) -> bool {
     trial.answer == Err(RunFault::Write)
         && trial.page.writes == writes
         && trial.page.text() == front
 }
 
 /// Whether the run wrote the whole report.
-fn is_whole(trial: &Trial<'_>) -> bool {
+fn is_whole(trial: &Trial<'_, '_>) -> bool {
     trial.answer == Ok(Status::Good) && trial.page.text() == REPORT
 }
 
@@ -75,22 +32,22 @@ fn is_whole(trial: &Trial<'_>) -> bool {
 fn reader_that_fails(rt: HostRuntime) {
     // 52 bytes are 8 reads, and one more shows the end.
     for fails_at in 1..=9 {
-        let trial = tried(&rt, rt.alloc(), DELETED, fails_at, 0);
+        let trial = tried(&rt, rt.alloc(), DELETED, None, fails_at, 0);
         assert!(rt; fails_to_read(&trial, fails_at), "at {fails_at}");
     }
-    let trial = tried(&rt, rt.alloc(), DELETED, 10, 0);
+    let trial = tried(&rt, rt.alloc(), DELETED, None, 10, 0);
     assert!(rt; is_whole(&trial));
-    assert!(rt; trial.script.reads == 9);
+    assert!(rt; trial.trace.reads == 9);
 }
 
 #[test]
 fn writer_that_fails(rt: HostRuntime) {
     for fails_at in 1..=73u32 {
-        let trial = tried(&rt, rt.alloc(), DELETED, 0, fails_at);
+        let trial = tried(&rt, rt.alloc(), DELETED, None, 0, fails_at);
         let front = &REPORT[..fails_at as usize - 1];
         assert!(rt; fails_to_write(&trial, fails_at, front), "at {fails_at}");
     }
-    let trial = tried(&rt, rt.alloc(), DELETED, 0, 74);
+    let trial = tried(&rt, rt.alloc(), DELETED, None, 0, 74);
     assert!(rt; is_whole(&trial));
     assert!(rt; trial.page.writes == 73);
 }

@@ -1,3 +1,6 @@
+use Rattle.std.proofs.Common.{subst}
+use Rattle.specification.specs.Responses.{Responses}
+use Rattle.certificate.specs.ByRows.{AppendsRows}
 use Rattle.certificate.specs.VerdictOf.{verdict_of}
 use Rattle.certificate.proofs.ByRows.{is_text_with, is_text_without}
 use Rattle.certificate.proofs.writing.write_certificate.Goals as goal
@@ -8,5 +11,8 @@ returns-in_default c =
 
 pub returns : goal.returns
 returns c =
+    let maker = c.in_ok-maker.maker in
+    let added = subst (λ (v : Responses). AppendsRows v c.in-Some.k v.elements c.in_ok-text.text.items c.push_rows.new.text.items) c.in_ok-maker.ensures.0
+    (subst (λ n. AppendsRows maker.graph.now n maker.graph.now.elements c.in_ok-text.text.items c.push_rows.new.text.items) c.in_ok-maker.ensures.1 c.in_ok-push_rows.ensures) in
     is_text_with c.args.recording.now (verdict_of c.args.verdict.now) c.in_ok-graph.graph c.in-Some.k c.in_ok-text.text.items c.push_rows.new.text.items
-    c.in-Some.ensures c.in_ok-graph.ensures c.in_ok-text.ensures c.in_ok-push_rows.ensures
+    c.in-Some.ensures c.in_ok-graph.ensures c.in_ok-text.ensures added

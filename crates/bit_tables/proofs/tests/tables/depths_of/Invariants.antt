@@ -5,5 +5,5 @@ use Rattle.bit_tables.proofs.tests.tables.depths_of.Given as goal
 abbrev pub invariant-loop-x : goal.invariant-loop-x
 invariant-loop-x l = record {
   len : length l.depths.items ≡ l.x;
-  most : All (λ d. d ≤ 2) l.depths.items;
+  most : All (λ d. d ≤ l.count) l.depths.items;
 }

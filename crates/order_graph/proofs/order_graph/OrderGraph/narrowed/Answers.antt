@@ -7,12 +7,13 @@ use Rattle.events.specs.Names.{NameBytes}
 use Rattle.events.specs.Operation.{Operation}
 use Rattle.specification.specs.Elements.{number_in}
 use Rattle.specification.specs.LayerRule.{narrowed}
-use Rattle.specification.specs.Responses.{Responses, AreProper}
+use Rattle.specification.specs.Responses.{Responses}
 use Rattle.element_numbers.specs.Cuts.{rows_of}
-use Rattle.order_graph.specs.Kept.{names_at, responses_kept}
-use Rattle.order_graph.specs.Lists.{lists_of, row, AreFew}
+use Rattle.element_numbers.specs.declared.rows.Rows.{Rows}
+use Rattle.order_graph.specs.Kept.{names_at, responses_kept, AreListed}
+use Rattle.order_graph.specs.Lists.{row}
 use Rattle.order_graph.specs.Renumbered.{numbers_left}
-use Rattle.order_graph.proofs.Renumbered.{distinct-kept, count-kept, whole-known, narrowed-is, part-proper, part-few, part-lists, part-count}
+use Rattle.order_graph.proofs.Renumbered.{distinct-kept, count-kept, AreLeft, whole-known, are-left}
 use Rattle.order_graph.proofs.order_graph.OrderGraph.narrowed.Goals as goal
 
 -- the clauses speak of what is lent
@@ -25,6 +26,17 @@ lent-numbers names lent among some anew numbers e f n is = n ∙ is ∙ ap (λ l
 
 known-in : (v w : Responses) (kept : List ℕ) → v ≡ w → All (λ x. x < length w.elements) kept → All (λ x. x < length v.elements) kept
 known-in v w kept e known = subst (λ (u : Responses). All (λ x. x < length u.elements) kept) (sym e) known
+
+left-lent : {number : NameBytes → Option ℕ} (names lent lent_again among some : List NameBytes) (kept : List ℕ) (shown lent_shown copied : List Operation) (places : Rows ℕ) (fewer : List (List ℕ)) (anew numbers : List (Option ℕ)) (w : Responses)
+    → AreListed names number shown places → AllPairs (λ x y. x < y) kept → responses_kept names shown (rows_of places) ≡ w → All (λ x. x < length w.elements) kept
+    → lent ≡ names → among ≡ names_at lent kept → lent_again ≡ names → some ≡ among → numbers ≡ anew → anew ≡ map (number_in some) lent_again
+    → fewer ≡ map (numbers_left numbers) (rows_of places) → lent_shown ≡ shown → copied ≡ lent_shown → AreLeft w (names_at w.elements kept) among copied fewer
+left-lent names lent lent_again among some kept shown lent_shown copied places fewer anew numbers w listed rising view_is known e among_is e_again f n anew_is fewer_is s copied_is =
+    let whole : Responses = responses_kept names shown (rows_of places) in
+    let rows_left = fewer_is ∙ ap (λ l. map (numbers_left l) (rows_of places)) (lent-numbers names lent_again among some anew numbers e_again f n anew_is) in
+    subst (λ (u : Responses). AreLeft u (names_at u.elements kept) among copied fewer) view_is
+    (subst (λ (l : List Operation). AreLeft whole (names_at names kept) among l fewer) (sym (copied_is ∙ s))
+    (are-left names among kept shown (rows_of places) fewer listed.proper listed.few listed.lists_are listed.count rising (known-in whole w kept view_is known) (lent-names names lent among kept e among_is) rows_left))
 
 pub numbers_of-requires-clause-distinct : goal.numbers_of-requires-clause-distinct
 numbers_of-requires-clause-distinct c =
@@ -55,31 +67,20 @@ places_left-requires-clause-known c =
 pub with_spots-requires : goal.with_spots-requires
 with_spots-requires c =
     let g = c.self.inside in
-    let known = known-in (responses_kept g.names.items g.shown.items (rows_of g.places)) c.args.self.now c.args.kept.now c.self.view_is c.requires.known in
-    let among_is = lent-names g.names.items c.deref.result.now c.in_ok-names.names.items c.args.kept.now c.deref.ensures.value c.in_ok-names.ensures in
-    let anew_is = lent-numbers g.names.items c.deref-3.result.now c.in_ok-names.names.items c.deref-4.result.now c.in_ok-anew.anew.items c.deref-5.result.now c.deref-3.ensures.value c.deref-4.ensures.value c.deref-5.ensures.value c.in_ok-anew.ensures in
-    let fewer_is = c.in_ok-places.ensures.rows ∙ ap (λ l. map (numbers_left l) (rows_of g.places)) anew_is in
-    let shown_is : c.in_ok-shown.shown.items ≡ g.shown.items = c.in_ok-shown.ensures.items ∙ c.as_slice.ensures.value in
-    let shown : List Operation = c.in_ok-shown.shown.items in
+    let left = left-lent g.names.items c.deref.result.now c.deref-3.result.now c.in_ok-names.names.items c.deref-4.result.now c.args.kept.now g.shown.items c.as_slice.result.now c.in_ok-shown.shown.items g.places (rows_of c.in_ok-places.places) c.in_ok-anew.anew.items c.deref-5.result.now c.args.self.now
+    c.self.invariant.listed c.requires.rising c.self.view_is c.requires.known c.deref.ensures.value c.in_ok-names.ensures c.deref-3.ensures.value c.deref-4.ensures.value c.deref-5.ensures.value c.in_ok-anew.ensures c.in_ok-places.ensures.rows c.as_slice.ensures.value c.in_ok-shown.ensures.items in
     record {
-      proper = subst (λ (s : List Operation). AreProper (responses_kept c.in_ok-names.names.items s (rows_of c.in_ok-places.places))) (sym shown_is) (part-proper g.names.items c.in_ok-names.names.items c.args.kept.now g.shown.items (rows_of g.places) (rows_of c.in_ok-places.places) c.self.invariant.listed.proper c.self.invariant.listed.few c.self.invariant.listed.lists_are c.self.invariant.listed.count c.requires.rising known among_is fewer_is);
-      few = subst (λ (s : List Operation). AreFew (responses_kept c.in_ok-names.names.items s (rows_of c.in_ok-places.places))) (sym shown_is) (part-few g.names.items c.in_ok-names.names.items c.args.kept.now g.shown.items (rows_of g.places) (rows_of c.in_ok-places.places) c.self.invariant.listed.proper c.self.invariant.listed.few c.self.invariant.listed.lists_are c.self.invariant.listed.count c.requires.rising known among_is fewer_is);
+      proper = left.proper;
+      few = left.few;
       numbered = λ a. c.in_ok-numbers.ensures a ∙ ap (λ (l : List NameBytes). number_in l a) c.deref-2.ensures.value;
       places_cut = c.in_ok-places.ensures.cut;
-      lists_are = subst (λ (s : List Operation). lists_of (responses_kept c.in_ok-names.names.items s (rows_of c.in_ok-places.places)) ≡ (rows_of c.in_ok-places.places)) (sym shown_is) (part-lists g.names.items c.in_ok-names.names.items c.args.kept.now g.shown.items (rows_of g.places) (rows_of c.in_ok-places.places) c.self.invariant.listed.proper c.self.invariant.listed.few c.self.invariant.listed.lists_are c.self.invariant.listed.count c.requires.rising known among_is fewer_is);
-      count = subst (λ (s : List Operation). length s ≡ length (rows_of c.in_ok-places.places)) (sym shown_is) (part-count g.names.items c.in_ok-names.names.items c.args.kept.now g.shown.items (rows_of g.places) (rows_of c.in_ok-places.places) c.self.invariant.listed.proper c.self.invariant.listed.few c.self.invariant.listed.lists_are c.self.invariant.listed.count c.requires.rising known among_is fewer_is);
+      lists_are = left.lists_are;
+      count = left.count;
     }
 
 pub returns : goal.returns
 returns c =
     let g = c.self.inside in
-    let known = known-in (responses_kept g.names.items g.shown.items (rows_of g.places)) c.args.self.now c.args.kept.now c.self.view_is c.requires.known in
-    let among_is = lent-names g.names.items c.deref.result.now c.in_ok-names.names.items c.args.kept.now c.deref.ensures.value c.in_ok-names.ensures in
-    let anew_is = lent-numbers g.names.items c.deref-3.result.now c.in_ok-names.names.items c.deref-4.result.now c.in_ok-anew.anew.items c.deref-5.result.now c.deref-3.ensures.value c.deref-4.ensures.value c.deref-5.ensures.value c.in_ok-anew.ensures in
-    let fewer_is = c.in_ok-places.ensures.rows ∙ ap (λ l. map (numbers_left l) (rows_of g.places)) anew_is in
-    let shown_is : c.in_ok-shown.shown.items ≡ g.shown.items = c.in_ok-shown.ensures.items ∙ c.as_slice.ensures.value in
-    IfOk-weaker c.with_spots.result _ _ (λ w is. is
-    ∙ ap (λ (s : List Operation). responses_kept c.in_ok-names.names.items s (rows_of c.in_ok-places.places)) shown_is
-    ∙ narrowed-is g.names.items c.in_ok-names.names.items c.args.kept.now g.shown.items (rows_of g.places) (rows_of c.in_ok-places.places) c.self.invariant.listed.proper c.self.invariant.listed.few c.self.invariant.listed.lists_are c.self.invariant.listed.count c.requires.rising known among_is fewer_is
-    ∙ ap (λ (w : Responses). narrowed w (names_at w.elements c.args.kept.now)) c.self.view_is)
-    c.with_spots.ensures
+    let left = left-lent g.names.items c.deref.result.now c.deref-3.result.now c.in_ok-names.names.items c.deref-4.result.now c.args.kept.now g.shown.items c.as_slice.result.now c.in_ok-shown.shown.items g.places (rows_of c.in_ok-places.places) c.in_ok-anew.anew.items c.deref-5.result.now c.args.self.now
+    c.self.invariant.listed c.requires.rising c.self.view_is c.requires.known c.deref.ensures.value c.in_ok-names.ensures c.deref-3.ensures.value c.deref-4.ensures.value c.deref-5.ensures.value c.in_ok-anew.ensures c.in_ok-places.ensures.rows c.as_slice.ensures.value c.in_ok-shown.ensures.items in
+    IfOk-weaker c.with_spots.result _ _ (λ w is. is ∙ left.narrowed_is) c.with_spots.ensures

@@ -1,9 +1,0 @@
-use Rattle.std.proofs.Common.{◌≡◌, ◌≤◌, length}
-use Rattle.std.specs.Prelude.{All}
-use Rattle.bit_tables.proofs.tests.tables.depths_with.Given as goal
-
-abbrev pub invariant-loop-x : goal.invariant-loop-x
-invariant-loop-x l = record {
-  len : length l.depths.items ≡ l.x;
-  most : All (λ d. d ≤ l.count) l.depths.items;
-}

@@ -1,6 +1,0 @@
-use Rattle.std.proofs.Common.{◌*◌, take}
-use Rattle.certificate.specs.ByRows.{AppendsRows}
-use Rattle.certificate.proofs.pieces.push_in_pieces.Given as goal
-
-abbrev pub invariant-loop-batch : goal.invariant-loop-batch
-invariant-loop-batch g l = AppendsRows l.graph l.k (take (l.batch * 256) l.graph.elements) l.fn.text.items l.text.items

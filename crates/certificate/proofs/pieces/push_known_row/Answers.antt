@@ -1,6 +1,0 @@
-use Rattle.certificate.proofs.RowLines.{row_at}
-use Rattle.certificate.proofs.pieces.push_known_row.Goals as goal
-
-pub returns : goal.returns
-returns c =
-    row_at c.args.graph.now c.args.k c.args.source c.args.text.now.items c.push_row.new.text.items c.in_ok-row.row c.requires.known c.in_ok-row.ensures c.in_ok-push_row.ensures

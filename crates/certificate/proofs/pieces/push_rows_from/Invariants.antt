@@ -1,6 +1,0 @@
-use Rattle.std.proofs.Common.{take, drop}
-use Rattle.certificate.specs.ByRows.{AppendsRows}
-use Rattle.certificate.proofs.pieces.push_rows_from.Given as goal
-
-abbrev pub invariant-loop-i : goal.invariant-loop-i
-invariant-loop-i l = AppendsRows l.graph l.k (take l.i (drop l.first l.graph.elements)) l.fn.text.items l.text.items
