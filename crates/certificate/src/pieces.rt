@@ -175,7 +175,8 @@ fn push_pieces(
 }
 
 /// Adds the lines of the rows of layers, one for each element. The number of workers says whether threads are
-/// used: with 1 the rows are made one after the other in the caller's thread, with any other number in pieces of 64, four of them side by side.
+/// used: with 1 the rows are made one after the other in the caller's thread, with any other number in pieces
+/// of 64, four of them side by side.
 pub fn push_rows_by<H: Threads + Sync>(
     rt: &H,
     alloc: Global,
