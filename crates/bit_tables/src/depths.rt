@@ -79,10 +79,10 @@ fn are_deep_in_layers(
     Ok(deep)
 }
 
-/// Whether the numbers from `first` on, below `n`, at these depths of at most the count, meet the layer rule
-/// for a source: no number is more than one deeper than one that stands before it in some list of the table,
-/// and what stands before the source is as deep as the count. Of the numbers below `first`, and of their
-/// depths, nothing is asked: the lists are taken with these numbers left out.
+/// Whether the numbers from `first` on, below `n`, the number of depths, at these depths of at most the count,
+/// meet the layer rule for a source: no number is more than one deeper than one that stands before it in some
+/// list of the table, and what stands before the source is as deep as the count. Of the numbers below `first`,
+/// and of their depths, nothing is asked: the lists are taken with these numbers left out.
 ///
 /// It takes `n` steps, and `n / 64` for each number of a lesser depth than the count and each layer, and
 /// memory for these numbers, the layers and two sets. There are as many layers as the count where that is at

@@ -20,7 +20,7 @@ const ROWS: usize = 64;
 /// How many pieces are made side by side.
 const PIECES: usize = 4;
 
-/// Makes the rows of layers of a graph for a k, of which there are some.
+/// Makes the rows of layers of a graph, for a k of at least 1. That its table is the graph's each method asks.
 #[derive(Drop)]
 pub struct RowMaker<'a> {
     alloc: Global,
@@ -129,7 +129,8 @@ impl RowMaker<'_> {
         push_pieces(self.graph, self.k, first, pieces.as_slice(), text)
     }
 
-    /// Adds the lines of the rows of all elements, in pieces that are made side by side.
+    /// Adds the lines of the rows of all elements, in pieces that are made side by side. The last batch of them
+    /// may be a part, or empty: past the end no row is added.
     fn push_in_pieces<H: Threads + Sync>(&self, rt: &H, text: &mut Vec<u8>) -> Result<(), Memory>
         requires table { IsAfterTable self.now.graph.now self.now.table }
         ensures { OnOk result (AppendsRows self.now.graph.now self.now.k self.now.graph.now.elements
@@ -156,7 +157,7 @@ fn push_piece(piece: &Result<Vec<u8>, Memory>, text: &mut Vec<u8>) -> Result<(),
     }
 }
 
-/// Adds pieces, one after the other.
+/// Adds pieces, one after the other. The graph, k and the first number serve the contract alone.
 fn push_pieces(
     graph: &OrderGraph,
     k: u32,
