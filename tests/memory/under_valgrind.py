@@ -19,7 +19,7 @@ from shared.program import Tally, need, program_of, run  # noqa: E402
 
 VECTORS = ROOT / "tests" / "vectors"
 SEED = 1945
-VALGRIND = ["-q", "--leak-check=full", "--errors-for-leak-kinds=definite,indirect", "--error-exitcode=99"]
+VALGRIND = ["-q", "--fair-sched=yes", "--leak-check=full", "--errors-for-leak-kinds=definite,indirect", "--error-exitcode=99"]
 
 
 def changed_texts(many: int) -> list[bytes]:
