@@ -4,19 +4,19 @@ ghost use Rattle.std.specs.Prelude.{◌↔◌, IsTrue};
 ghost use Rattle.events.specs.Operations.{response};
 ghost use Rattle.specification.specs.Members.{Before};
 
-use events::{Name, OpName, Recording, Response};
+use events::{OpName, Recording, Response};
 
-/// Whether a response has one name at a lesser place than the other.
-fn stands_before(response: &Response, from: &Name, to: &Name) -> bool
+/// Whether a response has one name, given by its bytes, at a lesser place than the other.
+fn stands_before(response: &Response, from: &[u8], to: &[u8]) -> bool
     ensures { IsTrue result ↔ Before from.now to.now response.now }
 {
     let mut has_from = false;
     for i in 0..response.len() {
-        if let Some(name) = response.get(i) {
-            if has_from && name == *to {
+        if let Some(name) = response.bytes_at(i) {
+            if has_from && name == to {
                 return true;
             }
-            if name == *from {
+            if name == from {
                 has_from = true;
             }
         }
@@ -24,8 +24,8 @@ fn stands_before(response: &Response, from: &Name, to: &Name) -> bool
     false
 }
 
-/// Whether an operation shows one name before the other.
-pub fn shows(recording: &Recording, by: OpName, from: &Name, to: &Name) -> bool
+/// Whether an operation shows one name before the other; both are given by their bytes.
+pub fn shows(recording: &Recording, by: OpName, from: &[u8], to: &[u8]) -> bool
     ensures { IsTrue result ↔ Before from.now to.now (response recording.now by) }
 {
     match recording.response(by) {

@@ -8,8 +8,9 @@ ghost use Rattle.format_words.specs.Reading.{Fails, Gives, GivesOne, Grows, HasS
 ghost use Rattle.certificate_text.specs.Outlines.{Tells};
 ghost use Rattle.certificate_text.specs.Reading.{order_at, step_at, layers_at, onto_layers, has_form, row_at};
 ghost use Rattle.certificate_text.specs.Reading.{form_of, is_form, HasForm, GoesOn};
+ghost use Rattle.certificate_text.specs.StepSaid.{step_said};
 
-use events::Name;
+use events::{Name, OpName};
 use format_words::{
     Shape, Stop, check_names, end, first_word, name_of, names, next_word, operation_of, skip_word,
 };
@@ -75,6 +76,36 @@ pub fn step_of(line: &[u8]) -> Result<Step, Shape>
     let shown = operation_of(word)?;
     end(rest)?;
     Ok(Step { from, to, shown })
+}
+
+/// A step whose two names are parts of its line.
+#[derive(Clone, Copy)]
+pub struct StepWords<'a> {
+    /// The bytes of the name that stands first.
+    pub from: &'a [u8],
+    /// The bytes of the name that stands after it.
+    pub to: &'a [u8],
+    /// The operation that shows this.
+    pub shown: OpName,
+}
+
+/// `step`, two names and an operation, as parts of the line: no name is copied.
+#[tactic(auto, unfolding(crate::specs::Reading::step_at, format_words::specs::Reading::after_word, format_words::specs::Reading::name_at, format_words::specs::Reading::name_of, format_words::specs::Reading::operation_at))]
+pub fn step_words(line: &[u8]) -> Result<StepWords<'_>, Shape>
+    ensures { Says step_said result (step_at (words_of line.now)) }
+{
+    let (word, rest) = first_word(line);
+    if word != b"step".as_slice() {
+        return Err(Shape);
+    }
+    let (from, rest) = next_word(rest)?;
+    let _name = name_of(from)?;
+    let (to, rest) = next_word(rest)?;
+    let _name = name_of(to)?;
+    let (word, rest) = next_word(rest)?;
+    let shown = operation_of(word)?;
+    end(rest)?;
+    Ok(StepWords { from, to, shown })
 }
 
 /// Goes on by one word: `/` ends a layer, a name is added to it. What it gives is the layer from then on.

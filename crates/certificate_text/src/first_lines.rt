@@ -13,7 +13,7 @@ ghost use Rattle.certificate_text.specs.Outlines.{HasNoLine, Misses};
 ghost use Rattle.certificate_text.specs.Progress.{IsKind, kind_line};
 ghost use Rattle.certificate_text.specs.Reading.{kind_at, order_at, step_at, row_at};
 
-use super::entries::{is_row, order_names, step_of};
+use super::entries::{is_row, order_names, step_words};
 use super::fault::CertCause;
 use super::kind::{Kind, kind_of};
 use super::version::Version;
@@ -79,7 +79,7 @@ pub fn step_first(text: &[u8]) -> Result<&[u8], CertCause>
     ensures cause { IfErr result (Misses CertCause.Shape (λ line. step_at (words_of line) ≡ None) text.now) }
 {
     let (line, rest) = line_first(text, CertCause::Shape)?;
-    match step_of(line) {
+    match step_words(line) {
         Ok(_) => Ok(rest),
         Err(_) => Err(CertCause::Shape),
     }

@@ -1,5 +1,5 @@
 -- What words are numbers.
-use Rattle.std.proofs.Common.{◌≡◌, ◌≢◌, ℕ, ◌<◌, ◌≤◌, ◌^◌, Bool, true, false, ◌&&◌, nat_lt, [], ◌∷◌, length, get_or, refl, sym, ap, ◌∙◌, arith, Option, Some, None, Result, Ok, Err, MatchResult, subst, decimal}
+use Rattle.std.proofs.Common.{◌≡◌, ◌≢◌, ℕ, ◌<◌, ◌≤◌, ◌^◌, Bool, true, false, ◌+◌, ◌-◌, ◌&&◌, nat_lt, [], ◌∷◌, length, get_or, refl, sym, ap, ◌∙◌, arith, Option, Some, None, Result, Ok, Err, MatchResult, subst, decimal}
 use Rattle.std.specs.Str.{bytes_eq, IsUtf8}
 use Rattle.std.proofs.lemmas.Str.{IsUtf8-from_ascii}
 use Rattle.std.proofs.lemmas.Bool.{cases_eq}
@@ -67,6 +67,14 @@ parsed-number {E} w (Err e) h some low high =
 
 pub zero-number : number_of (48 ∷ []) ≡ Some 0
 zero-number = ap number_of (sym (decimal_digit 0 (omega arith))) ∙ number_of-decimal 0 (omega arith)
+
+-- one digit is the number that it says
+pub digit-number : (w : Word) → length w ≡ 1 → 48 ≤ get_or w 0 0 → get_or w 0 0 ≤ 57 → number_of w ≡ Some (get_or w 0 0 - 48)
+digit-number [] one low high = absurd (omega arith)
+digit-number (d ∷ []) one low high =
+    let is : 48 + (d - 48) ≡ d = omega (arith, low) in
+    ap number_of (ap (λ b. b ∷ []) (sym is) ∙ sym (decimal_digit (d - 48) (omega (arith, low, high)))) ∙ number_of-decimal (d - 48) (omega (arith, low, high))
+digit-number (d ∷ e ∷ w) one low high = absurd (omega (arith, one))
 
 -- a word that begins otherwise is no number
 pub empty-word : (w : Word) → length w < 1 → number_of w ≡ None

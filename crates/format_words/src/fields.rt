@@ -17,9 +17,12 @@ pub fn number_of(word: &[u8]) -> Option<u32>
     if word == b"0".as_slice() {
         return Some(0);
     }
-    let [b'1'..=b'9', ..] = word else {
+    let [first @ b'1'..=b'9', ..] = word else {
         return None;
     };
+    if word.len() == 1 {
+        return Some(u32::from(*first - b'0'));
+    }
     str::from_utf8(word).ok()?.parse().ok()
 }
 

@@ -1,7 +1,8 @@
 -- One name more.
-use Rattle.std.proofs.Common.{◌≡◌, ◌≢◌, ◌⊎◌, inl, inr, ℕ, ◌<◌, ◌+◌, Bool, true, false, Some, List, length, take, drop, suc, get_or, sym, subst, ap, ◌∙◌, arith, refl, ◌++◌, ◌∷◌, []}
-use Rattle.std.specs.Prelude.{slice_get, bytes_eq, ◌↔◌, IsTrue}
-use Rattle.std.specs.Cmp.Lexicographic.{bytes_decides}
+use Rattle.std.proofs.Common.{◌≡◌, ◌≢◌, ◌⊎◌, inl, inr, ℕ, ◌<◌, ◌+◌, Bool, true, false, None, Some, List, length, take, drop, suc, get_or, sym, subst, ap, ◌∙◌, arith, refl, ◌++◌, ◌∷◌, []}
+use Rattle.std.specs.Prelude.{slice_get, ◌↔◌, IsTrue}
+use Rattle.std.proofs.lemmas.Slice.Eq.{slice_eq-Decides}
+use Rattle.std.proofs.lemmas.Bool.Decides.{Decides-eqb}
 use Rattle.std.proofs.lemmas.Bool.{false≢true}
 use Rattle.std.proofs.lemmas.Option.{slice_get-get_or}
 use Rattle.visibility.proofs.Entries.{split_at, take_next}
@@ -45,15 +46,15 @@ further from to x xs i has new at is apart which =
     subst (λ (front : List NameBytes). IsFront from to front new) (sym (take_next xs i x at)) (more from to x (take i xs) has new is apart which)
 
 -- a name that the test told from another is not that
-other : (x to : NameBytes) → false ≡ bytes_eq x to → x ≢ to
-other x to is e = false≢true (is ∙ (bytes_decides x to).1 e)
+other : (x to : NameBytes) (same : Bool) → (x ≡ to → same ≡ true) → same ≡ false → x ≢ to
+other x to same is differ e = false≢true (sym differ ∙ is e)
 
 pub returns-then-eq : goal.returns-then-eq
 returns-then-eq c =
     let xs : List NameBytes = c.args.response.now in
     let i : ℕ = c.loop-i.i in
-    let at : slice_get xs i ≡ Some c.in-Some.name = sym c.in-Some.ensures in
-    let same : c.in-Some.name ≡ c.args.to.now = (bytes_decides c.in-Some.name c.args.to.now).0 (sym c.if-eq.ensures) in
+    let at : slice_get xs i ≡ Some c.in-Some.name.now = c.in-Some.ensures.value in
+    let same : c.in-Some.name.now ≡ c.args.to.now = (slice_eq-Decides Decides-eqb _ _ _ c.eq.ensures).0 c.if-eq.true in
     let has = c.loop-i.invariant.has.0 c.if-has_from.true in
     let split : xs ≡ take i xs ++ c.args.to.now ∷ drop (suc i) xs = split_at xs i c.args.to.now (at ∙ ap Some same) in
     let there : Before c.args.from.now c.args.to.now xs = subst (Before c.args.from.now c.args.to.now) (sym split) (Before-front c.args.from.now c.args.to.now (take i xs) (drop (suc i) xs) has) in
@@ -66,25 +67,26 @@ loop-i-preserved c =
     let from : NameBytes = c.args.from.now in
     let to : NameBytes = c.args.to.now in
     let has : Bool = c.loop-i.has_from in
-    let new : Bool = c.match-get.has_from in
+    let new : Bool = c.match-bytes_at.has_from in
     let lt : i < length xs = omega (arith, c.len-i-end.ensures.value) in
     let so_far : IsFront from to (take i xs) has = (c.loop-i.invariant.has, c.loop-i.invariant.none) in
-    elim c.match-get.branch [
+    elim c.match-bytes_at.branch [
       | in-Some+else-has_from+then-eq-2 w ↦
-          (let x : NameBytes = w.in-Some.name in
+          (let x : NameBytes = w.in-Some.name.now in
           let apart : ((has ≡ true) × (x ≢ to)) ⊎ (has ≡ false) = elim w.else-has_from.branch [
-            | else-has_from-via-then-has_from+else-eq v ↦ inl (v.if-has_from.true, other x to v.if-eq.ensures)
+            | else-has_from-via-then-has_from+else-eq v ↦ inl (v.if-has_from.true, other x to _ (slice_eq-Decides Decides-eqb _ _ _ v.eq.ensures).1 v.if-eq.false)
             | else-has_from-via-else-has_from v ↦ inr v.if-has_from.false
           ] in
-          let same : x ≡ from = (bytes_decides x from).0 (sym w.if-eq-2.ensures) in
-          let all = further from to x xs i has new (sym w.in-Some.ensures) so_far apart (inl (same, w.has_from-is)) in
+          let same : x ≡ from = (slice_eq-Decides Decides-eqb _ _ _ w.eq-in-Some.ensures).0 w.if-eq-2.true in
+          let all = further from to x xs i has new w.in-Some.ensures.value so_far apart (inl (same, w.has_from-is)) in
           record { has = all.0; none = all.1 })
       | in-Some+else-has_from+else-eq-2 w ↦
-          (let apart : ((has ≡ true) × (w.in-Some.name ≢ to)) ⊎ (has ≡ false) = elim w.else-has_from.branch [
-            | else-has_from-via-then-has_from+else-eq v ↦ inl (v.if-has_from.true, other w.in-Some.name to v.if-eq.ensures)
+          (let x : NameBytes = w.in-Some.name.now in
+          let apart : ((has ≡ true) × (x ≢ to)) ⊎ (has ≡ false) = elim w.else-has_from.branch [
+            | else-has_from-via-then-has_from+else-eq v ↦ inl (v.if-has_from.true, other x to _ (slice_eq-Decides Decides-eqb _ _ _ v.eq.ensures).1 v.if-eq.false)
             | else-has_from-via-else-has_from v ↦ inr v.if-has_from.false
           ] in
-          let all = further from to w.in-Some.name xs i has new (sym w.in-Some.ensures) so_far apart (inr (other w.in-Some.name from w.if-eq-2.ensures, w.has_from-is)) in
+          let all = further from to x xs i has new w.in-Some.ensures.value so_far apart (inr (other x from _ (slice_eq-Decides Decides-eqb _ _ _ w.eq-in-Some.ensures).1 w.if-eq-2.false, w.has_from-is)) in
           record { has = all.0; none = all.1 })
-      | in_default w ↦ absurd (w.in_default.not-Some (get_or xs i []) (c.get.ensures ∙ slice_get-get_or xs i [] lt))
+      | in_default w ↦ (let missing : None ≡ Some (get_or xs i []) = sym w.in_default.ensures.value ∙ slice_get-get_or xs i [] lt in absurd Prim.cc)
     ]

@@ -7,4 +7,4 @@ use Rattle.cert_check.proofs.StepTexts.{StepsSoFar}
 use Rattle.cert_check.proofs.steps.first_wrong_step.Given as goal
 
 abbrev pub invariant-loop-i : goal.invariant-loop-i
-invariant-loop-i l = (steps : List Step) → 2 ≤ l.k → length steps ≡ l.k → All IsStep steps → l.lines ≡ text_of (map step_line steps) → StepsSoFar l.recording steps l.first l.step l.rest l.i
+invariant-loop-i l = (steps : List Step) → 2 ≤ l.k → length steps ≡ l.k → All IsStep steps → l.lines ≡ text_of (map step_line steps) → StepsSoFar l.recording steps l.begin (record { from = l.from; to = l.to; shown = l.shown }) l.rest l.i

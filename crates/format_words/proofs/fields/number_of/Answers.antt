@@ -1,9 +1,9 @@
-use Rattle.std.proofs.Common.{◌≢◌, ℕ, List, [], ◌∷◌, arith, sym, ap, ◌∙◌}
+use Rattle.std.proofs.Common.{◌≢◌, ℕ, List, Some, [], ◌∷◌, arith, sym, ap, ◌∙◌}
 use Rattle.std.proofs.lemmas.Slice.Eq.{slice_eq-Decides}
 use Rattle.std.proofs.lemmas.Bool.Decides.{Decides-eqb}
 use Rattle.std.proofs.lemmas.Bool.{false≢true}
 use Rattle.format_words.specs.Reading.{number_of}
-use Rattle.format_words.proofs.Numbers.{zero-number, empty-word, low-word, high-word, no-text, parsed-number, kept-ok, kept-none}
+use Rattle.format_words.proofs.Numbers.{zero-number, digit-number, empty-word, low-word, high-word, no-text, parsed-number, kept-ok, kept-none}
 use Rattle.format_words.proofs.fields.number_of.Goals as goal
 
 pub returns-then-eq : goal.returns-then-eq
@@ -22,6 +22,9 @@ returns-in_default-2 c =
 
 pub returns-in_default-3 : goal.returns-in_default-3
 returns-in_default-3 c = sym (high-word c.args.word.now (omega arith))
+
+pub returns-then-word-eq1 : goal.returns-then-word-eq1
+returns-then-word-eq1 c = ap Some c.from.ensures ∙ sym (digit-number c.args.word.now (omega arith) (omega arith) (omega arith))
 
 pub returns-in_err-ok : goal.returns-in_err-ok
 returns-in_err-ok c =
