@@ -9,7 +9,7 @@ use super::rows::{after_table, row_of_layers};
 use bit_tables::AfterTable;
 use certificate_text::push_row;
 use events::Memory;
-use order_graph::OrderGraph;
+use order_graph::{OrderGraph, push_piece};
 use std::alloc::Global;
 use std::thread;
 use std::thread::Threads;
@@ -141,19 +141,6 @@ impl RowMaker<'_> {
             self.push_side_by_side(rt, batch * (ROWS * PIECES), text)?;
         }
         Ok(())
-    }
-}
-
-/// Adds a piece, if it was made.
-fn push_piece(piece: &Result<Vec<u8>, Memory>, text: &mut Vec<u8>) -> Result<(), Memory>
-    ensures { OnOk result (IsOkAnd piece.now (λ lines. text.new.items ≡ text.old.items ++ lines.items)) }
-{
-    match piece {
-        Ok(lines) => {
-            text.extend_from_slice(lines.as_slice())?;
-            Ok(())
-        },
-        Err(_) => Err(Memory),
     }
 }
 

@@ -1,11 +1,12 @@
 //! The operations whose responses cover all others.
 
-ghost use Rattle.std.specs.Prelude.{◌≡◌, ◌*◌, ◌++◌, true, AllPairs, IfOk, IsOkAnd, OnOk, Contains, length, take};
+ghost use Rattle.std.specs.Prelude.{◌≡◌, ◌*◌, true, AllPairs, IfOk, Contains, length, take};
 ghost use Rattle.events.specs.Operation.{Operation, ComesBefore};
 ghost use Rattle.events.specs.Operations.{response};
 ghost use Rattle.specification.specs.Orders.{IsSubsequence};
 ghost use Rattle.order_graph.specs.Covers.{AreCovering, ArePieces};
 
+use super::pieces::push_piece;
 use events::{Memory, OpName, Recording, Response};
 use std::alloc::Global;
 use std::thread;
@@ -128,17 +129,4 @@ fn joined(
         push_piece(piece, &mut kept)?;
     }
     Ok(kept)
-}
-
-/// Adds the operations kept of a piece, if they were found.
-fn push_piece(piece: &Result<Vec<OpName>, Memory>, kept: &mut Vec<OpName>) -> Result<(), Memory>
-    ensures { OnOk result (IsOkAnd piece.now (λ more. kept.new.items ≡ kept.old.items ++ more.items)) }
-{
-    match piece {
-        Ok(more) => {
-            kept.extend_from_slice(more.as_slice())?;
-            Ok(())
-        },
-        Err(_) => Err(Memory),
-    }
 }

@@ -9,11 +9,13 @@ mod looked;
 mod narrowing;
 mod order_graph;
 mod pairs;
+mod pieces;
 mod spot;
 mod spots;
 
 pub use looked::Looked;
 pub use order_graph::OrderGraph;
+pub use pieces::push_piece;
 pub use spot::Spot;
 
 #[cfg(test)]
