@@ -3,5 +3,6 @@
 mod generated;
 mod graphs;
 mod narrowed;
+mod pieces;
 mod plain;
 mod worked;
