@@ -8,7 +8,7 @@ use super::elements::Elements;
 use events::Name;
 
 /// How many numbers are kept.
-const SLOTS: usize = 256;
+const SLOTS: usize = 1024;
 
 /// For each slot the number of an element whose name was looked up lately. Names share slots, so a number
 /// is believed only where its element has the name.
@@ -25,9 +25,9 @@ impl Recent {
 
     /// The number of a name. It costs one comparison of names where the name was looked up lately, and
     /// else a look into the map as well.
-    pub fn number(&mut self, elements: &Elements, name: Name) -> Option<usize>
+    pub fn number(&mut self, elements: &Elements, name: &Name) -> Option<usize>
         requires { AreNumbered elements.now }
-        ensures { result ≡ number_of elements.now name }
+        ensures { result ≡ number_of elements.now name.now }
     {
         let slot = slot_of(name);
         let kept = self.slots[slot];
@@ -46,20 +46,28 @@ impl Recent {
             Change::Nothing => {}
             Change::Insert(number) | Change::Delete(number) => {
                 if let Some(element) = elements.list.get(number) {
-                    self.slots[slot_of(element.name)] = number;
+                    self.slots[slot_of(&element.name)] = number;
                 }
             }
         }
     }
 }
 
-/// The slot of a name, by its last three bytes, in which the names of a recording differ most.
-fn slot_of(name: Name) -> usize
-    ensures { result < 256 }
+/// The slot of a name, by its last three bytes, in which the names of a replica differ most, and by its first
+/// byte, in which names of different replicas may differ where they end alike.
+fn slot_of(name: &Name) -> usize
+    ensures { result < 1024 }
 {
     let bytes = name.bytes();
-    let mixed = byte_before(bytes, 1) + 11 * byte_before(bytes, 2) + 121 * byte_before(bytes, 3);
-    mixed % SLOTS
+    let last = byte_before(bytes, 1) + 11 * byte_before(bytes, 2) + 121 * byte_before(bytes, 3);
+    (last + 331 * first_byte(bytes)) % SLOTS
+}
+
+/// The first byte; 0 where there is none.
+fn first_byte(bytes: &[u8]) -> usize
+    ensures { result < 256 }
+{
+    bytes.first().map_or(0, |byte| *byte as usize)
 }
 
 /// The byte so many places before the end; 0 where there is none.

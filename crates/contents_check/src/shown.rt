@@ -119,7 +119,7 @@ impl Standings {
         let Some(name) = w.get(i) else {
             return Step::End;
         };
-        let Some(number) = recent.number(elements, name) else {
+        let Some(number) = recent.number(elements, &name) else {
             return Step::Wrong;
         };
         if !self.list[number].shown {
@@ -144,7 +144,7 @@ impl Standings {
             → ShowJust elements.now self.new.list.items (front ++ drop (j + 1) last.now) }
     {
         if let Some(name) = last.get(j) {
-            if let Some(number) = recent.number(elements, name) {
+            if let Some(number) = recent.number(elements, &name) {
                 self.note(number, false);
             }
         }

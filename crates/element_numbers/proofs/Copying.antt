@@ -1,11 +1,11 @@
 -- Numbers that are copied from those of another response.
-use Rattle.std.proofs.Common.{◌≡◌, ◌∙◌, ℕ, zero, suc, ◌+◌, ◌-◌, ◌<◌, ◌≤◌, Some, None, List, [], ◌∷◌, ◌++◌, take, drop, length, map, get_or, refl, sym, ap, arith, append_assoc, length-drop, length-take}
+use Rattle.std.proofs.Common.{◌≡◌, ◌∙◌, ℕ, zero, suc, ◌+◌, ◌-◌, ◌<◌, ◌≤◌, Some, None, List, [], ◌∷◌, ◌++◌, take, drop, length, get_or, refl, sym, ap, arith, append_assoc, length-drop, length-take}
 use Rattle.std.specs.Prelude.{slice_get, unwrap_or}
 use Rattle.std.proofs.Math.Seq.{take-add}
 use Rattle.std.proofs.lemmas.List.{drop-drop, drop-take, drop-map, get_or-drop, length-map, map-append, take_more, take-map, take-take}
-use Rattle.std.proofs.lemmas.Option.{get_or_from_slice_get, none-some, slice_get-get_or, slice_get_within}
-use native.Mathlib.Decide.{dec_lt}
+use Rattle.std.proofs.lemmas.Option.{get_or_from_slice_get, slice_get_within}
 use Rattle.events.specs.Names.{NameBytes}
+use Rattle.events.proofs.Places.{slice_get-none}
 use Rattle.specification.specs.Elements.{number_in, numbers_in}
 
 left-get : (xs ys : List ℕ) (i : ℕ) → i < length xs → get_or (xs ++ ys) i 0 ≡ get_or xs i 0
@@ -44,14 +44,17 @@ pub run_more : (names w : List NameBytes) (i run : ℕ) → numbers_in names (ta
 run_more names w i run =
     sym (ap (numbers_in names) (take-add i run w) ∙ map-append (λ a. unwrap_or (number_in names a) (length names)) (take i w) (take run (drop i w)))
 
-pub one_more : (names w : List NameBytes) (i : ℕ) (a : NameBytes) → slice_get w i ≡ Some a → numbers_in names (take i w) ++ unwrap_or (number_in names a) (length names) ∷ [] ≡ numbers_in names (take (i + 1) w)
-one_more names w i a at =
-    let number = λ (b : NameBytes). unwrap_or (number_in names b) (length names) in
-    let next : take (i + 1) w ≡ take i w ++ a ∷ [] = take_more w i [] (slice_get_within w i a at) ∙ ap (λ b. take i w ++ b ∷ []) (get_or_from_slice_get w i a [] at) in
-    sym (ap (numbers_in names) next ∙ map-append number (take i w) (a ∷ []))
+pub one_more : (names w : List NameBytes) (i number : ℕ) → slice_get (numbers_in names w) i ≡ Some number → numbers_in names (take i w) ++ number ∷ [] ≡ numbers_in names (take (i + 1) w)
+one_more names w i number at =
+    let all : List ℕ = numbers_in names w in
+    let f = λ (a : NameBytes). unwrap_or (number_in names a) (length names) in
+    ap (λ l. l ++ number ∷ []) (sym (take-map f i w))
+    ∙ ap (λ x. take i all ++ x ∷ []) (sym (get_or_from_slice_get all i number 0 at))
+    ∙ sym (take_more all i 0 (slice_get_within all i number at)) ∙ take-map f (i + 1) w
 
-pub past-end : (w : List NameBytes) (i : ℕ) → None ≡ slice_get w i → length w ≤ i
-past-end w i none = elim (dec_lt i (length w)) [
-  | yes lt ↦ absurd (none-some (get_or w i []) (none ∙ slice_get-get_or w i [] lt))
-  | no n ↦ omega (arith, n)
-]
+-- where no number is left, or one is, the place is past the end, or before it
+pub past-end : (names w : List NameBytes) (i : ℕ) → None ≡ slice_get (numbers_in names w) i → length w ≤ i
+past-end names w i none = omega (arith, slice_get-none (numbers_in names w) i (sym none), length-map w (λ a. unwrap_or (number_in names a) (length names)))
+
+pub before-end : (names w : List NameBytes) (i number : ℕ) → slice_get (numbers_in names w) i ≡ Some number → i < length w
+before-end names w i number at = omega (arith, slice_get_within (numbers_in names w) i number at, length-map w (λ a. unwrap_or (number_in names a) (length names)))

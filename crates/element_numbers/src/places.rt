@@ -1,7 +1,7 @@
 //! Responses as lists of numbers.
 
-ghost use Rattle.std.specs.Prelude.{◌≡◌, ◌<◌, ◌≤◌, ◌^◌, ◌==◌, IfOk, OnOk, ◌∷◌, ◌++◌, []};
-ghost use Rattle.std.specs.Prelude.{drop, length, map, take};
+ghost use Rattle.std.specs.Prelude.{◌≡◌, ◌<◌, ◌≤◌, ◌^◌, ◌==◌, IfOk, OnOk, IfSome, Some, ◌∷◌, ◌++◌, []};
+ghost use Rattle.std.specs.Prelude.{drop, length, map, slice_get, take};
 ghost use Rattle.std.specs.Cmp.Lexicographic.{pointwise};
 ghost use Rattle.indexmap.specs.IndexMap.{get};
 ghost use Rattle.events.specs.Names.{NameBytes};
@@ -56,10 +56,62 @@ fn place_behind(row: &[u32], from: usize, number: u32) -> usize {
     from
 }
 
+/// The place in a map of the name whose number is one more than the last in a list, where the map has the
+/// names in the order of their numbers. It is a guess, at which nothing is lost but time.
+fn place_after(items: &[u32]) -> usize {
+    match items.last() {
+        Some(number) => (*number as usize).saturating_add(1),
+        None => 0,
+    }
+}
+
+/// The number of the name with these bytes, where its entry stands at this place in the map.
+fn number_there(
+    names: &[Name],
+    numbers: &IndexMap<Name, u32>,
+    place: usize,
+    bytes: &[u8],
+) -> Option<u32>
+    requires numbered { (a : NameBytes) → get (pointwise ◌==◌) numbers.now a ≡ number_in names.now a }
+    ensures { IfSome result (λ number. number_in names.now bytes.now ≡ Some number) }
+{
+    let (name, number) = numbers.get_index(place)?;
+    if name.bytes() == bytes {
+        Some(*number)
+    } else {
+        None
+    }
+}
+
+/// The number of the name at a place in a response, or the count of the names where it is not among them;
+/// none past the end.
+///
+/// The map's entry at the likely place is looked at first, for speed alone: only where another name stands
+/// there is the map asked for the name.
+fn number_at(
+    names: &[Name],
+    numbers: &IndexMap<Name, u32>,
+    likely: usize,
+    response: &Response,
+    i: usize,
+) -> Option<u32>
+    requires numbered { (a : NameBytes) → get (pointwise ◌==◌) numbers.now a ≡ number_in names.now a }
+    requires few { length names.now < 2 ^ 32 }
+    ensures { result ≡ slice_get (numbers_in names.now response.now) i }
+{
+    let bytes = response.bytes_at(i)?;
+    if let Some(number) = number_there(names, numbers, likely, bytes) {
+        return Some(number);
+    }
+    let name = response.get(i)?;
+    Some(number_or_count(names, numbers, &name))
+}
+
 /// Adds the numbers of a response's names. For a name that is not among these their count stands.
 ///
 /// Runs of names that another response has too are copied from its numbers, which stand in the list from
-/// `begin` on; only the others are looked up.
+/// `begin` on; only the others are looked up. Elements that one replica inserted one after the other have
+/// successive numbers, so one more than the number before is tried first.
 fn add_numbers(
     items: &mut Vec<u32>,
     names: &[Name],
@@ -79,8 +131,8 @@ fn add_numbers(
         let run = copy_run(items, names, response, i, last, j, begin)?;
         i += run;
         j += run;
-        if let Some(name) = response.get(i) {
-            let number = number_or_count(names, numbers, &name);
+        let likely = place_after(items.as_slice());
+        if let Some(number) = number_at(names, numbers, likely, response, i) {
             j = place_behind(row_from(items.as_slice(), begin, last.len()), j, number);
             items.push(number)?;
             i += 1;
