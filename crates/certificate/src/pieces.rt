@@ -20,7 +20,8 @@ const ROWS: usize = 64;
 /// How many pieces are made side by side.
 const PIECES: usize = 4;
 
-/// Makes the rows of layers of a graph, for a k of at least 1. That its table is the graph's each method asks.
+/// Makes the rows of layers of a graph, for a k of at least 1. Each method requires that the table is the
+/// graph's.
 #[derive(Drop)]
 pub struct RowMaker<'a> {
     alloc: Global,

@@ -81,15 +81,15 @@ pub fn step_of(line: &[u8]) -> Result<Step, Shape>
 /// A step whose two names are parts of its line.
 #[derive(Clone, Copy)]
 pub struct StepWords<'a> {
-    /// The bytes of the name that stands first.
+    /// The element that is shown first, as bytes of the line.
     pub from: &'a [u8],
-    /// The bytes of the name that stands after it.
+    /// The element that is shown after it, as bytes of the line.
     pub to: &'a [u8],
-    /// The operation that shows this.
+    /// The operation whose response shows `from` before `to`.
     pub shown: OpName,
 }
 
-/// `step`, two names and an operation, as parts of the line: no name is copied.
+/// `step`, two names and an operation. It gives the names as parts of the line.
 #[tactic(auto, unfolding(crate::specs::Reading::step_at, format_words::specs::Reading::after_word, format_words::specs::Reading::name_at, format_words::specs::Reading::name_of, format_words::specs::Reading::operation_at))]
 pub fn step_words(line: &[u8]) -> Result<StepWords<'_>, Shape>
     ensures { Says step_said result (step_at (words_of line.now)) }

@@ -72,7 +72,7 @@ pub fn order_first(text: &[u8]) -> Result<(&[u8], &[u8]), CertCause>
     }
 }
 
-/// What follows the first line, which is a step's.
+/// The text after its first line, if that line is a step; else what is wrong with it.
 pub fn step_first(text: &[u8]) -> Result<&[u8], CertCause>
     ensures ok { IfOk result (λ rest. (step : conflict.Step) × IsStep step
         × (text.now ≡ step_line step ++ 10 ∷ rest.now)) }
@@ -85,7 +85,7 @@ pub fn step_first(text: &[u8]) -> Result<&[u8], CertCause>
     }
 }
 
-/// What follows the first line, which is a row's.
+/// The text after its first line, if that line is a row of k - 1 layers; else what is wrong with it.
 pub fn row_first(k: u32, text: &[u8]) -> Result<&[u8], CertCause>
     ensures ok { IfOk result (λ rest. (row : layer_rule.Row) × IsRow k row
         × (text.now ≡ row_line row ++ 10 ∷ rest.now)) }

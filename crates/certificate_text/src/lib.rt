@@ -24,7 +24,7 @@ mod version;
 mod writing;
 
 pub use certificate::Certificate;
-pub use entries::{StepWords, step_of, step_words};
+pub use entries::{StepWords, step_words};
 pub use fault::{CertCause, CertFault};
 pub use laws::{
     certificates_are_of_streams, certificates_are_unique, certificates_are_valid,

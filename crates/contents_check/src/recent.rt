@@ -29,7 +29,7 @@ impl Recent {
         requires { AreNumbered elements.now }
         ensures { result ≡ number_of elements.now name.now }
     {
-        let slot = slot_of(name);
+        let slot = slot_of(name) as usize;
         let kept = self.slots[slot];
         if elements.is_number_of(kept, name) {
             return Some(kept);
@@ -45,8 +45,8 @@ impl Recent {
         match change {
             Change::Nothing => {}
             Change::Insert(number) | Change::Delete(number) => {
-                if let Some(element) = elements.list.get(number) {
-                    self.slots[slot_of(&element.name)] = number;
+                if let Some(slot) = elements.slots.get(number) {
+                    self.slots[*slot as usize % SLOTS] = number;
                 }
             }
         }
@@ -55,12 +55,12 @@ impl Recent {
 
 /// The slot of a name, by its last three bytes, in which the names of a replica differ most, and by its first
 /// byte, in which names of different replicas may differ where they end alike.
-fn slot_of(name: &Name) -> usize
+pub fn slot_of(name: &Name) -> u16
     ensures { result < 1024 }
 {
     let bytes = name.bytes();
     let last = byte_before(bytes, 1) + 11 * byte_before(bytes, 2) + 121 * byte_before(bytes, 3);
-    (last + 331 * first_byte(bytes)) % SLOTS
+    ((last + 331 * first_byte(bytes)) % SLOTS) as u16
 }
 
 /// The first byte; 0 where there is none.

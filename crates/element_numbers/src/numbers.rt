@@ -16,7 +16,7 @@ pub fn numbers_of(alloc: Global, names: &[Name]) -> Result<IndexMap<Name, u32>, 
     requires few { length names.now < 2 ^ 32 }
     ensures { IfOk result (λ m. (a : NameBytes) → get (pointwise ◌==◌) m a ≡ number_in names.now a) }
 {
-    let mut numbers = IndexMap::new(alloc);
+    let mut numbers = IndexMap::with_capacity(alloc, names.len())?;
     for (i, name) in names.iter().enumerate() {
         numbers.insert(*name, i as u32)?;
     }

@@ -10,7 +10,9 @@ use crate::words::{next_word, place_of};
 use events::{Name, OpName};
 use std::str;
 
-/// The number below 2^32 that the word is: digits, without leading zeros.
+/// The number below 2^32 that the word is, in digits without leading zeros; none where it is no such number.
+///
+/// Most numbers have one digit, and `parse` costs more than to read it here.
 pub fn number_of(word: &[u8]) -> Option<u32>
     ensures { result ≡ number_of word.now }
 {

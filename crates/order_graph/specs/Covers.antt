@@ -33,8 +33,7 @@ pub record AreCovering (h : History) (all some : List Operation) : Type 0 where
   pub covered : (o : Operation) → Contains all o
       → (p : Operation) × Contains some p × ((p ≡ o) ⊎ ComesBefore p o) × IsSubsequence (response h o) (response h p)
 
--- of each of these that was found: some operations that cover those of one piece of all, where each piece has so many, the last
--- one perhaps fewer
+-- each of these pieces that was made covers its part of all; a part has `size` operations, the last perhaps fewer
 abbrev pub ArePieces : History → ℕ → List Operation → List (Result (Vec Operation Global) Memory) → Type 0
 ArePieces h size all pieces =
     (n : ℕ) (d : Result (Vec Operation Global) Memory) → n < length pieces

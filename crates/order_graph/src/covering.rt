@@ -83,8 +83,8 @@ pub fn covering_operations(
 }
 
 /// The same, where the number of workers says whether threads are used: with 1 the operations are gone
-/// through one after the other in the caller's thread, with any other number in four pieces side by side, of
-/// each of which the first is kept.
+/// through one after the other in the caller's thread, with any other number in at most four pieces side by
+/// side. The first of each piece is always kept, since no earlier one of its piece can cover it.
 pub fn covering_operations_by(
     rt: &(impl Threads + Sync),
     alloc: Global,

@@ -93,8 +93,9 @@ impl OrderGraph {
         OrderGraph::covered(alloc, recording, &operations, shown)
     }
 
-    /// The same, where the number of workers says whether threads are used: with any other number than 1 four
-    /// parts of the operations are gone through side by side, and of each part the first response is kept.
+    /// The same, where the number of workers says whether threads are used: with any other number than 1 at
+    /// most four parts of the operations are gone through side by side, and of each part the first response is
+    /// kept.
     pub fn covering_by(
         rt: &(impl Threads + Sync),
         alloc: Global,

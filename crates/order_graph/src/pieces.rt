@@ -1,13 +1,20 @@
 //! Putting together what threads made side by side.
 
-ghost use Rattle.std.specs.Prelude.{◌≡◌, ◌++◌, OnOk, IsOkAnd};
+ghost use Rattle.std.specs.Prelude.{◌≡◌, ◌≤◌, ◌+◌, ◌++◌, OnOk, OnErr, IsOk, IsOkAnd, vec_capacity, vec_len};
 
 use events::Memory;
 
-/// Adds the items of a piece, if it was made; else it is out of memory. It takes time and memory linear in
-/// the piece.
+/// Adds the items of a piece at the end. It is out of memory where the piece is, or where there is too little
+/// room and no more of it; then nothing is added. It takes time and memory linear in the piece, but where the
+/// list has to move.
+///
+/// It stands here since the crates below know no threads' pieces: `covering` and the rows of `certificate` use
+/// it.
 pub fn push_piece<T: Copy>(piece: &Result<Vec<T>, Memory>, all: &mut Vec<T>) -> Result<(), Memory>
-    ensures { OnOk result (IsOkAnd piece.now (λ more. all.new.items ≡ all.old.items ++ more.items)) }
+    ensures ok { OnOk result (IsOkAnd piece.now (λ more. all.new.items ≡ all.old.items ++ more.items)) }
+    ensures err { OnErr result (all.new.items ≡ all.old.items) }
+    ensures room { IsOkAnd piece.now (λ more. vec_len all.old + vec_len more ≤ vec_capacity all.old)
+        → IsOk result }
 {
     match piece {
         Ok(more) => {

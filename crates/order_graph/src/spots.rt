@@ -1,16 +1,41 @@
 //! The spots of each element.
 
 ghost use Rattle.std.specs.Prelude.{◌≡◌, ℕ, ◌<◌, ◌≤◌, ◌^◌, ◌++◌, [], All, IfOk, OnOk, length, map};
-ghost use Rattle.std.specs.Prelude.{slice_index_or, vec_len};
+ghost use Rattle.std.specs.Prelude.{replicate, slice_index_or, vec_len};
 ghost use Rattle.element_numbers.specs.Cuts.{rows_of, IsCut};
 ghost use Rattle.order_graph.specs.Lists.{row};
 ghost use Rattle.order_graph.specs.Spots.{spots_in, spots_of};
 
 use super::spot::Spot;
-use bit_tables::empty_lists;
 use element_numbers::Rows;
 use events::Memory;
 use std::alloc::Global;
+
+/// How often each element stands in the lists: so much room its spots will take.
+fn counts_in(alloc: Global, elements: usize, places: &Rows<u32>) -> Result<Vec<u32>, Memory>
+    ensures { IfOk result (λ counts. vec_len counts ≡ elements) }
+{
+    let mut counts = vec![in alloc; 0u32; elements]?;
+    for x in places.items.iter() {
+        if let Some(count) = counts.get_mut(*x as usize) {
+            *count = count.saturating_add(1);
+        }
+    }
+    Ok(counts)
+}
+
+/// An empty list for each count, with room for so many spots.
+fn lists_with_room(alloc: Global, counts: &[u32]) -> Result<Vec<Vec<Spot>>, Memory>
+    ensures count { IfOk result (λ lists. vec_len lists ≡ length counts.now) }
+    ensures empty { IfOk result (λ lists. map (λ list. list.items) lists.items
+        ≡ replicate (length counts.now) []) }
+{
+    let mut lists = Vec::with_capacity(alloc, counts.len())?;
+    for count in counts {
+        lists.push(Vec::with_capacity(alloc, *count as usize)?)?;
+    }
+    Ok(lists)
+}
 
 /// Adds the spots of one list.
 fn row_spots(list: u32, row: &[u32], spots: &mut Vec<Vec<Spot>>) -> Result<(), Memory>
@@ -30,7 +55,7 @@ fn row_spots(list: u32, row: &[u32], spots: &mut Vec<Vec<Spot>>) -> Result<(), M
     Ok(())
 }
 
-/// The spots of each element.
+/// The spots of each element. They are counted first, so that none has to move.
 fn all_spots(alloc: Global, elements: usize, places: &Rows<u32>) -> Result<Vec<Vec<Spot>>, Memory>
     requires whole { IsCut places.now }
     requires few { length (rows_of places.now) < 2 ^ 32 }
@@ -40,7 +65,8 @@ fn all_spots(alloc: Global, elements: usize, places: &Rows<u32>) -> Result<Vec<V
     ensures spots { IfOk result (λ v. (x : ℕ) → x < elements
         → slice_index_or (map (λ s. s.items) v.items) x [] ≡ spots_of (rows_of places.now) x) }
 {
-    let mut spots = empty_lists(alloc, elements)?;
+    let counts = counts_in(alloc, elements, places)?;
+    let mut spots = lists_with_room(alloc, counts.as_slice())?;
     for list in 0..places.ends.len() {
         row_spots(list as u32, places.row(list), &mut spots)?;
     }

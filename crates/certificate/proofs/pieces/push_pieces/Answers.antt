@@ -15,7 +15,7 @@ loop-piece-preserved c =
     let made = subst (λ piece. IfOk piece (λ (lines : Vec ℕ Global). AppendsRows v c.args.k (take 64 (drop (c.args.first + 64 * i) v.elements)) [] lines.items)) (sym c.piece-item.is)
     (c.requires i c.piece-item.result (omega arith)) in
     let added = piece_added v c.args.k (take 64 (drop (c.args.first + 64 * i) v.elements)) c.loop-piece.text.items c.push_piece.new.all.items c.piece-item.result
-    made c.in_ok-push_piece.ensures in
+    made c.in_ok-push_piece.ensures.ok in
     subst (λ n. AppendsRows v c.args.k (take n (drop c.args.first v.elements)) c.args.text.now.items c.push_piece.new.all.items) next
     (rows_next_from v c.args.k c.args.first (64 * i) 64 c.args.text.now.items c.loop-piece.text.items c.push_piece.new.all.items c.loop-piece.invariant added)
 

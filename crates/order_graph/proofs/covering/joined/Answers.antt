@@ -19,7 +19,7 @@ loop-piece-preserved c =
     let n : ℕ = c.loop-piece.piece-index in
     let found = subst (λ piece. IfOk piece (λ (kept : Vec Operation Global). AreCovering h (take c.args.size (drop (n * c.args.size) all)) kept.items)) (sym c.piece-item.is)
     (c.requires n c.piece-item.result (omega arith)) in
-    next-piece h n c.args.size all c.loop-piece.kept.items c.push_piece.new.all.items c.piece-item.result c.loop-piece.invariant found c.in_ok-push_piece.ensures
+    next-piece h n c.args.size all c.loop-piece.kept.items c.push_piece.new.all.items c.piece-item.result c.loop-piece.invariant found c.in_ok-push_piece.ensures.ok
 
 pub returns : goal.returns
 returns c =
