@@ -1,7 +1,7 @@
 //! Whether the steps of a cycle are shown and join.
 
-ghost use Rattle.std.specs.Prelude.{◌≡◌, ◌≢◌, ◌↔◌, ◌<◌, ◌≤◌, ◌∷◌, ◌++◌, ℕ, All, IsTrue, List, MatchOption, Some};
-ghost use Rattle.std.specs.Prelude.{length, map, slice_get};
+ghost use Rattle.std.specs.Prelude.{◌≡◌, ◌≢◌, ◌↔◌, ◌<◌, ◌≤◌, ◌∷◌, ◌++◌, ℕ, All, IsTrue, List};
+ghost use Rattle.std.specs.Prelude.{MatchOption, Some, length, map, slice_get};
 ghost use Rattle.events.specs.History.{IsLegal};
 ghost use Rattle.specification.specs.Conflict.{Step};
 ghost use Rattle.specification.specs.CertificateText.{IsStep, step_line};
@@ -19,7 +19,8 @@ use format_words::split_line;
 /// The step of the first of these lines, and the lines after it; none where the text's first line, with its
 /// LF, is no step's.
 fn first_step(lines: &[u8]) -> Option<(StepWords<'_>, &[u8])>
-    ensures { MatchOption result ((s : Step) (more : List ℕ) → IsStep s → lines.now ≢ step_line s ++ 10 ∷ more)
+    ensures { MatchOption result
+        ((s : Step) (more : List ℕ) → IsStep s → lines.now ≢ step_line s ++ 10 ∷ more)
         (λ x. IsStep (step_said x.0) × (lines.now ≡ step_line (step_said x.0) ++ 10 ∷ x.1.now)) }
 {
     let Some((line, rest)) = split_line(lines) else {
@@ -45,16 +46,17 @@ fn is_right_step(recording: &Recording, step: &StepWords<'_>, next: &[u8]) -> bo
 
 /// The number, from 1, of the first of `k` steps that is not shown by its operation or does not end where the
 /// next begins (the last: where the first begins); none if all are right. The steps are given by their lines,
-/// and read one after the other. None is answered only of the lines of `k` steps: of other lines, some number.
+/// and read one after the other. Lines that are not those of `k` steps, 2 or more, get some number, never
+/// none.
 pub fn first_wrong_step(recording: &Recording, k: u32, lines: &[u8]) -> Option<u32>
     requires legal { IsLegal recording.now }
     ensures { 2 ≤ k → MatchOption result
         ((steps : List Step) × (length steps ≡ k) × All IsStep steps
-            × (lines.now ≡ text_of (map step_line steps))
-            × ((i : ℕ) → i < length steps → StepIsRight (responses_of recording.now) steps i))
+        × (lines.now ≡ text_of (map step_line steps))
+        × ((i : ℕ) → i < length steps → StepIsRight (responses_of recording.now) steps i))
         (λ n. (steps : List Step) → length steps ≡ k → All IsStep steps
-            → lines.now ≡ text_of (map step_line steps)
-            → IsFirstWrongStep (responses_of recording.now) steps n) }
+        → lines.now ≡ text_of (map step_line steps)
+        → IsFirstWrongStep (responses_of recording.now) steps n) }
 {
     let Some((first, after_first)) = first_step(lines) else {
         return Some(1);

@@ -52,10 +52,15 @@ returns-then-is_right_step-2 c = λ two.
     let steps = said.0 in
     let whole : c.loop-i.i ≡ c.args.k = omega (arith, two, c.loop-i-test.false, c.loop-i.auto.i, c.loop-i.auto.i-end) in
     let size : length steps ≡ c.args.k = said.1 ∙ whole in
-    let so = c.loop-i.invariant.1 two steps size said.2 said.3 in
-    (steps, size, said.2, said.3, all-at c.args.recording.now steps _ _ _ c.loop-i.i so said.1 (λ j is.
-    let after = last c.args.recording.now steps _ _ _ c.loop-i.i so j is (omega (arith, said.1)) in
-    (c.if-is_right_step-2.ensures steps j after.0 (omega (arith, is, said.1)) (so.step_at j is) after.1 after.2).0 refl))
+    let so = c.loop-i.invariant.1 two steps size said.2 said.3 in (
+      steps,
+      size,
+      said.2,
+      said.3,
+      all-at c.args.recording.now steps _ _ _ c.loop-i.i so said.1 (λ j is.
+          let after = last c.args.recording.now steps _ _ _ c.loop-i.i so j is (omega (arith, said.1)) in
+          (c.if-is_right_step-2.ensures steps j after.0 (omega (arith, is, said.1)) (so.step_at j is) after.1 after.2).0 refl),
+    )
 
 pub returns-else-is_empty : goal.returns-else-is_empty
 returns-else-is_empty c = λ two steps size each text.
