@@ -68,9 +68,3 @@ meets-at steps i s next lt at behind =
       ring-at (map begin steps) i s.from next.from (slice_get-map begin steps i s at) (omega arith)
           (ap (λ (n : ℕ). slice_get (map begin steps) (next_place n i)) size ∙ slice_get-map begin steps (next_place (length steps) i) next behind),
     )
-
-pub next-within : (count i : ℕ) → i < count → next_place count i < count
-next-within count i lt = elim (next_is count i lt) [
-  | inl w ↦ (let e : next_place count i ≡ 0 = w.1 in omega arith)
-  | inr w ↦ (let e : next_place count i ≡ suc i = w.1 in let l : suc i < count = w.0 in omega arith)
-]

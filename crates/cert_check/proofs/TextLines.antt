@@ -1,7 +1,7 @@
 -- A text of lines, taken apart line by line.
 use Rattle.std.proofs.Common.{◌≡◌, ℕ, zero, suc, ◌+◌, ◌<◌, ◌≤◌, Some, List, [], ◌∷◌, ◌++◌, map, drop, length, codes, refl, sym, ◌∙◌, ap, subst, arith, append_assoc}
 use Rattle.std.specs.Prelude.{All, slice_get}
-use Rattle.std.proofs.lemmas.List.Elements.{All-head, All-tail, Contains-append_left, Contains-push}
+use Rattle.std.proofs.lemmas.List.Elements.{All-head, All-tail, Contains-append_left, Contains-append_right, Contains-push}
 use Rattle.events.specs.Names.{NameBytes, IsName}
 use Rattle.specification.specs.Conflict.{Step}
 use Rattle.specification.specs.LayerRule.{Row}
@@ -13,19 +13,23 @@ use Rattle.format_words.proofs.Spaced.{spaced-lacks}
 use Rattle.format_words.proofs.TextLines.{LacksLf, lines_of, line-then, lacks-lf}
 use Rattle.format_words.proofs.TwoCuts.{same-cut}
 use Rattle.certificate_text.proofs.RowLines.{layers_words, row-spaced, plain-layers, row-plain}
-use Rattle.certificate_text.proofs.StepLines.{step_words, step-spaced, plain-step, step-plain}
+use Rattle.certificate_text.proofs.StepLines.{step_words, step-spaced, plain-step, step-plain, one-step}
 
 first-same : (x y : Line) (xs ys : List Line) → x ∷ xs ≡ y ∷ ys → x ≡ y
 first-same x y xs ys e = Prim.cc
 
--- the first line of a text of lines
+-- the first line of a text
+line-same : (l m : Line) (rest more : List ℕ) → LacksLf l → LacksLf m → l ++ 10 ∷ rest ≡ m ++ 10 ∷ more → (l ≡ m) × (rest ≡ more)
+line-same l m rest more one two e =
+    let heads : l ∷ lines_of rest ≡ m ∷ lines_of more = sym (line-then l rest one) ∙ ap lines_of e ∙ line-then m more two in
+    let same : l ≡ m = first-same l m (lines_of rest) (lines_of more) heads in
+    (same, (same-cut l m 10 10 rest more e (ap length same)).2)
+
+pub first-line : (l : Line) (lines : List Line) → text_of (l ∷ lines) ≡ l ++ 10 ∷ text_of lines
+first-line l lines = append_assoc l (10 ∷ []) (text_of lines)
+
 pub line-off : (line : Line) (behind : List ℕ) (l : Line) (lines : List Line) → LacksLf l → IsOneLine line → text_of (l ∷ lines) ≡ line ++ 10 ∷ behind → (line ≡ l) × (behind ≡ text_of lines)
-line-off line behind l lines lacks one is =
-    let e : line ++ 10 ∷ behind ≡ l ++ 10 ∷ text_of lines = sym is ∙ append_assoc l (10 ∷ []) (text_of lines) in
-    let heads : line ∷ lines_of behind ≡ l ∷ lines_of (text_of lines) =
-    sym (line-then line behind (lacks-lf line one)) ∙ ap lines_of e ∙ line-then l (text_of lines) lacks in
-    let same : line ≡ l = first-same line l (lines_of behind) (lines_of (text_of lines)) heads in
-    (same, (same-cut line l 10 10 behind (text_of lines) e (ap length same)).2)
+line-off line behind l lines lacks one is = line-same line l behind (text_of lines) (lacks-lf line one) lacks (sym is ∙ first-line l lines)
 
 row-lacks : (k : ℕ) (r : Row) → IsRow k r → LacksLf (row_line r)
 row-lacks k r h = subst LacksLf (sym (row-spaced r)) (spaced-lacks (codes "layers") (layers_words r) plain-layers (row-plain r h.names))
@@ -54,13 +58,29 @@ row-off k (row ∷ rows) text line behind h is one cut =
     (row, rows, refl, p.0, p.1)
 
 -- steps
-pub no-steps : (steps : List Step) (text : List ℕ) → text ≡ text_of (map step_line steps) → IsOneLine text → steps ≡ []
-no-steps [] text is one = refl
-no-steps (s ∷ steps) text is one = absurd (some-line (step_line s) (map step_line steps) (subst IsOneLine is one))
+pub no-line : (l : Line) (more : List ℕ) → IsOneLine (l ++ 10 ∷ more) → ⊥
+no-line l more one = one (Contains-append_right l (10 ∷ more) 10 (0, omega arith, refl))
 
-pub step-off : (s : Step) (steps : List Step) (text line behind : List ℕ) → IsStep s → text ≡ text_of (map step_line (s ∷ steps)) → IsOneLine line → text ≡ line ++ 10 ∷ behind →
-    (line ≡ step_line s) × (behind ≡ text_of (map step_line steps))
-step-off s steps text line behind h is one cut = line-off line behind (step_line s) (map step_line steps) (step-lacks s h) one (sym is ∙ cut)
+-- the line that is cut off is the step's
+pub step-cut : (s : Step) (more line rest : List ℕ) → IsStep s → IsOneLine line → line ++ 10 ∷ rest ≡ step_line s ++ 10 ∷ more → line ≡ step_line s
+step-cut s more line rest h one is = (line-same line (step_line s) rest more (lacks-lf line one) (step-lacks s h) is).0
+
+-- a text begins with one step's line at most
+pub step-same : (s t : Step) (more rest : List ℕ) → IsStep s → IsStep t → step_line s ++ 10 ∷ more ≡ step_line t ++ 10 ∷ rest → (s ≡ t) × (more ≡ rest)
+step-same s t more rest h k is =
+    let p = line-same (step_line s) (step_line t) more rest (step-lacks s h) (step-lacks t k) is in
+    (one-step s t h k p.0, p.1)
+
+-- a text is that of one list of steps at most
+pub same-steps : (xs ys : List Step) → All IsStep xs → All IsStep ys → text_of (map step_line xs) ≡ text_of (map step_line ys) → xs ≡ ys
+same-steps [] [] h k is = refl
+same-steps [] (y ∷ ys) h k is = absurd (nothing-cut (step_line y) (text_of (map step_line ys)) (is ∙ first-line (step_line y) (map step_line ys)))
+same-steps (x ∷ xs) [] h k is = absurd (nothing-cut (step_line x) (text_of (map step_line xs)) (sym is ∙ first-line (step_line x) (map step_line xs)))
+same-steps (x ∷ xs) (y ∷ ys) h k is =
+    let p = step-same x y (text_of (map step_line xs)) (text_of (map step_line ys)) (All-head IsStep x xs h) (All-head IsStep y ys k)
+    (sym (first-line (step_line x) (map step_line xs)) ∙ is ∙ first-line (step_line y) (map step_line ys)) in
+    let rest = same-steps xs ys (All-tail IsStep x xs h) (All-tail IsStep y ys k) p.1 in
+    ap (λ z. z ∷ xs) p.0 ∙ ap (λ l. y ∷ l) rest
 
 -- names after spaces
 pub names-behind : (order : List NameBytes) → All IsName order → words_behind (names_text order) ≡ order

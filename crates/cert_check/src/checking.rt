@@ -17,11 +17,12 @@ use trace_text::{Cause, read};
 ///
 /// It searches nothing. Beyond reading the texts and looking for a fault, a step of a certificate costs the
 /// response of its operation, and a row the n elements of the recording, and `n / 64` steps for each of its
-/// names and layers. So it is in both versions; the rows of version two have about half as many names. For
-/// the rows a table is made once, in `n / 64` steps for each place of a response. Contents are checked on all
-/// processors. Its memory is linear in the texts but for that table, which takes `n * n / 8` bytes, 2 MB for
-/// 4,096 elements and 512 MB for 65,536. Out of memory is answered only where a line of the trace takes
-/// memory, or where the trace spells a recording and the certificate's text takes memory.
+/// names and layers; one of more than n layers also the sorting of their depths, about `n * log n` steps. So
+/// it is in both versions; the rows of version two have about half as many names. For the rows a table is
+/// made once, in `n / 64` steps for each place of a response. Contents are checked on all processors. Its
+/// memory is linear in the texts but for that table, which takes `n * n / 8` bytes, 2 MB for 4,096 elements
+/// and 512 MB for 65,536. Out of memory is answered only where a line of the trace takes memory, or where the
+/// trace spells a recording and the certificate's text a certificate.
 pub fn check<H: Threads + Sync>(
     rt: &H,
     alloc: Global,
@@ -31,7 +32,7 @@ pub fn check<H: Threads + Sync>(
     ensures answer { IfOk result (λ a. IsAnswer trace.now cert.now a) }
     // What a yes says of the recording.
     ensures implies { IfOk result (λ a. ImpliesOfTexts trace.now cert.now a) }
-    // Out of memory, only where a line of the texts takes some, or both spell something.
+    // Out of memory, only where a line of the trace takes some, or both texts spell something.
     ensures memory { IfErr result (λ _. TakesMemory trace.now cert.now) }
 {
     match read(alloc, trace) {
@@ -50,8 +51,9 @@ pub fn check<H: Threads + Sync>(
 /// `trace_text::Reader` does piece by piece. So the trace's text need not stand in memory.
 ///
 /// It costs what `check` does but for the reading of the trace. Beside the recording and the certificate's
-/// text it keeps the numbers of the elements and of the places, the table for the rows, and the depths of one
-/// row.
+/// text it keeps what is visible in the recording, the numbers of the elements and of the places, the table
+/// for the rows, and of one row at a time the depths, the layers (at most `2 * n + 2` lists) and the two sets
+/// of `are_deep`.
 pub fn check_recording<H: Threads + Sync>(
     rt: &H,
     alloc: Global,
@@ -61,7 +63,7 @@ pub fn check_recording<H: Threads + Sync>(
     ensures answer { IfOk result (λ a. IsAnswerOn recording.now cert.now a) }
     // What a yes says of the recording.
     ensures implies { IfOk result (λ a. ImpliesOn recording.now cert.now a) }
-    // Out of memory, only where a line of the text takes some, or it spells a certificate.
+    // Out of memory, only where the text spells a certificate.
     ensures memory { IfErr result (λ _. CertTakesMemory cert.now) }
 {
     // Each recording is legal.

@@ -68,7 +68,8 @@ fn first_of(version: Version, source: u32) -> u32
 
 /// Whether the row of the element with this number meets the layer rule of the version. In version two it
 /// does not where it has an element that is numbered below, and nothing is asked of these elements. It costs
-/// the elements, and for each name of the row a step for 64 elements.
+/// the elements, and for each name and each layer of the row a step for 64 elements; where `k - 1` is more
+/// than `n`, the number of elements, about `n * log n` steps besides, to sort the depths.
 fn meets_rule(
     alloc: Global,
     numbered: &Numbered,

@@ -6,7 +6,7 @@ ghost use Rattle.specification.specs.Members.{Before};
 
 use events::{OpName, Recording, Response};
 
-/// Whether a response has one name, given by its bytes, at a lesser place than the other.
+/// Whether `from` stands before `to` in the response. Both are given by their bytes.
 fn stands_before(response: &Response, from: &[u8], to: &[u8]) -> bool
     ensures { IsTrue result ↔ Before from.now to.now response.now }
 {

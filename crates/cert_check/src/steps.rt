@@ -1,7 +1,7 @@
 //! Whether the steps of a cycle are shown and join.
 
-ghost use Rattle.std.specs.Prelude.{◌≡◌, ◌↔◌, ◌<◌, ◌≤◌, ◌∷◌, ℕ, All, IsTrue, List, MatchOption, Some, length};
-ghost use Rattle.std.specs.Prelude.{map, slice_get};
+ghost use Rattle.std.specs.Prelude.{◌≡◌, ◌≢◌, ◌↔◌, ◌<◌, ◌≤◌, ◌∷◌, ◌++◌, ℕ, All, IsTrue, List};
+ghost use Rattle.std.specs.Prelude.{MatchOption, Some, length, map, slice_get};
 ghost use Rattle.events.specs.History.{IsLegal};
 ghost use Rattle.specification.specs.Conflict.{Step};
 ghost use Rattle.specification.specs.CertificateText.{IsStep, step_line};
@@ -13,65 +13,67 @@ ghost use Rattle.cert_check.specs.Ring.{next_place};
 
 use super::shown::shows;
 use certificate_text::{StepWords, step_words};
-use events::{OpName, Recording};
+use events::Recording;
 use format_words::split_line;
 
-/// The step of the first of these lines, and the lines after it.
+/// The step of the first of these lines, and the lines after it; none where the text's first line, with its
+/// LF, is no step's.
 fn first_step(lines: &[u8]) -> Option<(StepWords<'_>, &[u8])>
-    ensures { (s : Step) (more : List Step) → IsStep s → lines.now ≡ text_of (map step_line (s ∷ more))
-        → MatchOption result ⊥ (λ x. (step_said x.0 ≡ s) × (x.1.now ≡ text_of (map step_line more))) }
+    ensures { MatchOption result
+        ((s : Step) (more : List ℕ) → IsStep s → lines.now ≢ step_line s ++ 10 ∷ more)
+        (λ x. IsStep (step_said x.0) × (lines.now ≡ step_line (step_said x.0) ++ 10 ∷ x.1.now)) }
 {
-    let Some((line, behind)) = split_line(lines) else {
+    let Some((line, rest)) = split_line(lines) else {
         return None;
     };
     match step_words(line) {
-        Ok(step) => Some((step, behind)),
+        Ok(step) => Some((step, rest)),
         Err(_) => None,
     }
 }
 
-/// Whether a step, given by its names and its operation, is shown by that operation and ends where the next
-/// one begins.
-fn is_right_step(recording: &Recording, from: &[u8], to: &[u8], shown: OpName, next: &[u8]) -> bool
+/// Whether a step is shown by its operation and ends where the next one begins, which is given by the bytes
+/// of that name.
+fn is_right_step(recording: &Recording, step: &StepWords<'_>, next: &[u8]) -> bool
     requires legal { IsLegal recording.now }
-    ensures { (steps : List Step) (i : ℕ) (behind : Step) → i < length steps
-        → slice_get steps i ≡ Some (record { from = from.now; to = to.now; shown = shown })
-        → slice_get steps (next_place (length steps) i) ≡ Some behind → behind.from ≡ next.now
+    ensures { (steps : List Step) (i : ℕ) (after : Step) → i < length steps
+        → slice_get steps i ≡ Some (step_said step.now)
+        → slice_get steps (next_place (length steps) i) ≡ Some after → after.from ≡ next.now
         → IsTrue result ↔ StepIsRight (responses_of recording.now) steps i }
 {
-    to == next && shows(recording, shown, from, to)
+    step.to == next && shows(recording, step.shown, step.from, step.to)
 }
 
-/// The number of the first step that is not right, counted from 1, of `k` steps that are given by their
-/// lines. They are read one after the other; after the last comes the first.
+/// The number, from 1, of the first of `k` steps that is not shown by its operation or does not end where the
+/// next begins (the last: where the first begins); none if all are right. The steps are given by their lines,
+/// and read one after the other. Lines that are not those of `k` steps, 2 or more, get some number, never
+/// none.
 pub fn first_wrong_step(recording: &Recording, k: u32, lines: &[u8]) -> Option<u32>
     requires legal { IsLegal recording.now }
-    ensures { (steps : List Step) → 2 ≤ k → length steps ≡ k → All IsStep steps
-        → lines.now ≡ text_of (map step_line steps) →
-        MatchOption result ((i : ℕ) → i < length steps → StepIsRight (responses_of recording.now) steps i)
-        (IsFirstWrongStep (responses_of recording.now) steps) }
+    ensures { 2 ≤ k → MatchOption result
+        ((steps : List Step) × (length steps ≡ k) × All IsStep steps
+        × (lines.now ≡ text_of (map step_line steps))
+        × ((i : ℕ) → i < length steps → StepIsRight (responses_of recording.now) steps i))
+        (λ n. (steps : List Step) → length steps ≡ k → All IsStep steps
+        → lines.now ≡ text_of (map step_line steps)
+        → IsFirstWrongStep (responses_of recording.now) steps n) }
 {
-    let Some((first, behind)) = first_step(lines) else {
-        return None;
+    let Some((first, after_first)) = first_step(lines) else {
+        return Some(1);
     };
     let begin = first.from;
-    let mut from = first.from;
-    let mut to = first.to;
-    let mut shown = first.shown;
-    let mut rest = behind;
+    let mut step = first;
+    let mut rest = after_first;
     for i in 1..k {
-        let Some((next, behind)) = first_step(rest) else {
-            return None;
-        };
-        if !is_right_step(recording, from, to, shown, next.from) {
-            return Some(i);
+        match first_step(rest) {
+            Some((next, after)) if is_right_step(recording, &step, next.from) => {
+                step = next;
+                rest = after;
+            }
+            _ => return Some(i),
         }
-        from = next.from;
-        to = next.to;
-        shown = next.shown;
-        rest = behind;
     }
-    if is_right_step(recording, from, to, shown, begin) {
+    if rest.is_empty() && is_right_step(recording, &step, begin) {
         None
     } else {
         Some(k)

@@ -1,5 +1,4 @@
 -- What the text spells is what was read.
-use Rattle.std.proofs.Common.{inr}
 use Rattle.std.proofs.lemmas.Result.{IfOk-weaker}
 use Rattle.certificate_text.specs.CertificateOf.{version_in}
 use Rattle.certificate_text.proofs.OneCertificate.{one-certificate}
@@ -20,7 +19,7 @@ returns-in-Ok-clause-implies g c =
     (IfOk-weaker c.judge.result _ _ (λ a judged. judged ok.0 ok.1.0 ok.2) c.judge.ensures)
 
 pub returns-in-Ok-clause-memory : goal.returns-in-Ok-clause-memory
-returns-in-Ok-clause-memory g c = let ok = c.in-Ok.ensures.ok in if_err c.judge.result _ (inr (version_in c.in-Ok.version, ok.0, ok.1))
+returns-in-Ok-clause-memory g c = let ok = c.in-Ok.ensures.ok in if_err c.judge.result _ (version_in c.in-Ok.version, ok.0, ok.1)
 
 pub returns-in-Err-clause-answer : goal.returns-in-Err-clause-answer
 returns-in-Err-clause-answer g c = λ trace spells. ((c.args.recording.now, spells), (λ version d spelled. c.in-Err.ensures.spelled version d spelled))
