@@ -15,14 +15,17 @@ from pathlib import Path
 ROOT = Path(__file__).resolve().parents[2]
 sys.path.insert(0, str(ROOT / "tests"))
 from reference.traces import spellings  # noqa: E402
+from reference.verdicts import first_fault, recording_of  # noqa: E402
 from shared.forger import line  # noqa: E402
-from shared.forgeries import ANOTHERS, KINDS, certified, forgery, generated  # noqa: E402
+from shared.forgeries import ANOTHERS, KINDS, Certified, certified, forgery, generated  # noqa: E402
 from shared.program import Ended, Tally, fault, is_short, program_of, run  # noqa: E402
+from shared.two_orders import TwoOrders  # noqa: E402
 
 VECTORS = ROOT / "tests" / "vectors"
 SEED = 1984
 FORGERIES = 3000
 RECORDINGS = 200
+WALKS = 60
 THREE_WAY = VECTORS / "all-three-way-cycle.trace"
 USAGE = [["cert"], ["cert", "t", "u"], ["cert", "--json", "t"], ["cert", "--workers", "2", "t"], ["verify"], ["verify", "t"], ["verify", "t", "u", "v"],
          ["verify", "--json", "t", "u"], ["cert", b"\xff"]]
@@ -93,6 +96,25 @@ def forgeries(tally: Tally, program: str, folder: str, many: int, seed: int) -> 
     tally.check("answers of all kinds", many < 1000 or wanted <= set(said), said)
 
 
+def walks(tally: Tally, program: str, folder: str, rnd: random.Random) -> None:
+    """Refusals of thousands of steps, whose names are found again where they were found before: all steps are right, or one is
+    not. What comes first is missing rows, or that step."""
+    orders, path = TwoOrders(9), os.path.join(folder, "cert")
+    recording = recording_of(orders.trace())
+    case = Certified(orders.trace(), recording, first_fault(recording), ())
+    for number in range(WALKS):
+        steps = orders.walk(rnd, rnd.choice([3, 2047, 2048, 2500]))
+        if number % 6:
+            at = rnd.randrange(len(steps))
+            _, first, second, shown = steps[at].split()
+            other = rnd.choice(orders.of[rnd.randrange(2)])
+            steps[at] = "step " + [f"{second} {first} {shown}", f"{first} {second} {orders.reads[rnd.randrange(2)]}", f"{first} {other} {shown}",
+                                   f"{other} {second} {shown}", f"{first} none {shown}"][number % 6 - 1] + "\n"
+        text = f"cert 2\nrefused {len(steps)}\n" + "".join(steps)
+        Path(path).write_text(text)
+        tally.same(f"verify of {len(steps)} steps, walk {number}", run(program, ["verify", "-", path], case.trace.encode()), line(case.answer(text)))
+
+
 def command_line(tally: Tally, program: str, folder: str) -> None:
     trace, cert = str(THREE_WAY), str(THREE_WAY.with_suffix(".cert2"))
     missing, other = os.path.join(folder, "missing"), os.path.join(folder, "other")
@@ -125,6 +147,7 @@ def main() -> None:
     prefixes(tally, program)
     with tempfile.TemporaryDirectory() as folder:
         forgeries(tally, program, folder, given.forgeries, given.seed)
+        walks(tally, program, folder, random.Random(given.seed))
         command_line(tally, program, folder)
     tally.close()
 

@@ -6,5 +6,6 @@ pub mod Noted
 pub mod RowWords
 pub mod Ring
 pub mod Judged
+pub mod WrongSteps
 pub mod OutOfMemory
 pub mod Laws

@@ -35,7 +35,7 @@ pub fn judge_cycle(
         → rows.now ≡ text_of (map row_line layers)
         → IsJudged (version_in version) recording.now (gives_cycle k listed layers) answer) }
 {
-    if let Some(step) = first_wrong_step(recording, k, steps) {
+    if let Some(step) = first_wrong_step(alloc, recording, k, steps) {
         return Ok(Answer::No(Reason::NoCycle { step }));
     }
     if k < 3 {

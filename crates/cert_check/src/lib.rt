@@ -7,6 +7,7 @@ mod answer;
 mod checking;
 mod cycle;
 mod faults;
+mod found;
 mod judging;
 mod laws;
 mod numbered;

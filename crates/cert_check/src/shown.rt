@@ -1,10 +1,14 @@
 //! Whether an operation shows one element before another.
 
-ghost use Rattle.std.specs.Prelude.{◌↔◌, IsTrue};
+ghost use Rattle.std.specs.Prelude.{◌≡◌, ◌↔◌, IsTrue, true};
 ghost use Rattle.events.specs.Operations.{response};
 ghost use Rattle.specification.specs.Members.{Before};
 
+use super::found::FoundPlaces;
 use events::{OpName, Recording, Response};
+
+/// A response of at most so many names is gone through sooner than places are looked up.
+const FEW: usize = 6;
 
 /// Whether `from` stands before `to` in the response. Both are given by their bytes.
 fn stands_before(response: &Response, from: &[u8], to: &[u8]) -> bool
@@ -24,12 +28,47 @@ fn stands_before(response: &Response, from: &[u8], to: &[u8]) -> bool
     false
 }
 
-/// Whether an operation shows one name before the other; both are given by their bytes.
-pub fn shows(recording: &Recording, by: OpName, from: &[u8], to: &[u8]) -> bool
+/// Whether the two names stand in the response where they were found before, the one before the other.
+fn stand_as_found(
+    found: &FoundPlaces,
+    by: OpName,
+    response: &Response,
+    from: &[u8],
+    to: &[u8],
+) -> bool
+    ensures { result ≡ true → Before from.now to.now response.now }
+{
+    let i = found.likely_place(by, from);
+    let j = found.likely_place(by, to);
+    if i >= j {
+        return false;
+    }
+    match (response.bytes_at(i), response.bytes_at(j)) {
+        (Some(first), Some(second)) => first == from && second == to,
+        _ => false,
+    }
+}
+
+/// Whether an operation shows one name before the other; both are given by their bytes. It costs the response,
+/// or less where both names were found in it before.
+pub fn shows(
+    found: &mut FoundPlaces,
+    recording: &Recording,
+    by: OpName,
+    from: &[u8],
+    to: &[u8],
+) -> bool
     ensures { IsTrue result ↔ Before from.now to.now (response recording.now by) }
 {
-    match recording.response(by) {
-        None => false,
-        Some(response) => stands_before(response, from, to),
+    let Some(response) = recording.response(by) else {
+        return false;
+    };
+    if response.len() > FEW && stand_as_found(found, by, response, from, to) {
+        return true;
     }
+    let shown = stands_before(response, from, to);
+    if shown {
+        found.note(by, response, from, to);
+    }
+    shown
 }

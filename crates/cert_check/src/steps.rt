@@ -7,14 +7,17 @@ ghost use Rattle.specification.specs.Conflict.{Step};
 ghost use Rattle.specification.specs.CertificateText.{IsStep, step_line};
 ghost use Rattle.specification.specs.Lines.{text_of};
 ghost use Rattle.specification.specs.Responses.{responses_of};
-ghost use Rattle.specification.specs.ValidCertificate.{StepIsRight, IsFirstWrongStep};
+ghost use Rattle.specification.specs.ValidCertificate.{StepIsRight};
 ghost use Rattle.certificate_text.specs.StepSaid.{step_said};
 ghost use Rattle.cert_check.specs.Ring.{next_place};
+ghost use Rattle.cert_check.specs.WrongSteps.{TellsFirstWrong};
 
+use super::found::FoundPlaces;
 use super::shown::shows;
 use certificate_text::{StepWords, step_words};
 use events::Recording;
 use format_words::split_line;
+use std::alloc::Global;
 
 /// The step of the first of these lines, and the lines after it; none where the text's first line, with its
 /// LF, is no step's.
@@ -34,29 +37,45 @@ fn first_step(lines: &[u8]) -> Option<(StepWords<'_>, &[u8])>
 
 /// Whether a step is shown by its operation and ends where the next one begins, which is given by the bytes
 /// of that name.
-fn is_right_step(recording: &Recording, step: &StepWords<'_>, next: &[u8]) -> bool
+fn is_right_step(
+    found: &mut FoundPlaces,
+    recording: &Recording,
+    step: &StepWords<'_>,
+    next: &[u8],
+) -> bool
     requires legal { IsLegal recording.now }
     ensures { (steps : List Step) (i : ℕ) (after : Step) → i < length steps
         → slice_get steps i ≡ Some (step_said step.now)
         → slice_get steps (next_place (length steps) i) ≡ Some after → after.from ≡ next.now
         → IsTrue result ↔ StepIsRight (responses_of recording.now) steps i }
 {
-    step.to == next && shows(recording, step.shown, step.from, step.to)
+    step.to == next && shows(found, recording, step.shown, step.from, step.to)
 }
 
 /// The number, from 1, of the first of `k` steps that is not shown by its operation or does not end where the
 /// next begins (the last: where the first begins); none if all are right. The steps are given by their lines,
 /// and read one after the other. Lines that are not those of `k` steps, 2 or more, get some number, never
 /// none.
-pub fn first_wrong_step(recording: &Recording, k: u32, lines: &[u8]) -> Option<u32>
+///
+/// Each step costs the response that it cites, or less where there are many and its names were found there
+/// before.
+pub fn first_wrong_step(alloc: Global, recording: &Recording, k: u32, lines: &[u8]) -> Option<u32>
+    requires { IsLegal recording.now }
+    ensures { TellsFirstWrong recording.now k lines.now result }
+{
+    let mut found = FoundPlaces::for_steps(alloc, k);
+    first_wrong_among(&mut found, recording, k, lines)
+}
+
+/// The same, with the places where names were found before.
+fn first_wrong_among(
+    found: &mut FoundPlaces,
+    recording: &Recording,
+    k: u32,
+    lines: &[u8],
+) -> Option<u32>
     requires legal { IsLegal recording.now }
-    ensures { 2 ≤ k → MatchOption result
-        ((steps : List Step) × (length steps ≡ k) × All IsStep steps
-        × (lines.now ≡ text_of (map step_line steps))
-        × ((i : ℕ) → i < length steps → StepIsRight (responses_of recording.now) steps i))
-        (λ n. (steps : List Step) → length steps ≡ k → All IsStep steps
-        → lines.now ≡ text_of (map step_line steps)
-        → IsFirstWrongStep (responses_of recording.now) steps n) }
+    ensures { TellsFirstWrong recording.now k lines.now result }
 {
     let Some((first, after_first)) = first_step(lines) else {
         return Some(1);
@@ -66,14 +85,14 @@ pub fn first_wrong_step(recording: &Recording, k: u32, lines: &[u8]) -> Option<u
     let mut rest = after_first;
     for i in 1..k {
         match first_step(rest) {
-            Some((next, after)) if is_right_step(recording, &step, next.from) => {
+            Some((next, after)) if is_right_step(found, recording, &step, next.from) => {
                 step = next;
                 rest = after;
             }
             _ => return Some(i),
         }
     }
-    if rest.is_empty() && is_right_step(recording, &step, begin) {
+    if rest.is_empty() && is_right_step(found, recording, &step, begin) {
         None
     } else {
         Some(k)

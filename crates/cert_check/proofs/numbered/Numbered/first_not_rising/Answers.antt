@@ -1,8 +1,7 @@
 -- The list of one more place.
-use Rattle.std.proofs.Common.{◌≡◌, ◌∙◌, ℕ, ◌<◌, List, map, length, sym, ap, subst, arith, below_more, refl}
+use Rattle.std.proofs.Common.{◌≡◌, ℕ, ◌<◌, List, map, length, sym, subst, arith, below_more, refl}
 use Rattle.std.specs.Prelude.{slice_index}
 use Rattle.std.proofs.lemmas.Bool.{false≢true}
-use Rattle.std.proofs.lemmas.List.Elements.{All-get_or}
 use Rattle.element_numbers.proofs.Cuts.{length-cut}
 use Rattle.cert_check.specs.Values.{IsRising}
 use Rattle.cert_check.specs.Numbering.{lists_of, places_at}

@@ -5,8 +5,8 @@ use Rattle.specification.specs.Responses.{responses_of}
 use Rattle.specification.specs.ValidCertificate.{IsFirstWrongStep}
 use Rattle.certificate_text.proofs.OutlineTexts.{empty-is}
 use Rattle.cert_check.proofs.StepTexts.{start-of, no-start, read-next, no-next, none-left, some-left, before, last, step-next, wrong-at, all-at, said-first, said-next, said-all}
-use Rattle.cert_check.proofs.steps.first_wrong_step.Goals as goal
-use Rattle.cert_check.proofs.steps.first_wrong_step.Goals.{else-is_empty-via-then-is_empty+else-is_right_step-2, else-is_empty-via-else-is_empty}
+use Rattle.cert_check.proofs.steps.first_wrong_among.Goals as goal
+use Rattle.cert_check.proofs.steps.first_wrong_among.Goals.{else-is_empty-via-then-is_empty+else-is_right_step-2, else-is_empty-via-else-is_empty}
 
 pub returns-in_default : goal.returns-in_default
 returns-in_default c = λ two steps size each text.

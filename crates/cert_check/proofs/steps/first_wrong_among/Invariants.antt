@@ -5,7 +5,7 @@ use Rattle.specification.specs.Lines.{text_of}
 use Rattle.specification.specs.CertificateText.{IsStep, step_line}
 use Rattle.certificate_text.specs.StepSaid.{step_said}
 use Rattle.cert_check.proofs.StepTexts.{SaidSoFar, StepsSoFar}
-use Rattle.cert_check.proofs.steps.first_wrong_step.Given as goal
+use Rattle.cert_check.proofs.steps.first_wrong_among.Given as goal
 
 abbrev pub invariant-loop-i : goal.invariant-loop-i
 invariant-loop-i l =
