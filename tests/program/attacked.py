@@ -24,6 +24,7 @@ from reference.traces import MOST_ENTRIES, MOST_INSERTS, MOST_NAMES, MOST_PLACES
 from shared.forger import line  # noqa: E402
 from shared.measured import measured  # noqa: E402
 from shared.program import Ended, Tally, fault, program_of  # noqa: E402
+from shared.two_orders import TwoOrders  # noqa: E402
 
 THREE_WAY = ROOT / "tests" / "vectors" / "all-three-way-cycle.trace"
 BLOCK = 2 ** 20
@@ -48,11 +49,13 @@ Text = Callable[[int], Iterator[bytes]]
 
 
 class Shape(NamedTuple):
-    """A kind of text: the pieces of one with about so many bytes, and the words that the program has for it."""
+    """A kind of text: the pieces of one with about so many bytes, and the words that the program has for it; of a certificate
+    the trace that it stands beside."""
 
     name: str
     text: Text
     words: str
+    trace: str = THREE_WAY.read_text()
 
 
 def blocks(unit: bytes, size: int) -> Iterator[bytes]:
@@ -118,14 +121,19 @@ def rows_of_each_length(size: int) -> Iterator[bytes]:
         yield text
 
 
-def long_ring(size: int) -> Iterator[bytes]:
+def ring(steps: bytes) -> Text:
     """A refusal of a k that fits its steps, which lead round the same cycle over and over; no rows."""
-    rounds = size // len(STEPS)
-    yield b"cert 2\nrefused %d\n" % (3 * rounds)
-    block = STEPS * min(rounds, BLOCK // len(STEPS))
-    for _ in range(rounds * len(STEPS) // len(block)):
-        yield block
-    yield STEPS * (rounds * len(STEPS) % len(block) // len(STEPS))
+    def text(size: int) -> Iterator[bytes]:
+        rounds = max(1, size // len(steps))
+        yield b"cert 2\nrefused %d\n" % (steps.count(b"\n") * rounds)
+        block = steps * min(rounds, max(1, BLOCK // len(steps)))
+        for _ in range(rounds * len(steps) // len(block)):
+            yield block
+        yield steps * (rounds * len(steps) % len(block) // len(steps))
+    return text
+
+
+long_ring = ring(STEPS)
 
 
 def wide_row(size: int) -> Iterator[bytes]:
@@ -163,7 +171,8 @@ TRACES = [
     Shape("binary bytes without LF", around(READ, BINARY.replace(b"\n", b"\xff")), "line 3: cut"),
 ]
 
-# Certificates that must get a no, beside the trace of the three-way cycle. The words are the checker's.
+# Certificates that must get a no, beside the trace of the three-way cycle or another small one. The words are the checker's.
+TWENTY, HUNDRED = TwoOrders(10), TwoOrders(50)
 CERTIFICATES = [
     Shape("one line without end", around(b"", b"x"), "text"),
     Shape("binary bytes", around(b"cert 2\n", BINARY), "text"),
@@ -174,6 +183,8 @@ CERTIFICATES = [
     Shape("an order of names of 32 bytes", around(b"cert 2\naccepted\norder :", NAME, b"\n"), "order"),
     Shape("fewer steps than the greatest k", around(b"cert 2\nrefused 4294967295\n", STEPS), "text"),
     Shape("as many steps as k", long_ring, "missing x"),
+    Shape("right steps in responses of 20 names", ring(TWENTY.round().encode()), f"missing {TWENTY.of[0][0]}", TWENTY.trace()),
+    Shape("right steps in responses of 100 names", ring(HUNDRED.round().encode()), f"missing {HUNDRED.of[0][0]}", HUNDRED.trace()),
     Shape("as many layers as k", wide_row, "short x"),
     Shape("right rows, and rows too many", around(b"cert 2\nrefused 3\n" + STEPS + ROWS, b"layers x / b\n"), "extra x"),
     Shape("rows of the first source", around(b"cert 2\nrefused 3\n" + STEPS, b"layers x / b\n"), "missing a"),
@@ -198,8 +209,8 @@ def line_fault_of(name: str, most: int) -> str:
 
 def answer_to(name: str) -> str:
     """What the reference says of the small trace with a certificate of the shape."""
-    text = next(shape.text for shape in CERTIFICATES if shape.name == name)
-    return answer_of(THREE_WAY.read_text(), b"".join(text(SHORT // 64)).decode("latin-1"))
+    shape = next(shape for shape in CERTIFICATES if shape.name == name)
+    return answer_of(shape.trace, b"".join(shape.text(SHORT // 64)).decode("latin-1"))
 
 
 def attack(tally: Tally, name: str, words: list, pieces: Iterator[bytes], wanted: Ended, seconds: float, keeps: bool) -> None:
@@ -231,14 +242,17 @@ def attack_with_traces(tally: Tally, program: str, asking: ProcessPoolExecutor, 
         attack(tally, f"verify of {shape.name}", words, shape.text(given.size), line("no trace\n"), given.seconds, False)
 
 
-def attack_with_certificates(tally: Tally, program: str, asking: ProcessPoolExecutor, given: argparse.Namespace) -> None:
+def attack_with_certificates(tally: Tally, program: str, asking: ProcessPoolExecutor, given: argparse.Namespace,
+                             folder: str) -> None:
     """`verify` on each shape of a certificate, beside a small trace."""
+    trace = os.path.join(folder, "trace")
     for shape in CERTIFICATES:
         if given.only not in shape.name:
             continue
         said = asking.submit(answer_to, shape.name).result()
         tally.check(f"the reference on {shape.name}", said == f"no {shape.words}\n", f"{said!r}, not {shape.words}")
-        words = [program, "verify", str(THREE_WAY), "-"]
+        Path(trace).write_text(shape.trace)
+        words = [program, "verify", trace, "-"]
         attack(tally, f"a certificate: {shape.name}", words, shape.text(given.size), line(said), given.seconds, True)
 
 
@@ -255,7 +269,7 @@ def main() -> None:
     # The references read in a process of their own: a child's memory is counted from that of the process that starts it.
     with ProcessPoolExecutor(1) as asking, tempfile.TemporaryDirectory() as folder:
         attack_with_traces(tally, program, asking, given, folder)
-        attack_with_certificates(tally, program, asking, given)
+        attack_with_certificates(tally, program, asking, given, folder)
     tally.close()
 
 
