@@ -3,11 +3,10 @@
 ghost use Rattle.std.specs.Prelude.{◌≡◌, ℕ, ◌+◌, ◌-◌, ◌<◌, ◌≤◌, ◌^◌, Some, List, length, slice_get, take, drop};
 
 use super::Response;
+use std::simd::prelude::*;
 
-/// How many bytes are compared at once: first many, and where these differ few.
-const LONG: usize = 128;
-
-const SHORT: usize = 16;
+/// How many bytes are compared at once.
+const LANES: usize = 16;
 
 impl Response {
     /// How many names follow one another alike in this response from place `i` and in the other from place
@@ -35,7 +34,8 @@ impl Response {
 }
 
 ghost use Rattle.events.specs.Packed.{pieces, start_at, Rise};
-ghost use Rattle.events.specs.SameNames.{HaveSameEnds};
+ghost use Rattle.std.specs.Simd.Lanes.{mask_l};
+ghost use Rattle.events.specs.SameNames.{unlike, AreSame, HaveSameEnds};
 
 /// How many pieces follow one another alike from these places on.
 fn same_pieces(
@@ -84,32 +84,65 @@ pub(super) fn same_bytes(a: &[u8], b: &[u8]) -> usize
     ensures same { take result a.now ≡ take result b.now }
     ensures most { (x : ℕ) → slice_get a.now result ≡ Some x → slice_get b.now result ≡ Some x → ⊥ }
 {
-    let most = a.len().min(b.len());
-    let long = same_chunks(a, b, LONG);
-    let begin = long + same_chunks(after(a, long), after(b, long), SHORT);
-    for n in begin..most {
+    same_within(a, b, a.len().min(b.len()))
+}
+
+/// How many of so many bytes are the same from the beginning on. Sixteen are compared at once, also the last
+/// sixteen, of which some may have been compared before.
+fn same_within(a: &[u8], b: &[u8], most: usize) -> usize
+    requires { (most ≤ length a.now) × (most ≤ length b.now) }
+    ensures { AreSame a.now b.now most result }
+{
+    if most < LANES {
+        return same_one_by_one(a, b, most);
+    }
+    let mut same = 0;
+    'lanes: while LANES < most - same {
+        let more = same_in_lanes(after(a, same), after(b, same));
+        same += more;
+        if more < LANES {
+            return same;
+        }
+    }
+    let last = most - LANES;
+    last + same_in_lanes(after(a, last), after(b, last))
+}
+
+/// How many of the first sixteen bytes are the same from the beginning on.
+#[inline(always)]
+fn same_in_lanes(a: &[u8], b: &[u8]) -> usize
+    requires { (LANES ≤ length a.now) × (LANES ≤ length b.now) }
+    ensures { AreSame a.now b.now LANES result }
+{
+    let marks = differing(a, b);
+    if marks == 0 {
+        return LANES;
+    }
+    marks.trailing_zeros() as usize
+}
+
+/// Of the first sixteen bytes a bit each, the least for the first: whether they differ.
+#[inline(always)]
+fn differing(a: &[u8], b: &[u8]) -> u64
+    requires { (LANES ≤ length a.now) × (LANES ≤ length b.now) }
+    ensures { result ≡ mask_l (unlike (take LANES a.now) (take LANES b.now)) }
+{
+    u8x16::from_slice(a)
+        .simd_ne(u8x16::from_slice(b))
+        .to_bitmask()
+}
+
+/// How many of so many bytes are the same from the beginning on, compared one by one.
+fn same_one_by_one(a: &[u8], b: &[u8], most: usize) -> usize
+    requires { (most ≤ length a.now) × (most ≤ length b.now) }
+    ensures { AreSame a.now b.now most result }
+{
+    for n in 0..most {
         if a[n] != b[n] {
             return n;
         }
     }
     most
-}
-
-/// How many bytes are the same from the beginning on, counted in whole chunks of this size.
-fn same_chunks(a: &[u8], b: &[u8], size: usize) -> usize
-    requires { 0 < size }
-    ensures within { (result ≤ length a.now) × (result ≤ length b.now) }
-    ensures same { take result a.now ≡ take result b.now }
-{
-    let most = a.len().min(b.len());
-    let mut same = 0;
-    'chunks: while size <= most - same {
-        if a[same..same + size] != b[same..same + size] {
-            return same;
-        }
-        same += size;
-    }
-    same
 }
 
 /// How many ends are as far from where the first piece begins as those of the other, and not after `last`.
