@@ -6,6 +6,7 @@ use Rattle.std.proofs.lemmas.Bool.{cases_lt}
 use Rattle.std.proofs.lemmas.List.{map-set, get_or-map, get_or-replicate, get_or_default, get_or_past, length-map, length-replicate}
 use Rattle.std.proofs.lemmas.List.Elements.{All-get_or, Contains-append_left, Contains-append_right, Contains-append_cases}
 use Rattle.bit_tables.specs.Rule.{AreDepths, StandsBelow, layer_at}
+use Rattle.bit_tables.proofs.LayerLemmas.{IsAmongFirst}
 
 -- empty layers have no number
 pub none-in : (n d x : ℕ) → Contains (get_or (replicate {A = List ℕ} n []) d []) x → ⊥
@@ -62,20 +63,26 @@ module _ (rows : List (Vec ℕ Global)) (y : ℕ) (v w : Vec ℕ Global) (q : �
   ]
 
 -- one number more in the layer of its depth
-pub more-numbers : (depths : List ℕ) (old new : List (Vec ℕ Global)) (first n d x : ℕ) → first ≤ n
-    → Contains (layer_at old d) x ↔ ((first ≤ x) × (x < n) × (get_or depths x 0 ≡ d))
-    → Contains (layer_at new d) x ↔ (Contains (layer_at old d) x ⊎ ((d ≡ get_or depths n 0) × (x ≡ n)))
-    → Contains (layer_at new d) x ↔ ((first ≤ x) × (x < n + 1) × (get_or depths x 0 ≡ d))
-more-numbers depths old new first n d x from before now = (
-  λ c. elim (now.0 c) [
-    | inl was ↦ let p = before.0 was in (p.0, (let lt = p.1 in omega arith), p.2)
-    | inr p ↦ ((let e = p.1 in omega arith), (let e = p.1 in omega arith), ap (λ i. get_or depths i 0) p.1 ∙ sym p.0)
-  ],
-  λ p. elim (ℕ_discrete x n) [
-    | yes e ↦ now.1 (inr (sym p.2 ∙ ap (λ i. get_or depths i 0) e, e))
-    | no apart ↦ now.1 (inl (before.1 (p.0, (let lt = p.1 in omega arith), p.2)))
-  ],
-)
+pub more-numbers : (depths noted : List ℕ) (old new : List (Vec ℕ Global)) (first i d x : ℕ) → i < length noted
+    → Contains (layer_at old d) x ↔ ((first ≤ x) × IsAmongFirst i noted x × (get_or depths x 0 ≡ d))
+    → Contains (layer_at new d) x ↔ (Contains (layer_at old d) x ⊎ ((first ≤ get_or noted i 0) × (d ≡ get_or depths (get_or noted i 0) 0) × (x ≡ get_or noted i 0)))
+    → Contains (layer_at new d) x ↔ ((first ≤ x) × IsAmongFirst (i + 1) noted x × (get_or depths x 0 ≡ d))
+more-numbers depths noted old new first i d x inside before now =
+    let n : ℕ = get_or noted i 0 in (
+      λ c. elim (now.0 c) [
+        | inl was ↦ let p = before.0 was in (p.0, (p.1.0, (let lt = p.1.1 in omega arith), p.1.2), p.2)
+        | inr p ↦
+            let same : x ≡ n = p.2 in
+            ((let le = p.0 in omega arith), (i, omega arith, get_or_default noted i x 0 inside ∙ sym same), ap (λ m. get_or depths m 0) same ∙ sym p.1)
+      ],
+      λ p. elim (ℕ_discrete p.1.0 i) [
+        | yes last ↦
+            let at : get_or noted i x ≡ x = ap (λ k. get_or noted k x) (sym last) ∙ p.1.2 in
+            let same : x ≡ n = sym at ∙ get_or_default noted i x 0 inside in
+            now.1 (inr ((let le = p.0 in omega arith), sym p.2 ∙ ap (λ m. get_or depths m 0) same, same))
+        | no apart ↦ now.1 (inl (before.1 (p.0, (p.1.0, (let lt = p.1.1 in omega arith), p.1.2), p.2)))
+      ],
+    )
 
 module _ (depths : List ℕ) (count first : ℕ) (layers : List (Vec ℕ Global)) (size : length layers ≡ count) (most : All (λ d. d ≤ count) depths)
     (has : (d x : ℕ) → d < count → Contains (layer_at layers d) x ↔ ((first ≤ x) × (x < length depths) × (get_or depths x 0 ≡ d))) where

@@ -5,7 +5,7 @@ use Rattle.std.specs.Prelude.{◌↔◌, All, min, slice_index_or}
 use Rattle.std.proofs.Math.Nat.{min-eq_left, min-eq_right}
 use Rattle.std.proofs.lemmas.Bool.{cases_eq, cases_lt}
 use Rattle.std.proofs.lemmas.List.{get_or_default, get_or_past, get_or_append_left, get_or-append_right, length-append}
-use Rattle.bit_tables.specs.Rule.{MeetsRule}
+use Rattle.bit_tables.specs.Rule.{HaveDepths, MeetsRule}
 use Rattle.bit_tables.specs.Narrow.{AreAlike, AreNarrowed, AreSmall, StandsFor}
 
 -- from one depth to a greater one the small numbers grow no more than the depths, and as much where they
@@ -179,6 +179,36 @@ module _ (depths small : List ℕ) (count most : ℕ) (is : AreSmall depths coun
       let le : get_or small k most ≤ most = (alike-count k).order.0 at in
       let same : get_or small k d ≡ get_or small k most = get_or_default small k d most lt in
       omega arith
+
+  -- the same numbers have a small depth below the small count
+  pub small-noted : (noted : List ℕ) → HaveDepths depths count noted → HaveDepths small most noted
+  small-noted noted has x = (
+    λ c.
+        let p = (has x).0 c in
+        let low : x < length small = (let lt = p.0 in omega (arith, lt, is.len)) in
+        let known : get_or depths x 0 ≡ get_or depths x count = get_or_default depths x 0 count p.0 in
+        let same : get_or small x 0 ≡ get_or small x most = get_or_default small x 0 most low in (
+          low,
+          elim (cases_lt (get_or small x 0) most) [
+            | inl below ↦ below
+            | inr le ↦
+                let wide : count ≤ get_or depths x count = (count-alike x).order.1 (omega arith) in
+                absurd (let lt = p.1 in omega arith)
+          ],
+        ),
+    λ p. (has x).1
+        (let low : x < length depths = (let lt = p.0 in omega (arith, lt, is.len)) in
+        let known : get_or depths x 0 ≡ get_or depths x count = get_or_default depths x 0 count low in
+        let same : get_or small x 0 ≡ get_or small x most = get_or_default small x 0 most p.0 in (
+          low,
+          elim (cases_lt (get_or depths x 0) count) [
+            | inl below ↦ below
+            | inr le ↦
+                let narrow : most ≤ get_or small x most = (count-alike x).order.0 (omega arith) in
+                absurd (let lt = p.1 in omega arith)
+          ],
+        )),
+  )
 
   pub meets-alike : (lists : List (List ℕ)) (first source : ℕ)
       → MeetsRule lists first source most (λ x. slice_index_or small x most) ↔ MeetsRule lists first source count (λ x. slice_index_or depths x count)

@@ -1,28 +1,26 @@
 -- Lists from their end on.
-use Rattle.std.proofs.Common.{◌≡◌, ℕ, ◌+◌, ◌/◌, ◌<◌, ◌≤◌, ◌⊎◌, ◌∙◌, List, [], ◌∷◌, ◌++◌, Some, length, get_or, set, ap, sym, subst, inl, inr, arith, get_or-set_same, get_or-set_other, length-set}
-use Rattle.std.specs.Prelude.{◌↔◌, slice_get}
+use Rattle.std.proofs.Common.{◌≡◌, ℕ, ◌+◌, ◌/◌, ◌<◌, ◌≤◌, ◌⊎◌, ◌∙◌, List, [], ◌∷◌, ◌++◌, Some, Vec, Global, length, get_or, set, ap, sym, subst, inl, inr, arith, get_or-set_same, get_or-set_other, length-set}
+use Rattle.std.specs.Prelude.{◌↔◌, slice_get, Contains}
 use Rattle.std.proofs.lemmas.Bool.{cases_eq, cases_lt}
 use Rattle.std.proofs.lemmas.List.{get_or_append_left, length-append}
 use Rattle.std.proofs.Math.Seq.{get_or-append_seam}
 use Rattle.std.proofs.lemmas.Option.{slice_get_within}
 use Rattle.bit_tables.specs.Sets.{Has}
-use Rattle.bit_tables.specs.Lists.{HasInOrder, HaveWidth, IsShown, IsTableOf, row_of}
-
--- from place i on the list has x
-abbrev pub StandsFrom : ℕ → List ℕ → ℕ → Type 0
-StandsFrom i w x = (j : ℕ) × (i ≤ j) × (slice_get w j ≡ Some x)
+use Rattle.bit_tables.specs.Lists.{HasInOrder, HasList, HaveWidth, IsShown, IsTableOf, row_of}
+use Rattle.bit_tables.specs.Backs.{IsAfter, IsBack, StandsFrom}
+use Rattle.bit_tables.specs.declared.noting.Back.{Back}
 
 -- from place i on the list has a at a lesser place than b
 abbrev pub InOrderFrom : ℕ → List ℕ → ℕ → ℕ → Type 0
 InOrderFrom i w a b = (p : ℕ) × (q : ℕ) × (i ≤ p) × (p < q) × (slice_get w p ≡ Some a) × (slice_get w q ≡ Some b)
 
--- `after` has what stands from i on
-abbrev pub IsAfter : ℕ → List ℕ → List ℕ → Type 0
-IsAfter i w after = (x : ℕ) → Has after x ↔ StandsFrom i w x
-
 -- the rows have what they had, and what the list shows from i on
 abbrev pub AreNoted : ℕ → List ℕ → List (List ℕ) → List (List ℕ) → Type 0
 AreNoted i w old rows = (a b : ℕ) → a < length old → Has (row_of rows a) b ↔ (Has (row_of old a) b ⊎ InOrderFrom i w a b)
+
+-- the rows have what they had, and what stands after the number at place i
+abbrev pub AreNotedAt : ℕ → List ℕ → List (List ℕ) → List (List ℕ) → Type 0
+AreNotedAt i w old rows = (a b : ℕ) → a < length old → Has (row_of rows a) b ↔ (Has (row_of old a) b ⊎ ((slice_get w i ≡ Some a) × StandsFrom (i + 1) w b))
 
 pub after_none : (w after : List ℕ) → ((x : ℕ) → ¬ Has after x) → IsAfter (length w) w after
 after_none w after none x =
@@ -63,56 +61,91 @@ module _ (i : ℕ) (w : List ℕ) (x : ℕ) (here : slice_get w i ≡ Some x) wh
         ]),
   )
 
-  pub noted_step : (after row : List ℕ) (old rows : List (List ℕ)) → x < length rows → length rows ≡ length old
-      → IsAfter (i + 1) w after → ((y : ℕ) → Has row y ↔ (Has (row_of rows x) y ⊎ Has after y))
-      → AreNoted (i + 1) w old rows → AreNoted i w old (set rows x row)
-  noted_step after row old rows within len is grown noted a b low =
-      elim (cases_eq a x) as (λ _. Has (row_of (set rows x row) a) b ↔ (Has (row_of old a) b ⊎ InOrderFrom i w a b)) [
+  -- the row of the number at the place has what it had, and what stands after it
+  pub row_step : (after row : List ℕ) (rows : List (List ℕ)) → x < length rows → IsAfter (i + 1) w after
+      → ((y : ℕ) → Has row y ↔ (Has (row_of rows x) y ⊎ Has after y)) → AreNotedAt i w rows (set rows x row)
+  row_step after row rows within is grown a b low =
+      elim (cases_eq a x) as (λ _. Has (row_of (set rows x row) a) b ↔ (Has (row_of rows a) b ⊎ ((slice_get w i ≡ Some a) × StandsFrom (i + 1) w b))) [
         | inl same ↦
             let whole : row_of (set rows x row) a ≡ row = ap (row_of (set rows x row)) same ∙ get_or-set_same rows x row [] within in
             rw whole (
               λ has. elim ((grown b).0 has) [
-                | inl was ↦
-                    elim ((noted a b low).0 (rw (← same) at was)) [
-                      | inl o ↦ inl o
-                      | inr s ↦ inr (s.0, s.1, (omega arith), s.3, s.4, s.5)
-                    ]
-                | inr later ↦
-                    let s = (is b).0 later in
-                    inr (i, s.0, (omega arith), (omega arith), here ∙ ap Some (sym same), s.2)
+                | inl was ↦ inl (rw same was)
+                | inr later ↦ inr (here ∙ ap Some (sym same), (is b).0 later)
               ],
-              λ h. (grown b).1
-                  (elim h [
-                    | inl o ↦ inl (rw same at ((noted a b low).1 (inl o)))
-                    | inr s ↦
-                        elim (cases_eq s.0 i) [
-                          | inl first ↦ inr ((is b).1 (s.1, (omega arith), s.5))
-                          | inr past ↦ inl (rw same at ((noted a b low).1 (inr (s.0, s.1, (omega arith), s.3, s.4, s.5))))
-                        ]
-                  ]),
+              λ h. (grown b).1 (elim h [ inl was ↦ inl (rw same at was) | inr s ↦ inr ((is b).1 s.1) ]),
             )
         | inr apart ↦
             let kept : row_of (set rows x row) a ≡ row_of rows a = get_or-set_other rows x a row [] apart in
             rw kept (
-              λ has. elim ((noted a b low).0 has) [
-                | inl o ↦ inl o
-                | inr s ↦ inr (s.0, s.1, (omega arith), s.3, s.4, s.5)
+              λ has. inl has,
+              λ h. elim h [
+                | inl was ↦ was
+                | inr s ↦ absurd (let at_i : slice_get w i ≡ Some a = s.0 in let is_x : a ≡ x = cc in apart is_x)
               ],
-              λ h. (noted a b low).1
-                  (elim h [
-                    | inl o ↦ inl o
-                    | inr s ↦
-                        elim (cases_eq s.0 i) [
-                          | inl first ↦
-                              absurd
-                              (let at_i : slice_get w i ≡ Some a = ap (slice_get w) (sym first) ∙ s.4 in
-                              let is_x : a ≡ x = cc in
-                              apart is_x)
-                          | inr past ↦ inr (s.0, s.1, (omega arith), s.3, s.4, s.5)
-                        ]
-                  ]),
             )
       ]
+
+  -- what is known of the list, one place more: the number is fresh, or stands in the known list before the others
+  pub back_step : (known : List ℕ) (b : Back) (after : List ℕ) (fresh : Vec ℕ Global) (places : Vec ℕ Global) (next : ℕ) → IsBack known w (i + 1) b
+      → ((y : ℕ) → Has after y ↔ (Has b.after y ⊎ (y ≡ x)))
+      → ((y : ℕ) → Contains b.fresh.items y → Contains fresh.items y)
+      → ((y : ℕ) → Contains fresh.items y → Contains b.fresh.items y ⊎ (x ≡ y))
+      → next ≤ b.next → Contains fresh.items x ⊎ StandsFrom next known x
+      → IsBack known w i (record { after = after; fresh = fresh; places = places; next = next })
+  back_step known b after fresh places next is grown more only earlier named = record {
+    after = after_step b.after after is.after grown;
+    fresh = λ y contains. (grown y).1 (elim (only y contains) [ inl old ↦ inl (is.fresh y old) | inr e ↦ inr (sym e) ]);
+    kept = λ y has. elim ((grown y).0 has) [
+      | inl old ↦ elim (is.kept y old) [
+        | inl contains ↦ inl (more y contains)
+        | inr stands ↦ inr (stands.0, omega (arith, earlier, stands.1), stands.2)
+      ]
+      | inr e ↦ subst (λ z. Contains fresh.items z ⊎ StandsFrom next known z) (sym e) named
+    ];
+  }
+
+-- one place more of the list is noted
+pub noted_step : (i : ℕ) (w : List ℕ) (old rows new : List (List ℕ)) → length rows ≡ length old → AreNotedAt i w rows new → AreNoted (i + 1) w old rows → AreNoted i w old new
+noted_step i w old rows new len one noted a b low = (
+  λ has. elim ((one a b (omega (arith, low, len))).0 has) [
+    | inl was ↦ elim ((noted a b low).0 was) [
+      | inl o ↦ inl o
+      | inr s ↦ inr (s.0, s.1, (omega arith), s.3, s.4, s.5)
+    ]
+    | inr s ↦ let later = s.1 in inr (i, later.0, (omega arith), (omega arith), s.0, later.2)
+  ],
+  λ h. (one a b (omega (arith, low, len))).1
+      (elim h [
+        | inl o ↦ inl ((noted a b low).1 (inl o))
+        | inr s ↦
+            elim (cases_eq s.0 i) [
+              | inl first ↦ inr (ap (slice_get w) (sym first) ∙ s.4, (s.1, omega arith, s.5))
+              | inr past ↦ inl ((noted a b low).1 (inr (s.0, s.1, (omega arith), s.3, s.4, s.5)))
+            ]
+      ]),
+)
+
+-- what the rows have of a list, they have when more is noted
+pub list_stays : (known : List ℕ) (i : ℕ) (w : List ℕ) (old new : List (List ℕ)) → length new ≡ length old → AreNoted i w old new → HasList old known → HasList new known
+list_stays known i w old new len noted has a b low shown = (noted a b (omega (arith, low, len))).1 (inl (has a b (omega (arith, low, len)) shown))
+
+-- a number that stands in the known list before the place `next` has in its row all that is kept, and has all with the fresh ones
+pub kept_grown : (known w : List ℕ) (j place x : ℕ) (b : Back) (rows : List (List ℕ)) (row : List ℕ) → x < length rows → HasList rows known → IsBack known w j b
+    → place < b.next → slice_get known place ≡ Some x
+    → ((y : ℕ) → Has (row_of rows x) y → Has row y) → ((y : ℕ) → Contains b.fresh.items y → Has row y)
+    → ((y : ℕ) → Has row y → Has (row_of rows x) y ⊎ Has b.after y)
+    → (y : ℕ) → Has row y ↔ (Has (row_of rows x) y ⊎ Has b.after y)
+kept_grown known w j place x b rows row within has back before there stays few only y = (
+  only y,
+  λ h. elim h [
+    | inl was ↦ stays y was
+    | inr after ↦ elim (back.kept y after) [
+      | inl contains ↦ few y contains
+      | inr stands ↦ stays y (has x y within (place, stands.0, omega (arith, before, stands.1), there, stands.2))
+    ]
+  ],
+)
 
 pub width_set : (width : ℕ) (rows : List (List ℕ)) (x : ℕ) (row : List ℕ) → HaveWidth width rows → length row ≡ width → HaveWidth width (set rows x row)
 width_set width rows x row all same a within =

@@ -1,9 +1,9 @@
 -- Sets as words.
-use Rattle.std.proofs.Common.{◌≡◌, ℕ, ◌+◌, ◌*◌, ◌/◌, ◌%◌, ◌^◌, ◌<◌, ◌⊎◌, List, length, get_or, set, eqb, true, replicate, ◌∙◌, ap, sym, inl, inr, arith, min, max, eq-eqb, eqb-true, get_or-set_same, get_or-set_other, w64}
+use Rattle.std.proofs.Common.{◌≡◌, ℕ, ◌+◌, ◌-◌, ◌*◌, ◌/◌, ◌%◌, ◌^◌, ◌<◌, ◌≤◌, ◌⊎◌, List, length, get_or, set, eqb, true, replicate, ◌∙◌, ap, sym, inl, inr, arith, min, max, eq-eqb, eqb-true, get_or-set_same, get_or-set_other, w64}
 use Rattle.std.proofs.lemmas.Bool.{cases_eq, cases_lt}
 use Rattle.std.proofs.lemmas.List.{get_or-replicate, get_or_past, length-replicate}
 use Rattle.std.proofs.lemmas.Nat.{and_le_l}
-use Rattle.std.proofs.lemmas.Nat.Bits.{bit_at_or, bit_at_and, bit_at-zero, bit_at-lt, bit_at_set_same, bit_at_set_other, shr_and_one, same_from_bits_below}
+use Rattle.std.proofs.lemmas.Nat.Bits.{bit_at_or, bit_at_and, bit_at_ones, bit_at-zero, bit_at-lt, bit_at_set_same, bit_at_set_other, shr_and_one, same_from_bits_below}
 use Rattle.std.specs.Prelude.{bit_and, bit_or, ◌↔◌}
 use Rattle.std.specs.Int.{bit_at}
 use Rattle.bit_tables.specs.Sets.{Has, room}
@@ -74,6 +74,22 @@ Has-join old new other len same each x =
           let none_old : ¬ Has old x = Has-zero old x (get_or_past old (x / 64) 0 (omega arith)) in
           let none_other : ¬ Has other x = Has-zero other x (get_or_past other (x / 64) 0 (omega arith)) in
           (λ h. absurd (none_new h), λ h. elim h [ inl a ↦ absurd (none_old a) | inr b ↦ absurd (none_other b) ])
+    ]
+
+-- first words whose bits are all 1
+pub Has-filled : (old new : List ℕ) (count : ℕ) → ((k : ℕ) → k < count → get_or new k 0 ≡ 2 ^ 64 - 1) → ((k : ℕ) → count ≤ k → get_or new k 0 ≡ get_or old k 0)
+    → (x : ℕ) → Has new x ↔ (Has old x ⊎ (x / 64 < count))
+unfolding Has
+Has-filled old new count full rest x =
+    elim (cases_lt (x / 64) count) [
+      | inl within ↦
+          let one : bit_at (get_or new (x / 64) 0) (x % 64) ≡ 1 =
+          ap (λ w. bit_at w (x % 64)) (full (x / 64) within) ∙ bit_at_ones 64 (x % 64) (omega arith) in
+          (λ h. inr within, λ h. one)
+      | inr past ↦
+          let same : bit_at (get_or new (x / 64) 0) (x % 64) ≡ bit_at (get_or old (x / 64) 0) (x % 64) =
+          ap (λ w. bit_at w (x % 64)) (rest (x / 64) past) in
+          (λ h. inl (sym same ∙ h), λ h. elim h [ inl was ↦ same ∙ was | inr low ↦ absurd (omega (arith, past, low)) ])
     ]
 
 -- words whose bits are among those of others

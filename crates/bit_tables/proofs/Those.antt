@@ -130,21 +130,3 @@ module _ (set other : List ℕ) (word a b : ℕ) (one : a ≡ get_or set word 0)
   lacking-test i low =
       let each = lacking-has i low in
       rw (shr_and_one) (λ t. each.0 (eqb-true _ 1 t), λ h. eq-eqb _ 1 (each.1 h))
-
--- one row more, turned
-pub turned_step : (n b x y : ℕ) (none numbers : List ℕ) (before old new : List (List ℕ)) → x < n → ((z : ℕ) → ¬ Has none z)
-    → AreThoseBelow (λ z. Has (row_of before b) z × (¬ Has none z)) n numbers
-    → Has (row_of old x) y ↔ ((y < b) × Has (row_of before y) x) → Has (row_of new x) y ↔ (Has (row_of old x) y ⊎ (Contains numbers x × (y ≡ b)))
-    → Has (row_of new x) y ↔ ((y < b + 1) × Has (row_of before y) x)
-turned_step n b x y none numbers before old new low empty are was grown = (
-  λ has. elim (grown.0 has) [
-    | inl o ↦ (let p = was.0 o in (omega (arith, p.0), p.1))
-    | inr p ↦
-        let here : Has (row_of before b) x = ((are.has x).0 p.0).1.0 in
-        (omega (arith, p.1), subst (λ c. Has (row_of before c) x) (sym p.1) here)
-  ],
-  λ p. elim (cases_eq y b) [
-    | inl e ↦ grown.1 (inr ((are.has x).1 (low, (subst (λ c. Has (row_of before c) x) e p.1, empty x)), e))
-    | inr other ↦ grown.1 (inl (was.1 (omega (arith, p.0, other), p.1)))
-  ],
-)

@@ -22,6 +22,10 @@ row_of rows a = slice_index_or rows a []
 abbrev pub HaveWidth : ℕ → List (List ℕ) → Type 0
 HaveWidth width rows = (a : ℕ) → a < length rows → length (row_of rows a) ≡ width
 
+-- the rows have what the list shows
+abbrev pub HasList : List (List ℕ) → List ℕ → Type 0
+HasList rows w = (a b : ℕ) → a < length rows → HasInOrder w a b → Has (row_of rows a) b
+
 -- the table has a row for each number below n, of those that stand after it in some list
 pub record IsTableOf (n : ℕ) (lists rows : List (List ℕ)) : Type 0 where
   pub len : length rows ≡ n

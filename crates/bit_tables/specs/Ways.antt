@@ -1,8 +1,8 @@
 -- Ways along a table of which numbers stand after which, through the numbers from a first one on.
-use Rattle.std.specs.Prelude.{◌≡◌, ℕ, zero, suc, ◌+◌, ◌/◌, ◌<◌, ◌≤◌, ◌↔◌, List, Contains, length}
+use Rattle.std.specs.Prelude.{◌≡◌, ℕ, zero, suc, ◌<◌, ◌≤◌, ◌↔◌, List, Contains}
 use Rattle.std.specs.List.Sorted.{IsStrictlyIncreasing}
 use Rattle.bit_tables.specs.Sets.{Has}
-use Rattle.bit_tables.specs.Lists.{HaveWidth, row_of}
+use Rattle.bit_tables.specs.Lists.{row_of}
 
 -- the numbers below m that meet a condition, in rising order
 pub record AreThoseBelow (P : ℕ → Type 0) (m : ℕ) (numbers : List ℕ) : Type 0 where
@@ -32,9 +32,3 @@ pub record IsDistance (rows : List (List ℕ)) (first n a b : ℕ) : Type 0 wher
 -- the numbers below n at this distance from the source, in rising order
 abbrev pub IsLayerAt : ℕ → List (List ℕ) → ℕ → ℕ → ℕ → List ℕ → Type 0
 IsLayerAt n rows first source d layer = AreThoseBelow (IsDistance rows first d source) n layer
-
--- what stands after each number in one table stands before it in the other
-pub record IsTurned (rows turned : List (List ℕ)) : Type 0 where
-  pub len : length turned ≡ length rows
-  pub width : HaveWidth (length rows / 64 + 1) turned
-  pub shown : (a b : ℕ) → a < length rows → b < length rows → Has (row_of turned a) b ↔ Has (row_of rows b) a

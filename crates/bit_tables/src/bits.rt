@@ -5,7 +5,7 @@ ghost use Rattle.std.specs.Prelude.{IsTrue, true, List, [], ◌∷◌, ◌++◌,
 ghost use Rattle.bit_tables.specs.Sets.{Has, room};
 ghost use Rattle.bit_tables.specs.Ways.{AreThoseBelow, IsOutside};
 
-use super::words::{empty, is_within, join};
+use super::words::{empty, fill, is_within, join};
 use std::alloc::{AllocError, Global};
 use std::marker::Model;
 
@@ -40,6 +40,27 @@ impl BitSet {
     {
         let word = self.words[n / 64];
         self.words[n / 64] = word | 1u64 << (n % 64);
+    }
+
+    /// Adds the numbers below `n`. It takes a step for each 64 of them, and at most 63 more.
+    pub fn add_below(&mut self, n: usize)
+        requires { n ≤ room self.old }
+        ensures len { length self.new ≡ length self.old }
+        ensures has { (x : ℕ) → Has self.new x ↔ (Has self.old x ⊎ (x < n)) }
+    {
+        self.add_words(n / 64);
+        for x in n / 64 * 64..n {
+            self.insert(x);
+        }
+    }
+
+    /// Adds the 64 numbers of each of so many first words.
+    fn add_words(&mut self, count: usize)
+        requires { count ≤ length self.old }
+        ensures len { length self.new ≡ length self.old }
+        ensures has { (x : ℕ) → Has self.new x ↔ (Has self.old x ⊎ (x / 64 < count)) }
+    {
+        fill(&mut self.words, count);
     }
 
     /// Whether it has a number.

@@ -21,17 +21,6 @@ pub fn add_layer(into: &mut BitSet, layer: &[u32])
     }
 }
 
-/// Adds the numbers below `first`.
-fn add_below(into: &mut BitSet, first: usize)
-    requires { first ≤ room into.old }
-    ensures len { length into.new ≡ length into.old }
-    ensures has { (y : ℕ) → Has into.new y ↔ (Has into.old y ⊎ (y < first)) }
-{
-    'numbers: for x in 0..first {
-        into.insert(x);
-    }
-}
-
 /// Adds what stands after a number of the layer in some list.
 pub fn add_successors(into: &mut BitSet, table: &AfterTable, layer: &[u32])
     requires within { All (λ x. x < length table.now) layer.now }
@@ -49,8 +38,7 @@ pub fn add_successors(into: &mut BitSet, table: &AfterTable, layer: &[u32])
 /// than one layer deeper than one that stands before it in some list of the table, and what stands before the
 /// source is in no layer. Of the numbers below `first` nothing is asked, as if they stood in no list.
 ///
-/// It takes a step for each number below `first`, `n / 64` steps for each number in the layers and each
-/// layer, and two sets of memory.
+/// It takes `n / 64` steps for each number in the layers and each layer, and two sets of memory.
 pub fn meets_rule(
     alloc: Global,
     table: &AfterTable,
@@ -69,7 +57,7 @@ pub fn meets_rule(
         → IsTrue meets ↔ MeetsRule lists first source (length layers.now) depth) }
 {
     let mut standing = BitSet::new(alloc, n)?;
-    add_below(&mut standing, first);
+    standing.add_below(first);
     let mut shown = BitSet::new(alloc, n)?;
     'layers: for layer in layers {
         add_layer(&mut standing, layer);

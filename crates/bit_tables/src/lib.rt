@@ -4,17 +4,21 @@
 
 mod bits;
 mod depths;
+mod few;
 mod layers;
 mod lists;
 mod narrow;
+mod noting;
 mod table;
 mod ways;
 mod words;
 
 pub use bits::BitSet;
 pub use depths::are_deep;
+pub use few::add_few;
 pub use layers::meets_rule;
 pub use lists::empty_lists;
+pub use noting::Noter;
 pub use table::{AfterTable, empty_rows};
 pub use ways::layers_from;
 

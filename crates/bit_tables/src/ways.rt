@@ -19,9 +19,7 @@ fn numbers_below(alloc: Global, n: u32, first: u32) -> Result<BitSet, AllocError
     ensures has { IfOk result (λ s. (x : ℕ) → Has s x ↔ (x < first)) }
 {
     let mut numbers = BitSet::new(alloc, n as usize)?;
-    for x in 0..first {
-        numbers.insert(x as usize);
-    }
+    numbers.add_below(first as usize);
     Ok(numbers)
 }
 

@@ -1,6 +1,6 @@
 //! Words of bits.
 
-ghost use Rattle.std.specs.Prelude.{◌≡◌, ◌<◌, ◌↔◌, ℕ, IsTrue, bit_or, length, slice_index};
+ghost use Rattle.std.specs.Prelude.{◌≡◌, ◌<◌, ◌≤◌, ◌-◌, ◌^◌, ◌↔◌, ℕ, IsTrue, bit_or, length, slice_index};
 ghost use Rattle.bit_tables.specs.Sets.{Has};
 
 /// Adds the bits of `from` to those of `into`, word by word.
@@ -35,5 +35,17 @@ pub fn empty(words: &mut [u64])
 {
     for word in words.iter_mut() {
         *word = 0;
+    }
+}
+
+/// Makes each bit of so many first words 1.
+pub fn fill(words: &mut [u64], count: usize)
+    requires { count ≤ length words.old }
+    ensures len { length words.new ≡ length words.old }
+    ensures full { (k : ℕ) → k < count → slice_index words.new k ≡ 2 ^ 64 - 1 }
+    ensures rest { (k : ℕ) → count ≤ k → slice_index words.new k ≡ slice_index words.old k }
+{
+    'words: for k in 0..count {
+        words[k] = u64::MAX;
     }
 }

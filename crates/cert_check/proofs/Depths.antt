@@ -2,11 +2,13 @@
 use Rattle.std.proofs.Common.{◌≡◌, ◌≢◌, ℕ, suc, ◌+◌, ◌-◌, ◌<◌, ◌≤◌, ◌⊎◌, inl, inr, Bool, true, false, cond, Some, None, List, [], ◌∷◌, ◌++◌, map, length, get_or, refl, sym, ◌∙◌, ap, subst, arith}
 use Rattle.std.specs.Prelude.{All, AllPairs, Contains, unwrap_or, slice_get, slice_index, bytes_eq, nat_lt, ◌||◌}
 use Rattle.std.specs.List.{list_any, position_or_len}
-use Rattle.std.proofs.lemmas.Bool.{cases_lt, false_from_ne_true}
-use Rattle.std.proofs.lemmas.Option.{slice_get-get_or}
+use Rattle.std.proofs.lemmas.Bool.{false_from_ne_true}
+use Rattle.std.proofs.lemmas.Option.{slice_get-get_or, slice_get_within}
 use Rattle.std.proofs.lemmas.List.{map-append}
+use Rattle.std.proofs.lemmas.List.Elements.{All-contains, Contains-get_or}
 use Rattle.std.specs.Cmp.Lexicographic.{bytes_decides}
 use native.Mathlib.Decide.{ℕ_discrete}
+use Rattle.bit_tables.specs.Rule.{HaveDepths}
 use Rattle.events.specs.Names.{NameBytes}
 use Rattle.events.specs.History.{History}
 use Rattle.events.specs.Operations.{response}
@@ -21,7 +23,7 @@ use Rattle.specification.proofs.Strong.{returned_of}
 use Rattle.cert_check.proofs.NotedNames.{noted_name}
 use Rattle.cert_check.proofs.Listed.{In-map_back, Before-map, Before-map_back, number_of_member, number_at_place, once-elements, known-response, each_response, each_list}
 use Rattle.cert_check.specs.Noted.{Noted, Holds, CanBeNoted, at_depth, pairs_from}
-use Rattle.cert_check.specs.Values.{IsGradualFrom, IsDeepFrom, AreUnsetBelow}
+use Rattle.cert_check.specs.Values.{IsGradualFrom, IsDeepFrom}
 use Rattle.cert_check.specs.Numbering.{IsOf, AreDeepAt, lists_of}
 use Rattle.cert_check.proofs.RulesFrom.{MeetsRuleFrom}
 use Rattle.cert_check.specs.declared.numbered.Numbered.{Numbered}
@@ -213,31 +215,30 @@ module _ (names : List NameBytes) (k : ℕ) (row : Row) (depths : List ℕ) (siz
           let ev : value x ≡ slice_index depths n = ap (slice_index depths) en in
           omega arith
 
--- no name of a row is numbered below the first that counts where no depth is noted below it
-module _ (names : List NameBytes) (unset first : ℕ) (row : Row) (depths : List ℕ) (once : Once names) (holds : Holds names unset (pairs_from 0 row) depths) where
-  pub from_unset : AreUnsetBelow first unset depths → (x : NameBytes) → In x (row_names row) → first ≤ number names x
-  from_unset none x i =
+-- no name of a row is numbered below the first that counts where no noted number is below it
+module _ (names : List NameBytes) (unset first : ℕ) (row : Row) (depths noted : List ℕ) (once : Once names) (holds : Holds names unset (pairs_from 0 row) depths)
+    (has : HaveDepths depths unset noted) where
+  pub names_from : All (λ n. first ≤ n) noted → (x : NameBytes) → In x (row_names row) → first ≤ number names x
+  names_from all x i =
       let s = noted_name x (pairs_from 0 row) (subst (λ l. In x l) (sym (names_of_pairs 0 row)) i) in
       let at : slice_get names (number names x) ≡ Some x = number_of_member names x once (holds.can.elements (x, s.0) s.1) in
       let h = holds.here (x, s.0) (number names x) s.1 at in
       let is : slice_index depths (number names x) ≡ s.0 = h.0 in
       let lt : s.0 < unset = h.1 in
-      elim (cases_lt (number names x) first) [
-        | inl low ↦ let e : slice_index depths (number names x) ≡ unset = none (number names x) low in absurd (omega arith)
-        | inr high ↦ high
-      ]
+      let within : number names x < length depths = omega (arith, slice_get_within names (number names x) x at, holds.size) in
+      All-contains (λ n. first ≤ n) noted (number names x) all ((has (number names x)).1 (within, omega (arith, is, lt)))
 
-  pub unset_from : first ≤ length names → ((x : NameBytes) → In x (row_names row) → first ≤ number names x) → AreUnsetBelow first unset depths
-  unset_from within all x low = elim (ℕ_discrete (slice_index depths x) unset) [
-    | yes e ↦ e
-    | no n ↦
-        let b : NameBytes = get_or names x [] in
-        let at : slice_get names x ≡ Some b = slice_get-get_or names x [] (omega (arith, low, within)) in
-        let i : In b (row_names row) = subst (λ l. In b l) (names_of_pairs 0 row) (In-map (λ (p : Noted). p.0) (b, slice_index depths x) (pairs_from 0 row) (holds.others b x at n)) in
-        let high : first ≤ number names b = all b i in
-        let e : number names b ≡ x = number_at_place names x b once at in
-        absurd (omega arith)
-  ]
+  pub noted_from : ((x : NameBytes) → In x (row_names row) → first ≤ number names x) → All (λ n. first ≤ n) noted
+  noted_from all k d lt =
+      let n : ℕ = get_or noted k d in
+      let p = (has n).0 (Contains-get_or noted k d lt) in
+      let b : NameBytes = get_or names n [] in
+      let at : slice_get names n ≡ Some b = slice_get-get_or names n [] (omega (arith, p.0, holds.size)) in
+      let set : slice_index depths n ≢ unset = λ e. (let low = p.1 in omega arith) in
+      let i : In b (row_names row) = subst (λ l. In b l) (names_of_pairs 0 row) (In-map (λ (q : Noted). q.0) (b, slice_index depths n) (pairs_from 0 row) (holds.others b n at set)) in
+      let high : first ≤ number names b = all b i in
+      let e : number names b ≡ n = number_at_place names n b once at in
+      omega arith
 
 -- along all lists the depths decide the rule
 module _ (h : History) (t : Numbered) (of : IsOf h t) (k first : ℕ) (row : Row) (depths : List ℕ) (size : length row + 1 ≡ k) (holds : Holds (elements h) (k - 1) (pairs_from 0 row) depths)
@@ -245,14 +246,14 @@ module _ (h : History) (t : Numbered) (of : IsOf h t) (k first : ℕ) (row : Row
   once : Once (elements h)
   once = once-elements h of.legal of.sound
 
-  pub rule_from_lists : AreUnsetBelow first (k - 1) depths → ((j : ℕ) → j < length (lists_of t) → AreDeepAt t depths first source (k - 1) j) → MeetsRuleFrom (responses_of h) first k a row
-  rule_from_lists unset all = record {
+  pub rule_from_lists : ((x : NameBytes) → In x (row_names row) → first ≤ number (elements h) x) → ((j : ℕ) → j < length (lists_of t) → AreDeepAt t depths first source (k - 1) j) → MeetsRuleFrom (responses_of h) first k a row
+  rule_from_lists from all = record {
     of_elements = rule_elements (elements h) row holds.can;
-    from = from_unset (elements h) (k - 1) first row depths once holds unset;
+    from = from;
     once = rule_once (elements h) row holds.can;
-    gradual = λ r i x y high from p.
+    gradual = λ r i x y high more p.
         let s = each_response h t of (IsGradualFrom first depths) (λ j lt. (all j lt).0) r i in
-        gradual_names (elements h) k row depths size once holds (response h r.by) (known-response h of.legal of.sound r.by s.0) first s.2 x y high from
+        gradual_names (elements h) k row depths size once holds (response h r.by) (known-response h of.legal of.sound r.by s.0) first s.2 x y high more
         (subst (λ (w : List NameBytes). HasInOrder w x y) s.1 p);
     deep = λ r i x high p.
         let s = each_response h t of (IsDeepFrom first depths source (k - 1)) (λ j lt. (all j lt).1) r i in

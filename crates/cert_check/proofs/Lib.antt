@@ -7,10 +7,10 @@ pub mod TextLines
 pub mod FaultReasons
 pub mod Listed
 pub mod Ranks
+pub mod RowNumbers
 pub mod Noting
 pub mod RulesFrom
 pub mod Depths
-pub mod PartLemmas
 pub mod TableRule
 pub mod Rings
 pub mod StepsRight

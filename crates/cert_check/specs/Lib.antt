@@ -3,6 +3,7 @@ pub mod AnswerOf
 pub mod Values
 pub mod Numbering
 pub mod Noted
+pub mod RowDepths
 pub mod RowWords
 pub mod Ring
 pub mod Judged

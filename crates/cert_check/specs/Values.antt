@@ -1,5 +1,5 @@
 -- Values that stand along a list of elements' numbers.
-use Rattle.std.specs.Prelude.{◌≡◌, ℕ, ◌+◌, ◌<◌, ◌≤◌, List, slice_index}
+use Rattle.std.specs.Prelude.{ℕ, ◌+◌, ◌<◌, ◌≤◌, List, slice_index}
 use Rattle.specification.specs.Members.{Before}
 
 -- each value is above those before it
@@ -13,7 +13,3 @@ IsGradualFrom first values places = (x y : ℕ) → first ≤ x → first ≤ y 
 -- of the places from the first on that counts, what stands before the source has at least this value
 abbrev pub IsDeepFrom : ℕ → List ℕ → ℕ → ℕ → List ℕ → Type 0
 IsDeepFrom first values source bound places = (x : ℕ) → first ≤ x → Before x source places → bound ≤ slice_index values x
-
--- the places below the first that counts have this value, which stands for none
-abbrev pub AreUnsetBelow : ℕ → ℕ → List ℕ → Type 0
-AreUnsetBelow first unset values = (x : ℕ) → x < first → slice_index values x ≡ unset

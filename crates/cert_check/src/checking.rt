@@ -16,13 +16,15 @@ use trace_text::{Cause, read};
 /// first line names; where not, the first reason.
 ///
 /// It searches nothing. Beyond reading the texts and looking for a fault, a step of a certificate costs the
-/// response of its operation, and a row the n elements of the recording, and `n / 64` steps for each of its
-/// names and layers; one of more than n layers also the sorting of their depths, about `n * log n` steps. So
-/// it is in both versions; the rows of version two have about half as many names. For the rows a table is
-/// made once, in `n / 64` steps for each place of a response. Contents are checked on all processors. Its
-/// memory is linear in the texts but for that table, which takes `n * n / 8` bytes, 2 MB for 4,096 elements
-/// and 512 MB for 65,536. Out of memory is answered only where a line of the trace takes memory, or where the
-/// trace spells a recording and the certificate's text a certificate.
+/// response of its operation, and a row a step for each of its words, and for each of its names and layers
+/// `n / 64`, n being the number of elements of the recording; one of more than n layers also the sorting of n
+/// depths, about `n * log n` steps. So it is in both versions; the rows of version two have about half as many
+/// names. For the rows a table is made once: a place of a response costs a step, and one for each new element
+/// behind it, up to 64; where there are more, or its own is new, `n / 64` steps. New is an element that the
+/// response before has not, or in another order. Contents are checked on all processors. Its memory is linear
+/// in the texts but for that table, which takes `n * n / 8` bytes, 2 MB for 4,096 elements and 512 MB for
+/// 65,536. Out of memory is answered only where a line of the trace takes memory, or where the trace spells a
+/// recording and the certificate's text a certificate.
 pub fn check<H: Threads + Sync>(
     rt: &H,
     alloc: Global,
@@ -52,8 +54,8 @@ pub fn check<H: Threads + Sync>(
 ///
 /// It costs what `check` does but for the reading of the trace. Beside the recording and the certificate's
 /// text it keeps what is visible in the recording, the numbers of the elements and of the places, the table
-/// for the rows, and of one row at a time the depths, the layers (at most `2 * n + 2` lists) and the two sets
-/// of `are_deep`.
+/// and the depths for the rows, and of one row at a time the numbers that have a depth, the layers (at most
+/// `2 * n + 2` lists) and the two sets of `are_deep`.
 pub fn check_recording<H: Threads + Sync>(
     rt: &H,
     alloc: Global,

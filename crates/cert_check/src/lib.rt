@@ -12,7 +12,7 @@ mod judging;
 mod laws;
 mod numbered;
 mod order;
-mod parts;
+mod row_depths;
 mod rows;
 mod shown;
 mod steps;

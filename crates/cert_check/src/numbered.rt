@@ -1,5 +1,6 @@
 //! A recording's elements by number, and its responses as lists of numbers.
 
+use super::row_depths::RowDepths;
 use super::values::is_rising;
 use element_numbers::{Rows, inserted_names, numbers_of, places_of};
 use events::{Memory, Name, OpName, Recording};
@@ -27,18 +28,19 @@ pub struct Numbered {
     pub places: Rows<u32>,
 }
 
-ghost use Rattle.std.specs.Prelude.{◌≡◌, ◌+◌, ◌-◌, ◌<◌, ◌≤◌, ◌∷◌, ◌++◌, ◌↔◌, ◌^◌, [], ℕ, List, All, IfOk};
+ghost use Rattle.std.specs.Prelude.{◌≡◌, ◌+◌, ◌<◌, ◌≤◌, ◌∷◌, ◌++◌, ◌↔◌, ◌^◌, [], ℕ, List, All, IfOk};
 ghost use Rattle.std.specs.Prelude.{IfSome, IsPermutation, IsTrue, MatchBool, MatchOption, length, map};
 ghost use Rattle.std.specs.Prelude.{slice_get, slice_index, Some, None};
 ghost use Rattle.events.specs.Names.{IsName};
 ghost use Rattle.specification.specs.Elements.{number_in};
 ghost use Rattle.specification.specs.Faults.{IsSound};
-ghost use Rattle.specification.specs.LayerRule.{Row};
+ghost use Rattle.bit_tables.specs.Rule.{HaveDepths};
 ghost use Rattle.format_words.specs.Words.{words_behind};
 ghost use Rattle.element_numbers.specs.Cuts.{IsCut};
 ghost use Rattle.cert_check.specs.Numbering.{IsNumbering, IsOf, AreWithin, lists_of, places_at};
-ghost use Rattle.cert_check.specs.Noted.{Noted, Holds, CanBeNoted, pairs_from, placed_from};
-ghost use Rattle.cert_check.specs.RowWords.{GoesOn, IsRowWord, SaysRow, Stops, pairs_of, slashes};
+ghost use Rattle.cert_check.specs.Noted.{Noted, Holds, CanBeNoted, placed_from};
+ghost use Rattle.cert_check.specs.RowDepths.{IsUnset, IsWritten};
+ghost use Rattle.cert_check.specs.RowWords.{GoesOn, IsRowWord, Stops, pairs_of, slashes};
 ghost use Rattle.cert_check.specs.Values.{IsRising};
 
 impl Numbered {
@@ -106,6 +108,7 @@ impl Numbered {
             MatchOption result
             (IsName word.now → ¬ CanBeNoted self.now.names.items (noted ++ (word.now, value) ∷ []))
             (λ _. Holds self.now.names.items unset (noted ++ (word.now, value) ∷ []) values.new) }
+        ensures written { IfSome result (λ n. IsWritten values.old unset n value values.new) }
     {
         let Some(number) = self.find(likely, word) else {
             return None;
@@ -119,46 +122,60 @@ impl Numbered {
 
     /// Goes on by one word of a row: `/` ends a layer, and a name's depth is noted. None where the name cannot
     /// be noted, or a layer too many begins.
-    fn note_word(&self, depths: &mut [u32], unset: u32, at: Place, word: &[u8]) -> Option<Place>
+    fn note_word(
+        &self,
+        row: &mut RowDepths,
+        unset: u32,
+        at: Place,
+        word: &[u8],
+    ) -> Result<Option<Place>, Memory>
         requires numbering { IsNumbering self.now }
-        requires room { length depths.old ≡ length self.now.names.items }
+        requires room { length row.old.depths.items ≡ length self.now.names.items }
+        requires numbers { HaveDepths row.old.depths.items unset row.old.noted.items }
         requires below { at.depth < unset }
-        ensures room { length depths.new ≡ length depths.old }
-        ensures below { IfSome result (λ next. next.depth < unset) }
-        ensures noted { (noted : List Noted) → Holds self.now.names.items unset noted depths.old
-            → MatchOption result
+        ensures below { IfOk result (λ found. IfSome found (λ next. next.depth < unset)) }
+        ensures numbers { IfOk result (λ found. IfSome found (λ _.
+            HaveDepths row.new.depths.items unset row.new.noted.items)) }
+        ensures noted { IfOk result (λ found. (noted : List Noted)
+            → Holds self.now.names.items unset noted row.old.depths.items → MatchOption found
             (IsRowWord word.now → Stops self.now.names.items unset noted at.depth word.now)
-            (λ next. GoesOn self.now.names.items unset noted at.depth word.now depths.new next.depth) }
+            (λ next. GoesOn self.now.names.items unset noted at.depth word.now row.new.depths.items
+            next.depth)) }
     {
         if word == b"/".as_slice() {
             let depth = at.depth + 1;
             if depth == unset {
-                return None;
+                return Ok(None);
             }
-            return Some(Place {
+            return Ok(Some(Place {
                 depth,
                 likely: at.likely,
-            });
+            }));
         }
-        let Some(number) = self.note(depths, at.likely, word, at.depth, unset) else {
-            return None;
+        let Some(number) = self.note(&mut row.depths, at.likely, word, at.depth, unset) else {
+            return Ok(None);
         };
-        Some(Place {
+        row.noted.push(number)?;
+        Ok(Some(Place {
             depth: at.depth,
             likely: number.saturating_add(1),
-        })
+        }))
     }
 
-    /// Notes the depths of a row's names, whose words these are. False where a name is no element's or stands
-    /// twice.
-    fn note_row(&self, depths: &mut [u32], unset: u32, words: &[u8]) -> bool
+    /// Notes the depths of a row's names, and their numbers. False where a name is no element's or stands
+    /// twice, or where there are too many layers. The row is given by its line after `layers`; it is read no
+    /// further than that.
+    pub fn note_row(&self, row: &mut RowDepths, unset: u32, words: &[u8]) -> Result<bool, Memory>
         requires numbering { IsNumbering self.now }
-        requires fresh { Holds self.now.names.items unset [] depths.old }
+        requires fresh { IsUnset (length self.now.names.items) unset row.old }
         requires some { 0 < unset }
-        ensures { MatchBool result
-            (Holds self.now.names.items unset (pairs_of 0 (words_behind words.now)) depths.new)
+        ensures row { IfOk result (λ noted. MatchBool noted
+            (Holds self.now.names.items unset (pairs_of 0 (words_behind words.now))
+            row.new.depths.items)
             (All IsRowWord (words_behind words.now) → slashes (words_behind words.now) < unset
-            → ¬ CanBeNoted self.now.names.items (pairs_of 0 (words_behind words.now))) }
+            → ¬ CanBeNoted self.now.names.items (pairs_of 0 (words_behind words.now)))) }
+        ensures numbers { IfOk result (λ noted. IsTrue noted
+            → HaveDepths row.new.depths.items unset row.new.noted.items) }
     {
         let mut at = Place {
             depth: 0,
@@ -167,34 +184,16 @@ impl Numbered {
         let mut rest = words;
         while !rest.is_empty() {
             let Ok((word, behind)) = next_word(rest) else {
-                return false;
+                return Ok(false);
             };
-            let Some(next) = self.note_word(depths, unset, at, word) else {
-                return false;
+            let found = self.note_word(row, unset, at, word)?;
+            let Some(next) = found else {
+                return Ok(false);
             };
             at = next;
             rest = behind;
         }
-        true
-    }
-
-    /// The depth of each element in a row of `k - 1` layers, `k - 1` where it stands in none; none where a
-    /// name of the row is no element's or stands in it twice. The row is given by its line after `layers`.
-    pub fn depths_of(&self, alloc: Global, k: u32, words: &[u8]) -> Result<Option<Vec<u32>>, Memory>
-        requires numbering { IsNumbering self.now }
-        requires layers { 2 ≤ k }
-        ensures { IfOk result (λ found. MatchOption found
-            ((row : Row) → SaysRow k (words_behind words.now) row
-            → ¬ CanBeNoted self.now.names.items (pairs_from 0 row))
-            (λ depths. Holds self.now.names.items (k - 1) (pairs_of 0 (words_behind words.now))
-            depths.items)) }
-    {
-        let mut depths = Vec::from_elem(alloc, k - 1, self.names.len())?;
-        if self.note_row(&mut depths, k - 1, words) {
-            Ok(Some(depths))
-        } else {
-            Ok(None)
-        }
+        Ok(true)
     }
 
     /// Notes the place of each name of an order, whose words these are. False where they are no permutation

@@ -1,6 +1,6 @@
 //! Rows of layers.
 
-ghost use Rattle.std.specs.Prelude.{◌≡◌, ◌↔◌, ◌<◌, ◌≤◌, [], ℕ, All, IfOk, IsTrue, List};
+ghost use Rattle.std.specs.Prelude.{◌≡◌, ◌↔◌, ◌-◌, ◌<◌, ◌≤◌, [], ℕ, All, IfNone, IfOk, IsTrue, List};
 ghost use Rattle.std.specs.Prelude.{MatchOption, Some, length, map, slice_get};
 ghost use Rattle.events.specs.Names.{IsName};
 ghost use Rattle.specification.specs.LayerRule.{Row};
@@ -13,13 +13,14 @@ ghost use Rattle.certificate_text.specs.CertificateOf.{version_in};
 ghost use Rattle.element_numbers.specs.Cuts.{IsCut};
 ghost use Rattle.cert_check.specs.Numbering.{IsNumbering, AreWithin, first_of, lists_of};
 ghost use Rattle.cert_check.specs.Judged.{TellsLayerRule, TellsRow, TellsRows};
+ghost use Rattle.cert_check.specs.RowDepths.{IsUnset};
 ghost use Rattle.cert_check.specs.RowWords.{SaysRow};
 
 use super::answer::Reason;
 use super::numbered::Numbered;
-use super::parts::stands_in;
-use super::values::are_unset_below;
-use bit_tables::{AfterTable, are_deep};
+use super::row_depths::RowDepths;
+use super::values::are_from;
+use bit_tables::{AfterTable, Noter, are_deep};
 use certificate_text::Version;
 use events::{Memory, Name};
 use format_words::{first_word, name_of, next_word, split_line};
@@ -68,8 +69,10 @@ fn first_of(version: Version, source: u32) -> u32
 
 /// Whether the row of the element with this number meets the layer rule of the version. In version two it
 /// does not where it has an element that is numbered below, and nothing is asked of these elements. It costs
-/// the elements, and for each name and each layer of the row a step for 64 elements; where `k - 1` is more
-/// than `n`, the number of elements, about `n * log n` steps besides, to sort the depths.
+/// a step for each word of the row, and for each name and each layer `n / 64`, n being the number of
+/// elements; where `k - 1` is more than n, about `n * log n` steps besides, to sort the depths.
+///
+/// Before and after a row that meets the rule no depth is noted.
 fn meets_rule(
     alloc: Global,
     numbered: &Numbered,
@@ -78,27 +81,38 @@ fn meets_rule(
     k: u32,
     source: u32,
     words: &[u8],
+    depths: &mut RowDepths,
 ) -> Result<bool, Memory>
     requires numbering { IsNumbering numbered.now }
     requires within { AreWithin (length numbered.now.names.items) numbered.now }
     requires table { IsTableOf (length numbered.now.names.items) (lists_of numbered.now) table.now }
     requires long { 2 ≤ k }
     requires element { source < length numbered.now.names.items }
-    ensures { IfOk result (λ meets. (row : Row) → SaysRow k (words_behind words.now) row
+    requires fresh { IsUnset (length numbered.now.names.items) (k - 1) depths.old }
+    ensures meets { IfOk result (λ meets. (row : Row) → SaysRow k (words_behind words.now) row
         → TellsLayerRule (version_in version) numbered.now k source row meets) }
+    ensures fresh { IfOk result (λ meets. IsTrue meets
+        → IsUnset (length numbered.now.names.items) (k - 1) depths.new) }
 {
     let first = first_of(version, source);
-    let found = numbered.depths_of(alloc, k, words)?;
-    match found {
-        None => Ok(false),
-        Some(depths) => {
-            if !are_unset_below(&depths, first, k - 1) {
-                return Ok(false);
-            }
-            let deep = are_deep(alloc, table, &depths, k - 1, first, source)?;
-            Ok(deep)
-        }
+    let is_noted = numbered.note_row(depths, k - 1, words)?;
+    if !is_noted {
+        return Ok(false);
     }
+    if !are_from(&depths.noted, first) {
+        return Ok(false);
+    }
+    let deep = are_deep(
+        alloc,
+        table,
+        &depths.depths,
+        &depths.noted,
+        k - 1,
+        first,
+        source,
+    )?;
+    depths.clear(k - 1);
+    Ok(deep)
 }
 
 /// What is wrong with the row of the element with this number, if anything is. The row is given by its line.
@@ -110,21 +124,25 @@ fn row_fault(
     k: u32,
     line: &[u8],
     i: u32,
+    depths: &mut RowDepths,
 ) -> Result<Option<Reason>, Memory>
     requires numbering { IsNumbering numbered.now }
     requires within { AreWithin (length numbered.now.names.items) numbered.now }
     requires table { IsTableOf (length numbered.now.names.items) (lists_of numbered.now) table.now }
     requires long { 2 ≤ k }
     requires element { i < length numbered.now.names.items }
-    ensures { IfOk result (λ found. (rows : List Row) (row : Row) → slice_get rows i ≡ Some row
+    requires fresh { IsUnset (length numbered.now.names.items) (k - 1) depths.old }
+    ensures fault { IfOk result (λ found. (rows : List Row) (row : Row) → slice_get rows i ≡ Some row
         → IsRow k row → line.now ≡ row_line row
         → TellsRow (version_in version) numbered.now k rows i found) }
+    ensures fresh { IfOk result (λ found. IfNone found
+        (IsUnset (length numbered.now.names.items) (k - 1) depths.new)) }
 {
     let source = numbered.names[i as usize];
     let words = words_of_row(line);
     if !has_source(words, &source) {
         Ok(Some(Reason::MissingLayer { source }))
-    } else if meets_rule(alloc, numbered, table, version, k, i, words)? {
+    } else if meets_rule(alloc, numbered, table, version, k, i, words, depths)? {
         Ok(None)
     } else {
         Ok(Some(Reason::ShortLayer { source }))
@@ -149,21 +167,21 @@ fn first_source(rows: &[u8]) -> Option<Name>
     }
 }
 
-/// Which elements are shown after which. A response whose elements stand in the last one noted in the same
-/// order shows nothing new, and is passed over.
+/// Which elements are shown after which. Each response is noted beside the one before, of which it mostly
+/// has the elements in the same order: so it costs a step for each of its places, and what is new in it.
 fn shown_after(alloc: Global, numbered: &Numbered) -> Result<AfterTable, Memory>
     requires cut { IsCut numbered.now.places }
     requires within { AreWithin (length numbered.now.names.items) numbered.now }
     ensures { IfOk result (λ t. IsTableOf (length numbered.now.names.items) (lists_of numbered.now) t) }
 {
-    let mut table = AfterTable::new(alloc, numbered.names.len())?;
-    let mut last = 0;
+    let n = numbered.names.len();
+    let mut table = AfterTable::new(alloc, n)?;
+    let mut noter = Noter::new(alloc, n)?;
+    let mut known = [].as_slice();
     for i in 0..numbered.places.ends.len() {
         let row = numbered.places.row(i);
-        if last >= i || !stands_in(row, numbered.places.row(last)) {
-            table.add(alloc, row)?;
-            last = i;
-        }
+        table.add(&mut noter, known, row)?;
+        known = row;
     }
     Ok(table)
 }
@@ -171,8 +189,11 @@ fn shown_after(alloc: Global, numbered: &Numbered) -> Result<AfterTable, Memory>
 /// The first thing that is wrong with the rows of a certificate for `k` of 3 and more: one row after the
 /// other, in order of numbers, and then a row too many. The rows are given by their lines.
 ///
-/// It makes a table of which elements are shown after which, `n * n / 8` bytes for n elements, in `n / 64`
-/// steps for each place of a response.
+/// It makes a table of which elements are shown after which, `n * n / 8` bytes for n elements. A place of a
+/// response costs a step, and one for each new element behind it, up to 64; where there are more, or its own
+/// is new, `n / 64` steps. New is an element that the response before has not, or in another order. The depths
+/// of one row after the other are noted in the same memory, in n steps for all rows, and then for each row as
+/// `meets_rule` says.
 pub fn rows_fault(
     alloc: Global,
     numbered: &Numbered,
@@ -189,7 +210,8 @@ pub fn rows_fault(
         → TellsRows (version_in version) numbered.now k layers found) }
 {
     let table = shown_after(alloc, numbered)?;
-    first_row_fault(alloc, numbered, &table, version, k, rows)
+    let mut depths = RowDepths::new(alloc, numbered.names.len(), k - 1)?;
+    first_row_fault(alloc, numbered, &table, version, k, rows, &mut depths)
 }
 
 /// The first thing that is wrong with the rows, by a table of which elements are shown after which.
@@ -200,11 +222,13 @@ fn first_row_fault(
     version: Version,
     k: u32,
     rows: &[u8],
+    depths: &mut RowDepths,
 ) -> Result<Option<Reason>, Memory>
     requires numbering { IsNumbering numbered.now }
     requires within { AreWithin (length numbered.now.names.items) numbered.now }
     requires table { IsTableOf (length numbered.now.names.items) (lists_of numbered.now) table.now }
     requires long { 2 ≤ k }
+    requires fresh { IsUnset (length numbered.now.names.items) (k - 1) depths.old }
     ensures { IfOk result (λ found. (layers : List Row) → All (IsRow k) layers
         → rows.now ≡ text_of (map row_line layers)
         → TellsRows (version_in version) numbered.now k layers found) }
@@ -216,7 +240,7 @@ fn first_row_fault(
             let source = numbered.names[i as usize];
             return Ok(Some(Reason::MissingLayer { source }));
         };
-        if let Some(fault) = row_fault(alloc, numbered, table, version, k, line, i)? {
+        if let Some(fault) = row_fault(alloc, numbered, table, version, k, line, i, depths)? {
             return Ok(Some(fault));
         }
         rest = behind;

@@ -1,7 +1,7 @@
-//! Whether values rise along a list of elements' numbers, and whether the first ones are unset.
+//! Whether values rise along a list of elements' numbers, and whether numbers begin at a first one.
 
 ghost use Rattle.std.specs.Prelude.{◌↔◌, ◌<◌, ◌≤◌, All, IsTrue, length, map, slice_index};
-ghost use Rattle.cert_check.specs.Values.{AreUnsetBelow, IsRising};
+ghost use Rattle.cert_check.specs.Values.{IsRising};
 
 /// Whether the values rise strictly along the places.
 pub fn is_rising(values: &[u32], places: &[u32]) -> bool
@@ -19,13 +19,12 @@ pub fn is_rising(values: &[u32], places: &[u32]) -> bool
     true
 }
 
-/// Whether each place below `first` has this value, which stands for none.
-pub fn are_unset_below(values: &[u32], first: u32, unset: u32) -> bool
-    requires { first ≤ length values.now }
-    ensures { IsTrue result ↔ AreUnsetBelow first unset values.now }
+/// Whether none of these numbers is below `first`.
+pub fn are_from(numbers: &[u32], first: u32) -> bool
+    ensures { IsTrue result ↔ All (λ x. first ≤ x) numbers.now }
 {
-    for x in 0..first {
-        if values[x as usize] != unset {
+    for number in numbers {
+        if *number < first {
             return false;
         }
     }

@@ -1,8 +1,9 @@
 -- Ways along a table of numbers are ways among the elements from the source on, so the layers of numbers are those of an
 -- exact row.
-use Rattle.std.proofs.Common.{◌≡◌, ℕ, zero, suc, ◌+◌, ◌-◌, ◌/◌, ◌<◌, ◌≤◌, Bool, true, false, Some, List, [], ◌∷◌, Vec, Global, cond, drop, map, get_or, length, refl, sym, ◌∙◌, arith, ap, subst}
+use Rattle.std.proofs.Common.{◌≡◌, ℕ, zero, suc, ◌+◌, ◌-◌, ◌/◌, ◌<◌, ◌≤◌, ◌⊎◌, inl, inr, Bool, true, false, Some, List, [], ◌∷◌, Vec, Global, cond, drop, map, get_or, length, refl, sym, ◌∙◌, arith, ap, subst}
 use Rattle.std.specs.Prelude.{All, Contains, bytes_eq, slice_get}
-use Rattle.std.proofs.lemmas.List.{get_or-map, get_or_default, length-map}
+use Rattle.std.proofs.lemmas.Bool.{cases_lt}
+use Rattle.std.proofs.lemmas.List.{get_or-map, get_or_default, get_or_past, length-map}
 use Rattle.std.proofs.lemmas.Option.{slice_get_within, slice_get-get_or, get_or_from_slice_get}
 use Rattle.std.proofs.lemmas.Slice.Eq.{bytes_eq-Decides}
 use Rattle.events.specs.Names.{NameBytes}
@@ -18,26 +19,14 @@ use Rattle.specification.proofs.Numbers.{number, number-rises}
 use Rattle.specification.proofs.Narrowed.{narrowed-shows, narrowed_shows-from}
 use Rattle.specification.proofs.Shown.{ShowsIn-from_Shows, Shows-from_ShowsIn, elements-once}
 use Rattle.order_graph.specs.Kept.{names_at}
-use Rattle.order_graph.specs.Lists.{lists_of}
+use Rattle.order_graph.specs.Lists.{lists_of, row}
 use Rattle.level_search.specs.Graph.{Before}
 use Rattle.level_search.proofs.Joining.{name, number-name, stands-names, stands-numbers, before-known}
-use Rattle.bit_tables.specs.Lists.{HaveWidth}
+use Rattle.bit_tables.specs.Lists.{HasInOrder, IsShown}
 use Rattle.bit_tables.specs.Rule.{layer_at}
-use Rattle.bit_tables.specs.Ways.{IsStep, Way, IsDistance, IsLayerAt, IsTurned}
+use Rattle.bit_tables.specs.Ways.{IsStep, Way, IsDistance, IsLayerAt}
 use Rattle.bit_tables.proofs.WayLemmas.{row-within}
-use Rattle.shown_table.specs.Tables.{IsShown, IsShownTable}
 use Rattle.certificate.specs.AfterTables.{IsAfterTable}
-
--- a table turned
-pub after_table-turned : (v : Responses) (before after : List (List ℕ)) → IsShownTable (length v.elements) (lists_of v) before → IsTurned before after → IsAfterTable v after
-after_table-turned v before after table turned = record {
-  len = turned.len ∙ table.len;
-  width = subst (λ n. HaveWidth (n / 64 + 1) after) table.len turned.width;
-  shown = λ a b low high.
-      let t = turned.shown a b (omega (arith, low, table.len)) (omega (arith, high, table.len)) in
-      let s = table.shown a b high in
-      (λ h. s.0 (t.0 h), λ h. t.1 (s.1 h));
-}
 
 -- the elements from one of them on are those from its place on
 pub from-drop : (es : List NameBytes) (s : ℕ) → Once es → s < length es → elements_from es (get_or es s []) ≡ drop s es
@@ -118,10 +107,31 @@ module _ (v : Responses) (proper : AreProper v) (rows : List (List ℕ)) (table 
       (f.0, f.1, (t.0, Shows-from_ShowsIn v t.0 x y f.2))
 
   shown-before : (a b : ℕ) → IsShown (lists_of v) a b → Before (lists_of v) a b
-  shown-before a b t = record { list = t.0; place = t.1.place; later = t.1.later; in_order = t.1.in_order; first = t.1.first; second = t.1.second }
+  shown-before a b t =
+      let w = row (lists_of v) t.0 in
+      let s : HasInOrder w a b = t.2 in
+      record {
+        list = t.0;
+        place = s.0;
+        later = s.1;
+        in_order = s.2;
+        first = record { within = slice_get_within w s.0 a s.3; here = get_or_from_slice_get w s.0 a 0 s.3 };
+        second = record { within = slice_get_within w s.1 b s.4; here = get_or_from_slice_get w s.1 b 0 s.4 };
+      }
 
   before-shown : (a b : ℕ) → Before (lists_of v) a b → IsShown (lists_of v) a b
-  before-shown a b t = (t.list, record { place = t.place; later = t.later; in_order = t.in_order; first = t.first; second = t.second })
+  before-shown a b t =
+      let w = row (lists_of v) t.list in (
+        t.list,
+        elim (cases_lt t.list (length (lists_of v))) [
+          | inl within ↦ within
+          | inr past ↦
+              let none : length w ≡ 0 = ap length (get_or_past (lists_of v) t.list [] past) in
+              let some = t.first.within in
+              absurd (omega (arith, none, some))
+        ],
+        (t.place, t.later, t.in_order, slice_get-get_or w t.place 0 t.first.within ∙ ap Some t.first.here, slice_get-get_or w t.later 0 t.second.within ∙ ap Some t.second.here),
+      )
 
   -- ways
   way-counts : (j x : ℕ) → Way rows s j s x → s ≤ x

@@ -3,8 +3,7 @@ use Rattle.std.specs.Prelude.{◌≡◌, ℕ, ◌+◌, ◌/◌, ◌<◌, ◌↔�
 use Rattle.specification.specs.Responses.{Responses}
 use Rattle.order_graph.specs.Lists.{lists_of}
 use Rattle.bit_tables.specs.Sets.{Has}
-use Rattle.bit_tables.specs.Lists.{HaveWidth, row_of}
-use Rattle.shown_table.specs.Tables.{IsShown}
+use Rattle.bit_tables.specs.Lists.{HaveWidth, IsShown, row_of}
 
 -- the table has a row for each element, of those that stand after it in some response
 pub record IsAfterTable (v : Responses) (rows : List (List ℕ)) : Type 0 where

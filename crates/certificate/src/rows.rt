@@ -7,11 +7,10 @@ ghost use Rattle.specification.specs.ExactRows.{IsExactRow, AreExactRows};
 ghost use Rattle.order_graph.specs.Kept.{names_at};
 ghost use Rattle.certificate.specs.AfterTables.{IsAfterTable};
 
-use bit_tables::{AfterTable, layers_from};
+use bit_tables::{AfterTable, Noter, layers_from};
 use certificate_text::{Layer, Row};
 use events::{Memory, Name};
 use order_graph::OrderGraph;
-use shown_table::ShownTable;
 use std::alloc::Global;
 
 /// One row of k - 1 layers for each element, of the elements that are not numbered below it.
@@ -28,15 +27,21 @@ pub fn rows_of_layers(alloc: Global, graph: &OrderGraph, k: u32) -> Result<Vec<R
     Ok(rows)
 }
 
-/// The table of what stands after each element.
+/// The table of what stands after each element. Each list is noted beside the one before, of which it mostly
+/// has the elements in the same order: so it costs a step for each of its places, and what is new in it.
 pub fn after_table(alloc: Global, graph: &OrderGraph) -> Result<AfterTable, Memory>
     ensures { IfOk result (λ t. IsAfterTable graph.now t) }
 {
-    // The contract of this call has that the elements are few.
-    let _ = graph.elements();
-    let before = ShownTable::of(alloc, graph)?;
-    let after = before.turned(alloc)?;
-    Ok(after)
+    let n = graph.elements() as usize;
+    let mut table = AfterTable::new(alloc, n)?;
+    let mut noter = Noter::new(alloc, n)?;
+    let mut known = [].as_slice();
+    for i in 0..graph.lists() {
+        let list = graph.list(i);
+        table.add(&mut noter, known, list)?;
+        known = list;
+    }
+    Ok(table)
 }
 
 /// The row of k - 1 layers from an element.

@@ -226,6 +226,14 @@ impl OrderGraph {
         self.places.row(list as usize).len() as u32
     }
 
+    /// The elements of a list, in order; none past the last list.
+    pub fn list(&self, list: u32) -> &[u32]
+        ensures value { result.now ≡ row (lists_of self.now) list }
+        ensures known { All (λ x. x < length self.now.elements) result.now }
+    {
+        self.places.row(list as usize)
+    }
+
     /// The element at place j of a list, which counts as looked at; none past the end.
     pub fn place(&self, list: u32, j: u32, looked: &mut Looked) -> Option<u32>
         ensures value { result ≡ slice_get (row (lists_of self.now) list) j }

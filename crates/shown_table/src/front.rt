@@ -1,13 +1,10 @@
 //! What is known of a list up to one of its places, while a table is made.
 
-ghost use Rattle.std.specs.Prelude.{◌≡◌, ℕ, ◌+◌, ◌<◌, ◌≤◌, ◌⊎◌, [], true, Contains, length};
+ghost use Rattle.std.specs.Prelude.{◌≡◌, ℕ, ◌+◌, ◌<◌, ◌≤◌, [], true, length};
 ghost use Rattle.bit_tables.specs.Sets.{Has};
 
 use bit_tables::BitSet;
 use order_graph::Spot;
-
-/// The most elements that are added to a row one by one.
-const FEW: usize = 64;
 
 /// What is known of a list up to one of its places.
 ///
@@ -34,24 +31,6 @@ impl Front {
         self.before.clear();
         self.fresh.clear();
         self.next = 0;
-    }
-}
-
-/// Adds some of these to a row, and the few at least: the few one by one, or all where they are many.
-pub fn add_few(row: &mut BitSet, few: &[u32], all: &BitSet)
-    requires width { length row.old ≡ length all.now }
-    requires within { (y : ℕ) → Contains few.now y → Has all.now y }
-    ensures len { length row.new ≡ length row.old }
-    ensures kept { (y : ℕ) → Has row.old y → Has row.new y }
-    ensures few { (y : ℕ) → Contains few.now y → Has row.new y }
-    ensures only { (y : ℕ) → Has row.new y → Has row.old y ⊎ Has all.now y }
-{
-    if few.len() > FEW {
-        row.union_with(all);
-        return;
-    }
-    for y in few {
-        row.insert(*y as usize);
     }
 }
 

@@ -1,15 +1,13 @@
 //! Which elements stand before which in some list.
 
-ghost use Rattle.std.specs.Prelude.{◌≡◌, ◌<◌, ◌≤◌, ◌+◌, ◌/◌, ◌^◌, ◌⊎◌, ◌↔◌, ℕ, IfOk, OnOk, List, [], length};
+ghost use Rattle.std.specs.Prelude.{◌≡◌, ◌<◌, ◌+◌, ℕ, IfOk, OnOk, List, length};
 ghost use Rattle.order_graph.specs.Lists.{lists_of, row};
-ghost use Rattle.bit_tables.specs.Sets.{Has};
-ghost use Rattle.bit_tables.specs.Lists.{HaveWidth, row_of};
-ghost use Rattle.bit_tables.specs.Ways.{IsTurned};
+ghost use Rattle.bit_tables.specs.Lists.{row_of};
 ghost use Rattle.shown_table.specs.Tables.{IsShownTable};
 ghost use Rattle.shown_table.specs.Fronts.{IsBetween, IsFront};
 
-use super::front::{Front, add_few, goes_on};
-use bit_tables::{AfterTable, BitSet, empty_rows};
+use super::front::{Front, goes_on};
+use bit_tables::{BitSet, add_few, empty_rows};
 use events::Memory;
 use order_graph::{Looked, OrderGraph, Spot};
 use std::alloc::Global;
@@ -108,16 +106,6 @@ impl ShownTable {
             note_list(graph, list, &mut rows, &mut front)?;
         }
         Ok(ShownTable { rows })
-    }
-
-    /// The table of what stands after each element. It takes `n / 64` steps for each of n elements and one
-    /// for each that stands before it, and `n * n / 8` bytes.
-    pub fn turned(&self, alloc: Global) -> Result<AfterTable, Memory>
-        requires { length self.now < 2 ^ 32 }
-        ensures { IfOk result (λ t. IsTurned self.now t) }
-    {
-        let after = AfterTable::turned(alloc, &self.rows)?;
-        Ok(after)
     }
 
     /// Those that stand before this element in some list.

@@ -1,9 +1,9 @@
-//! The layers of numbers that so many steps lead to, and tables turned.
+//! The layers of numbers that so many steps lead to.
 ghost use Rattle.std.specs.Prelude.{◌≡◌, ◌<◌, ◌≤◌, IfOk, length};
 ghost use Rattle.bit_tables.specs.Lists.{HaveWidth};
 
-use super::tables::{add_list, empty_table};
-use crate::{AfterTable, empty_rows, layers_from};
+use super::tables::table_of;
+use crate::{AfterTable, layers_from};
 use std::alloc::Global;
 use std::test::Fail;
 
@@ -12,11 +12,14 @@ fn table_of_pairs(alloc: Global, pairs: [[u32; 2]; 5]) -> Result<AfterTable, Fai
     ensures len { IfOk result (λ table. length table ≡ 70) }
     ensures width { IfOk result (λ table. HaveWidth 2 table) }
 {
-    let mut table = empty_table(alloc)?;
-    for i in 0..5usize {
-        add_list(alloc, &mut table, pairs[i].as_slice())?;
-    }
-    Ok(table)
+    let lists = [
+        pairs[0].as_slice(),
+        pairs[1].as_slice(),
+        pairs[2].as_slice(),
+        pairs[3].as_slice(),
+        pairs[4].as_slice(),
+    ];
+    table_of(alloc, lists.as_slice())
 }
 
 /// Whether these are the first four layers of a table of 70 rows. A call that finds no memory is made again.
@@ -73,28 +76,6 @@ fn layers_of_numbers(rt: HostRuntime) -> Result<(), Fail> {
         let table = table_of_pairs(rt.alloc(), pairs)?;
         let is_so = has_layers(rt.alloc(), &table, source, first, expected)?;
         assert!(rt; is_so, "at {source} {first}");
-    }
-    Ok(())
-}
-
-#[test]
-fn a_table_turned(rt: HostRuntime) -> Result<(), Fail> {
-    let mut rows = match empty_rows(rt.alloc(), 70) {
-        Ok(rows) => rows,
-        Err(_) => empty_rows(rt.alloc(), 70)?,
-    };
-    rows[3].insert(69);
-    rows[3].insert(0);
-    rows[69].insert(3);
-    let table = match AfterTable::turned(rt.alloc(), &rows) {
-        Ok(table) => table,
-        Err(_) => AfterTable::turned(rt.alloc(), &rows)?,
-    };
-    for a in 0..70 {
-        for b in 0..70 {
-            let is_wanted = a == 69 && b == 3 || a == 0 && b == 3 || a == 3 && b == 69;
-            assert_eq!(rt; table.after(a).contains(b), is_wanted);
-        }
     }
     Ok(())
 }

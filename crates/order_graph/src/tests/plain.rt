@@ -76,10 +76,13 @@ fn has_same_order(recording: &Recording, graph: &OrderGraph, a: u32) -> bool {
     true
 }
 
-/// Whether a list has this name at a place, which counts as looked at.
+/// Whether a list has this name at a place, which counts as looked at, and has it there as a whole too.
 fn has_at(graph: &OrderGraph, list: u32, place: u32, name: Option<Name>) -> bool {
     let mut looked = Looked::new();
     let there = graph.place(list, place, &mut looked);
+    if graph.list(list).get(place as usize).copied() != there {
+        return false;
+    }
     let counts = looked.count() == u64::from(there.is_some());
     match there {
         None => counts && name.is_none(),
@@ -161,6 +164,7 @@ fn has_same_ends(recording: &Recording, graph: &OrderGraph) -> bool {
         && graph.spots(elements) == 0
         && graph.shown_by(lists).is_none()
         && graph.length(lists) == 0
+        && graph.list(lists).is_empty()
 }
 
 /// Whether all that a graph says of its lists is what the plain programs find.

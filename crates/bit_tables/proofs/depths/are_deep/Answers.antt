@@ -2,9 +2,9 @@ use Rattle.std.proofs.Common.{ℕ, Bool, ◌≤◌, List, length, subst, sym}
 use Rattle.std.specs.Prelude.{◌↔◌, All, IfOk, IsTrue, slice_index_or}
 use Rattle.std.proofs.lemmas.Result.{IfOk-weaker}
 use Rattle.bit_tables.specs.Lists.{IsTableOf}
-use Rattle.bit_tables.specs.Rule.{MeetsRule}
+use Rattle.bit_tables.specs.Rule.{HaveDepths, MeetsRule}
 use Rattle.bit_tables.specs.Narrow.{AreSmall}
-use Rattle.bit_tables.proofs.NarrowLemmas.{meets-alike, small-most}
+use Rattle.bit_tables.proofs.NarrowLemmas.{meets-alike, small-most, small-noted}
 use Rattle.bit_tables.proofs.depths.are_deep.Goals as goal
 
 -- what the answer says of these depths
@@ -16,6 +16,11 @@ pub are_deep_in_layers-requires-2-clause-most : goal.are_deep_in_layers-requires
 are_deep_in_layers-requires-2-clause-most c =
     subst (λ (l : List ℕ). All (λ d. d ≤ c.in_ok-small.most) l) (sym c.deref.ensures.value)
     (small-most c.args.depths.now c.in_ok-small.small.items c.args.count c.in_ok-small.most c.in_ok-small.ensures.alike c.requires.most)
+
+pub are_deep_in_layers-requires-2-clause-noted : goal.are_deep_in_layers-requires-2-clause-noted
+are_deep_in_layers-requires-2-clause-noted c =
+    subst (λ (l : List ℕ). HaveDepths l c.in_ok-small.most c.args.noted.now) (sym c.deref.ensures.value)
+    (small-noted c.args.depths.now c.in_ok-small.small.items c.args.count c.in_ok-small.most c.in_ok-small.ensures.alike c.args.noted.now c.requires.noted)
 
 pub returns : goal.returns
 returns c =

@@ -1,5 +1,5 @@
-use Rattle.std.proofs.Common.{◌≡◌, ℕ, ◌<◌, ◌≤◌, ◌∙◌, List, [], length, map, get_or, ap, sym, arith, true≢false}
-use Rattle.std.specs.Prelude.{◌↔◌, All, IsTrue}
+use Rattle.std.proofs.Common.{◌≡◌, ℕ, ◌∙◌, List, [], length, map, get_or, sym, arith, true≢false}
+use Rattle.std.specs.Prelude.{◌↔◌, IsTrue}
 use Rattle.std.proofs.lemmas.List.{length-map}
 use Rattle.bit_tables.specs.Sets.{Has}
 use Rattle.bit_tables.proofs.LayerLemmas.{IsTested, all-from, all-within, list-here, tested_step, tested_subset, tested_all, negated}

@@ -18,7 +18,7 @@ use Rattle.cert_check.proofs.rows.first_row_fault.Goals as goal
 
 pub returns-in_default : goal.returns-in_default
 returns-in_default c = λ layers each text h of.
-    let so = c.loop-i.invariant layers each text in
+    let so = c.loop-i.invariant.judged layers each text in
     let none : drop c.loop-i.i layers ≡ [] = no-rows (drop c.loop-i.i layers) c.loop-i.rest.now so.0 c.in_default.ensures in
     let short : length layers ≤ c.loop-i.i = drop-none layers c.loop-i.i none in
     let here : c.loop-i.i < length c.args.numbered.now.names.items = omega (arith, c.len-count.ensures, c.loop-i-test.true) in (
@@ -30,35 +30,38 @@ returns-in_default c = λ layers each text h of.
 
 pub returns-in-Some-2 : goal.returns-in-Some-2
 returns-in-Some-2 c = λ layers each text h of.
-    let so = c.loop-i.invariant layers each text in
+    let so = c.loop-i.invariant.judged layers each text in
     let left = drop-all (IsRow c.args.k) layers c.loop-i.i each in
     let off = row-off c.args.k (drop c.loop-i.i layers) c.loop-i.rest.now c.in-Some.line.now c.in-Some.behind.now left so.0 c.in-Some.ensures.0 c.in-Some.ensures.1 in
     let is = All-head (IsRow c.args.k) off.0 off.1 (subst (All (IsRow c.args.k)) off.2 left) in
     let at = drop-is layers c.loop-i.i off.0 off.1 off.2 in
-    let fault = rw c.in-Some-2.is at c.in_ok-fault.ensures in
+    let fault = rw c.in-Some-2.is at c.in_ok-fault.ensures.fault in
     first_fault (version_in c.args.version) (responses_of h) c.args.k layers c.loop-i.i c.in-Some-2.fault (fault layers off.0 at.0 is off.3 h of) (so.1 h of)
 
 pub loop-i-preserved : goal.loop-i-preserved
-loop-i-preserved c = λ layers each text.
-    let so = c.loop-i.invariant layers each text in
-    let left = drop-all (IsRow c.args.k) layers c.loop-i.i each in
-    let off = row-off c.args.k (drop c.loop-i.i layers) c.loop-i.rest.now c.in-Some.line.now c.in-Some.behind.now left so.0 c.in-Some.ensures.0 c.in-Some.ensures.1 in
-    let is = All-head (IsRow c.args.k) off.0 off.1 (subst (All (IsRow c.args.k)) off.2 left) in
-    let at = drop-is layers c.loop-i.i off.0 off.1 off.2 in
-    let right = rw c.in_default-2.is at c.in_ok-fault.ensures in (
-      off.4 ∙ ap (λ (l : List Row). text_of (map row_line l)) at.1,
-      λ h of j source lt there. elim (cases_lt j c.loop-i.i) [
-        | inl low ↦ so.1 h of j source low there
-        | inr high ↦
-            let same : j ≡ c.loop-i.i = omega (arith, high, lt) in
-            subst (λ (m : ℕ). RowIsRight (version_in c.args.version) (responses_of h) c.args.k layers m source) (sym same)
-            (right layers off.0 at.0 is off.3 h of source (subst (λ (m : ℕ). slice_get (elements h) m ≡ Some source) same there))
-      ],
-    )
+loop-i-preserved c = record {
+  fresh = rw c.in_default-2.is at c.in_ok-fault.ensures.fresh;
+  judged = λ layers each text.
+      let so = c.loop-i.invariant.judged layers each text in
+      let left = drop-all (IsRow c.args.k) layers c.loop-i.i each in
+      let off = row-off c.args.k (drop c.loop-i.i layers) c.loop-i.rest.now c.in-Some.line.now c.in-Some.behind.now left so.0 c.in-Some.ensures.0 c.in-Some.ensures.1 in
+      let is = All-head (IsRow c.args.k) off.0 off.1 (subst (All (IsRow c.args.k)) off.2 left) in
+      let at = drop-is layers c.loop-i.i off.0 off.1 off.2 in
+      let right = rw c.in_default-2.is at c.in_ok-fault.ensures.fault in (
+        off.4 ∙ ap (λ (l : List Row). text_of (map row_line l)) at.1,
+        λ h of j source lt there. elim (cases_lt j c.loop-i.i) [
+          | inl low ↦ so.1 h of j source low there
+          | inr high ↦
+              let same : j ≡ c.loop-i.i = omega (arith, high, lt) in
+              subst (λ (m : ℕ). RowIsRight (version_in c.args.version) (responses_of h) c.args.k layers m source) (sym same)
+              (right layers off.0 at.0 is off.3 h of source (subst (λ (m : ℕ). slice_get (elements h) m ≡ Some source) same there))
+        ],
+      );
+}
 
 pub returns-in-None : goal.returns-in-None
 returns-in-None c = λ layers each text h of.
-    let so = c.loop-i.invariant layers each text in
+    let so = c.loop-i.invariant.judged layers each text in
     let none : drop c.loop-i.i layers ≡ [] = c.in-None.ensures c.args.k (drop c.loop-i.i layers) (drop-all (IsRow c.args.k) layers c.loop-i.i each) so.0 in
     let short : length layers ≤ c.loop-i.i = drop-none layers c.loop-i.i none in
     let count : length (elements h) ≡ c.len-count.result = omega (arith, c.len-count.ensures, ap (λ (l : List NameBytes). length l) of.names) in
@@ -68,7 +71,7 @@ returns-in-None c = λ layers each text h of.
 
 pub returns-in-Some-first_source : goal.returns-in-Some-first_source
 returns-in-Some-first_source c = λ layers each text h of.
-    let so = c.loop-i.invariant layers each text in
+    let so = c.loop-i.invariant.judged layers each text in
     let source = c.in-Some-first_source.ensures c.args.k (drop c.loop-i.i layers) (drop-all (IsRow c.args.k) layers c.loop-i.i each) so.0 in
     let count : length (elements h) ≡ c.len-count.result = omega (arith, c.len-count.ensures, ap (λ (l : List NameBytes). length l) of.names) in
     let end : c.loop-i.i ≡ length (elements h) = omega (arith, count, c.loop-i.auto.i-end, c.loop-i-test.false) in

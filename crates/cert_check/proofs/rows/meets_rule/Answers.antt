@@ -1,88 +1,108 @@
 -- A row that cannot be noted, or has an element below the first that counts, does not meet the rule; for the
 -- others the depths decide.
-use Rattle.std.proofs.Common.{◌∙◌, ◌-◌, ◌≤◌, ℕ, List, length, refl, sym, subst}
+use Rattle.std.proofs.Common.{◌-◌, ◌≤◌, ℕ, List, length, refl, sym, subst, arith}
 use Rattle.std.specs.Prelude.{◌↔◌, All, IsTrue, slice_index_or}
 use Rattle.std.proofs.lemmas.Bool.{false≢true}
-use Rattle.std.proofs.lemmas.Option.{slice_get_within}
 use Rattle.events.specs.Names.{NameBytes}
 use Rattle.specification.specs.Elements.{elements}
 use Rattle.specification.specs.Responses.{Responses, AreProper, responses_of}
 use Rattle.specification.specs.Versions.{Version}
 use Rattle.specification.proofs.SoundResponses.{sound_responses_are_proper}
 use Rattle.bit_tables.specs.Lists.{IsTableOf}
-use Rattle.bit_tables.specs.Rule.{MeetsRule}
+use Rattle.bit_tables.specs.Rule.{HaveDepths, MeetsRule}
 use Rattle.certificate_text.specs.CertificateOf.{version_in}
 use Rattle.format_words.specs.Words.{words_behind}
 use Rattle.cert_check.specs.Noted.{Noted, CanBeNoted, Holds, pairs_from}
+use Rattle.cert_check.specs.RowDepths.{IsUnset}
 use Rattle.cert_check.specs.RowWords.{pairs_of}
 use Rattle.cert_check.specs.Numbering.{AreWithin, lists_of}
-use Rattle.cert_check.specs.Values.{AreUnsetBelow}
 use Rattle.cert_check.proofs.Listed.{once-elements}
-use Rattle.cert_check.proofs.RulesFrom.{MeetsRuleFrom, first-within, from-rule, to-rule}
-use Rattle.cert_check.proofs.Depths.{can_rule, unset_from, rule_from_lists, lists_from_rule}
+use Rattle.cert_check.proofs.RulesFrom.{MeetsRuleFrom, from-rule, to-rule}
+use Rattle.cert_check.proofs.Depths.{can_rule, names_from, noted_from, rule_from_lists, lists_from_rule}
 use Rattle.cert_check.proofs.TableRule.{depths-most, lists_from_table, table_from_lists}
 use Rattle.cert_check.proofs.rows.meets_rule.Goals as goal
 
-pub returns-in-None : goal.returns-in-None
-returns-in-None c = λ row says h a of at. (
+pub returns-then-not-is_noted-clause-meets : goal.returns-then-not-is_noted-clause-meets
+returns-then-not-is_noted-clause-meets c = λ row says h a of at. (
   λ t. absurd (false≢true t),
   λ rule.
       let v : Responses = responses_of h in
+      let names : List NameBytes = c.args.numbered.now.names.items in
       let from = from-rule v (sound_responses_are_proper h of.legal of.sound) c.args.k c.args.source a row at (version_in c.args.version) rule in
-      absurd ((let none = rw c.in-None.is at c.in_ok-found.ensures in none) row says (subst (λ (ns : List NameBytes). CanBeNoted ns (pairs_from 0 row)) (sym of.names)
-      (can_rule (elements h) row from.of_elements from.once))),
+      let can : CanBeNoted names (pairs_from 0 row) = subst (λ (ns : List NameBytes). CanBeNoted ns (pairs_from 0 row)) (sym of.names) (can_rule (elements h) row from.of_elements from.once) in
+      let none = rw c.if-not-is_noted.true at c.in_ok-is_noted.ensures.row in
+      absurd (none says.words (omega (arith, says.layers)) (subst (CanBeNoted names) (sym says.pairs) can)),
 )
 
-pub are_deep-requires-clause-most : goal.are_deep-requires-clause-most
-are_deep-requires-clause-most c =
-    let can = rw c.in-Some.is at c.in_ok-found.ensures in
-    subst (λ (ds : List ℕ). All (λ d. d ≤ c.args.k - 1) ds) (sym c.deref-in-Some.ensures.value)
-    (depths-most c.args.numbered.now.names.items (c.args.k - 1) (pairs_of 0 (words_behind c.args.words.now)) c.in-Some.depths.items can)
-
-pub returns-then-not-are_unset_below : goal.returns-then-not-are_unset_below
-returns-then-not-are_unset_below c = λ row says h a of at. (
+pub returns-then-not-are_from-clause-meets : goal.returns-then-not-are_from-clause-meets
+returns-then-not-are_from-clause-meets c = λ row says h a of at. (
   λ t. absurd (false≢true t),
   λ rule.
       let version : Version = version_in c.args.version in
       let v : Responses = responses_of h in
       let first : ℕ = c.first_of-first.result in
       let names : List NameBytes = c.args.numbered.now.names.items in
-      let depths : List ℕ = c.deref.result.now in
-      let got : Holds names (c.args.k - 1) (pairs_of 0 (words_behind c.args.words.now)) c.in-Some.depths.items = rw c.in-Some.is at c.in_ok-found.ensures in
-      let some : Holds names (c.args.k - 1) (pairs_from 0 row) c.in-Some.depths.items = subst (λ (ps : List Noted). Holds names (c.args.k - 1) ps c.in-Some.depths.items) says.pairs got in
-      let lent : Holds names (c.args.k - 1) (pairs_from 0 row) depths = subst (Holds names (c.args.k - 1) (pairs_from 0 row)) (sym c.deref.ensures.value) some in
-      let holds : Holds (elements h) (c.args.k - 1) (pairs_from 0 row) depths = subst (λ (ns : List NameBytes). Holds ns (c.args.k - 1) (pairs_from 0 row) depths) of.names lent in
+      let depths : List ℕ = c.note_row.new.row.depths.items in
+      let noted : List ℕ = c.note_row.new.row.noted.items in
+      let got : Holds names (c.args.k - 1) (pairs_of 0 (words_behind c.args.words.now)) depths = rw c.if-not-is_noted.false at c.in_ok-is_noted.ensures.row in
+      let some : Holds names (c.args.k - 1) (pairs_from 0 row) depths = subst (λ (ps : List Noted). Holds names (c.args.k - 1) ps depths) says.pairs got in
+      let holds : Holds (elements h) (c.args.k - 1) (pairs_from 0 row) depths = subst (λ (ns : List NameBytes). Holds ns (c.args.k - 1) (pairs_from 0 row) depths) of.names some in
       let from : MeetsRuleFrom v first c.args.k a row =
       subst (λ (n : ℕ). MeetsRuleFrom v n c.args.k a row) (sym c.first_of-first.ensures)
       (from-rule v (sound_responses_are_proper h of.legal of.sound) c.args.k c.args.source a row at version rule) in
-      let within : first ≤ length (elements h) =
-      subst (λ (n : ℕ). n ≤ length (elements h)) (sym c.first_of-first.ensures) (first-within version c.args.source (length (elements h)) (slice_get_within (elements h) c.args.source a at)) in
-      let unset : AreUnsetBelow first (c.args.k - 1) depths =
-      unset_from (elements h) (c.args.k - 1) first row depths (once-elements h of.legal of.sound) holds within from.from in
-      absurd (false≢true (c.if-not-are_unset_below.ensures.1 unset)),
+      let has : HaveDepths depths (c.args.k - 1) noted = c.in_ok-is_noted.ensures.numbers c.if-not-is_noted.false in
+      let all : All (λ n. first ≤ n) noted = noted_from (elements h) (c.args.k - 1) first row depths noted (once-elements h of.legal of.sound) holds has from.from in
+      absurd (false≢true (c.if-not-are_from.ensures.1 (subst (λ (l : List ℕ). All (λ n. first ≤ n) l) (sym c.deref.ensures.value) all))),
 )
 
-pub returns-in_ok-deep-in-Some : goal.returns-in_ok-deep-in-Some
-returns-in_ok-deep-in-Some c = λ row says h a of at.
+pub are_deep-requires-clause-noted : goal.are_deep-requires-clause-noted
+are_deep-requires-clause-noted c =
+    let has : HaveDepths c.note_row.new.row.depths.items (c.args.k - 1) c.note_row.new.row.noted.items = c.in_ok-is_noted.ensures.numbers c.if-not-is_noted.false in
+    subst (λ (l : List ℕ). HaveDepths l (c.args.k - 1) c.deref-3.result.now) (sym c.deref-2.ensures.value)
+    (subst (λ (l : List ℕ). HaveDepths c.note_row.new.row.depths.items (c.args.k - 1) l) (sym c.deref-3.ensures.value) has)
+
+pub are_deep-requires-clause-most : goal.are_deep-requires-clause-most
+are_deep-requires-clause-most c =
+    let got : Holds c.args.numbered.now.names.items (c.args.k - 1) (pairs_of 0 (words_behind c.args.words.now)) c.note_row.new.row.depths.items = rw c.if-not-is_noted.false at c.in_ok-is_noted.ensures.row in
+    subst (λ (ds : List ℕ). All (λ d. d ≤ c.args.k - 1) ds) (sym c.deref-2.ensures.value)
+    (depths-most c.args.numbered.now.names.items (c.args.k - 1) (pairs_of 0 (words_behind c.args.words.now)) c.note_row.new.row.depths.items got)
+
+pub clear-requires-clause-noted : goal.clear-requires-clause-noted
+clear-requires-clause-noted c = c.in_ok-is_noted.ensures.numbers c.if-not-is_noted.false
+
+pub clear-requires-clause-most : goal.clear-requires-clause-most
+clear-requires-clause-most c =
+    let got : Holds c.args.numbered.now.names.items (c.args.k - 1) (pairs_of 0 (words_behind c.args.words.now)) c.note_row.new.row.depths.items = rw c.if-not-is_noted.false at c.in_ok-is_noted.ensures.row in
+    depths-most c.args.numbered.now.names.items (c.args.k - 1) (pairs_of 0 (words_behind c.args.words.now)) c.note_row.new.row.depths.items got
+
+pub returns-clause-fresh : goal.returns-clause-fresh
+returns-clause-fresh c = λ meets.
+    let got : Holds c.args.numbered.now.names.items (c.args.k - 1) (pairs_of 0 (words_behind c.args.words.now)) c.note_row.new.row.depths.items = rw c.if-not-is_noted.false at c.in_ok-is_noted.ensures.row in
+    subst (λ (n : ℕ). IsUnset n (c.args.k - 1) c.clear.new.self) got.size c.clear.ensures
+
+pub returns-clause-meets : goal.returns-clause-meets
+returns-clause-meets c = λ row says h a of at.
     let version : Version = version_in c.args.version in
     let v : Responses = responses_of h in
     let proper : AreProper v = sound_responses_are_proper h of.legal of.sound in
     let first : ℕ = c.first_of-first.result in
     let t = c.args.numbered.now in
-    let depths : List ℕ = c.deref-in-Some.result.now in
+    let depths : List ℕ = c.deref-2.result.now in
+    let noted : List ℕ = c.note_row.new.row.noted.items in
     let names : List NameBytes = t.names.items in
-    let got : Holds names (c.args.k - 1) (pairs_of 0 (words_behind c.args.words.now)) c.in-Some.depths.items = rw c.in-Some.is at c.in_ok-found.ensures in
-    let some : Holds names (c.args.k - 1) (pairs_from 0 row) c.in-Some.depths.items = subst (λ (ps : List Noted). Holds names (c.args.k - 1) ps c.in-Some.depths.items) says.pairs got in
-    let lent : Holds names (c.args.k - 1) (pairs_from 0 row) depths = subst (Holds names (c.args.k - 1) (pairs_from 0 row)) (sym c.deref-in-Some.ensures.value) some in
+    let got : Holds names (c.args.k - 1) (pairs_of 0 (words_behind c.args.words.now)) c.note_row.new.row.depths.items = rw c.if-not-is_noted.false at c.in_ok-is_noted.ensures.row in
+    let some : Holds names (c.args.k - 1) (pairs_from 0 row) c.note_row.new.row.depths.items = subst (λ (ps : List Noted). Holds names (c.args.k - 1) ps c.note_row.new.row.depths.items) says.pairs got in
+    let lent : Holds names (c.args.k - 1) (pairs_from 0 row) depths = subst (Holds names (c.args.k - 1) (pairs_from 0 row)) (sym c.deref-2.ensures.value) some in
     let holds : Holds (elements h) (c.args.k - 1) (pairs_from 0 row) depths = subst (λ (ns : List NameBytes). Holds ns (c.args.k - 1) (pairs_from 0 row) depths) of.names lent in
     let within : AreWithin (length depths) t = subst (λ (n : ℕ). AreWithin n t) (sym lent.size) c.requires.within in
     let table : IsTableOf (length depths) (lists_of t) c.args.table.now = subst (λ (n : ℕ). IsTableOf n (lists_of t) c.args.table.now) (sym lent.size) c.requires.table in
-    let unset : AreUnsetBelow first (c.args.k - 1) depths =
-    subst (λ (ds : List ℕ). AreUnsetBelow first (c.args.k - 1) ds) (c.deref.ensures.value ∙ sym c.deref-in-Some.ensures.value) (c.if-not-are_unset_below.ensures.0 refl) in
-    let deep : IsTrue c.in_ok-deep-in-Some.deep ↔ MeetsRule (lists_of t) first c.args.source (c.args.k - 1) (λ x. slice_index_or depths x (c.args.k - 1)) = c.in_ok-deep-in-Some.ensures (lists_of t) table in (
+    let has : HaveDepths depths (c.args.k - 1) noted = subst (λ (l : List ℕ). HaveDepths l (c.args.k - 1) noted) (sym c.deref-2.ensures.value) (c.in_ok-is_noted.ensures.numbers c.if-not-is_noted.false) in
+    let all : All (λ n. first ≤ n) noted = subst (λ (l : List ℕ). All (λ n. first ≤ n) l) c.deref.ensures.value (c.if-not-are_from.ensures.0 refl) in
+    let deep : IsTrue c.in_ok-deep.deep ↔ MeetsRule (lists_of t) first c.args.source (c.args.k - 1) (λ x. slice_index_or depths x (c.args.k - 1)) = c.in_ok-deep.ensures (lists_of t) table in (
       λ yes. to-rule v proper c.args.k c.args.source a row at version
           (subst (λ (n : ℕ). MeetsRuleFrom v n c.args.k a row) c.first_of-first.ensures
-          (rule_from_lists h t of c.args.k first row depths says.row_is.layers holds c.args.source a at unset
+          (rule_from_lists h t of c.args.k first row depths says.row_is.layers holds c.args.source a at
+          (names_from (elements h) (c.args.k - 1) first row depths noted (once-elements h of.legal of.sound) holds has all)
           (lists_from_table t depths first c.args.source (c.args.k - 1) within (deep.0 yes)))),
       λ rule.
           let from : MeetsRuleFrom v first c.args.k a row =

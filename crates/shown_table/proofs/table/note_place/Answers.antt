@@ -34,7 +34,7 @@ returns-clause-front c =
           let is : w.index-rows-x.result ≡ row_of rows x = get_or_read rows x w.index-rows-x.result within w.index-rows-x.is [] in
           let here_is = sym w.index-rows-x.is ∙ is in
           let added = w.add_few.ensures in
-          let new : List ℕ = w.add_few.new.row in
+          let new : List ℕ = w.add_few.new.set in
           let kept : (y : ℕ) → Has (row_of rows x) y → Has new y = λ y has. added.kept y (subst (λ (r : List ℕ). Has r y) (sym here_is) has) in
           rw (w.rows-is, w.front-is)
           (front_step lists l j x here rows f new c.insert.new.self f.fresh (last.place + 1) within front
