@@ -14,13 +14,13 @@ loop-i-preserved c =
     let v : Responses = c.args.graph.now in
     let n : ℕ = length v.elements in
     let lists : List (List ℕ) = lists_of v in
-    let list : List ℕ = c.list.result.now in
+    let list : List ℕ = c.list-list.result.now in
     let inv = c.loop-i.invariant in
     let count = length-map v.returned (λ (r : Returned). numbers_in v.elements r.names) in
     let lt : i < length lists = omega (arith, c.loop-i-test.true, c.lists-i-end.ensures.value, count) in
     let one : i + 1 ≡ suc i = omega arith in
     let next : take (i + 1) lists ≡ take i lists ++ list ∷ [] =
-    ap (λ (k : ℕ). take k lists) one ∙ take-suc lists i [] lt ∙ ap (λ (l : List ℕ). take i lists ++ l ∷ []) (sym c.list.ensures.value) in
+    ap (λ (k : ℕ). take k lists) one ∙ take-suc lists i [] lt ∙ ap (λ (l : List ℕ). take i lists ++ l ∷ []) (sym c.list-list.ensures.value) in
     let size : length c.loop-i.table ≡ n = inv.table.len in
     let more = c.in_ok-add.ensures.table (take i lists) (subst (λ (m : ℕ). IsTableOf m (take i lists) c.loop-i.table) (sym size) inv.table) in
     record {
