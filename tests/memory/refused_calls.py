@@ -2,10 +2,10 @@
 """refused_calls.py PROGRAM [--write] [--most N]: each call that can answer out of memory, with one request for memory refused.
 
 Of each such call it takes a test of the crates that makes it and compares what it answers, and runs it with its first request
-refused, then with its second, and so on until a run meets no refusal; a test that would take more than --most runs, 2,000 unless
-told otherwise, is told as cut short. A call that only an engine of the program has is tried by the program's command, on three
+refused, then with its second, and so on until a run meets no refusal; a test that would take more than --most runs, 20,000 unless
+told otherwise, is cut short, and fails. A call that only an engine of the program has is tried by the program's command, on three
 vectors. A test passes where its calls answer out of memory, or what they must, and again what they must when memory is there. The
-table of calls is printed, and with --write it is put into docs/testing.md. A call without a line there fails, and so does one
+table of calls is printed, and with --write it is put into docs/testing.md, where nothing failed. A call without a line there fails, and so does one
 whose test is gone. It needs what `rt ci` has built in this repository, and a C compiler (`cc`); it is no part of the gate."""
 import argparse
 import sys
@@ -22,7 +22,7 @@ from shared.program import Tally, program_of  # noqa: E402
 PAGE = ROOT / "docs" / "testing.md"
 BEGIN, END = "<!-- refused memory: made by tests/memory/refused_calls.py -->", "<!-- end of refused memory -->"
 VECTORS = [ROOT / "tests" / "vectors" / f"{name}.trace" for name in ("all-three-way-cycle", "all-opposite-pair", "all-contents")]
-MOST = 2000
+MOST = 20_000
 
 # Every call that can answer out of memory, by its name in docs/names.md; the list is kept by hand.
 CALLS = """Response::push, Recording::new, Recording::record, Recording::copy, trace_text::read, trace_text::write, Reader::feed,
@@ -107,18 +107,22 @@ def refuse_in_test(tally: Tally, call: str, test: Test, name: str, most: int) ->
             stopped.append(request)
     else:
         is_whole, refused = False, most
-    tally.check(f"{call}: {name}", not stopped and refused > 0, stopped)
+    tally.check(f"{call}: {name}", is_whole and not stopped and refused > 0, stopped)
     seen = "passed each time" if not stopped else f"failed at {stopped[:9]}"
     return Line(call, name, refused, seen if is_whole else f"{seen}; cut short")
 
 
-def refuse_in_program(tally: Tally, call: str, library: str, program: str, command: str) -> Line:
+def refuse_in_program(tally: Tally, call: str, library: str, folder: str, program: str, command: str) -> Line:
     """The program's command on three vectors."""
-    told = 0
+    runs = memory = thread = 0
+    failed = tally.failed
     for trace in VECTORS:
         certificate = [str(trace.with_suffix(".cert2"))] if command == "verify" else []
-        told += refuse_each(tally, library, [program, command, str(trace), *certificate])
-    return Line(call, f"the program's {command}", told, "out of memory each time, else the right answer")
+        more = refuse_each(tally, library, folder, [program, command, str(trace), *certificate])
+        runs, memory, thread = runs + more.runs, memory + more.memory, thread + more.thread
+    without = f", {thread:,} times without a thread" if thread else ""
+    seen = f"{memory:,} times out of memory{without}, else the right answer" if tally.failed == failed else "another answer"
+    return Line(call, f"the program's {command}", runs, seen)
 
 
 def lines(tally: Tally, library: str, folder: str, program: str, most: int) -> list[Line]:
@@ -129,7 +133,7 @@ def lines(tally: Tally, library: str, folder: str, program: str, most: int) -> l
         tally.check(f"{call} has a test", bool(names))
         for name in names:
             if crate == "program":
-                made.append(refuse_in_program(tally, call, library, program, name))
+                made.append(refuse_in_program(tally, call, library, folder, program, name))
                 print(made[-1].text(), flush=True)
                 continue
             built = next(iter(sorted((ROOT / "crates" / crate / "out").glob("*_tests"))), None)
@@ -159,7 +163,7 @@ def main() -> None:
         made = lines(tally, shim(folder), folder, program, given.most)
     missing = set(names_of(CALLS)) - {one.call for one in made}
     tally.check("each call has a line", not missing, missing)
-    if given.write and not missing:
+    if given.write and not tally.failed:
         put("\n".join(["| call | test | requests refused | seen |", "|---|---|---|---|", *(one.text() for one in made), ""]))
     tally.close()
 

@@ -1,19 +1,21 @@
 #!/usr/bin/env python3
 """refused_memory.py PROGRAM: each command on each vector, with one request for memory refused, for each request.
 
-The program must answer what it answers with ample memory, or that it is out of memory; `live`, which is tried on a few
-vectors since its recorders may wait long for each other, also that a thread couldn't be started. It needs a C compiler
-(`cc`)."""
+The first request is refused, then the second, and so on, until several runs in turn make no such request. The program must
+answer what it answers with ample memory, or that it is out of memory; `live`, which is tried on a few vectors since its recorders
+may wait long for each other, also that a thread couldn't be started. It needs a C compiler (`cc`)."""
+import os
 import sys
 import tempfile
 from pathlib import Path
+from typing import NamedTuple
 
 ROOT = Path(__file__).resolve().parents[2]
 sys.path.insert(0, str(ROOT / "tests"))
 from shared.program import Ended, Tally, library_of, program_of, run  # noqa: E402
 
-# When so many requests in a row change nothing, the program makes no more. (How many it makes depends on its threads.)
-UNTOLD = 40
+# When so many runs in turn make no such request, the program makes no more. (How many it makes depends on its threads.)
+UNMET = 5
 HERE = Path(__file__).parent
 MEMORY = Ended(3, b"", b"finder: memory\n")
 THREAD = Ended(2, b"", b"finder: thread\n")
@@ -25,24 +27,39 @@ def shim(folder: str) -> str:
     return library_of(HERE / "refused_memory.c", folder)
 
 
-def refused(library: str, words: list, request: int) -> Ended:
-    return run("env", [f"LD_PRELOAD={library}", f"REFUSED_REQUEST={request}", *words])
+class Refused(NamedTuple):
+    """How many runs had a request refused, how many of them said that they were out of memory, and how many that a thread
+    couldn't be started."""
+
+    runs: int
+    memory: int
+    thread: int
 
 
-def refuse_each(tally: Tally, library: str, words: list) -> int:
-    """Refuses one request after the other, and answers how often want of memory was told."""
+def refused(library: str, folder: str, words: list, request: int) -> tuple[Ended, bool]:
+    """A run, and whether there was such a request."""
+    told = os.path.join(folder, "told")
+    if os.path.exists(told):
+        os.remove(told)
+    got = run("env", [f"LD_PRELOAD={library}", f"REFUSED_TOLD={told}", f"REFUSED_REQUEST={request}", *words])
+    return got, os.path.exists(told)
+
+
+def refuse_each(tally: Tally, library: str, folder: str, words: list) -> Refused:
+    """Refuses one request after the other."""
     ample = run(words[0], words[1:])
     if ample.status not in (0, 1):
         sys.exit(f"no answer to {words[1:]}: {ample}")
-    told = last = request = 0
-    while request < last + UNTOLD:
+    allowed = (ample, MEMORY, THREAD) if words[1] == "live" else (ample, MEMORY)
+    runs = memory = thread = last = request = 0
+    while request < last + UNMET:
         request += 1
-        got = refused(library, words, request)
-        allowed = (ample, MEMORY, THREAD) if words[1] == "live" else (ample, MEMORY)
-        tally.check(f"{words[1:]}, request {request}", got in allowed, got)
-        if got in allowed[1:]:
-            told, last = told + 1, request
-    return told
+        got, was_refused = refused(library, folder, words, request)
+        tally.check(f"{words[1:]}, request {request}", got in allowed if was_refused else got == ample, got)
+        if was_refused:
+            runs, memory, thread, last = runs + 1, memory + (got == MEMORY), thread + (got == THREAD), request
+    tally.check(f"some request of {words[1:]} was refused, and want of memory told", memory > 0)
+    return Refused(runs, memory, thread)
 
 
 def commands(trace: Path) -> list:
@@ -57,15 +74,15 @@ def commands(trace: Path) -> list:
 def main() -> None:
     program = program_of(sys.argv)
     tally = Tally()
-    told = {}
+    seen = []
     with tempfile.TemporaryDirectory() as folder:
         library = shim(folder)
         for path in sorted((ROOT / "tests" / "vectors").glob("*.trace")):
             for words in commands(path):
-                name = " ".join(words)
-                told[name] = refuse_each(tally, library, [program, *words])
-                tally.check(f"some request of {name} was refused", told[name] > 0)
-    print(f"{sum(told.values())} times out of memory, at most {max(told.values())} for one answer")
+                seen.append(refuse_each(tally, library, folder, [program, *words]))
+    runs, memory, thread = (sum(counts) for counts in zip(*seen))
+    print(f"{runs:,} runs with a request refused: {memory:,} out of memory, {thread:,} without a thread; "
+          f"at most {max(seen).runs:,} for one answer")
     tally.close()
 
 

@@ -79,7 +79,7 @@ def main() -> None:
     programs = sorted(path for path in CRATES.glob("*/out/*_tests") if not named or path.parts[-3] in named)
     if not programs:
         sys.exit("no test program: `rt ci` builds them")
-    tally = Tally()
+    tally, together = Tally(), 0
     with tempfile.TemporaryDirectory() as folder:
         library = shim(folder)
         for program in programs:
@@ -87,11 +87,14 @@ def main() -> None:
                 test = Test(library, folder, program, name)
                 requests = test.requests()
                 refused = refuse(test, chosen(requests))
+                together += len(refused)
                 stopped = [request for request, status in refused if status != 0]
                 may_stop = len(refused) if name.endswith(ONE_TRY) else 1 if name.endswith(AT_ONCE) else 0
                 tally.check(f"{program.parts[-3]} {name}", len(stopped) <= may_stop, stopped)
                 print(f"{program.parts[-3]} {name}: {len(refused)} of {requests} requests refused, "
                       f"{len(refused) - len(stopped)} times it passed", flush=True)
+    print(f"{together:,} requests refused")
+    tally.check("requests were refused", together > 0)
     tally.close()
 
 

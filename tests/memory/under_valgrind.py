@@ -2,8 +2,8 @@
 """under_valgrind.py PROGRAM [MUTANTS]: the built program under Debian's valgrind, which must report nothing.
 
 `verdict` and `cert` go over each vector, `verify` over its certificate too (not `live`, whose threads wait for one another for
-minutes under valgrind), and `verdict` over so many changed texts, 1,000 unless
-told otherwise. The exit status and the texts must be those of a run without valgrind. It takes about a second of processor for
+minutes under valgrind), `verdict` over each malformed trace, `verify` over each forged certificate and on each malformed trace, and
+`verdict` over so many changed texts, 1,000 unless told otherwise. The exit status and the texts must be those of a run without valgrind. It takes about a second of processor for
 each run, on all processors at once."""
 import os
 import random
@@ -44,6 +44,11 @@ def asked(program: str, folder: str, many: int, has_live: bool = False):
             path = os.path.join(folder, f"{trace.stem}.cert")
             Path(path).write_bytes(made.out)
             yield ["verify", str(trace), path], b""
+    for trace in sorted(VECTORS.glob("malformed/*.trace")):
+        yield ["verdict", str(trace)], b""
+        yield ["verify", str(trace), str(VECTORS / "all-three-way-cycle.cert2")], b""
+    for cert in sorted(VECTORS.glob("forged/*.cert")):
+        yield ["verify", str(cert.with_suffix(".trace")), str(cert)], b""
     for text in changed_texts(many):
         yield ["verdict", "-"], text
 

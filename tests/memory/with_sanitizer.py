@@ -1,8 +1,9 @@
 #!/usr/bin/env python3
 """with_sanitizer.py PROGRAM [MUTANTS]: the built program with AddressSanitizer, which must report nothing.
 
-`verdict`, `verdict --json`, `cert` and `live` go over each vector, `verify` over its certificate too, and `verdict` over so many
-changed texts, 1,000 unless told otherwise. The exit status and the texts must be those of a run without the sanitizer.
+`verdict`, `verdict --json`, `cert` and `live` go over each vector, `verify` over its certificate too, `verdict` over each
+malformed trace, `verify` over each forged certificate and on each malformed trace, and `verdict` over so many changed texts, 1,000
+unless told otherwise. The exit status and the texts must be those of a run without the sanitizer.
 
 The program is run as it is, with the runtime of gcc's sanitizer loaded before it, so what is seen is what passes through the C
 library: a block that is freed twice or was never given out, a copy (memcpy, memmove, memset) or a read or write of a file that

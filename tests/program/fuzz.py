@@ -2,12 +2,12 @@
 """fuzz.py PROGRAM [SECONDS [SEED]] [--processes N] [--cases N]: random recordings and changed texts beside slow readers of the
 definitions, as long as told.
 
-Of each text the line fault must be that of reference/traces.py. Where it spells a small recording, the report in either form,
-the certificate, the checker's answers to it and to a forged one, and what `live` says must be those of the references. Each of
-these is a case: one run of the program, compared with a reference. Without a seed it takes one from the clock and prints it. It
-ends after 60 seconds, unless told otherwise, or with --cases after so many cases and a few more, whatever the seconds. With
---processes so many processes share the one run; the seed of each is made of the run's seed and its number, so a run of the same
-words with --cases tries the same again. It counts all together at the end."""
+Of a faulty text the line fault must be that of reference/traces.py, whichever of the commands reads it. Where a text spells a
+small recording, the report in either form, the certificate, the checker's answers to it and to a forged one, and what `live` says
+must be those of the references. Each of these is a case: one run of the program, compared with a reference. Without a seed it
+takes one from the clock and prints it. It ends after 60 seconds, unless told otherwise, or with --cases after so many cases and a
+few more, whatever the seconds. With --processes so many processes share the one run; the seed of each is made of the run's seed
+and its number, so a run of the same words with --cases tries the same again. It counts all together at the end."""
 import argparse
 import math
 import os
@@ -32,6 +32,9 @@ from shared.sessions import session, with_fault  # noqa: E402
 VECTORS = ROOT / "tests" / "vectors"
 # The references try all orders of the elements, and all sets of responses.
 MOST_INSERTS, MOST_OPERATIONS = 6, 12
+# A faulty text goes to one of these: all commands that read a trace.
+READERS = ["verdict", "-"], ["verdict", "--json", "-"], ["cert", "-"], ["live", "-"], \
+    ["verify", "-", str(VECTORS / "all-three-way-cycle.cert2")]
 # How many workers share a search. Each is a thread, for which a small recording is no work; 64 take ten times as long.
 WORKERS = [1] * 10 + [2] * 5 + [4] * 4 + [64]
 # A folder in memory, where there is one.
@@ -77,7 +80,9 @@ class Fuzzer:
         """The commands on a text. Answers what kind of text it is."""
         cause = line_fault(text)
         if cause is not None:
-            self.tally.same(f"verdict of {text!r}", self.program.run(["verdict", "-"], text), fault(cause))
+            words = self.rnd.choice(READERS)
+            wanted = line("no trace\n") if words[0] == "verify" else fault(cause)
+            self.tally.same(f"{words} of {text!r}", self.program.run(words, text), wanted)
             return "line faults"
         recording = recording_of(text.decode())
         return self.try_recording(text.decode(), recording) if is_small(recording) else "too large for the references"

@@ -171,7 +171,7 @@ fn valid_rows(rt: HostRuntime) {
 }
 
 /// Traces with certificates that are not valid, and why.
-static INVALID: [(&str, &str, Why); 27] = [
+static INVALID: [(&str, &str, Why); 33] = [
     ("trace 1\n", "cert 2\n", Why::Trace),
     (EMPTY, "", Why::CertText),
     (EMPTY, "cert 3\naccepted\norder :\n", Why::CertText),
@@ -202,6 +202,39 @@ static INVALID: [(&str, &str, Why); 27] = [
         THREE_WAY,
         "cert 1\nrefused 3\nstep b x 2.1\nstep b a 0.3\nstep a x 1.1\nlayers x / b\nlayers a / x\nlayers b / a\n",
         Why::NoCycle { step: 1 },
+    ),
+    // A step that no response shows, and steps that do not lead on.
+    (
+        THREE_WAY,
+        "cert 1\nrefused 2\nstep x b 2.1\nstep b x 2.1\n",
+        Why::NoCycle { step: 2 },
+    ),
+    (
+        THREE_WAY,
+        "cert 1\nrefused 3\nstep x b 2.1\nstep a x 1.1\nstep b a 0.3\n",
+        Why::NoCycle { step: 1 },
+    ),
+    // Orders of three elements: a name twice, and one that a read does not follow.
+    (
+        THREE_WAY,
+        "cert 1\naccepted\norder : x a x\n",
+        Why::NotOrder,
+    ),
+    (
+        THREE_WAY,
+        "cert 1\naccepted\norder : a x b\n",
+        Why::NotFollowed { replica: 0, n: 3 },
+    ),
+    // A first row with a name that is no element's, and one with a layer too many.
+    (
+        THREE_WAY,
+        "cert 1\nrefused 3\nstep x b 2.1\nstep b a 0.3\nstep a x 1.1\nlayers x / q\nlayers a / x\nlayers b / a\n",
+        Why::ShortLayer { source: "x" },
+    ),
+    (
+        THREE_WAY,
+        "cert 1\nrefused 3\nstep x b 2.1\nstep b a 0.3\nstep a x 1.1\nlayers x b / a\nlayers a / x\nlayers b / a\n",
+        Why::CertText,
     ),
     // The last step does not end where the first begins.
     (

@@ -6,6 +6,7 @@ mod faults;
 mod limits;
 mod long_lines;
 mod piecewise;
+mod prefixes;
 mod round_trips;
 mod versions;
 mod words;

@@ -8,13 +8,14 @@ use std::io::{Error, ErrorKind, Read, Write};
 /// How many bytes a page holds.
 const ROOM: usize = 512;
 
-/// Gives its text, so many bytes a read. One read fails, and those after it do not.
+/// Gives its text, so many bytes a read. One read fails for this cause, and those after it do not.
 #[derive(Drop)]
 pub struct Script<'a> {
     pub rest: &'a [u8],
     pub size: usize,
     pub reads: u32,
     pub fails_at: u32,
+    pub cause: ErrorKind,
 }
 
 impl<'a> Script<'a> {
@@ -24,7 +25,13 @@ impl<'a> Script<'a> {
             size,
             reads: 0,
             fails_at,
+            cause: ErrorKind::Other,
         }
+    }
+
+    /// The same, where the read that fails does so for this cause.
+    pub fn for_cause(self, cause: ErrorKind) -> Script<'a> {
+        Script { cause, ..self }
     }
 }
 
@@ -32,7 +39,7 @@ impl Read for Script<'_> {
     fn read(&mut self, buffer: &mut [u8]) -> io::Result<usize> {
         self.reads = self.reads.saturating_add(1);
         if self.reads == self.fails_at {
-            return Err(Error::from(ErrorKind::Other));
+            return Err(Error::from(self.cause));
         }
         let n = self.size.min(buffer.len()).min(self.rest.len());
         buffer[..n].copy_from_slice(&self.rest[..n]);
@@ -41,7 +48,7 @@ impl Read for Script<'_> {
     }
 }
 
-/// Keeps what is written, so many bytes a write. One write fails, and those after it do not.
+/// Keeps what is written, so many bytes a write. One write fails for this cause, and those after it do not.
 #[derive(Drop)]
 pub struct Page {
     bytes: [u8; 512],
@@ -49,6 +56,7 @@ pub struct Page {
     size: usize,
     pub writes: u32,
     fails_at: u32,
+    pub cause: ErrorKind,
     ghost within: { len ≤ 512 },
 }
 
@@ -60,6 +68,7 @@ impl Page {
             size,
             writes: 0,
             fails_at,
+            cause: ErrorKind::Other,
         }
     }
 
@@ -73,7 +82,7 @@ impl Write for Page {
     fn write(&mut self, bytes: &[u8]) -> io::Result<usize> {
         self.writes = self.writes.saturating_add(1);
         if self.writes == self.fails_at {
-            return Err(Error::from(ErrorKind::Other));
+            return Err(Error::from(self.cause));
         }
         let room = ROOM - self.len;
         let n = self.size.min(bytes.len()).min(room);

@@ -1,7 +1,9 @@
-//! The check of a certificate, of a trace that is faulty long before its end.
+//! A trace that is faulty long before its end: the check of a certificate reads it whole, a run does not.
 
-use super::trials::{Trial, tried};
+use super::trials::{Failing, NEVER, Trial, tried};
 use crate::status::{RunFault, Status};
+use std::io::ErrorKind;
+use trace_text::{Cause, LineFault};
 
 /// A trace whose third line is faulty, and whose others are right.
 const FAULTY: &str = "trace 1\nreplicas 1\nno entry\n0 ins a 0 : a\n0 del a :\n0 read :\n";
@@ -19,15 +21,31 @@ fn fails_in_the_trace(check: &Trial<'_, '_>, reads: u32) -> bool {
 #[test]
 fn reads_that_fail_behind_the_fault(rt: HostRuntime) {
     // 61 bytes are 9 reads, and one more shows the end. The faulty line ends within the fourth.
-    for fails_at in 1..=10 {
-        let check = tried(&rt, rt.alloc(), FAULTY, Some(CERTIFICATE), fails_at, 0);
-        assert!(rt; fails_in_the_trace(&check, fails_at), "at {fails_at}");
+    for read in 1..=10 {
+        let failing = Failing {
+            read,
+            write: 0,
+            cause: ErrorKind::Interrupted,
+        };
+        let check = tried(&rt, rt.alloc(), FAULTY, Some(CERTIFICATE), failing);
+        assert!(rt; fails_in_the_trace(&check, read), "at {read}");
     }
 }
 
 #[test]
+fn a_run_reads_no_further_than_the_fault(rt: HostRuntime) {
+    let shape = LineFault {
+        line: 3,
+        cause: Cause::Shape,
+    };
+    let trial = tried(&rt, rt.alloc(), FAULTY, None, NEVER);
+    assert!(rt; trial.answer == Err(RunFault::Trace(shape)));
+    assert!(rt; trial.trace.reads == 4 && trial.page.writes == 0);
+}
+
+#[test]
 fn faulty_trace_is_read_to_its_end(rt: HostRuntime) {
-    let check = tried(&rt, rt.alloc(), FAULTY, Some(CERTIFICATE), 0, 0);
+    let check = tried(&rt, rt.alloc(), FAULTY, Some(CERTIFICATE), NEVER);
     assert!(rt; check.answer == Ok(Status::Bad));
     assert!(rt; check.page.text() == b"no trace\n".as_slice());
     // The certificate's 26 bytes are 4 reads, and one more shows the end.
@@ -37,7 +55,7 @@ fn faulty_trace_is_read_to_its_end(rt: HostRuntime) {
 #[test]
 fn right_trace_is_judged(rt: HostRuntime) {
     let text = "trace 1\nreplicas 1\n0 ins a 0 : a\n";
-    let check = tried(&rt, rt.alloc(), text, Some(CERTIFICATE), 0, 0);
+    let check = tried(&rt, rt.alloc(), text, Some(CERTIFICATE), NEVER);
     assert!(rt; check.answer == Ok(Status::Good));
     assert!(rt; check.page.text() == b"yes accepted\n".as_slice());
     assert!(rt; check.trace.reads == 6 && check.cert.reads == 5);
