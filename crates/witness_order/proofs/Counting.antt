@@ -1,6 +1,6 @@
--- Counts of edges, spot by spot, and what an insert adds to a set's keys.
-use Rattle.std.proofs.Common.{◌≡◌, ◌≢◌, ℕ, ◌+◌, ◌-◌, ◌<◌, ◌≤◌, ◌⊎◌, inl, inr, Bool, true, false, cond, eqb, Option, List, [], ◌∷◌, length, get_or, set, take, refl, sym, ◌∙◌, arith, ap, subst, get_or-set_same, get_or-set_other}
-use Rattle.std.specs.Prelude.{◌↔◌, Contains, slice_get, option_and_then}
+-- Counts of edges, entry by entry, and what an insert adds to a set's keys.
+use Rattle.std.proofs.Common.{◌≡◌, ◌≢◌, ℕ, ◌+◌, ◌-◌, ◌<◌, ◌≤◌, ◌⊎◌, inl, inr, Bool, true, false, cond, eqb, List, [], ◌∷◌, length, get_or, set, take, refl, sym, ◌∙◌, arith, ap, subst, get_or-set_same, get_or-set_other}
+use Rattle.std.specs.Prelude.{◌↔◌, Contains}
 use Rattle.std.specs.Ordering.{nat_cmp, match_ordering}
 use Rattle.std.specs.declared.cmp.Ordering.{Ordering}
 use Rattle.std.specs.declared.cmp.Ordering.TheVariants.{Less, Equal, Greater}
@@ -8,23 +8,37 @@ use Rattle.std.specs.BTreeSet.{insert_key}
 use Rattle.std.proofs.lemmas.Bool.{eq-eqb}
 use Rattle.std.proofs.lemmas.Bool.Decides.{eqb_tells}
 use Rattle.std.proofs.lemmas.Map.Lookups.{exact_unsigned}
-use Rattle.std.proofs.lemmas.List.Sums.{sum_by_more, sum_by-take-le}
-use Rattle.std.proofs.lemmas.Option.{slice_get-get_or}
+use Rattle.std.proofs.lemmas.List.Sums.{sum_by-cons, sum_by_more, sum_by-take-le}
 use Rattle.specification.proofs.Members.{In, In-from_Contains, Contains-from_In}
-use Rattle.order_graph.specs.declared.spot.Spot.{Spot}
-use Rattle.witness_order.specs.Edges.{behind, is_number, edges_at}
+use Rattle.witness_order.specs.Edges.{occurrences}
 
--- one spot more
-pub edges-more : (rows : List (List ℕ)) (spots : List Spot) (i y : ℕ) (o : Option ℕ) → i < length spots → o ≡ option_and_then (behind rows) (slice_get spots i) →
-    edges_at rows (take (i + 1) spots) y ≡ edges_at rows (take i spots) y + cond (is_number y o) 1 0
-edges-more rows spots i y o lt e =
-    let d : Spot = record { list = 0; place = 0 } in
-    let got : behind rows (get_or spots i d) ≡ o = sym (ap (option_and_then (behind rows)) (slice_get-get_or spots i d lt)) ∙ sym e in
-    sum_by_more (λ (s : Spot). cond (is_number y (behind rows s)) 1 0) spots i d lt
-    ∙ ap (λ p. edges_at rows (take i spots) y + cond (is_number y p) 1 0) got
+-- one entry more
+pub occurrences-more : (xs : List ℕ) (i y : ℕ) → i < length xs → occurrences (take (i + 1) xs) y ≡ occurrences (take i xs) y + cond (eqb (get_or xs i 0) y) 1 0
+occurrences-more xs i y lt = sum_by_more (λ (z : ℕ). cond (eqb z y) 1 0) xs i 0 lt
 
-pub edges-take : (rows : List (List ℕ)) (spots : List Spot) (i y : ℕ) → edges_at rows (take i spots) y ≤ edges_at rows spots y
-edges-take rows spots i y = sum_by-take-le (λ (s : Spot). cond (is_number y (behind rows s)) 1 0) spots i
+pub occurrences-take : (xs : List ℕ) (i y : ℕ) → occurrences (take i xs) y ≤ occurrences xs y
+occurrences-take xs i y = sum_by-take-le (λ (z : ℕ). cond (eqb z y) 1 0) xs i
+
+-- what is counted is there, and what is there is counted
+pub occurrences-In : (xs : List ℕ) (y : ℕ) → 1 ≤ occurrences xs y → In y xs
+occurrences-In [] y h = absurd (omega arith)
+occurrences-In (x ∷ xs) y h =
+    let rest : 1 ≤ occurrences xs y → In y xs = occurrences-In xs y in
+    elim (eqb_tells x y) [
+      | inl e ↦ inl (sym e.1)
+      | inr e ↦
+          (let none : cond {A = ℕ} (eqb x y) 1 0 ≡ 0 = ap (λ (b : Bool). cond b 1 0) e.0 in
+          inr (rest (omega (arith, h, sum_by-cons (λ (z : ℕ). cond (eqb z y) 1 0) x xs))))
+    ]
+
+pub In-occurrences : (xs : List ℕ) (y : ℕ) → In y xs → 1 ≤ occurrences xs y
+In-occurrences [] y i = absurd i
+In-occurrences (x ∷ xs) y (inl e) =
+    let one : cond {A = ℕ} (eqb x y) 1 0 ≡ 1 = ap (λ (b : Bool). cond b 1 0) (eq-eqb x y (sym e)) in
+    omega (arith, sum_by-cons (λ (z : ℕ). cond (eqb z y) 1 0) x xs)
+In-occurrences (x ∷ xs) y (inr i) =
+    let rest : 1 ≤ occurrences xs y = In-occurrences xs y i in
+    omega (arith, sum_by-cons (λ (z : ℕ). cond (eqb z y) 1 0) x xs)
 
 pub one_more : (ds es : List ℕ) (z : ℕ) → z < length ds → es ≡ set ds z (get_or ds z 0 + 1) → (y : ℕ) → get_or es y 0 ≡ get_or ds y 0 + cond (eqb z y) 1 0
 one_more ds es z lt is y = elim (eqb_tells z y) [

@@ -1,16 +1,14 @@
 -- An order in which each edge goes forwards is an order that follows every response, by names in place of numbers.
-use Rattle.std.proofs.Common.{◌≡◌, ℕ, zero, suc, ◌+◌, ◌-◌, ◌<◌, ◌≤◌, inl, inr, Bool, true, false, cond, Option, Some, None, List, [], ◌∷◌, map, length, get_or, sum_by, refl, sym, ◌∙◌, arith, ap, subst}
+use Rattle.std.proofs.Common.{◌≡◌, ℕ, zero, suc, ◌+◌, ◌-◌, ◌<◌, ◌≤◌, inl, inr, Some, List, [], ◌∷◌, map, length, get_or, refl, sym, ◌∙◌, arith, ap, subst}
 use Rattle.std.specs.Prelude.{IsTrue, slice_get, unwrap_or}
-use Rattle.std.proofs.lemmas.Bool.{eq-eqb, eqb-true}
 use Rattle.std.proofs.lemmas.List.FromFn.{fill_by_all}
-use Rattle.std.proofs.lemmas.List.Sums.{sum_by-cons, get_or-le-sum_by}
-use Rattle.std.proofs.lemmas.Option.{slice_get-get_or, slice_get_within, get_or_from_slice_get, same_Some}
+use Rattle.std.proofs.lemmas.Option.{slice_get-get_or, same_Some}
 use Rattle.events.specs.Names.{NameBytes}
 use Rattle.events.specs.Operation.{Operation}
 use Rattle.specification.specs.Elements.{number_in}
 use Rattle.specification.specs.Responses.{Responses, Returned, AreProper, ShowsNumbers}
 use Rattle.specification.specs.Orders.{dictionary_lt, IsLeastOrder, HasNoOrder}
-use Rattle.specification.proofs.Members.{In, Before, Once, Before-first, Before-trans, In-map, In-from_place}
+use Rattle.specification.proofs.Members.{In, Before, Once, Before-first, Before-trans, In-map, In-from_place, In-from_Contains, Contains-from_In}
 use Rattle.specification.proofs.Walks.{Closed}
 use Rattle.specification.proofs.OrderOrCycle.{Orders}
 use Rattle.specification.proofs.Numbers.{number}
@@ -20,66 +18,24 @@ use Rattle.specification.proofs.Consistency.{follows_from_order, order_from_foll
 use Rattle.specification.proofs.LeastOrder.{all_operations, follows_set, follows_all}
 use Rattle.order_graph.specs.Kept.{names_at}
 use Rattle.order_graph.specs.Lists.{lists_of, row, Stands, BeforeIn}
-use Rattle.order_graph.specs.Spots.{spots_of}
-use Rattle.order_graph.specs.declared.spot.Spot.{Spot}
-use Rattle.order_graph.proofs.AllSpots.{IsAmong, spots_complete, spots_sound}
 use Rattle.element_numbers.proofs.NameNumbers.{number-at, number-some}
 use Rattle.order_graph.proofs.Shown.{shows-list, list-shows, named-stands, known-numbers}
-use Rattle.witness_order.specs.Edges.{behind, is_number, edges_at, edges}
+use Rattle.witness_order.specs.Edges.{AreNeighbours, AreSuccessors, edges}
 use Rattle.witness_order.proofs.InTurn.{Leads, below, IsFirst, In-below, below-In}
+use Rattle.witness_order.proofs.Counting.{occurrences-In, In-occurrences}
 
 -- an edge is two neighbouring places
-pub record AreNeighbours (rows : List (List ℕ)) (x y : ℕ) : Type 0 where
-  pub list : ℕ
-  pub place : ℕ
-  pub first : Stands rows list place x
-  pub second : Stands rows list (place + 1) y
+module _ (rows : List (List ℕ)) (n : ℕ) (successors : List (List ℕ)) (are : AreSuccessors rows n successors) where
+  pub edge_sound : (x y : ℕ) → 1 ≤ edges successors x y → AreNeighbours rows x y
+  edge_sound x y h = (are.listed x y).0 (Contains-from_In (row successors x) y (occurrences-In (row successors x) y h))
 
-number_is : (y : ℕ) (o : Option ℕ) → is_number y o ≡ true → o ≡ Some y
-number_is y None h = absurd (cc)
-number_is y (Some z) h = ap Some (eqb-true z y h)
-
-module _ (rows : List (List ℕ)) where
-  stands_at : (l p x : ℕ) → slice_get (row rows l) p ≡ Some x → Stands rows l p x
-  stands_at l p x e = record { within = slice_get_within (row rows l) p x e; here = get_or_from_slice_get (row rows l) p x 0 e }
-
-  get_at : (l p x : ℕ) → Stands rows l p x → slice_get (row rows l) p ≡ Some x
-  get_at l p x h = slice_get-get_or (row rows l) p 0 h.within ∙ ap Some h.here
-
-  one_spot : (spots : List Spot) (y : ℕ) → 1 ≤ edges_at rows spots y → (i : ℕ) × (s : Spot) × (slice_get spots i ≡ Some s) × (behind rows s ≡ Some y)
-  one_spot [] y h = absurd (omega arith)
-  one_spot (s ∷ spots) y h = go (is_number y (behind rows s)) refl (one_spot spots y)
-    where
-      total : edges_at rows (s ∷ spots) y ≡ cond (is_number y (behind rows s)) 1 0 + edges_at rows spots y
-      total = sum_by-cons (λ (q : Spot). cond (is_number y (behind rows q)) 1 0) s spots
-
-      go : (b : Bool) → is_number y (behind rows s) ≡ b → (1 ≤ edges_at rows spots y → (i : ℕ) × (q : Spot) × (slice_get spots i ≡ Some q) × (behind rows q ≡ Some y)) →
-          (i : ℕ) × (q : Spot) × (slice_get (s ∷ spots) i ≡ Some q) × (behind rows q ≡ Some y)
-      go true e rest = (0, s, refl, number_is y (behind rows s) e)
-      go false e rest =
-          let none : cond {A = ℕ} (is_number y (behind rows s)) 1 0 ≡ 0 = ap (λ (b : Bool). cond b 1 0) e in
-          let r : (i : ℕ) × (q : Spot) × (slice_get spots i ≡ Some q) × (behind rows q ≡ Some y) = rest (omega (arith, total)) in
-          (suc r.0, r.1, r.2, r.3)
-
-  pub edge_sound : (x y : ℕ) → 1 ≤ edges rows x y → AreNeighbours rows x y
-  edge_sound x y h =
-      let s : (i : ℕ) × (q : Spot) × (slice_get (spots_of rows x) i ≡ Some q) × (behind rows q ≡ Some y) = one_spot (spots_of rows x) y h in
-      record { list = s.1.list; place = s.1.place; first = spots_sound rows x s.0 s.1 s.2; second = stands_at s.1.list (s.1.place + 1) y s.3 }
-
-  edge_complete : (l p x y : ℕ) → Stands rows l p x → Stands rows l (p + 1) y → 1 ≤ edges rows x y
+  edge_complete : (l p x y : ℕ) → Stands rows l p x → Stands rows l (p + 1) y → 1 ≤ edges successors x y
   edge_complete l p x y first second =
-      let a : IsAmong (spots_of rows x) l p = spots_complete rows x l p first in
-      let f : Spot → ℕ = λ (s : Spot). cond (is_number y (behind rows s)) 1 0 in
-      let there : behind rows a.spot ≡ Some y =
-      ap (λ m. slice_get (row rows m) (a.spot.place + 1)) a.list_is ∙ ap (λ q. slice_get (row rows l) (q + 1)) a.place_is ∙ get_at l (p + 1) y second in
-      let one : f a.spot ≡ 1 = ap (λ o. cond (is_number y o) 1 0) there ∙ ap (λ (b : Bool). cond b 1 0) (eq-eqb y y refl) in
-      let is : get_or (spots_of rows x) a.at a.spot ≡ a.spot = get_or_from_slice_get (spots_of rows x) a.at a.spot a.spot a.get in
-      let le : f (get_or (spots_of rows x) a.at a.spot) ≤ sum_by f (spots_of rows x) = get_or-le-sum_by f (spots_of rows x) a.at a.spot (slice_get_within (spots_of rows x) a.at a.spot a.get) in
-      omega (arith, ap f is)
+      In-occurrences (row successors x) y (In-from_Contains (row successors x) y ((are.listed x y).1 (record { list = l; place = p; first = first; second = second })))
 
   -- where each edge to what is in the order goes forwards, so does all that a list has before it
-  module _ (n : ℕ) (known : (l p x : ℕ) → Stands rows l p x → x < n) (order : List ℕ) (once : Once order)
-      (forwards : (a b : ℕ) → a < n → In b order → 1 ≤ edges rows a b → Before a b order) where
+  module _ (known : (l p x : ℕ) → Stands rows l p x → x < n) (order : List ℕ) (once : Once order)
+      (forwards : (a b : ℕ) → a < n → In b order → 1 ≤ edges successors a b → Before a b order) where
     neighbours_forwards : (l p a b : ℕ) → Stands rows l p a → Stands rows l (p + 1) b → In b order → Before a b order
     neighbours_forwards l p a b first second i = forwards a b (known l p a first) i (edge_complete l p a b first second)
 
@@ -154,16 +110,16 @@ name_at_number names a once i =
     let s = number-some names a once i in
     ap (λ o. slice_get names (unwrap_or o (length names))) s.2 ∙ s.1
 
-module _ (v : Responses) (proper : AreProper v) where
-  pub known_below : (l p x : ℕ) → Stands (lists_of v) l p x → x < length v.elements
-  known_below l p x h = subst (λ z. z < length v.elements) h.here (known-numbers v proper l p 0 h.within)
+pub known_below : (v : Responses) (proper : AreProper v) (l p x : ℕ) → Stands (lists_of v) l p x → x < length v.elements
+known_below v proper l p x h = subst (λ z. z < length v.elements) h.here (known-numbers v proper l p 0 h.within)
 
-  names_follow : (taken : List ℕ) → Orders (Leads (edges (lists_of v))) (below (length v.elements)) taken →
+module _ (v : Responses) (proper : AreProper v) (successors : List (List ℕ)) (are : AreSuccessors (lists_of v) (length v.elements) successors) where
+  names_follow : (taken : List ℕ) → Orders (Leads (edges successors)) (below (length v.elements)) taken →
       Orders (SetShows v (all_operations v)) v.elements (names_at v.elements taken)
   names_follow taken o =
       let name : ℕ → NameBytes = λ x. get_or v.elements x [] in
       subst (λ names. Orders (SetShows v (all_operations v)) names (names_at v.elements taken)) (names_all v.elements)
-      (Orders-map (Leads (edges (lists_of v))) (SetShows v (all_operations v)) name (below (length v.elements)) taken apart forwards o)
+      (Orders-map (Leads (edges successors)) (SetShows v (all_operations v)) name (below (length v.elements)) taken apart forwards o)
     where
       there : (a : ℕ) → In a (below (length v.elements)) → slice_get v.elements a ≡ Some (get_or v.elements a [])
       there a i = slice_get-get_or v.elements a [] (In-below (length v.elements) a i)
@@ -182,20 +138,20 @@ module _ (v : Responses) (proper : AreProper v) where
           let y : NameBytes = get_or v.elements b [] in
           let shows : ShowsNumbers v k a b = (x, y, there a i, there b j, Shows-from_ShowsIn v k x y s.1) in
           let l = list-shows v proper k a b shows in
-          list_forwards (lists_of v) (length v.elements) known_below taken o.once
+          list_forwards (lists_of v) (length v.elements) successors are (known_below v proper) taken o.once
           (λ x y lt k h. o.forwards tt x y (below-In (length v.elements) x lt) (o.only y k) h) l.0 a b l.4 (o.all b j)
 
   numbers_follow : (order : List NameBytes) → Orders (SetShows v (all_operations v)) v.elements order →
-      Orders (Leads (edges (lists_of v))) (below (length v.elements)) (map (number v.elements) order)
+      Orders (Leads (edges successors)) (below (length v.elements)) (map (number v.elements) order)
   numbers_follow order o =
-      subst (λ xs. Orders (Leads (edges (lists_of v))) xs (map (number v.elements) order)) (numbers_all v.elements (elements-once v proper))
-      (Orders-map (SetShows v (all_operations v)) (Leads (edges (lists_of v))) (number v.elements) v.elements order
+      subst (λ xs. Orders (Leads (edges successors)) xs (map (number v.elements) order)) (numbers_all v.elements (elements-once v proper))
+      (Orders-map (SetShows v (all_operations v)) (Leads (edges successors)) (number v.elements) v.elements order
       (same_number v.elements (elements-once v proper)) forwards o)
     where
-      forwards : (k : Unit {0}) (a b : NameBytes) → In a v.elements → In b v.elements → Leads (edges (lists_of v)) k (number v.elements a) (number v.elements b) → Before a b order
+      forwards : (k : Unit {0}) (a b : NameBytes) → In a v.elements → In b v.elements → Leads (edges successors) k (number v.elements a) (number v.elements b) → Before a b order
       forwards k a b i j h =
           let once : Once v.elements = elements-once v proper in
-          let two : AreNeighbours (lists_of v) (number v.elements a) (number v.elements b) = edge_sound (lists_of v) (number v.elements a) (number v.elements b) h in
+          let two : AreNeighbours (lists_of v) (number v.elements a) (number v.elements b) = edge_sound (lists_of v) (length v.elements) successors are (number v.elements a) (number v.elements b) h in
           let before : BeforeIn (lists_of v) two.list (number v.elements a) (number v.elements b) =
           record { place = two.place; later = two.place + 1; in_order = omega arith; first = two.first; second = two.second } in
           let named = named-stands v proper two.list two.place (number v.elements a) two.first in
@@ -207,7 +163,7 @@ module _ (v : Responses) (proper : AreProper v) where
           o.forwards r.by a b i j (In-map (λ (q : Returned). q.by) r v.returned (In-from_place v.returned two.list r named.at), shown)
 
   pub least_from_first : (taken : List ℕ) → ((x : ℕ) → In x taken → x < length v.elements) →
-      IsFirst (edges (lists_of v)) (below (length v.elements)) taken → IsLeastOrder v (names_at v.elements taken)
+      IsFirst (edges successors) (below (length v.elements)) taken → IsLeastOrder v (names_at v.elements taken)
   least_from_first taken within f =
       let names : List NameBytes = names_at v.elements taken in
       let set : List Operation = all_operations v in
@@ -228,12 +184,12 @@ module _ (v : Responses) (proper : AreProper v) where
           subst (λ ys. IsTrue (dictionary_lt (map (λ z. z) xs) ys)) (numbers_back v.elements taken (elements-once v proper) within ∙ sym (map_same taken))
           (subst (λ ys. IsTrue (dictionary_lt ys (map (number v.elements) (names_at v.elements taken)))) (sym (map_same xs)) t)
 
-  pub none_from_closed : Closed (Leads (edges (lists_of v))) → HasNoOrder v
+  pub none_from_closed : Closed (Leads (edges successors)) → HasNoOrder v
   none_from_closed c order f =
       let set : List Operation = all_operations v in
       let o = order_from_follows v proper set order f.0 (follows_set v set order f.1) in
-      no_closed (Leads (edges (lists_of v))) (below (length v.elements)) (map (number v.elements) order)
+      no_closed (Leads (edges successors)) (below (length v.elements)) (map (number v.elements) order)
       (λ k a b h.
-      let two : AreNeighbours (lists_of v) a b = edge_sound (lists_of v) a b h in
-      (below-In (length v.elements) a (known_below two.list two.place a two.first), below-In (length v.elements) b (known_below two.list (two.place + 1) b two.second)))
+      let two : AreNeighbours (lists_of v) a b = edge_sound (lists_of v) (length v.elements) successors are a b h in
+      (below-In (length v.elements) a (known_below v proper two.list two.place a two.first), below-In (length v.elements) b (known_below v proper two.list (two.place + 1) b two.second)))
       (numbers_follow order o) c

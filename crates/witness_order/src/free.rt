@@ -5,12 +5,9 @@ ghost use Rattle.std.specs.Prelude.{IfNone, IfSome, if◌then◌else◌, length,
 ghost use Rattle.std.specs.Prelude.{slice_set, vec_len};
 ghost use Rattle.std.specs.Ordering.{nat_cmp};
 ghost use Rattle.std.specs.BTreeSet.{insert_key};
-ghost use Rattle.order_graph.specs.Lists.{lists_of, AreFew};
-ghost use Rattle.witness_order.specs.Edges.{edges};
+ghost use Rattle.witness_order.specs.Edges.{occurrences};
 
-use super::neighbours::right_behind;
 use events::Memory;
-use order_graph::{Looked, OrderGraph};
 use std::alloc::Global;
 use std::collections::BTreeSet;
 
@@ -56,30 +53,24 @@ fn lower(indegrees: &mut Vec<u64>, free: &mut BTreeSet<u32>, y: u32) -> Result<(
     Ok(())
 }
 
-/// Lowers the count of what stands right after an element, once for each place. What comes to 0 is free.
+/// Lowers the counts of the successors of an element, as often as they are listed. What comes to 0 is free.
 pub fn remove_edges(
-    graph: &OrderGraph,
-    x: u32,
+    successors: &[u32],
     indegrees: &mut Vec<u64>,
     free: &mut BTreeSet<u32>,
-    looked: &mut Looked,
 ) -> Result<(), Memory>
-    requires few { AreFew graph.now }
-    requires size { vec_len indegrees.old ≡ length graph.now.elements }
+    requires known { All (λ y. y < vec_len indegrees.old) successors.now }
     requires counted { (y : ℕ) → y < vec_len indegrees.old
-        → edges (lists_of graph.now) x y ≤ slice_index indegrees.old.items y }
+        → occurrences successors.now y ≤ slice_index indegrees.old.items y }
     ensures size { vec_len indegrees.new ≡ vec_len indegrees.old }
     ensures lowered { OnOk result ((y : ℕ) → y < vec_len indegrees.old
-        → slice_index indegrees.new.items y + edges (lists_of graph.now) x y
-        ≡ slice_index indegrees.old.items y) }
+        → slice_index indegrees.new.items y + occurrences successors.now y ≡ slice_index indegrees.old.items y) }
     ensures free { OnOk result ((y : ℕ) → Contains free.new.keys y ↔ (Contains free.old.keys y
         ⊎ ((y < vec_len indegrees.old) × (0 < slice_index indegrees.old.items y)
         × (slice_index indegrees.new.items y ≡ 0)))) }
 {
-    for i in 0..graph.spots(x) {
-        if let Some(y) = right_behind(graph, x, i, looked) {
-            lower(indegrees, free, y)?;
-        }
+    for y in successors {
+        lower(indegrees, free, *y)?;
     }
     Ok(())
 }

@@ -5,14 +5,15 @@ ghost use Rattle.std.specs.Prelude.{slice_index, Contains, ◌↔◌};
 ghost use Rattle.std.specs.List.{range_with_len};
 ghost use Rattle.specification.specs.Orders.{IsLeastOrder, HasNoOrder};
 ghost use Rattle.order_graph.specs.Kept.{names_at};
-ghost use Rattle.order_graph.specs.Lists.{lists_of, AreFew};
-ghost use Rattle.witness_order.specs.Edges.{indegree};
+ghost use Rattle.order_graph.specs.Lists.{lists_of};
+ghost use Rattle.witness_order.specs.Edges.{lists_in, indegree, AreSuccessors};
 ghost use Rattle.witness_order.specs.Taken.{AreTaken};
 
 use super::free::{free_elements, remove_edges, take_least};
 use super::indegrees::indegrees_of;
+use super::successors::successors_of;
 use events::{Memory, Name};
-use order_graph::{Looked, OrderGraph};
+use order_graph::OrderGraph;
 use std::alloc::Global;
 use std::collections::BTreeSet;
 use witnesses::Order;
@@ -21,14 +22,15 @@ use witnesses::Order;
 fn taken_in_turn(
     alloc: Global,
     graph: &OrderGraph,
+    successors: &[Vec<u32>],
     mut indegrees: Vec<u64>,
     mut free: BTreeSet<u32>,
-    looked: &mut Looked,
 ) -> Result<Vec<u32>, Memory>
-    requires few { AreFew graph.now }
+    requires successors { AreSuccessors (lists_of graph.now) (length graph.now.elements)
+        (lists_in successors.now) }
     requires size { vec_len indegrees ≡ length graph.now.elements }
     requires counted { (y : ℕ) → y < length graph.now.elements
-        → slice_index indegrees.items y ≡ indegree (lists_of graph.now)
+        → slice_index indegrees.items y ≡ indegree (lists_in successors.now)
         (range_with_len 0 (length graph.now.elements)) y }
     requires free { (x : ℕ) → Contains free.keys x
         ↔ ((x < length graph.now.elements) × (slice_index indegrees.items x ≡ 0)) }
@@ -36,7 +38,7 @@ fn taken_in_turn(
 {
     let mut taken = Vec::with_capacity(alloc, graph.elements() as usize)?;
     while let Some(x) = take_least(&mut free) {
-        remove_edges(graph, x, &mut indegrees, &mut free, looked)?;
+        remove_edges(successors[x as usize].as_slice(), &mut indegrees, &mut free)?;
         taken.push(x)?;
     }
     Ok(taken)
@@ -67,24 +69,24 @@ fn names_of(alloc: Global, graph: &OrderGraph, numbers: &[u32]) -> Result<Vec<Na
 /// a response, in that order: the least first where several can. All elements exactly where some order
 /// follows every response; else neither the elements of a cycle nor what stands after one are among them.
 ///
-/// Time: two looks at each place of all responses, and each element once into and out of an ordered set.
-/// Memory: linear in the elements; no place is copied.
+/// Time: one pass over the places of all responses, which lists what stands right after each element; at most
+/// two looks at each entry of these lists; and each element once into and out of an ordered set. An element
+/// gets an entry at each place where what stands right after it is not what its last entry says: so there are
+/// no more entries than places, and few where responses mostly repeat one another. Memory: linear in the
+/// elements and these entries.
 pub fn taken(alloc: Global, graph: &OrderGraph) -> Result<Vec<u32>, Memory>
     ensures { IfOk result (λ v. AreTaken graph.now v.items) }
 {
-    // For its clauses: how few the places are.
-    let _ = graph.lists();
-    let mut looked = Looked::new();
-    let indegrees = indegrees_of(alloc, graph, &mut looked)?;
+    let successors = successors_of(alloc, graph)?;
+    let indegrees = indegrees_of(alloc, successors.as_slice())?;
     let free = free_elements(alloc, indegrees.as_slice())?;
-    taken_in_turn(alloc, graph, indegrees, free, &mut looked)
+    taken_in_turn(alloc, graph, successors.as_slice(), indegrees, free)
 }
 
 /// The least order of the elements that follows every response, by dictionary order of their numbers; none
 /// exactly where no order does, which is where responses show some elements in a cycle.
 ///
-/// Time: two looks at each place of all responses, and each element once into and out of an ordered set.
-/// Memory: linear in the elements; no place is copied.
+/// Time and memory are those of `taken`, and the names of the elements are copied.
 pub fn order(alloc: Global, graph: &OrderGraph) -> Result<Option<Order>, Memory>
     ensures { IfOk result (λ o. MatchOption o (HasNoOrder graph.now) (λ p. IsLeastOrder graph.now p)) }
 {

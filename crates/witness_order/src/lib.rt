@@ -8,7 +8,7 @@
 mod free;
 mod indegrees;
 mod least_order;
-mod neighbours;
+mod successors;
 
 pub use least_order::{order, taken};
 pub use witnesses::Order;
