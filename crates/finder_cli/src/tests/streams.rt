@@ -70,11 +70,7 @@ fn reader_that_fails(rt: HostRuntime) {
 
 /// The first write at which a run does not fail as it must, where that write fails for this cause; none where
 /// it does so at each.
-fn first_unfailed_write<H: Threads + Sync>(
-    rt: &H,
-    alloc: Global,
-    cause: ErrorKind,
-) -> Option<u32> {
+fn first_unfailed_write<H: Threads + Sync>(rt: &H, alloc: Global, cause: ErrorKind) -> Option<u32> {
     for write in 1..=120u32 {
         let failing = Failing {
             read: 0,
