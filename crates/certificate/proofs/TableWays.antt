@@ -7,7 +7,7 @@ use Rattle.std.proofs.lemmas.List.{get_or-map, get_or_default, get_or_past, leng
 use Rattle.std.proofs.lemmas.Option.{slice_get_within, slice_get-get_or, get_or_from_slice_get}
 use Rattle.std.proofs.lemmas.Slice.Eq.{bytes_eq-Decides}
 use Rattle.events.specs.Names.{NameBytes}
-use Rattle.events.proofs.SameNames.{drop-get}
+use Rattle.events.proofs.Places.{drop-get}
 use Rattle.specification.specs.Elements.{numbers_in}
 use Rattle.specification.specs.Responses.{Responses, AreProper, StandsBefore}
 use Rattle.specification.specs.LayerRule.{Row, elements_from, narrowed, row_responses}

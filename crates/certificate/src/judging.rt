@@ -23,10 +23,10 @@ use witnesses::Order;
 /// The verdict on a recording.
 ///
 /// The number of workers, 1 to 64, is tested before the recording is looked at. With more than one the
-/// contents are checked on all processors and the responses that cover all others are found by four threads,
-/// with one all is done in the caller's thread. The search for the conflict
-/// number is made only where no order follows every response; the gate is called round each of its searches.
-/// The least cycle is then found in the caller's thread.
+/// contents are checked, and the responses that cover all others found, by half as many threads, or two where
+/// that is less; with one all is done in the caller's thread. The search for the conflict number is made only
+/// where no order follows every response; the gate is called round each of its searches. The least cycle is
+/// then found in the caller's thread.
 ///
 /// Without conflicts its cost is that of `first_fault` and linear in the places of all responses; where there
 /// are, `least_conflict` has the cost of the search. Memory is linear in the places, and where there are

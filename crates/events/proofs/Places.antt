@@ -1,5 +1,5 @@
--- The element at a place of a list: in a longer list, past a write, within the list and past its end.
-use Rattle.std.proofs.Common.{◌≡◌, ◌≢◌, ◌⊎◌, inl, inr, get_or, set, ℕ, zero, suc, ◌-◌, ◌<◌, ◌≤◌, Some, None, List, [], ◌∷◌, ◌++◌, length, refl, sym, ap, arith}
+-- The element at a place of a list: in a longer list, in a part of it, past a write, within the list and past its end.
+use Rattle.std.proofs.Common.{◌≡◌, ◌≢◌, ◌⊎◌, inl, inr, get_or, set, ℕ, zero, suc, ◌+◌, ◌-◌, ◌<◌, ◌≤◌, Some, None, List, [], ◌∷◌, ◌++◌, length, take, drop, refl, sym, ap, ◌∙◌, arith}
 use Rattle.std.specs.Prelude.{slice_get}
 use Rattle.events.specs.Operations.{nth}
 
@@ -11,6 +11,18 @@ slice_get-first (y ∷ xs) ys (suc i) x e = slice_get-first xs ys i x e
 pub slice_get-last : {X : Type 0} (xs : List X) (x : X) → slice_get (xs ++ x ∷ []) (length xs) ≡ Some x
 slice_get-last [] x = refl
 slice_get-last (y ∷ xs) x = slice_get-last xs x
+
+-- in a list's first elements, and from one on
+pub take-get : {X : Type 0} (n k : ℕ) (xs : List X) → k < n → slice_get (take n xs) k ≡ slice_get xs k
+take-get zero k xs h = absurd (omega (arith, h))
+take-get (suc n) k [] h = refl
+take-get (suc n) zero (x ∷ xs) h = refl
+take-get (suc n) (suc k) (x ∷ xs) h = take-get n k xs (omega (arith, h))
+
+pub drop-get : {X : Type 0} (s k : ℕ) (xs : List X) → slice_get (drop s xs) k ≡ slice_get xs (s + k)
+drop-get zero k xs = let same : k ≡ 0 + k = omega arith in ap (slice_get xs) same
+drop-get (suc s) k [] = refl
+drop-get (suc s) k (x ∷ xs) = let same : suc (s + k) ≡ suc s + k = omega arith in drop-get s k xs ∙ ap (slice_get (x ∷ xs)) same
 
 -- what stands at a place of a list in which one place was written
 pub set-slice_get : {X : Type 0} (xs : List X) (i : ℕ) (v : X) (r : ℕ) (x : X) → slice_get (set xs i v) r ≡ Some x →

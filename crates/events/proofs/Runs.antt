@@ -9,7 +9,7 @@ use Rattle.events.specs.Names.{NameBytes, IsName}
 use Rattle.events.specs.Packed.{spaced, ends_of, start_at, pieces, IsPacked}
 use Rattle.events.specs.Runs.{BeginsWith, IsLongestRun, may_follow}
 use Rattle.events.proofs.Packed.{spaced-append}
-use Rattle.events.proofs.SameNames.{take-get, drop-get}
+use Rattle.events.proofs.Places.{take-get, drop-get}
 
 -- how many bytes the first names take
 abbrev pub size : List NameBytes → ℕ → ℕ
@@ -170,6 +170,10 @@ no-run text names none = record {
   begins = λ some. absurd (omega (arith, some));
   most = λ m h begins. omega (arith, h, none);
 }
+
+-- where a piece begins in a list that is another one
+pub same-start : (from j : ℕ) (list ends : List ℕ) → from ≡ start_at 0 list j → list ≡ ends → from ≡ start_at 0 ends j
+same-start from j list ends is same = is ∙ ap (λ l. start_at 0 l j) same
 
 -- the names of packed bytes from a place on
 module _ (bytes ends : List ℕ) (h : IsPacked bytes ends) (names : List NameBytes) (are : pieces bytes 0 ends ≡ names) (j from : ℕ) (is : from ≡ start_at 0 ends j) where

@@ -1,142 +1,112 @@
--- Names that are packed with the same bytes and ends are the same, and the first that are not differ.
-use Rattle.std.proofs.Common.{◌≡◌, ℕ, zero, suc, ◌+◌, ◌-◌, ◌<◌, ◌≤◌, List, [], ◌∷◌, length, take, drop, slice_get, slice_index, slice_range, Some, refl, sym, ap, ◌∙◌, arith, length-drop, length-take}
-use Rattle.std.proofs.Math.Seq.{take-add}
-use native.Mathlib.Decide.{ℕ_discrete}
-use Rattle.std.proofs.lemmas.List.{drop-take, drop-drop, take-take}
-use Rattle.std.proofs.lemmas.Option.{slice_get-get_or}
-use Rattle.std.specs.Prelude.{get_or}
-use Rattle.events.specs.Names.{NameBytes}
-use Rattle.events.specs.Packed.{pieces, start_at, Rise}
-use Rattle.events.specs.SameNames.{HaveSameEnds}
+-- The text of names begins with other names exactly where the names do.
+use Rattle.std.proofs.Common.{◌≡◌, ℕ, zero, suc, ◌+◌, ◌<◌, ◌≤◌, ◌==◌, true, IsTrue, List, [], ◌∷◌, ◌++◌, length, take, drop, slice_get, Some, refl, length-take, sym, ap, ◌∙◌, subst, arith}
+use Rattle.std.specs.List.{All}
+use Rattle.std.proofs.lemmas.Bool.Decides.{nat_tests}
+use Rattle.std.proofs.lemmas.List.{append_assoc, take-append-drop}
+use Rattle.std.proofs.lemmas.List.Elements.{All-head, All-tail, All-take}
+use Rattle.std.proofs.lemmas.List.Sums.{AllPass-from_list_all}
+use Rattle.std.proofs.lemmas.Option.{slice_get_within}
+use Rattle.std.proofs.Math.Seq.{drop-append_seam}
+use Rattle.events.specs.Names.{NameBytes, IsName, is_name_byte}
+use Rattle.events.specs.Packed.{spaced}
+use Rattle.events.specs.Runs.{BeginsWith, IsLongestRun, may_follow}
+use Rattle.events.proofs.Packed.{spaced-append}
+use Rattle.events.proofs.Places.{drop-get}
+use Rattle.events.proofs.Runs.{size, take-spaced}
 
-pub take-get : {X : Type 0} (n k : ℕ) (xs : List X) → k < n → slice_get (take n xs) k ≡ slice_get xs k
-take-get zero k xs h = absurd (omega (arith, h))
-take-get (suc n) k [] h = refl
-take-get (suc n) zero (x ∷ xs) h = refl
-take-get (suc n) (suc k) (x ∷ xs) h = take-get n k xs (omega (arith, h))
+-- what may stand behind a name
+abbrev MayFollow : List ℕ → Type 0
+MayFollow rest = IsTrue (may_follow (slice_get rest 0))
 
-pub drop-get : {X : Type 0} (s k : ℕ) (xs : List X) → slice_get (drop s xs) k ≡ slice_get xs (s + k)
-drop-get zero k xs = let same : k ≡ 0 + k = omega arith in ap (slice_get xs) same
-drop-get (suc s) k [] = refl
-drop-get (suc s) k (x ∷ xs) = let same : suc (s + k) ≡ suc s + k = omega arith in drop-get s k xs ∙ ap (slice_get (x ∷ xs)) same
+word : (a : NameBytes) → IsName a → All (λ b. is_name_byte b ≡ true) a
+word a h = AllPass-from_list_all is_name_byte a h.each_byte
 
--- so many more are the same
-pub take-more : (n m : ℕ) (xs ys : List ℕ) → take n xs ≡ take n ys → take m (drop n xs) ≡ take m (drop n ys) → take (n + m) xs ≡ take (n + m) ys
-take-more n m xs ys a b = take-add n m xs ∙ rw (a, b) refl ∙ sym (take-add n m ys)
+-- a byte of a name does not stand behind one
+inside : (b : ℕ) (more rest : List ℕ) → is_name_byte b ≡ true → MayFollow rest → rest ≡ b ∷ more → ⊥
+inside b more rest h follows is =
+    let space : (b == 32) ≡ true = subst MayFollow is follows in
+    let same : b ≡ 32 = grind (arith, nat_tests, space) in
+    let bad : is_name_byte 32 ≡ true = subst (λ x. is_name_byte x ≡ true) same h in
+    cc bad
 
--- with the ends of a place on
-tail : (x y : ℕ) (ends : List ℕ) (from : ℕ) (other : List ℕ) (other_from last n : ℕ) → HaveSameEnds (x ∷ ends) from (y ∷ other) other_from last (suc n) → HaveSameEnds ends from other other_from last n
-tail x y ends from other other_from last n h = record {
-  within = omega (arith, h.within);
-  other_within = omega (arith, h.other_within);
-  same = λ k lt. h.same (suc k) (omega (arith, lt));
-  low = λ k lt. h.low (suc k) (omega (arith, lt));
+-- two texts are the same, each a name and what may follow it
+same-word : (v w p q : List ℕ) → All (λ b. is_name_byte b ≡ true) v → All (λ b. is_name_byte b ≡ true) w → MayFollow p → MayFollow q → v ++ p ≡ w ++ q → (v ≡ w) × (p ≡ q)
+same-word [] [] p q a b f g is = (refl, is)
+same-word [] (y ∷ w) p q a b f g is = absurd (inside y (w ++ q) p (All-head (λ b. is_name_byte b ≡ true) y w b) f is)
+same-word (x ∷ v) [] p q a b f g is = absurd (inside x (v ++ p) q (All-head (λ b. is_name_byte b ≡ true) x v a) g (sym is))
+same-word (x ∷ v) (y ∷ w) p q a b f g is =
+    let head : x ≡ y = cc in
+    let tail : v ++ p ≡ w ++ q = cc in
+    let rest = same-word v w p q (All-tail (λ b. is_name_byte b ≡ true) x v a) (All-tail (λ b. is_name_byte b ≡ true) y w b) f g tail in
+    (rw (head, rest.0) refl, rest.1)
+
+spaced-follows : (names : List NameBytes) → MayFollow (spaced names)
+spaced-follows [] = refl
+spaced-follows (a ∷ names) = refl
+
+more-follows : (names : List NameBytes) (rest : List ℕ) → MayFollow rest → MayFollow (spaced names ++ rest)
+more-follows [] rest h = h
+more-follows (a ∷ names) rest h = refl
+
+same-front : (names others : List NameBytes) (rest : List ℕ) → All IsName names → All IsName others → MayFollow rest → spaced others ≡ spaced names ++ rest → take (length names) others ≡ names
+same-front [] others rest h k follows is = refl
+same-front (a ∷ names) [] rest h k follows is = absurd (cc is)
+same-front (a ∷ names) (b ∷ others) rest h k follows is =
+    let tail : b ++ spaced others ≡ (a ++ spaced names) ++ rest = cc in
+    let both = same-word b a (spaced others) (spaced names ++ rest) (word b (All-head IsName b others k)) (word a (All-head IsName a names h)) (spaced-follows others) (more-follows names rest follows)
+    (tail ∙ append_assoc a (spaced names) rest) in
+    rw (both.0, same-front names others rest (All-tail IsName a names h) (All-tail IsName b others k) follows both.1) refl
+
+module _ (names others : List NameBytes) (named : All IsName names) (others_named : All IsName others) where
+  -- a text of names that begins with names
+  front-of : (text : List ℕ) → text ≡ spaced others → BeginsWith text names → take (length names) others ≡ names
+  front-of text is begins =
+      let cut : spaced others ≡ spaced names ++ drop (length (spaced names)) text =
+      sym is ∙ sym (take-append-drop (length (spaced names)) text) ∙ ap (λ l. l ++ drop (length (spaced names)) text) begins.same in
+      let place : length (spaced names) ≡ length (spaced names) + 0 = omega arith in
+      let follows : MayFollow (drop (length (spaced names)) text) =
+      subst (λ o. IsTrue (may_follow o)) (ap (slice_get text) place ∙ sym (drop-get (length (spaced names)) 0 text)) begins.ends in
+      same-front names others (drop (length (spaced names)) text) named others_named follows cut
+
+begins-with-front : (others : List NameBytes) (n : ℕ) → BeginsWith (spaced others) (take n others)
+begins-with-front others n = record {
+  same = take-spaced others n;
+  ends =
+      let place : size others n ≡ size others n + 0 = omega arith in
+      let cut : spaced others ≡ spaced (take n others) ++ spaced (drop n others) = ap spaced (sym (take-append-drop n others)) ∙ spaced-append (take n others) (drop n others) in
+      let behind : drop (size others n) (spaced others) ≡ spaced (drop n others) = ap (drop (size others n)) cut ∙ drop-append_seam (spaced (take n others)) (spaced (drop n others)) in
+      subst (λ o. IsTrue (may_follow o)) (ap (λ l. slice_get l 0) (sym behind) ∙ drop-get (size others n) 0 (spaced others) ∙ ap (slice_get (spaced others)) (sym place)) (spaced-follows (drop n others));
 }
 
--- one end more
-pub have-more : (ends : List ℕ) (from : ℕ) (other : List ℕ) (other_from last n : ℕ) → HaveSameEnds ends from other other_from last n → n < length ends → n < length other
-    → slice_index ends n + other_from ≡ slice_index other n + from → slice_index ends n ≤ last → HaveSameEnds ends from other other_from last (n + 1)
-have-more ends from other other_from last n h a b same low = record {
-  within = omega (arith, a);
-  other_within = omega (arith, b);
-  same = λ k lt. elim (ℕ_discrete k n) [
-    | yes e ↦ rw e same
-    | no d ↦ h.same k (omega (arith, lt, d))
-  ];
-  low = λ k lt. elim (ℕ_discrete k n) [
-    | yes e ↦ rw e low
-    | no d ↦ h.low k (omega (arith, lt, d))
-  ];
-}
+take-one-more : (n : ℕ) (names others : List NameBytes) (a : NameBytes) → take n names ≡ take n others → slice_get names n ≡ Some a → slice_get others n ≡ Some a → take (suc n) names ≡ take (suc n) others
+take-one-more n [] others a is here there = absurd (cc here)
+take-one-more n (b ∷ names) [] a is here there = absurd (cc there)
+take-one-more zero (b ∷ names) (c ∷ others) a is here there = cc
+take-one-more (suc n) (b ∷ names) (c ∷ others) a is here there =
+    let head : b ≡ c = cc in
+    let tail : take n names ≡ take n others = cc in
+    rw (head, take-one-more n names others a tail here there) refl
 
-module _ (a b : List ℕ) (from other_from c : ℕ) (bytes : take c (drop from a) ≡ take c (drop other_from b)) where
-  same-part : (d m : ℕ) → d + m ≤ c → take m (drop d (drop from a)) ≡ take m (drop d (drop other_from b))
-  same-part d m h =
-      sym (drop-take d m (drop from a)) ∙ ap (drop d) (sym (take-take (d + m) c (drop from a) h) ∙ ap (take (d + m)) bytes ∙ take-take (d + m) c (drop other_from b) h)
-      ∙ drop-take d m (drop other_from b)
+-- the longest run of names in the text of others is of the names that both begin with
+module _ (names others : List NameBytes) (named : All IsName names) (others_named : All IsName others) (n bytes : ℕ) (longest : IsLongestRun (spaced others) names n bytes) where
+  fronts-to : (m : ℕ) → m ≡ n → take m names ≡ take m others
+  fronts-to zero is = refl
+  fronts-to (suc m) is =
+      let count : length (take (suc m) names) ≡ suc m = omega (arith, length-take (suc m) names, longest.within, is) in
+      let some : 0 < n = omega (arith, is) in
+      let begins : BeginsWith (spaced others) (take (suc m) names) = subst (λ k. BeginsWith (spaced others) (take k names)) (sym is) (longest.begins some) in
+      let same = front-of (take (suc m) names) others (All-take IsName (suc m) names named) others_named (spaced others) refl begins in
+      sym same ∙ ap (λ k. take k others) count
 
-  same-range : (x y e f : ℕ) → from ≤ x → x + other_from ≡ y + from → x ≤ e → e + other_from ≡ f + from → e ≤ from + c → slice_range a x e ≡ slice_range b y f
-  same-range x y e f low begins rises ends within =
-      let d : ℕ = x - from in
-      let m : ℕ = e - x in
-      let begin : from + d ≡ x = omega (arith, low) in
-      let other_begin : other_from + d ≡ y = omega (arith, low, begins) in
-      let size : f - y ≡ m = omega (arith, begins, ends, rises) in
-      let there : take m (drop x a) ≡ take m (drop d (drop from a)) = ap (take m) (sym (drop-drop d from a ∙ ap (λ n. drop n a) begin)) in
-      let other_there : take m (drop d (drop other_from b)) ≡ take m (drop y b) = ap (take m) (drop-drop d other_from b ∙ ap (λ n. drop n b) other_begin) in
-      there ∙ same-part d m (omega (arith, low, rises, within)) ∙ other_there ∙ sym (ap (λ n. take n (drop y b)) size)
+  pub fronts : take n names ≡ take n others
+  fronts = fronts-to n refl
 
-  pub same-pieces : (n x y : ℕ) (ends other : List ℕ) → from ≤ x → x + other_from ≡ y + from → Rise a x ends
-      → HaveSameEnds ends from other other_from (from + c) n → take n (pieces a x ends) ≡ take n (pieces b y other)
-  same-pieces zero x y ends other low begins rise h = refl
-  same-pieces (suc n) x y [] other low begins rise h = absurd (omega (arith, h.within))
-  same-pieces (suc n) x y (e ∷ ends) [] low begins rise h = absurd (omega (arith, h.other_within))
-  same-pieces (suc n) x y (e ∷ ends) (f ∷ other) low begins rise h =
-      let same : e + other_from ≡ f + from = h.same 0 (omega arith) in
-      let within : e ≤ from + c = h.low 0 (omega arith) in
-      let first : slice_range a (x + 1) e ≡ slice_range b (y + 1) f = same-range (x + 1) (y + 1) e f (omega (arith, low)) (omega (arith, begins)) rise.1.0 same within in
-      let rest : take n (pieces a e ends) ≡ take n (pieces b f other) =
-      same-pieces n e f ends other (omega (arith, low, rise.1.0)) same rise.1.1.1 (tail e f ends from other other_from (from + c) n h) in
-      rw (first, rest) refl
+  pub others-within : n ≤ length others
+  others-within = omega (arith, ap length fronts, length-take n names, length-take n others, longest.within)
 
-  module _ (differ : (p : ℕ) → slice_get (drop from a) c ≡ Some p → slice_get (drop other_from b) c ≡ Some p → ⊥) where
-    other-part : (x y e f : ℕ) (w : NameBytes) → from ≤ x → x + other_from ≡ y + from → x ≤ from + c → x ≤ e → e ≤ length a → y ≤ f → f ≤ length b
-        → slice_range a x e ≡ w → slice_range b y f ≡ w → (e + other_from ≡ f + from → from + c < e) → ⊥
-    other-part x y e f w low begins near rises within other_rises other_within here there most =
-        let size : length w ≡ e - x = sym (ap length here) ∙ length-take (e - x) (drop x a) ∙ omega (arith, length-drop x a, rises, within) in
-        let other_size : length w ≡ f - y = sym (ap length there) ∙ length-take (f - y) (drop y b) ∙ omega (arith, length-drop y b, other_rises, other_within) in
-        let far : from + c < e = most (omega (arith, size, other_size, begins, rises, other_rises)) in
-        let q : ℕ = from + c - x in
-        let inside : q < length w = omega (arith, size, far, near) in
-        let place : x + q ≡ from + c = omega (arith, near) in
-        let other_place : y + q ≡ other_from + c = omega (arith, near, begins) in
-        let at : slice_get w q ≡ slice_get (drop from a) c =
-        ap (λ l. slice_get l q) (sym here) ∙ take-get (e - x) q (drop x a) (omega (arith, inside, size)) ∙ drop-get x q a ∙ ap (slice_get a) place ∙ sym (drop-get from c a) in
-        let other_at : slice_get w q ≡ slice_get (drop other_from b) c =
-        ap (λ l. slice_get l q) (sym there) ∙ take-get (f - y) q (drop y b) (omega (arith, inside, other_size)) ∙ drop-get y q b ∙ ap (slice_get b) other_place ∙ sym (drop-get other_from c b) in
-        let known : slice_get w q ≡ Some (get_or w q 0) = slice_get-get_or w q 0 inside in
-        differ (get_or w q 0) (sym at ∙ known) (sym other_at ∙ known)
-
-    other-piece : (x y e f : ℕ) (w : NameBytes) → from ≤ x → x + other_from ≡ y + from → x ≤ from + c → slice_get a x ≡ Some 32 → slice_get b y ≡ Some 32
-        → x + 1 ≤ e → e ≤ length a → y + 1 ≤ f → f ≤ length b
-        → slice_range a (x + 1) e ≡ w → slice_range b (y + 1) f ≡ w → (e + other_from ≡ f + from → from + c < e) → ⊥
-    other-piece x y e f w low begins near space other_space rises within other_rises other_within here there most = elim (ℕ_discrete x (from + c)) [
-      | yes at ↦
-          let other_at : y ≡ other_from + c = omega (arith, at, begins) in
-          differ 32 (drop-get from c a ∙ ap (slice_get a) (sym at) ∙ space) (drop-get other_from c b ∙ ap (slice_get b) (sym other_at) ∙ other_space)
-      | no before ↦
-          other-part (x + 1) (y + 1) e f w (omega (arith, low)) (omega (arith, begins)) (omega (arith, near, before)) rises within other_rises other_within here there most
-    ]
-
-    pub other-pieces : (n x y : ℕ) (ends other : List ℕ) (w : NameBytes) → from ≤ x → x + other_from ≡ y + from → x ≤ from + c → Rise a x ends → Rise b y other
-        → HaveSameEnds ends from other other_from (from + c) n
-        → ((e f : ℕ) → slice_get ends n ≡ Some e → slice_get other n ≡ Some f → e + other_from ≡ f + from → from + c < e)
-        → slice_get (pieces a x ends) n ≡ Some w → slice_get (pieces b y other) n ≡ Some w → ⊥
-    other-pieces zero x y [] other w low begins near rise other_rise h most here there = absurd cc
-    other-pieces zero x y (e ∷ ends) [] w low begins near rise other_rise h most here there = absurd cc
-    other-pieces zero x y (e ∷ ends) (f ∷ other) w low begins near rise other_rise h most here there =
-        let here_is : slice_range a (x + 1) e ≡ w = cc in
-        let there_is : slice_range b (y + 1) f ≡ w = cc in
-        other-piece x y e f w low begins near rise.0 other_rise.0 rise.1.0 rise.1.1.0 other_rise.1.0 other_rise.1.1.0 here_is there_is (most e f refl refl)
-    other-pieces (suc n) x y [] other w low begins near rise other_rise h most here there = absurd cc
-    other-pieces (suc n) x y (e ∷ ends) [] w low begins near rise other_rise h most here there = absurd cc
-    other-pieces (suc n) x y (e ∷ ends) (f ∷ other) w low begins near rise other_rise h most here there =
-        other-pieces n e f ends other w (omega (arith, low, rise.1.0)) (h.same 0 (omega arith)) (h.low 0 (omega arith)) rise.1.1.1 other_rise.1.1.1
-        (tail e f ends from other other_from (from + c) n h) most here there
-
--- the pieces from a place on
-pub pieces-from : (bytes : List ℕ) (start : ℕ) (ends : List ℕ) (i : ℕ) → drop i (pieces bytes start ends) ≡ pieces bytes (start_at start ends i) (drop i ends)
-pieces-from bytes start ends zero = refl
-pieces-from bytes start [] (suc i) = refl
-pieces-from bytes start (end ∷ ends) (suc i) = pieces-from bytes end ends i
-
--- the ends rise from each place on
-pub rise-from : (bytes : List ℕ) (start : ℕ) (ends : List ℕ) (i : ℕ) → i ≤ length ends → Rise bytes start ends → Rise bytes (start_at start ends i) (drop i ends)
-rise-from bytes start ends zero h rise = rise
-rise-from bytes start [] (suc i) h rise = absurd (omega (arith, h))
-rise-from bytes start (end ∷ ends) (suc i) h rise = rise-from bytes end ends i (omega (arith, h)) rise.1.1.1
-
--- a beginning is within the bytes
-pub start-within : (bytes : List ℕ) (start : ℕ) (ends : List ℕ) → Rise bytes start ends → start ≤ length bytes
-start-within bytes start [] rise = omega (arith, rise)
-start-within bytes start (end ∷ ends) rise = omega (arith, rise.1.0, rise.1.1.0)
+  pub none-more : (a : NameBytes) → slice_get names n ≡ Some a → slice_get others n ≡ Some a → ⊥
+  none-more a here there =
+      let more : take (suc n) names ≡ take (suc n) others = take-one-more n names others a fronts here there in
+      let begins : BeginsWith (spaced others) (take (suc n) names) = subst (BeginsWith (spaced others)) (sym more) (begins-with-front others (suc n)) in
+      let within : suc n ≤ length names = omega (arith, slice_get_within names n a here) in
+      absurd (omega (arith, longest.most (suc n) within begins))

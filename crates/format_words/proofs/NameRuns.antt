@@ -7,7 +7,7 @@ use Rattle.std.proofs.lemmas.List.Elements.{All-head, All-tail}
 use Rattle.events.specs.Names.{NameBytes, IsName}
 use Rattle.events.specs.Packed.{spaced}
 use Rattle.events.specs.Runs.{BeginsWith, may_follow}
-use Rattle.events.proofs.SameNames.{drop-get}
+use Rattle.events.proofs.Places.{drop-get}
 use Rattle.format_words.specs.Words.{Word, words_of, words_behind}
 use Rattle.format_words.specs.Reading.{word_at, name_of, names_at, onto}
 use Rattle.format_words.proofs.LineWords.{LacksSpace, name-lacks, word-then, last-word}

@@ -1,6 +1,6 @@
 //! The operations whose responses cover all others.
 
-ghost use Rattle.std.specs.Prelude.{◌≡◌, ◌*◌, true, AllPairs, IfOk, Contains, length, take};
+ghost use Rattle.std.specs.Prelude.{◌≡◌, ◌≤◌, ◌*◌, true, AllPairs, IfOk, Contains, length, take};
 ghost use Rattle.events.specs.Operation.{Operation, ComesBefore};
 ghost use Rattle.events.specs.Operations.{response};
 ghost use Rattle.specification.specs.Orders.{IsSubsequence};
@@ -12,8 +12,14 @@ use std::alloc::Global;
 use std::thread;
 use std::thread::Threads;
 
-/// How many pieces of the operations are gone through side by side.
-const PIECES: usize = 4;
+/// How many pieces of the operations are gone through side by side: half as many as workers, or two where that
+/// is less. Comparing responses waits for memory more than it counts, so that more threads take more processor
+/// time, where processors share a core, and hardly less time in all.
+fn piece_count(workers: u32) -> usize
+    ensures { 2 ≤ result }
+{
+    (workers as usize / 2).max(2)
+}
 
 /// Whether the names of a response are found in another in the same order; it may miss this where the
 /// response has not half as many. Names are compared in runs, as far as both go on alike; after each run one
@@ -83,8 +89,9 @@ pub fn covering_operations(
 }
 
 /// The same, where the number of workers says whether threads are used: with 1 the operations are gone
-/// through one after the other in the caller's thread, with any other number in at most four pieces side by
-/// side. The first of each piece is always kept, since no earlier one of its piece can cover it.
+/// through one after the other in the caller's thread, with any other number in at most half as many pieces,
+/// or two where that is less, side by side. The first of each piece is always kept, since no earlier one of
+/// its piece can cover it.
 pub fn covering_operations_by(
     rt: &(impl Threads + Sync),
     alloc: Global,
@@ -98,7 +105,7 @@ pub fn covering_operations_by(
     if workers == 1 {
         return covering_operations(alloc, recording, operations);
     }
-    let size = operations.len() / PIECES + 1;
+    let size = operations.len() / piece_count(workers) + 1;
     let pieces = thread::map_chunks(
         rt,
         alloc,

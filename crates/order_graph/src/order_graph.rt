@@ -94,8 +94,8 @@ impl OrderGraph {
     }
 
     /// The same, where the number of workers says whether threads are used: with any other number than 1 at
-    /// most four parts of the operations are gone through side by side, and of each part the first response is
-    /// kept.
+    /// most half as many parts of the operations, or two where that is less, are gone through side by side, and
+    /// of each part the first response is kept.
     pub fn covering_by(
         rt: &(impl Threads + Sync),
         alloc: Global,

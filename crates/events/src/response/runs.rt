@@ -3,6 +3,8 @@
 ghost use Rattle.std.specs.Prelude.{◌≡◌, ℕ, ◌+◌, ◌-◌, ◌<◌, ◌≤◌, ◌^◌, ◌++◌, Some, All, IfOk, OnOk, OnErr};
 ghost use Rattle.std.specs.Prelude.{List, length, map, take, drop, slice_get, slice_index, vec_len};
 ghost use Rattle.std.specs.Prelude.{vec_capacity};
+ghost use Rattle.std.specs.Prelude.{nat_le};
+ghost use Rattle.std.specs.List.Sorted.{IsNonDecreasingBy};
 ghost use Rattle.events.specs.Names.{NameBytes, IsName};
 ghost use Rattle.events.specs.Packed.{spaced, ends_of};
 ghost use Rattle.events.specs.Runs.{IsLongestRun, may_follow};
@@ -92,7 +94,7 @@ fn put_ends(own: &mut Vec<u32>, ends: &[u32], from: usize, begin: usize)
 
 /// The longest run of names that the text begins with, where their bytes begin with the first one's space at
 /// `from`.
-fn longest_run(text: &[u8], bytes: &[u8], ends: &[u32], from: usize) -> Run
+pub(super) fn longest_run(text: &[u8], bytes: &[u8], ends: &[u32], from: usize) -> Run
     requires packed { (names : List NameBytes) × (bytes.now ≡ spaced names)
         × (ends.now ≡ ends_of from names) }
     requires range { from < 2 ^ 32 }
@@ -111,18 +113,18 @@ fn longest_run(text: &[u8], bytes: &[u8], ends: &[u32], from: usize) -> Run
     }
 }
 
-/// How many ends are not after `last`, before the first that is.
+/// How many of these ends, which rise, are not after `last`.
 fn ends_within(ends: &[u32], last: usize) -> usize
+    requires { IsNonDecreasingBy (λ end. end) ends.now }
     ensures within { result ≤ length ends.now }
     ensures low { (k : ℕ) → k < result → slice_index ends.now k ≤ last }
     ensures most { (x : ℕ) → slice_get ends.now result ≡ Some x → last < x }
 {
-    for k in 0..ends.len() {
-        if ends[k] as usize > last {
-            return k;
-        }
-    }
-    ends.len()
+    ends.partition_point(
+        |end: &u32| -> bool
+            ensures { result ≡ nat_le end.now last }
+        { *end as usize <= last },
+    )
 }
 
 /// How many bytes so many names take, with their spaces.

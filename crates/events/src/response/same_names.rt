@@ -1,8 +1,14 @@
 //! How far two responses go on with the same names.
 
-ghost use Rattle.std.specs.Prelude.{◌≡◌, ℕ, ◌+◌, ◌-◌, ◌<◌, ◌≤◌, ◌^◌, Some, List, length, slice_get, take, drop};
+ghost use Rattle.std.specs.Prelude.{◌≡◌, ℕ, ◌<◌, ◌≤◌, ◌^◌, All, Some, List, length, slice_get, take, drop};
+ghost use Rattle.std.specs.Simd.Lanes.{mask_l};
+ghost use Rattle.events.specs.Names.{IsName};
+ghost use Rattle.events.specs.Packed.{spaced, start_at};
+ghost use Rattle.events.specs.Runs.{IsLongestRun};
+ghost use Rattle.events.specs.SameNames.{unlike, AreSame};
 
 use super::Response;
+use super::runs::{Run, longest_run};
 use std::simd::prelude::*;
 
 /// How many bytes are compared at once.
@@ -10,55 +16,45 @@ const LANES: usize = 16;
 
 impl Response {
     /// How many names follow one another alike in this response from place `i` and in the other from place
-    /// `j` on: the most, and 0 where either place is past the end. It takes no memory, and time linear in
-    /// these names and their bytes.
+    /// `j` on: the most, and 0 where either place is past the end. It takes no memory, and time linear in the
+    /// bytes of these names.
     pub fn same_names(&self, i: usize, other: &Response, j: usize) -> usize
         ensures within { result ≤ length (drop i self.now) × result ≤ length (drop j other.now) }
         ensures same { take result (drop i self.now) ≡ take result (drop j other.now) }
         ensures most { (a : List ℕ) → slice_get (drop i self.now) result ≡ Some a
             → slice_get (drop j other.now) result ≡ Some a → ⊥ }
     {
-        let (ends, other_ends) = (self.ends.as_slice(), other.ends.as_slice());
-        if i > ends.len() || j > other_ends.len() {
+        if i > self.len() || j > other.len() {
             return 0;
         }
-        same_pieces(
-            self.bytes.as_slice(),
-            ends,
-            i,
-            other.bytes.as_slice(),
-            other_ends,
-            j,
+        self.run_in(i, other.text_from(j)).names
+    }
+
+    /// The names from a place on as a text, each after one space.
+    fn text_from(&self, j: usize) -> &[u8]
+        requires { j ≤ length self.now }
+        ensures text { result.now ≡ spaced (drop j self.now) }
+        ensures names { All IsName self.now }
+    {
+        let from = start_from(self.ends.as_slice(), j);
+        after(self.bytes.as_slice(), from)
+    }
+
+    /// The longest run of the names from a place on that the text begins with.
+    fn run_in(&self, i: usize, text: &[u8]) -> Run
+        requires { i ≤ length self.now }
+        ensures longest { IsLongestRun text.now (drop i self.now) result.names result.bytes }
+        ensures names { All IsName self.now }
+    {
+        let ends = self.ends.as_slice();
+        let from = start_from(ends, i);
+        longest_run(
+            text,
+            after(self.bytes.as_slice(), from),
+            after(ends, i),
+            from,
         )
     }
-}
-
-ghost use Rattle.events.specs.Packed.{pieces, start_at, Rise};
-ghost use Rattle.std.specs.Simd.Lanes.{mask_l};
-ghost use Rattle.events.specs.SameNames.{unlike, AreSame, HaveSameEnds};
-
-/// How many pieces follow one another alike from these places on.
-fn same_pieces(
-    bytes: &[u8],
-    ends: &[u32],
-    i: usize,
-    other_bytes: &[u8],
-    other_ends: &[u32],
-    j: usize,
-) -> usize
-    requires rise { Rise bytes.now 0 ends.now }
-    requires other_rise { Rise other_bytes.now 0 other_ends.now }
-    requires places { (i ≤ length ends.now) × (j ≤ length other_ends.now) }
-    ensures within { (result ≤ length ends.now - i) × (result ≤ length other_ends.now - j) }
-    ensures same { take result (drop i (pieces bytes.now 0 ends.now))
-        ≡ take result (drop j (pieces other_bytes.now 0 other_ends.now)) }
-    ensures most { (a : List ℕ) → slice_get (drop i (pieces bytes.now 0 ends.now)) result ≡ Some a
-        → slice_get (drop j (pieces other_bytes.now 0 other_ends.now)) result ≡ Some a → ⊥ }
-{
-    let from = start_from(ends, i);
-    let other_from = start_from(other_ends, j);
-    let last = from + same_bytes(after(bytes, from), after(other_bytes, other_from));
-    same_ends(after(ends, i), from, after(other_ends, j), other_from, last)
 }
 
 /// What stands from a place on.
@@ -140,23 +136,6 @@ fn same_one_by_one(a: &[u8], b: &[u8], most: usize) -> usize
     for n in 0..most {
         if a[n] != b[n] {
             return n;
-        }
-    }
-    most
-}
-
-/// How many ends are as far from where the first piece begins as those of the other, and not after `last`.
-fn same_ends(ends: &[u32], from: usize, other: &[u32], other_from: usize, last: usize) -> usize
-    requires range { (from < 2 ^ 32) × (other_from < 2 ^ 32) }
-    ensures same { HaveSameEnds ends.now from other.now other_from last result }
-    ensures most { (x y : ℕ) → slice_get ends.now result ≡ Some x → slice_get other.now result ≡ Some y
-        → x + other_from ≡ y + from → last < x }
-{
-    let most = ends.len().min(other.len());
-    for k in 0..most {
-        let end = ends[k] as usize;
-        if end > last || end + other_from != other[k] as usize + from {
-            return k;
         }
     }
     most

@@ -4,7 +4,7 @@ use Rattle.std.proofs.lemmas.Option.{slice_get-get_or}
 use Rattle.events.specs.Names.{NameBytes}
 use Rattle.events.specs.Packed.{spaced, ends_of}
 use Rattle.events.specs.Runs.{IsLongestRun, may_follow}
-use Rattle.events.proofs.Runs.{size, ends-length, ends-index, all-of-them, one-less}
+use Rattle.events.proofs.Runs.{size, size-rises, ends-length, ends-index, all-of-them, one-less}
 use Rattle.events.proofs.response.runs.longest_run.Goals as goal
 use Rattle.events.proofs.response.runs.longest_run.Goals.{then-names-eq0-via-then-names-eq0, then-names-eq0-via-else-names-eq0+then-ends_word}
 
@@ -47,6 +47,14 @@ module _ (text bytes ends : List ℕ) (from equal n : ℕ) (names : List NameByt
   less b short is short_is some follows =
       subst (IsLongestRun text names (n - 1)) (sym short_is)
       (one-less text names equal same differ n within low high (omega (arith, some)) (subst (λ x. may_follow (slice_get text x) ≡ false) is follows))
+
+pub ends_within-names-requires : goal.ends_within-names-requires
+ends_within-names-requires c =
+    let names : List NameBytes = c.requires.packed.0 in
+    λ i j d before within.
+    let is : get_or c.args.ends.now i d ≡ c.args.from + size names (suc i) = ap (λ l. get_or l i d) c.requires.packed.2 ∙ ends-index c.args.from names i d (omega (arith, before, within, ap length c.requires.packed.2, ends-length c.args.from names)) in
+    let other_is : get_or c.args.ends.now j d ≡ c.args.from + size names (suc j) = ap (λ l. get_or l j d) c.requires.packed.2 ∙ ends-index c.args.from names j d (omega (arith, within, ap length c.requires.packed.2, ends-length c.args.from names)) in
+    omega (arith, is, other_is, size-rises names (suc i) (suc j) (omega (arith, before)))
 
 pub returns-then-names-eq0 : goal.returns-then-names-eq0
 returns-then-names-eq0 c = λ names bytes_are ends_are.
