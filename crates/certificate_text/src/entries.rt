@@ -1,6 +1,6 @@
 //! The lines after the second: an order, steps and rows.
 
-ghost use Rattle.std.specs.Prelude.{◌≡◌, ◌+◌, ◌<◌, ◌≤◌, ◌^◌, ◌∷◌, [], List, Some, None, IfOk, IfErr};
+ghost use Rattle.std.specs.Prelude.{◌≡◌, ◌+◌, ◌<◌, ◌≤◌, ◌^◌, ◌∷◌, [], List, Some, None, IfOk, IfErr, bytes_eq, codes};
 ghost use Rattle.events.specs.Names.{NameBytes};
 ghost use Rattle.specification.specs.Lines.{names_text};
 ghost use Rattle.format_words.specs.Words.{Word, words_of, words_behind};
@@ -10,7 +10,7 @@ ghost use Rattle.certificate_text.specs.Reading.{order_at, step_at, layers_at, o
 ghost use Rattle.certificate_text.specs.Reading.{form_of, is_form, HasForm, GoesOn};
 ghost use Rattle.certificate_text.specs.StepSaid.{step_said};
 
-use events::{Name, OpName};
+use events::{Name, OpName, is_name};
 use format_words::{
     Shape, Stop, check_names, end, first_word, name_of, names, next_word, operation_of, skip_word,
 };
@@ -59,6 +59,13 @@ pub fn order_names(line: &[u8]) -> Result<&[u8], Shape>
     Ok(names)
 }
 
+/// Whether the word is `step`.
+fn is_step(word: &[u8]) -> bool
+    ensures { result ≡ bytes_eq word.now (codes "step") }
+{
+    matches!(word, [b's', b't', b'e', b'p'])
+}
+
 /// `step`, two names and an operation.
 #[tactic(auto, unfolding(crate::specs::Reading::step_at, format_words::specs::Reading::after_word, format_words::specs::Reading::name_at, format_words::specs::Reading::operation_at))]
 pub fn step_of(line: &[u8]) -> Result<Step, Shape>
@@ -95,13 +102,17 @@ pub fn step_words(line: &[u8]) -> Result<StepWords<'_>, Shape>
     ensures { Says step_said result (step_at (words_of line.now)) }
 {
     let (word, rest) = first_word(line);
-    if word != b"step".as_slice() {
+    if !is_step(word) {
         return Err(Shape);
     }
     let (from, rest) = next_word(rest)?;
-    let _name = name_of(from)?;
+    if !is_name(from) {
+        return Err(Shape);
+    }
     let (to, rest) = next_word(rest)?;
-    let _name = name_of(to)?;
+    if !is_name(to) {
+        return Err(Shape);
+    }
     let (word, rest) = next_word(rest)?;
     let shown = operation_of(word)?;
     end(rest)?;
