@@ -1,16 +1,16 @@
 //! The lines after the second: an order, steps and rows.
 
-ghost use Rattle.std.specs.Prelude.{◌≡◌, ◌+◌, ◌<◌, ◌≤◌, ◌^◌, ◌∷◌, [], List, Some, None, IfOk, IfErr};
+ghost use Rattle.std.specs.Prelude.{◌≡◌, ◌+◌, ◌<◌, ◌≤◌, ◌^◌, ◌∷◌, [], List, Some, None, IfOk, IfErr, bytes_eq, codes};
 ghost use Rattle.events.specs.Names.{NameBytes};
 ghost use Rattle.specification.specs.Lines.{names_text};
 ghost use Rattle.format_words.specs.Words.{Word, words_of, words_behind};
-ghost use Rattle.format_words.specs.Reading.{Fails, Gives, GivesOne, Grows, HasSome, Says};
+ghost use Rattle.format_words.specs.Reading.{after_word, Fails, Gives, GivesOne, Grows, HasSome, Says};
 ghost use Rattle.certificate_text.specs.Outlines.{Tells};
 ghost use Rattle.certificate_text.specs.Reading.{order_at, step_at, layers_at, onto_layers, has_form, row_at};
 ghost use Rattle.certificate_text.specs.Reading.{form_of, is_form, HasForm, GoesOn};
 ghost use Rattle.certificate_text.specs.StepSaid.{step_said};
 
-use events::{Name, OpName};
+use events::{Name, OpName, is_name};
 use format_words::{
     Shape, Stop, check_names, end, first_word, name_of, names, next_word, operation_of, skip_word,
 };
@@ -19,6 +19,8 @@ use witnesses::{Layer, Order, Row, Step};
 
 /// How many bytes stand before the names in an order's line: those of `order :`.
 const BEFORE_NAMES: usize = 7;
+/// How many bytes the word `step` has.
+const STEP_BYTES: usize = 4;
 
 /// `order :` and names.
 #[tactic(auto, unfolding(crate::specs::Reading::order_at, format_words::specs::Reading::after_word))]
@@ -59,15 +61,34 @@ pub fn order_names(line: &[u8]) -> Result<&[u8], Shape>
     Ok(names)
 }
 
+/// Whether the word is `step`.
+fn is_step(word: &[u8]) -> bool
+    ensures { result ≡ bytes_eq word.now (codes "step") }
+{
+    matches!(word, [b's', b't', b'e', b'p'])
+}
+
+/// What follows the line's first word, which must be `step`.
+///
+/// Where a space follows `step`, as in each right line, the first five bytes tell it, and no space is looked for.
+#[tactic(auto, unfolding(format_words::specs::Reading::after_word))]
+fn after_step(line: &[u8]) -> Result<&[u8], Shape>
+    ensures { Says (λ rest. words_behind rest.now) result (after_word (codes "step") (words_of line.now)) }
+{
+    if let [b's', b't', b'e', b'p', b' ', ..] = line {
+        let (_, rest) = line.split_at(STEP_BYTES);
+        return Ok(rest);
+    }
+    let (word, rest) = first_word(line);
+    if is_step(word) { Ok(rest) } else { Err(Shape) }
+}
+
 /// `step`, two names and an operation.
 #[tactic(auto, unfolding(crate::specs::Reading::step_at, format_words::specs::Reading::after_word, format_words::specs::Reading::name_at, format_words::specs::Reading::operation_at))]
 pub fn step_of(line: &[u8]) -> Result<Step, Shape>
     ensures { Says (λ step. step) result (step_at (words_of line.now)) }
 {
-    let (word, rest) = first_word(line);
-    if word != b"step".as_slice() {
-        return Err(Shape);
-    }
+    let rest = after_step(line)?;
     let (word, rest) = next_word(rest)?;
     let from = name_of(word)?;
     let (word, rest) = next_word(rest)?;
@@ -94,14 +115,15 @@ pub struct StepWords<'a> {
 pub fn step_words(line: &[u8]) -> Result<StepWords<'_>, Shape>
     ensures { Says step_said result (step_at (words_of line.now)) }
 {
-    let (word, rest) = first_word(line);
-    if word != b"step".as_slice() {
+    let rest = after_step(line)?;
+    let (from, rest) = next_word(rest)?;
+    if !is_name(from) {
         return Err(Shape);
     }
-    let (from, rest) = next_word(rest)?;
-    let _name = name_of(from)?;
     let (to, rest) = next_word(rest)?;
-    let _name = name_of(to)?;
+    if !is_name(to) {
+        return Err(Shape);
+    }
     let (word, rest) = next_word(rest)?;
     let shown = operation_of(word)?;
     end(rest)?;

@@ -2,7 +2,7 @@
 
 use super::{
     Body, Entry, Memory, Name, NameFault, NewFault, OpName, PushFault, Recording, Refusal, Refused,
-    Response, Run,
+    Response, Run, is_name,
 };
 use std::alloc::Global;
 use std::fmt::Display;
@@ -97,7 +97,7 @@ fn receive(
 }
 
 /// Whether the text is a name, which has its bytes.
-fn is_name(text: &str) -> bool {
+fn is_read_back(text: &str) -> bool {
     match name(text) {
         Ok(made) => made.bytes() == text.as_bytes(),
         Err(_) => false,
@@ -118,7 +118,8 @@ static NAMES: [&str; 8] = [
 #[test]
 fn names_are_read(rt: HostRuntime) {
     for text in NAMES.iter().copied() {
-        assert!(rt; is_name(text), "{text}");
+        assert!(rt; is_read_back(text), "{text}");
+        assert!(rt; is_name(text.as_bytes()), "{text}");
     }
 }
 
@@ -144,6 +145,7 @@ static NO_NAMES: [(&str, NameFault); 13] = [
 fn faults_of_names_are_told(rt: HostRuntime) {
     for (text, fault) in NO_NAMES.iter().copied() {
         assert!(rt; name(text).err() == Some(fault), "{text}");
+        assert!(rt; !is_name(text.as_bytes()), "{text}");
     }
 }
 

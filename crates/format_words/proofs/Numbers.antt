@@ -1,15 +1,19 @@
 -- What words are numbers.
-use Rattle.std.proofs.Common.{◌≡◌, ◌≢◌, ℕ, ◌<◌, ◌≤◌, ◌^◌, Bool, true, false, ◌+◌, ◌-◌, ◌&&◌, nat_lt, [], ◌∷◌, length, get_or, refl, sym, ap, ◌∙◌, arith, Option, Some, None, Result, Ok, Err, MatchResult, subst, decimal}
-use Rattle.std.specs.Str.{bytes_eq, IsUtf8}
-use Rattle.std.proofs.lemmas.Str.{IsUtf8-from_ascii}
+use Rattle.std.proofs.Common.{◌≡◌, ℕ, ◌<◌, ◌≤◌, ◌^◌, Bool, true, false, ◌+◌, ◌-◌, ◌*◌, ◌&&◌, zero, suc, take, nat_lt, [], ◌∷◌, length, get_or, refl, sym, ap, ◌∙◌, arith, Option, Some, None, Result, Ok, Err, subst, decimal}
+use Rattle.std.specs.Str.{bytes_eq}
+use Rattle.std.specs.Char.{digit_value}
+use Rattle.std.specs.Int.{IsInRange, IsOutOfRange}
+use Rattle.std.proofs.lemmas.Str.{digit_value_digit}
+use Rattle.std.proofs.lemmas.Int.Digits.{digits_value_more}
+use Rattle.std.proofs.lemmas.List.{length-take-le}
 use Rattle.std.proofs.lemmas.Bool.{cases_eq}
 use Rattle.std.proofs.Common.{inl, inr}
-use Rattle.std.specs.Result.{result_ok}
+use Rattle.std.specs.Result.{result_ok, OkIff}
 use Rattle.std.specs.Str.Parse.{AllDigits, digits_value, ParsesUnsigned}
-use Rattle.std.proofs.lemmas.Str.Parse.{IsNumeralModel, numerals_by_value, tells_digits, parse_plain, digit_at}
-use Rattle.std.proofs.lemmas.Fmt.{first_decimal, IsAscii-decimal, digits_value-decimal, decimal-digits_value, decimal_is_IsNumeral, decimal_nonempty, decimal_digit}
+use Rattle.std.proofs.lemmas.Str.Parse.{IsNumeralModel, numerals_by_value, tells_digits, parse_plain, digit_at, digits_value_short}
+use Rattle.std.proofs.lemmas.Fmt.{first_decimal, length-decimal-le, digits_value-decimal, decimal-digits_value, decimal_is_IsNumeral, decimal_nonempty, decimal_digit}
 use Rattle.std.proofs.lemmas.Slice.Eq.{bytes_eq-Decides}
-use Rattle.std.proofs.lemmas.Option.{cond_some, same_Some}
+use Rattle.std.proofs.lemmas.Option.{cond_some}
 use Rattle.std.proofs.lemmas.Bool.Decides.{Decides-ltb}
 use Rattle.format_words.specs.Words.{Word}
 use Rattle.format_words.specs.Reading.{number_of}
@@ -65,44 +69,62 @@ parsed-number {E} w (Err e) h some low high =
     let value : digits_value 10 w ≡ n = rw is numeral.1 in
     plain (digits, some, rw value small)))
 
-pub zero-number : number_of (48 ∷ []) ≡ Some 0
-zero-number = ap number_of (sym (decimal_digit 0 (omega arith))) ∙ number_of-decimal 0 (omega arith)
-
--- one digit is the number that it says
-pub digit-number : (w : Word) → length w ≡ 1 → 48 ≤ get_or w 0 0 → get_or w 0 0 ≤ 57 → number_of w ≡ Some (get_or w 0 0 - 48)
-digit-number [] one low high = absurd (omega arith)
-digit-number (d ∷ []) one low high =
-    let is : 48 + (d - 48) ≡ d = omega (arith, low) in
-    ap number_of (ap (λ b. b ∷ []) (sym is) ∙ sym (decimal_digit (d - 48) (omega (arith, low, high)))) ∙ number_of-decimal (d - 48) (omega (arith, low, high))
-digit-number (d ∷ e ∷ w) one low high = absurd (omega (arith, one))
-
--- a word that begins otherwise is no number
 pub empty-word : (w : Word) → length w < 1 → number_of w ≡ None
 empty-word w h = no-number w (λ n small is. absurd (omega (arith, ap length is, decimal_nonempty n (omega arith))))
 
-digits-from : (n : ℕ) → n < 2 ^ 32 → (48 ≤ get_or (decimal n) 0 0) × (get_or (decimal n) 0 0 ≤ 57)
-digits-from n small =
+-- a zero begins the number 0 alone
+pub zero-word : (w : Word) → get_or w 0 0 ≡ 48 → 1 < length w → number_of w ≡ None
+zero-word w begins more = no-number w (λ n small is.
+    let first : get_or w 0 0 ≡ get_or (decimal n) 0 0 = ap (λ l. get_or l 0 0) is in
+    elim (cases_eq n 0) [ inl e ↦ absurd (omega (arith, ap length (is ∙ ap decimal e ∙ decimal_digit 0 (omega arith)))) | inr d ↦ absurd (omega (arith, first_decimal n (omega arith) (omega arith))) ])
+
+-- and no number has more than ten digits
+pub long-word : (w : Word) → 10 < length w → number_of w ≡ None
+long-word w long = no-number w (λ n small is. absurd (omega (arith, ap length is, length-decimal-le 10 n (omega arith) (omega arith) (omega arith))))
+
+-- other bytes than digits write none
+pub no-digits : (w : Word) → ¬ (AllDigits 10 w) → number_of w ≡ None
+no-digits w h = no-number w (λ n small is.
     let numeral = decimal_is_IsNumeral n (omega arith) in
-    digit_at (decimal n) 0 numeral.0.1 numeral.0.0
+    h (rw is numeral.0.1))
 
-pub low-word : (w : Word) → w ≢ 48 ∷ [] → get_or w 0 0 < 49 → number_of w ≡ None
-low-word w ne h = no-number w (λ n small is.
-    let first : get_or w 0 0 ≡ get_or (decimal n) 0 0 = ap (λ l. get_or l 0 0) is in
-    elim (cases_eq n 0) [ inl e ↦ ne (is ∙ ap decimal e ∙ decimal_digit 0 (omega arith)) | inr d ↦ absurd (omega (arith, first_decimal n (omega arith) (omega arith))) ])
+-- digits without leading zeros write the number that they have as their value
+pub digits-number : (w : Word) (n : ℕ) → AllDigits 10 w → n ≡ digits_value 10 w → 0 < length w → (get_or w 0 0 ≡ 48 → length w ≡ 1) → n < 2 ^ 32 → number_of w ≡ Some n
+digits-number w n digits value some lead small =
+    let text : decimal (digits_value 10 w) ≡ w = decimal-digits_value own w digits some lead (omega (arith, value)) in
+    number-by w n value (sym text ∙ ap decimal (sym value)) small
 
-pub high-word : (w : Word) → 57 < get_or w 0 0 → number_of w ≡ None
-high-word w h = no-number w (λ n small is.
-    let first : get_or w 0 0 ≡ get_or (decimal n) 0 0 = ap (λ l. get_or l 0 0) is in
-    absurd (omega (arith, digits-from n small)))
+-- unless that is too large
+large-word : (w : Word) (n : ℕ) → n ≡ digits_value 10 w → ¬ (n < 2 ^ 32) → number_of w ≡ None
+large-word w n value large = no-number w (λ m small is.
+    let numeral = decimal_is_IsNumeral m (omega arith) in
+    let same : digits_value 10 w ≡ m = rw is numeral.1 in
+    large (omega (arith, value, same, small)))
 
-pub no-text : (w : Word) → ¬ IsUtf8 w → number_of w ≡ None
-no-text w h = no-number w (λ n small is. h (rw is (IsUtf8-from_ascii (decimal n) (IsAscii-decimal n (omega arith)))))
+-- so it is the number where that fits
+pub fitting-number : {E : Type 0} → (w : Word) (n : ℕ) (r : Result ℕ E) → OkIff r (n < 2 ^ 32) n → AllDigits 10 w × (n ≡ digits_value 10 w) → 0 < length w → (get_or w 0 0 ≡ 48 → length w ≡ 1) → result_ok r ≡ number_of w
+fitting-number w n (Ok m) h digits some lead = ap Some h.1 ∙ sym (digits-number w n digits.0 digits.1 some lead h.0)
+fitting-number w n (Err e) h digits some lead = sym (large-word w n digits.1 h)
 
--- what a `Result` says of its `Ok`, or of its `Err`, where only its `Ok` was kept
-pub kept-ok : {T E : Type 0} → (r : Result T E) (P : T → Type 0) (Q : E → Type 0) (x : T) → Some x ≡ result_ok r → MatchResult r P Q → P x
-kept-ok (Ok y) P Q x e h = subst P (sym (same_Some x y e)) h
-kept-ok (Err d) P Q x e h = absurd (cc)
+-- one more digit
 
-pub kept-none : {T E N : Type 0} → (r : Result T E) (P : T → Type 0) (Q : E → Type 0) → None ≡ result_ok r → MatchResult r P (λ d. N × Q d) → N
-kept-none (Ok y) P Q e h = absurd (cc)
-kept-none (Err d) P Q e h = h.0
+digits-more : (w : Word) (i : ℕ) → i < length w → AllDigits 10 (take i w) → digit_value (get_or w i 0) < 10 → AllDigits 10 (take (suc i) w)
+digits-more [] i l digits d = absurd (omega arith)
+digits-more (b ∷ w) zero l digits d = (d, tt)
+digits-more (b ∷ w) (suc i) l digits d = (digits.0, digits-more w i (omega arith) digits.1 d)
+
+pub one-digit-more : (w : Word) (i v d : ℕ) → i < length w → IsInRange 48 57 (get_or w i 0) → d ≡ get_or w i 0 - 48 → AllDigits 10 (take i w) × (v ≡ digits_value 10 (take i w))
+    → AllDigits 10 (take (i + 1) w) × (v * 10 + d ≡ digits_value 10 (take (i + 1) w))
+one-digit-more w i v d l range is front =
+    let digit = digit_value_digit (get_or w i 0) range in
+    let next : suc i ≡ i + 1 = omega arith in (
+      subst (λ k. AllDigits 10 (take k w)) next (digits-more w i l front.0 (omega (arith, digit, range.1))),
+      omega (arith, digits_value_more 10 w i l, front.1, digit, is, range.0),
+    )
+
+-- nine digits or fewer leave room for it
+pub room-for-digit : (w : Word) (i v : ℕ) → i < length w → length w ≤ 10 → AllDigits 10 (take i w) × (v ≡ digits_value 10 (take i w)) → v < 1000000000
+room-for-digit w i v l few front = omega (arith, front.1, digits_value_short own (take i w) 9 front.0 (omega (arith, length-take-le i w (omega arith))))
+
+pub all-digits : (w : Word) (i : ℕ) → i < length w → IsOutOfRange 48 57 (get_or w i 0) → ¬ (AllDigits 10 w)
+all-digits w i l out digits = let range = digit_at w i digits l in elim out [ inl low ↦ omega (arith, low, range.0) | inr high ↦ omega (arith, high, range.1) ]

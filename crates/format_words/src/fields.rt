@@ -1,6 +1,7 @@
 //! The fields of a line: numbers, names and operations' names.
 
-ghost use Rattle.std.specs.Prelude.{◌≡◌};
+ghost use Rattle.std.specs.Prelude.{◌≡◌, ◌≤◌, length, MatchOption};
+ghost use Rattle.std.specs.Str.Parse.{AllDigits, digits_value};
 ghost use Rattle.format_words.specs.Words.{words_behind};
 ghost use Rattle.format_words.specs.Reading.{Says, number_of, number_at, name_of, operation_of, after_word};
 ghost use Rattle.format_words.specs.Reading.{no_more};
@@ -8,24 +9,43 @@ ghost use Rattle.format_words.specs.Reading.{no_more};
 use crate::stop::Shape;
 use crate::words::{next_word, place_of};
 use events::{Name, OpName};
-use std::str;
+
+/// How many digits the numbers below 2^32 have at most.
+const MOST_DIGITS: usize = 10;
+
+/// The number that the bytes write as digits, with any zeros before it; none where one of them is no digit.
+fn value_of(digits: &[u8]) -> Option<u64>
+    requires { length digits.now ≤ 10 }
+    ensures { MatchOption result (¬ (AllDigits 10 digits.now))
+        (λ n. AllDigits 10 digits.now × (n ≡ digits_value 10 digits.now)) }
+{
+    let mut value = 0u64;
+    for byte in digits {
+        if !byte.is_ascii_digit() {
+            return None;
+        }
+        value = value * 10 + u64::from(*byte - b'0');
+    }
+    Some(value)
+}
 
 /// The number below 2^32 that the word is, in digits without leading zeros; none where it is no such number.
-///
-/// Most numbers have one digit, and `parse` costs more than to read it here.
 pub fn number_of(word: &[u8]) -> Option<u32>
     ensures { result ≡ number_of word.now }
 {
-    if word == b"0".as_slice() {
-        return Some(0);
-    }
-    let [first @ b'1'..=b'9', ..] = word else {
+    let [first, behind @ ..] = word else {
         return None;
     };
-    if word.len() == 1 {
-        return Some(u32::from(*first - b'0'));
+    if word.len() > MOST_DIGITS {
+        return None;
     }
-    str::from_utf8(word).ok()?.parse().ok()
+    if *first == b'0' && !behind.is_empty() {
+        return None;
+    }
+    match value_of(word) {
+        Some(value) => u32::try_from(value).ok(),
+        None => None,
+    }
 }
 
 /// The next word as a number, and the rest after it.
