@@ -63,7 +63,10 @@ pub fn shows(
     let Some(response) = recording.response(by) else {
         return false;
     };
-    if response.len() > FEW && stand_as_found(found, by, response, from, to) {
+    if response.len() <= FEW {
+        return stands_before(response, from, to);
+    }
+    if stand_as_found(found, by, response, from, to) {
         return true;
     }
     let shown = stands_before(response, from, to);
