@@ -1,5 +1,5 @@
 #!/usr/bin/env python3
-"""refused_calls.py PROGRAM [--write] [--most N]: each call that can answer out of memory, with one request for memory refused.
+"""refused_calls.py PROGRAM [--write] [--most N] [--processes N]: each call that can answer out of memory, with a request refused.
 
 Of each such call it takes a test of the crates that makes it and compares what it answers, and runs it with its first request
 refused, then with its second, and so on until a run meets no refusal; a test that would take more than --most runs, 20,000 unless
@@ -10,6 +10,7 @@ whose test is gone. It needs what `rt ci` has built in this repository, and a C 
 import argparse
 import sys
 import tempfile
+from concurrent.futures import ThreadPoolExecutor
 from pathlib import Path
 from typing import NamedTuple
 
@@ -115,33 +116,39 @@ def refuse_in_test(tally: Tally, call: str, test: Test, name: str, most: int) ->
 def refuse_in_program(tally: Tally, call: str, library: str, folder: str, program: str, command: str) -> Line:
     """The program's command on three vectors."""
     runs = memory = thread = 0
-    failed = tally.failed
+    own = Tally()
     for trace in VECTORS:
         certificate = [str(trace.with_suffix(".cert2"))] if command == "verify" else []
-        more = refuse_each(tally, library, folder, [program, command, str(trace), *certificate])
+        more = refuse_each(own, library, folder, [program, command, str(trace), *certificate])
         runs, memory, thread = runs + more.runs, memory + more.memory, thread + more.thread
     without = f", {thread:,} times without a thread" if thread else ""
-    seen = f"{memory:,} times out of memory{without}, else the right answer" if tally.failed == failed else "another answer"
+    seen = f"{memory:,} times out of memory{without}, else the right answer" if not own.failed else "another answer"
+    tally.add(own)
     return Line(call, f"the program's {command}", runs, seen)
 
 
-def lines(tally: Tally, library: str, folder: str, program: str, most: int) -> list[Line]:
-    """A line for each call and test."""
-    made = []
+def line_of(tally: Tally, library: str, folder: str, program: str, most: int, call: str, crate: str, name: str) -> Line | None:
+    """The line of a call and a test, with files of its own in the folder; none where there is no such test."""
+    own = tempfile.mkdtemp(dir=folder)
+    if crate == "program":
+        return refuse_in_program(tally, call, library, own, program, name)
+    built = next(iter(sorted((ROOT / "crates" / crate / "out").glob("*_tests"))), None)
+    whole = [test for test in tests_of(built) if test.split("::")[-1] == name] if built else []
+    tally.check(f"{call}: {crate} has the test {name}", len(whole) == 1, built or "`rt ci` has not been run here")
+    return refuse_in_test(tally, call, Test(library, own, built, whole[0]), f"{crate} {name}", most) if len(whole) == 1 else None
+
+
+def lines(tally: Tally, library: str, folder: str, given: argparse.Namespace, program: str) -> list[Line]:
+    """A line for each call and test, so many of them at a time as were asked for."""
     for call in names_of(CALLS):
-        crate, *names = TESTS.get(call, ("",))
-        tally.check(f"{call} has a test", bool(names))
-        for name in names:
-            if crate == "program":
-                made.append(refuse_in_program(tally, call, library, folder, program, name))
-                print(made[-1].text(), flush=True)
-                continue
-            built = next(iter(sorted((ROOT / "crates" / crate / "out").glob("*_tests"))), None)
-            whole = [test for test in tests_of(built) if test.split("::")[-1] == name] if built else []
-            tally.check(f"{call}: {crate} has the test {name}", len(whole) == 1, built or "`rt ci` has not been run here")
-            if len(whole) == 1:
-                made.append(refuse_in_test(tally, call, Test(library, folder, built, whole[0]), f"{crate} {name}", most))
-                print(made[-1].text(), flush=True)
+        tally.check(f"{call} has a test", len(TESTS.get(call, ())) > 1)
+    pairs = [(call, crate, name) for call in names_of(CALLS) for crate, *names in [TESTS.get(call, ("",))] for name in names]
+    made = []
+    with ThreadPoolExecutor(given.processes) as asking:
+        for line in asking.map(lambda pair: line_of(tally, library, folder, program, given.most, *pair), pairs):
+            if line is not None:
+                made.append(line)
+                print(line.text(), flush=True)
     return made
 
 
@@ -156,11 +163,12 @@ def main() -> None:
     words.add_argument("program")
     words.add_argument("--write", action="store_true", help="put the table into docs/testing.md")
     words.add_argument("--most", type=int, default=MOST, help="how many runs of a test at most")
+    words.add_argument("--processes", type=int, default=1, help="how many tests are tried at a time")
     given = words.parse_args()
     program = program_of([sys.argv[0], given.program])
     tally = Tally()
     with tempfile.TemporaryDirectory() as folder:
-        made = lines(tally, shim(folder), folder, program, given.most)
+        made = lines(tally, shim(folder), folder, given, program)
     missing = set(names_of(CALLS)) - {one.call for one in made}
     tally.check("each call has a line", not missing, missing)
     if given.write and not tally.failed:

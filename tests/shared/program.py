@@ -87,6 +87,11 @@ class Tally:
             self.failed += 1
             print(f"FAILED {name} {shown}", flush=True)
 
+    def add(self, other: "Tally") -> None:
+        """What passed and failed elsewhere."""
+        self.passed += other.passed
+        self.failed += other.failed
+
     def same(self, name: str, got: Ended, wanted: Ended) -> None:
         self.check(name, got == wanted, f"got {short(got)}, wanted {short(wanted)}")
 
