@@ -168,7 +168,8 @@ fn first_source(rows: &[u8]) -> Option<Name>
 }
 
 /// Which elements are shown after which. Each response is noted beside the one before, of which it mostly
-/// has the elements in the same order: so it costs a step for each of its places, and what is new in it.
+/// has the elements in the same order: so it costs `n / 64` steps for n elements, a step for each of its places,
+/// and what is new in it.
 fn shown_after(alloc: Global, numbered: &Numbered) -> Result<AfterTable, Memory>
     requires cut { IsCut numbered.now.places }
     requires within { AreWithin (length numbered.now.names.items) numbered.now }
@@ -189,11 +190,11 @@ fn shown_after(alloc: Global, numbered: &Numbered) -> Result<AfterTable, Memory>
 /// The first thing that is wrong with the rows of a certificate for `k` of 3 and more: one row after the
 /// other, in order of numbers, and then a row too many. The rows are given by their lines.
 ///
-/// It makes a table of which elements are shown after which, `n * n / 8` bytes for n elements. A place of a
-/// response costs a step, and one for each new element behind it, up to 64; where there are more, or its own
-/// is new, `n / 64` steps. New is an element that the response before has not, or in another order. The depths
-/// of one row after the other are noted in the same memory, in n steps for all rows, and then for each row as
-/// `meets_rule` says.
+/// It makes a table of which elements are shown after which, `n * n / 8` bytes for n elements. Each response
+/// costs `n / 64` steps, and each of its places a step, and one for each new element behind it, up to 64;
+/// where there are more, or its own is new, `n / 64` steps. New is an element that the response before has
+/// not, or in another order. The depths of one row after the other are noted in the same memory, in n steps
+/// for all rows, and then for each row as `meets_rule` says.
 pub fn rows_fault(
     alloc: Global,
     numbered: &Numbered,

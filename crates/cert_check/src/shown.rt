@@ -50,7 +50,7 @@ fn stand_as_found(
 }
 
 /// Whether an operation shows one name before the other; both are given by their bytes. It costs the response,
-/// or less where both names were found in it before.
+/// or less where it has more than six names and places are kept at which both were found in it before.
 pub fn shows(
     found: &mut FoundPlaces,
     recording: &Recording,

@@ -23,8 +23,8 @@ use witnesses::Order;
 /// The verdict on a recording.
 ///
 /// The number of workers, 1 to 64, is tested before the recording is looked at. With more than one the
-/// contents are checked, and the responses that cover all others found, by half as many threads, or two where
-/// that is less; with one all is done in the caller's thread. The search for the conflict number is made only
+/// contents are checked in about half as many threads, and the responses that cover all others found in at most
+/// half as many, both in two where that is less; with one all is done in the caller's thread. The search for the conflict number is made only
 /// where no order follows every response; the gate is called round each of its searches. The least cycle is
 /// then found in the caller's thread.
 ///

@@ -12,7 +12,7 @@ use std::alloc::Global;
 use std::thread;
 use std::thread::Threads;
 
-/// How many pieces of the operations are gone through side by side: half as many as workers, or two where that
+/// How many pieces of the operations are gone through side by side at most: half as many as workers, or two where that
 /// is less. Comparing responses waits for memory more than it counts, so that more threads take more processor
 /// time, where processors share a core, and hardly less time in all.
 fn piece_count(workers: u32) -> usize
@@ -70,7 +70,7 @@ fn is_covered_by_last(recording: &Recording, operation: OpName, kept: &[OpName])
 }
 
 /// Some of these operations, in order, whose responses cover those of all: an operation is kept where its
-/// response is not found in that of the last one kept. Time is linear in the places of all responses.
+/// response is not found in that of the last one kept, by `stands_in`. Time is linear in the places of all responses.
 pub fn covering_operations(
     alloc: Global,
     recording: &Recording,

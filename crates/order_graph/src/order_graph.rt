@@ -28,8 +28,8 @@ use std::thread::Threads;
 /// empty, and `covering` some that cover them. Lists and their places are numbered from 0. A spot of an
 /// element is a place where it stands.
 ///
-/// Its memory is linear in the places of the responses that are kept. Only `of`, `covering` and
-/// `narrowed` take memory.
+/// Its memory is linear in the places of the responses that are kept. Only `of`, `covering`, `covering_by`
+/// and `narrowed` take memory.
 #[derive(Drop)]
 pub struct OrderGraph {
     names: Vec<Name>,
@@ -77,8 +77,9 @@ impl OrderGraph {
         OrderGraph::on(alloc, recording, names, shown)
     }
 
-    /// The graph of some responses that cover all: a response is left out where it is a subsequence of the
-    /// last one kept, which has then all that it shows, and a lesser operation.
+    /// The graph of some responses that cover all: a response is left out where it is found to be a subsequence
+    /// of the last one kept, which has then all that it shows, and a lesser operation. It is not looked for in
+    /// one that is more than twice as long.
     ///
     /// So it has the same orders and cycles as the graph of all responses, and the same least operations that
     /// show one element before another; it has fewer lists and places. It takes time linear in the places of

@@ -82,8 +82,9 @@ fn note_list(
 }
 
 impl ShownTable {
-    /// The table of a graph. It takes time linear in the places of all lists, at most 64 steps each, and
-    /// `n * n / 8` bytes for n elements.
+    /// The table of a graph. A list costs `n / 64` steps for n elements, and each of its places a step, and one
+    /// for each element before it that does not go on with the list before, up to 64; where these are more, or
+    /// its own does not, `n / 64` steps. The table takes `n * n / 8` bytes.
     pub fn of(alloc: Global, graph: &OrderGraph) -> Result<ShownTable, Memory>
         ensures { IfOk result (λ t. IsShownTable (length graph.now.elements) (lists_of graph.now) t) }
     {

@@ -26,7 +26,7 @@ impl Response {
     /// Puts at the end the names of `other` from place `j` on, as long as the text goes on with them: each
     /// after one space, and the last one before a space or the end of the text. It answers how many they
     /// are, 0 where `j` is past the end. Where memory is wanted the response is as it was. It takes time
-    /// linear in these names and their bytes.
+    /// linear in these names and their bytes, and a binary search among the places of `other` from `j` on.
     pub fn push_run(&mut self, text: &[u8], other: &Response, j: usize) -> Result<Run, Memory>
         ensures ok { IfOk result (λ run. IsLongestRun text.now (drop j other.now) run.names run.bytes) }
         ensures value { IfOk result (λ run. self.new ≡ self.old ++ take run.names (drop j other.now)) }
