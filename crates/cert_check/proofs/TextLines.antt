@@ -1,7 +1,7 @@
 -- A text of lines, taken apart line by line.
 use Rattle.std.proofs.Common.{◌≡◌, ℕ, zero, suc, ◌+◌, ◌<◌, ◌≤◌, Some, List, [], ◌∷◌, ◌++◌, map, drop, length, codes, refl, sym, ◌∙◌, ap, subst, arith, append_assoc}
 use Rattle.std.specs.Prelude.{All, slice_get}
-use Rattle.std.proofs.lemmas.List.Elements.{All-head, All-tail, Contains-append_left, Contains-append_right, Contains-push}
+use Rattle.std.proofs.lemmas.List.Elements.{All-head, All-tail, Contains-append_left, Contains-push}
 use Rattle.events.specs.Names.{NameBytes, IsName}
 use Rattle.specification.specs.Conflict.{Step}
 use Rattle.specification.specs.LayerRule.{Row}
@@ -10,21 +10,12 @@ use Rattle.specification.specs.CertificateText.{row_line, step_line, IsRow, IsSt
 use Rattle.format_words.specs.Words.{words_behind}
 use Rattle.format_words.proofs.LineWords.{name-lacks, names-lack, names-words}
 use Rattle.format_words.proofs.Spaced.{spaced-lacks}
-use Rattle.format_words.proofs.TextLines.{LacksLf, lines_of, line-then, lacks-lf}
-use Rattle.format_words.proofs.TwoCuts.{same-cut}
+use Rattle.format_words.proofs.TextLines.{LacksLf, lacks-lf}
 use Rattle.certificate_text.proofs.RowLines.{layers_words, row-spaced, plain-layers, row-plain}
-use Rattle.certificate_text.proofs.StepLines.{step_words, step-spaced, plain-step, step-plain, one-step}
-
-first-same : (x y : Line) (xs ys : List Line) → x ∷ xs ≡ y ∷ ys → x ≡ y
-first-same x y xs ys e = Prim.cc
+use Rattle.certificate_text.proofs.FirstSteps.{line-same, step-lacks}
+use Rattle.certificate_text.proofs.StepLines.{one-step}
 
 -- the first line of a text
-line-same : (l m : Line) (rest more : List ℕ) → LacksLf l → LacksLf m → l ++ 10 ∷ rest ≡ m ++ 10 ∷ more → (l ≡ m) × (rest ≡ more)
-line-same l m rest more one two e =
-    let heads : l ∷ lines_of rest ≡ m ∷ lines_of more = sym (line-then l rest one) ∙ ap lines_of e ∙ line-then m more two in
-    let same : l ≡ m = first-same l m (lines_of rest) (lines_of more) heads in
-    (same, (same-cut l m 10 10 rest more e (ap length same)).2)
-
 pub first-line : (l : Line) (lines : List Line) → text_of (l ∷ lines) ≡ l ++ 10 ∷ text_of lines
 first-line l lines = append_assoc l (10 ∷ []) (text_of lines)
 
@@ -33,9 +24,6 @@ line-off line behind l lines lacks one is = line-same line l behind (text_of lin
 
 row-lacks : (k : ℕ) (r : Row) → IsRow k r → LacksLf (row_line r)
 row-lacks k r h = subst LacksLf (sym (row-spaced r)) (spaced-lacks (codes "layers") (layers_words r) plain-layers (row-plain r h.names))
-
-step-lacks : (s : Step) → IsStep s → LacksLf (step_line s)
-step-lacks s h = subst LacksLf (sym (step-spaced s)) (spaced-lacks (codes "step") (step_words s) plain-step (step-plain s h))
 
 pub some-line : (l : Line) (lines : List Line) → IsOneLine (text_of (l ∷ lines)) → ⊥
 some-line l lines one = one (Contains-append_left (l ++ 10 ∷ []) (text_of lines) 10 (Contains-push l 10))
@@ -58,13 +46,6 @@ row-off k (row ∷ rows) text line behind h is one cut =
     (row, rows, refl, p.0, p.1)
 
 -- steps
-pub no-line : (l : Line) (more : List ℕ) → IsOneLine (l ++ 10 ∷ more) → ⊥
-no-line l more one = one (Contains-append_right l (10 ∷ more) 10 (0, omega arith, refl))
-
--- the line that is cut off is the step's
-pub step-cut : (s : Step) (more line rest : List ℕ) → IsStep s → IsOneLine line → line ++ 10 ∷ rest ≡ step_line s ++ 10 ∷ more → line ≡ step_line s
-step-cut s more line rest h one is = (line-same line (step_line s) rest more (lacks-lf line one) (step-lacks s h) is).0
-
 -- a text begins with one step's line at most
 pub step-same : (s t : Step) (more rest : List ℕ) → IsStep s → IsStep t → step_line s ++ 10 ∷ more ≡ step_line t ++ 10 ∷ rest → (s ≡ t) × (more ≡ rest)
 step-same s t more rest h k is =

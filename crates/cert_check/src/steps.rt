@@ -14,26 +14,9 @@ ghost use Rattle.cert_check.specs.WrongSteps.{TellsFirstWrong};
 
 use super::found::FoundPlaces;
 use super::shown::shows;
-use certificate_text::{StepWords, step_words};
+use certificate_text::{StepWords, first_step};
 use events::Recording;
-use format_words::split_line;
 use std::alloc::Global;
-
-/// The step of the first of these lines, and the lines after it; none where the text's first line, with its
-/// LF, is no step's.
-fn first_step(lines: &[u8]) -> Option<(StepWords<'_>, &[u8])>
-    ensures { MatchOption result
-        ((s : Step) (more : List ℕ) → IsStep s → lines.now ≢ step_line s ++ 10 ∷ more)
-        (λ x. IsStep (step_said x.0) × (lines.now ≡ step_line (step_said x.0) ++ 10 ∷ x.1.now)) }
-{
-    let Some((line, rest)) = split_line(lines) else {
-        return None;
-    };
-    match step_words(line) {
-        Ok(step) => Some((step, rest)),
-        Err(_) => None,
-    }
-}
 
 /// Whether a step is shown by its operation and ends where the next one begins, which is given by the bytes
 /// of that name.

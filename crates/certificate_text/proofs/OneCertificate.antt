@@ -22,14 +22,12 @@ use Rattle.certificate_text.specs.declared.fault.CertCause.TheVariants as cause
 use Rattle.certificate_text.specs.declared.fault.CertFault.{CertFault}
 use Rattle.certificate_text.specs.declared.kind.Kind.{Kind}
 use Rattle.certificate_text.proofs.KindLines.{kind_word, kind_more, kind-spaced, kind-word-plain, kind-more-plain}
-use Rattle.certificate_text.proofs.StepLines.{step_words, step-spaced, plain-step, step-plain, one-step, order-plain, plain-order, one-order}
+use Rattle.certificate_text.proofs.FirstSteps.{step-lacks}
+use Rattle.certificate_text.proofs.StepLines.{one-step, order-plain, plain-order, one-order}
 use Rattle.certificate_text.proofs.RowLines.{layers_words, row-spaced, plain-layers, row-plain, one-row}
 use Rattle.certificate_text.proofs.GoingOn.{kind_of, rest_lines, lines-parts, kind-good, kind-behind}
 
 -- no LF stands in a spelling's lines
-
-step-lacks : (s : Step) → IsStep s → LacksLf (step_line s)
-step-lacks s h = subst LacksLf (sym (step-spaced s)) (spaced-lacks (codes "step") (step_words s) plain-step (step-plain s h))
 
 row-lacks : (k : ℕ) (r : Row) → IsRow k r → LacksLf (row_line r)
 row-lacks k r h = subst LacksLf (sym (row-spaced r)) (spaced-lacks (codes "layers") (layers_words r) plain-layers (row-plain r h.names))

@@ -13,6 +13,7 @@ ghost use Rattle.certificate_text.specs.Outlines.{HasNoLine, Misses};
 ghost use Rattle.certificate_text.specs.Progress.{IsKind, kind_line};
 ghost use Rattle.certificate_text.specs.Reading.{kind_at, order_at, step_at, row_at};
 
+use super::ahead::first_step;
 use super::entries::{is_row, order_names, step_words};
 use super::fault::CertCause;
 use super::kind::{Kind, kind_of};
@@ -78,6 +79,9 @@ pub fn step_first(text: &[u8]) -> Result<&[u8], CertCause>
         × (text.now ≡ step_line step ++ 10 ∷ rest.now)) }
     ensures cause { IfErr result (Misses CertCause.Shape (λ line. step_at (words_of line) ≡ None) text.now) }
 {
+    if let Some((_, rest)) = first_step(text) {
+        return Ok(rest);
+    }
     let (line, rest) = line_first(text, CertCause::Shape)?;
     match step_words(line) {
         Ok(_) => Ok(rest),

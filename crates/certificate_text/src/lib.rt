@@ -10,6 +10,7 @@
 //! No crate that searches stands below this one, so that a checker can stand on it.
 #![tactic(auto)]
 
+mod ahead;
 mod certificate;
 mod cycle;
 mod entries;
@@ -23,8 +24,9 @@ mod reading;
 mod version;
 mod writing;
 
+pub use ahead::first_step;
 pub use certificate::Certificate;
-pub use entries::{StepWords, step_words};
+pub use entries::StepWords;
 pub use fault::{CertCause, CertFault};
 pub use laws::{
     certificates_are_of_streams, certificates_are_unique, certificates_are_valid,

@@ -4,7 +4,7 @@ ghost use Rattle.std.specs.Prelude.{IfOk};
 ghost use Rattle.specification.specs.CertificateText.{IsSpellable};
 ghost use Rattle.certificate_text.specs.CertificateOf.{certificate_of};
 
-use super::{CertCause, CertFault, Certificate, Layer, Outline, Row, Step, Version};
+use super::{CertCause, CertFault, Certificate, Layer, Outline, Row, Step, Version, first_step};
 use events::Memory;
 use std::alloc::Global;
 use std::test::Fail;
@@ -166,6 +166,60 @@ fn has_outline(text: &str) -> bool {
 fn certificates_have_outlines(rt: HostRuntime) {
     for text in TEXTS.iter().copied() {
         assert!(rt; has_outline(text), "at {text}");
+    }
+}
+
+/// Texts that begin with the line of a step from `a` to `b_`, shown by `15.20`, and what follows that line.
+static STEP_TEXTS: [(&str, &str); 4] = [
+    ("step a b_ 15.20\n", ""),
+    ("step a b_ 15.20\nstep b_ a 1.2\n", "step b_ a 1.2\n"),
+    ("step a b_ 15.20\n\n", "\n"),
+    ("step a b_ 15.20\nlayers a /", "layers a /"),
+];
+
+/// Texts that begin with no step's line.
+static OTHER_TEXTS: [&str; 20] = [
+    "",
+    "\n",
+    "step",
+    "step a b_ 15.20",
+    " step a b_ 15.20\n",
+    "steps a b_ 15.20\n",
+    "step  a b_ 15.20\n",
+    "step a  b_ 15.20\n",
+    "step a b_  15.20\n",
+    "step a b_ 15.20 \n",
+    "step a b_ 15.20 c\n",
+    "step a b_\nstep a b_ 15.20\n",
+    "step a\n b_ 15.20\n",
+    "step a b: 15.20\n",
+    "step nnnnnnnnnnnnnnnnnnnnnnnnnnnnnnnnn b_ 15.20\n",
+    "step a b_ 15.0\n",
+    "step a b_ 015.20\n",
+    "step a b_ 15.020\n",
+    "step a b_ 15.4294967296\n",
+    "step a b_ 1520\nstep a b_ 15.20\n",
+];
+
+/// Whether the text begins with the line of the step from `a` to `b_`, before this rest.
+fn begins_with_step(text: &str, rest: &str) -> bool {
+    let Some((step, behind)) = first_step(text.as_bytes()) else {
+        return false;
+    };
+    step.from == b"a".as_slice()
+        && step.to == b"b_".as_slice()
+        && step.shown.replica == 15
+        && step.shown.n == 20
+        && behind == rest.as_bytes()
+}
+
+#[test]
+fn steps_that_texts_begin_with(rt: HostRuntime) {
+    for (text, rest) in STEP_TEXTS.iter().copied() {
+        assert!(rt; begins_with_step(text, rest), "at {text}");
+    }
+    for text in OTHER_TEXTS.iter().copied() {
+        assert!(rt; first_step(text.as_bytes()).is_none(), "at {text}");
     }
 }
 
