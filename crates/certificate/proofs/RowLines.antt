@@ -1,6 +1,6 @@
 -- Texts that grow by the lines of rows: one row, and one stretch of rows behind another.
-use Rattle.std.proofs.Common.{◌≡◌, ℕ, ◌+◌, ◌<◌, ◌≤◌, List, [], ◌∷◌, ◌++◌, Vec, Global, map, take, drop, get_or, length, sym, ap, subst, ◌∙◌}
-use Rattle.std.specs.Prelude.{IfOk, IsOkAnd, Result, Ok, Err}
+use Rattle.std.proofs.Common.{◌≡◌, ℕ, ◌+◌, ◌*◌, ◌/◌, ◌%◌, ◌<◌, ◌≤◌, List, [], ◌∷◌, ◌++◌, Vec, Global, map, take, drop, get_or, length, sym, ap, subst, arith, ◌∙◌}
+use Rattle.std.specs.Prelude.{IfOk, Result, slice_index_or}
 use Rattle.std.proofs.Math.Seq.{take-add}
 use Rattle.std.proofs.lemmas.Grind.{flat_map-append}
 use Rattle.std.proofs.lemmas.List.{append_assoc, append-nil, drop_all, drop_more, drop-drop, map-append}
@@ -12,7 +12,7 @@ use Rattle.specification.specs.LayerRule.{Row, row_responses}
 use Rattle.specification.specs.Lines.{Line, text_of}
 use Rattle.specification.specs.Responses.{Responses}
 use Rattle.specification.specs.Versions.{two}
-use Rattle.certificate.specs.ByRows.{AppendsRows}
+use Rattle.certificate.specs.ByRows.{AppendsRows, joined}
 use Rattle.certificate.proofs.ByRows.{rows_appended}
 use Rattle.certificate.proofs.ExactRows.{exact_rows_append}
 
@@ -60,8 +60,43 @@ pub rows_next_from : (v : Responses) (k first i n : ℕ) (old text new : List �
 rows_next_from v k first i n old text new one other =
     rows_next v k (drop first v.elements) i n old text new one (subst (λ l. AppendsRows v k (take n l) text new) (sym (drop-drop i first v.elements)) other)
 
--- a piece that was made and added
-pub piece_added : (v : Responses) (k : ℕ) (sources : List NameBytes) (old new : List ℕ) (piece : Result (Vec ℕ Global) Memory)
-    → IfOk piece (λ lines. AppendsRows v k sources [] lines.items) → IsOkAnd piece (λ lines. new ≡ old ++ lines.items) → AppendsRows v k sources old new
-piece_added v k sources old new (Ok lines) are is = rows_behind v k sources old lines.items new are is
-piece_added v k sources old new (Err e) are is = absurd is
+-- one text more
+pub joined_push : (texts : List (Vec ℕ Global)) (text : Vec ℕ Global) → joined (texts ++ text ∷ []) ≡ joined texts ++ text.items
+joined_push texts text =
+    flat_map-append (λ (t : Vec ℕ Global). t.items) texts (text ∷ []) ∙ ap (λ l. joined texts ++ l) (append-nil text.items)
+
+-- one text alone
+pub joined_one : (texts new : List (Vec ℕ Global)) (text : Vec ℕ Global) → texts ≡ [] → new ≡ texts ++ text ∷ [] → joined new ≡ text.items
+joined_one texts new text none is = ap joined is ∙ joined_push texts text ∙ ap (λ (l : List (Vec ℕ Global)). joined l ++ text.items) none
+
+-- a text of rows that was added behind others
+pub text_added : (v : Responses) (k : ℕ) (sources : List NameBytes) (texts new : List (Vec ℕ Global)) (text : Vec ℕ Global) → AppendsRows v k sources [] text.items
+    → new ≡ texts ++ text ∷ [] → AppendsRows v k sources (joined texts) (joined new)
+text_added v k sources texts new text are is = rows_behind v k sources (joined texts) text.items (joined new) are (ap joined is ∙ joined_push texts text)
+
+-- the slot of a piece, and the piece that stands in a slot
+abbrev pub slot_of : ℕ → ℕ
+slot_of piece = piece % 4 * 128 + piece / 4
+
+abbrev pub piece_in : ℕ → ℕ
+piece_in slot = slot % 128 * 4 + slot / 128
+
+pub slot_within : (piece : ℕ) → piece < 512 → slot_of piece < 512
+slot_within piece lt = omega (arith, lt)
+
+pub piece_there : (piece : ℕ) → piece < 512 → piece_in (slot_of piece) ≡ piece
+piece_there piece lt = omega (arith, lt)
+
+-- the pieces from this one on stand in their slots
+abbrev pub AreLeft : Responses → ℕ → ℕ → ℕ → List (Result (Vec ℕ Global) Memory) → Type 0
+AreLeft v k first piece made =
+    (i : ℕ) (d : Result (Vec ℕ Global) Memory) → i < length made → piece ≤ piece_in i
+    → IfOk (slice_index_or made i d) (λ lines. AppendsRows v k (take 10 (drop (first + 10 * piece_in i) v.elements)) [] lines.items)
+
+-- the piece in its slot
+pub piece_left : (v : Responses) (k first piece : ℕ) (made : List (Result (Vec ℕ Global) Memory)) (d : Result (Vec ℕ Global) Memory) → AreLeft v k first piece made → length made ≡ 512 → piece < 512
+    → IfOk (slice_index_or made (slot_of piece) d) (λ lines. AppendsRows v k (take 10 (drop (first + 10 * piece) v.elements)) [] lines.items)
+piece_left v k first piece made d left len lt =
+    let there : piece_in (slot_of piece) ≡ piece = piece_there piece lt in
+    subst (λ n. IfOk (slice_index_or made (slot_of piece) d) (λ lines. AppendsRows v k (take 10 (drop (first + 10 * n) v.elements)) [] lines.items)) there
+    (left (slot_of piece) d (omega (arith, slot_within piece lt, len)) (omega (arith, there)))

@@ -1,5 +1,5 @@
 -- Certificates row by row: what a verdict gives beside the rows, and a text that grows by their lines.
-use Rattle.std.specs.Prelude.{◌≡◌, ℕ, ◌+◌, ◌*◌, ◌<◌, ◌≤◌, List, [], ◌++◌, IfOk, Result, Vec, length, map, take, drop, slice_index_or}
+use Rattle.std.specs.Prelude.{◌≡◌, ℕ, ◌+◌, ◌*◌, ◌<◌, ◌≤◌, List, [], ◌++◌, IfOk, Result, Vec, length, map, flat_map, take, drop, slice_index_or}
 use Rattle.std.specs.Global.{Global}
 use Rattle.events.specs.Names.{NameBytes}
 use Rattle.events.specs.History.{History}
@@ -38,8 +38,12 @@ HasNoRows (refused n steps) = n < 3
 abbrev pub AppendsRows : Responses → ℕ → List NameBytes → List ℕ → List ℕ → Type 0
 AppendsRows v k sources old new = (rows : List Row) × AreExactRows two v k sources rows × (new ≡ old ++ text_of (map row_line rows))
 
--- each of these texts that was made is of the lines of the exact rows from so many sources, the first one's from a place on, and the others' in turn
-abbrev pub ArePieces : Responses → ℕ → ℕ → ℕ → List (Result (Vec ℕ Global) Memory) → Type 0
-ArePieces v k count first pieces =
+-- each of these texts that was made is of the lines of the exact rows from so many sources; the first of these is told by the text's place among all, and that by its slot
+abbrev pub ArePieces : Responses → ℕ → ℕ → ℕ → (ℕ → ℕ) → List (Result (Vec ℕ Global) Memory) → Type 0
+ArePieces v k count first place pieces =
     (i : ℕ) (d : Result (Vec ℕ Global) Memory) → i < length pieces
-    → IfOk (slice_index_or pieces i d) (λ piece. AppendsRows v k (take count (drop (first + count * i) v.elements)) [] piece.items)
+    → IfOk (slice_index_or pieces i d) (λ piece. AppendsRows v k (take count (drop (first + count * place i) v.elements)) [] piece.items)
+
+-- texts one after the other
+abbrev pub joined : List (Vec ℕ Global) → List ℕ
+joined texts = flat_map (λ (text : Vec ℕ Global). text.items) texts

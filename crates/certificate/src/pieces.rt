@@ -1,24 +1,35 @@
 //! The lines of the rows of layers, one after the other, or in pieces that threads make side by side.
 
-ghost use Rattle.std.specs.Prelude.{◌≡◌, ◌≤◌, ◌<◌, ◌+◌, ◌*◌, ◌^◌, ◌++◌, []};
-ghost use Rattle.std.specs.Prelude.{IfOk, IsOkAnd, OnOk, length, take, drop};
+ghost use Rattle.std.specs.Prelude.{◌≡◌, ◌≢◌, ◌≤◌, ◌<◌, ◌+◌, ◌*◌, ◌/◌, ◌%◌, ◌^◌, [], ℕ};
+ghost use Rattle.std.specs.Prelude.{IfOk, OnOk, Result, Vec, length, take, drop, slice_index_or};
+ghost use Rattle.std.specs.Global.{Global};
+ghost use Rattle.events.specs.declared.memory.Memory.{Memory};
 ghost use Rattle.certificate.specs.AfterTables.{IsAfterTable};
-ghost use Rattle.certificate.specs.ByRows.{AppendsRows, ArePieces};
+ghost use Rattle.certificate.specs.ByRows.{AppendsRows, ArePieces, joined};
 
 use super::rows::{after_table, row_of_layers};
 use bit_tables::AfterTable;
 use certificate_text::push_row;
 use events::Memory;
-use order_graph::{OrderGraph, push_piece};
+use order_graph::OrderGraph;
 use std::alloc::Global;
-use std::thread;
 use std::thread::Threads;
+use std::{mem, thread};
 
 /// How many rows stand in one piece.
-const ROWS: usize = 64;
+///
+/// Ten and not a power of two: a replica often has as many elements as a power of two, and then a thread would
+/// get the same part of each replica's, which may be the part with the longest rows.
+const ROWS: usize = 10;
 
-/// How many pieces are made side by side.
-const PIECES: usize = 4;
+/// How many threads make pieces side by side.
+const THREADS: usize = 4;
+
+/// How many pieces each of them makes before they are put in order.
+const TURNS: usize = 128;
+
+/// How many pieces these are together.
+const PIECES: usize = 512;
 
 /// Makes the rows of layers of a graph, for a k of at least 1. Each method requires that the table is the
 /// graph's.
@@ -110,76 +121,133 @@ impl RowMaker<'_> {
         &self,
         rt: &H,
         first: usize,
-        text: &mut Vec<u8>,
+        texts: &mut Vec<Vec<u8>>,
     ) -> Result<(), Memory>
         requires table { IsAfterTable self.now.graph.now self.now.table }
         requires few { first < 2 ^ 39 }
         ensures { OnOk result (AppendsRows self.now.graph.now self.now.k
-            (take (ROWS * PIECES) (drop first self.now.graph.now.elements)) text.old.items text.new.items) }
+            (take (ROWS * PIECES) (drop first self.now.graph.now.elements))
+            (joined texts.old.items) (joined texts.new.items)) }
     {
-        let pieces = thread::map_indices(
+        let mut made = unmade(self.alloc)?;
+        self.make_pieces(rt, first, made.as_mut_slice());
+        push_pieces(self.graph, self.k, first, made.as_mut_slice(), texts)
+    }
+
+    /// Makes the pieces of the rows of the elements from one number on, each in its slot.
+    fn make_pieces<H: Threads + Sync>(
+        &self,
+        rt: &H,
+        first: usize,
+        made: &mut [Result<Vec<u8>, Memory>],
+    )
+        requires table { IsAfterTable self.now.graph.now self.now.table }
+        requires few { first < 2 ^ 39 }
+        requires slots { length made.old ≡ PIECES }
+        ensures slots { length made.new ≡ PIECES }
+        ensures pieces { ArePieces self.now.graph.now self.now.k ROWS first
+            (λ slot. slot % TURNS * THREADS + slot / TURNS) made.new }
+    {
+        thread::for_each_mut(
             rt,
-            self.alloc,
-            PIECES,
-            &|i: usize| -> Result<Vec<u8>, Memory>
-                requires { IsAfterTable self.now.graph.now self.now.table × (first < 2 ^ 39) × (i < PIECES) }
-                ensures { IfOk result (λ piece. AppendsRows self.entry.now.graph.now self.entry.now.k
-                    (take ROWS (drop (first + ROWS * i) self.entry.now.graph.now.elements)) [] piece.items) }
-            { self.piece_from(first + ROWS * i) },
-        )?;
-        push_pieces(self.graph, self.k, first, pieces.as_slice(), text)
+            made,
+            THREADS,
+            &|slot: usize, piece: &mut Result<Vec<u8>, Memory>|
+                requires { IsAfterTable self.now.graph.now self.now.table × (first < 2 ^ 39) × (slot < PIECES) }
+                ensures { IfOk piece.new (λ lines. AppendsRows self.entry.now.graph.now self.entry.now.k
+                    (take ROWS (drop (first + ROWS * (slot % TURNS * THREADS + slot / TURNS))
+                    self.entry.now.graph.now.elements)) [] lines.items) }
+            {
+                *piece = self.piece_from(first + ROWS * (slot % TURNS * THREADS + slot / TURNS));
+            },
+        );
     }
 
     /// Adds the lines of the rows of all elements, in pieces that are made side by side. The last batch of them
     /// may be a part, or empty: past the end no row is added.
-    fn push_in_pieces<H: Threads + Sync>(&self, rt: &H, text: &mut Vec<u8>) -> Result<(), Memory>
+    fn push_in_pieces<H: Threads + Sync>(
+        &self,
+        rt: &H,
+        texts: &mut Vec<Vec<u8>>,
+    ) -> Result<(), Memory>
         requires table { IsAfterTable self.now.graph.now self.now.table }
         ensures { OnOk result (AppendsRows self.now.graph.now self.now.k self.now.graph.now.elements
-            text.old.items text.new.items) }
+            (joined texts.old.items) (joined texts.new.items)) }
     {
         let elements = self.graph.elements() as usize;
         for batch in 0..elements / (ROWS * PIECES) + 1 {
-            self.push_side_by_side(rt, batch * (ROWS * PIECES), text)?;
+            self.push_side_by_side(rt, batch * (ROWS * PIECES), texts)?;
         }
         Ok(())
     }
 }
 
-/// Adds pieces, one after the other. The graph, k and the first number serve the contract alone.
+/// Slots for pieces, with none made yet.
+fn unmade(alloc: Global) -> Result<Vec<Result<Vec<u8>, Memory>>, Memory>
+    ensures { IfOk result (λ slots. length slots.items ≡ PIECES) }
+{
+    let mut slots = Vec::with_capacity(alloc, PIECES)?;
+    for _slot in 0..PIECES {
+        slots.push(Err(Memory))?;
+    }
+    Ok(slots)
+}
+
+/// Adds pieces in their order; they are taken out of their slots. A thread's pieces stand one after the other,
+/// and in their order they take turns. The graph, k and the first number serve the contract alone.
 fn push_pieces(
     graph: &OrderGraph,
     k: u32,
     first: usize,
-    pieces: &[Result<Vec<u8>, Memory>],
-    text: &mut Vec<u8>,
+    made: &mut [Result<Vec<u8>, Memory>],
+    texts: &mut Vec<Vec<u8>>,
 ) -> Result<(), Memory>
-    requires { ArePieces graph.now k ROWS first pieces.now }
+    requires slots { length made.old ≡ PIECES }
+    requires pieces { ArePieces graph.now k ROWS first
+        (λ slot. slot % TURNS * THREADS + slot / TURNS) made.old }
     ensures { OnOk result (AppendsRows graph.now k
-        (take (ROWS * length pieces.now) (drop first graph.now.elements)) text.old.items text.new.items) }
+        (take (ROWS * PIECES) (drop first graph.now.elements))
+        (joined texts.old.items) (joined texts.new.items)) }
 {
-    for piece in pieces {
-        push_piece(piece, text)?;
+    for piece in 0..PIECES {
+        let text = taken(made, piece % THREADS * TURNS + piece / THREADS)?;
+        texts.push(text)?;
     }
     Ok(())
 }
 
-/// Adds the lines of the rows of layers, one for each element. The number of workers says whether threads are
-/// used: with 1 the rows are made one after the other in the caller's thread, with any other number in pieces
-/// of 64, four of them side by side.
+/// Takes a piece out of its slot.
+fn taken(made: &mut [Result<Vec<u8>, Memory>], slot: usize) -> Result<Vec<u8>, Memory>
+    requires { slot < length made.old }
+    ensures piece { (d : Result (Vec ℕ Global) Memory) → result ≡ slice_index_or made.old slot d }
+    ensures slots { length made.new ≡ length made.old }
+    ensures others { (i : ℕ) (d : Result (Vec ℕ Global) Memory) → i ≢ slot
+        → slice_index_or made.new i d ≡ slice_index_or made.old i d }
+{
+    mem::replace(&mut made[slot], Err(Memory))
+}
+
+/// Adds the lines of the rows of layers, one for each element, as texts that are to stand one after the other.
+/// The number of workers says whether threads are used: with 1 the rows are made one after the other in the
+/// caller's thread, as one text; with any other number four threads make a text of ten rows each in turn.
 pub fn push_rows_by<H: Threads + Sync>(
     rt: &H,
     alloc: Global,
     workers: u32,
     graph: &OrderGraph,
     k: u32,
-    text: &mut Vec<u8>,
+    texts: &mut Vec<Vec<u8>>,
 ) -> Result<(), Memory>
     requires { 1 ≤ k }
-    ensures { OnOk result (AppendsRows graph.now k graph.now.elements text.old.items text.new.items) }
+    ensures { OnOk result (AppendsRows graph.now k graph.now.elements
+        (joined texts.old.items) (joined texts.new.items)) }
 {
     let maker = row_maker(alloc, graph, k)?;
-    if workers == 1 {
-        return maker.push_rows(text);
+    if workers != 1 {
+        return maker.push_in_pieces(rt, texts);
     }
-    maker.push_in_pieces(rt, text)
+    let mut text = Vec::new(alloc);
+    maker.push_rows(&mut text)?;
+    texts.push(text)?;
+    Ok(())
 }

@@ -7,7 +7,7 @@ ghost use Rattle.specification.specs.Responses.{responses_of};
 ghost use Rattle.specification.specs.Verdict.{IsVerdict};
 ghost use Rattle.specification.specs.Versions.{two};
 ghost use Rattle.order_graph.specs.Covers.{IsCoveredBy};
-ghost use Rattle.certificate.specs.ByRows.{IsTextOfCertificate, certificate_with};
+ghost use Rattle.certificate.specs.ByRows.{IsTextOfCertificate, certificate_with, joined};
 ghost use Rattle.certificate.specs.VerdictOf.{verdict_of};
 
 use super::certifying::{number_with_rows, with_rows};
@@ -48,20 +48,20 @@ pub fn write_certificate(
     Ok(text)
 }
 
-/// A verdict, and the text of its certificate.
+/// A verdict, and the text of its certificate: these texts one after the other, of which some may be empty.
 #[derive(Drop)]
 pub struct Certified {
     pub verdict: Verdict,
-    pub text: Vec<u8>,
+    pub texts: Vec<Vec<u8>>,
 }
 
 /// The verdict on a recording, as `judge` gives it, and the text of its certificate, as `write_certificate`
 /// gives it.
 ///
 /// The responses that cover all others are found once for both. With one worker the rows are made one after
-/// the other in the caller's thread; with more, in pieces of 64 rows, four of them side by side, each of
-/// which has its own text until that is added. So memory is for the text and for 256 rows of it, and else
-/// time and memory are those of the two calls.
+/// the other in the caller's thread, as one text; with more, four threads make texts of ten rows each in turn,
+/// which stay as they are: nothing is copied to put them together. So memory is for the text and for a row of
+/// each thread, and else time and memory are those of the two calls.
 pub fn judge_and_write<H: Threads + Sync, G: Gate>(
     rt: &H,
     alloc: Global,
@@ -70,36 +70,40 @@ pub fn judge_and_write<H: Threads + Sync, G: Gate>(
     gate: &G,
 ) -> Result<Certified, SearchFault>
     ensures verdict { IfOk result (λ c. IsVerdict recording.now (verdict_of c.verdict)) }
-    ensures text { IfOk result (λ c. IsTextOfCertificate recording.now (verdict_of c.verdict) c.text.items) }
+    ensures text { IfOk result (λ c. IsTextOfCertificate recording.now (verdict_of c.verdict)
+        (joined c.texts.items)) }
     ensures workers { IsErrOf result SearchFault.Workers ↔ ((workers < 1) ⊎ (MOST_WORKERS < workers)) }
 {
     let Judged { verdict, graph } = verdict_and_graph(rt, alloc, recording, workers, gate)?;
-    let text = text_by(rt, alloc, workers, recording, &verdict, graph)?;
-    Ok(Certified { verdict, text })
+    let texts = texts_by(rt, alloc, workers, recording, &verdict, graph)?;
+    Ok(Certified { verdict, texts })
 }
 
-/// The text of the certificate of a verdict, where the graph may have been made.
-fn text_by<H: Threads + Sync>(
+/// The text of the certificate of a verdict, as texts one after the other, where the graph may have been made.
+fn texts_by<H: Threads + Sync>(
     rt: &H,
     alloc: Global,
     workers: u32,
     recording: &Recording,
     verdict: &Verdict,
     made: Option<OrderGraph>,
-) -> Result<Vec<u8>, Memory>
+) -> Result<Vec<Vec<u8>>, Memory>
     requires verdict { IsVerdict recording.now (verdict_of verdict.now) }
     requires made { IfSome made (IsCoveredBy (responses_of recording.now)) }
-    ensures { IfOk result (λ bytes. IsTextOfCertificate recording.now (verdict_of verdict.now) bytes.items) }
+    ensures { IfOk result (λ texts. IsTextOfCertificate recording.now (verdict_of verdict.now)
+        (joined texts.items)) }
 {
     // The contract of this call has that the recording is legal.
     let _ = recording.replicas();
-    let mut text = text_without_rows(alloc, recording, verdict)?;
+    let head = text_without_rows(alloc, recording, verdict)?;
+    let mut texts = Vec::new(alloc);
+    texts.push(head)?;
     let Some(k) = number_with_rows(verdict) else {
-        return Ok(text);
+        return Ok(texts);
     };
     let graph = made_or_new(alloc, recording, made)?;
-    push_rows_by(rt, alloc, workers, &graph, k, &mut text)?;
-    Ok(text)
+    push_rows_by(rt, alloc, workers, &graph, k, &mut texts)?;
+    Ok(texts)
 }
 
 /// The graph that was made, or else a new one.

@@ -1,3 +1,4 @@
 pub mod Done
+pub mod JoinedTexts
 pub mod LineFaults
 pub mod Reported

@@ -3,14 +3,16 @@
 ghost use Rattle.std.specs.Prelude.{◌≡◌, ◌≢◌, true, false, IfOk, IfErr, IfSome, OnOk, IsErrOf};
 ghost use Rattle.std.specs.Io.KnownBytes.{IsAtEnd};
 ghost use Rattle.byte_streams.specs.Streams.{IsClosed};
-ghost use Rattle.finder_cli.specs.Runs.{NamesFirstFault, IsOfRun};
+ghost use Rattle.certificate.specs.ByRows.{joined};
+ghost use Rattle.certificate.specs.VerdictOf.{verdict_of};
+ghost use Rattle.finder_cli.specs.Runs.{NamesFirstFault, IsOfRun, status_of};
 ghost use Rattle.finder_cli.specs.Certified.{IsCertificateFor, Certifies, CertifiesFront};
 
-use super::output::{Output, status_of, write_output};
+use super::output::{status_of, write_texts};
 use super::status::{RunFault, Status};
 use super::trace_source::recording_from;
 use byte_streams::{Reader, Sink, Source, Writer};
-use certificate::{NoGate, SearchFault, judge_and_write};
+use certificate::{Certified, NoGate, SearchFault, judge_and_write};
 use command_line::WORKERS;
 use events::{Memory, Recording};
 use std::alloc::Global;
@@ -40,23 +42,21 @@ pub fn run_cert<H: Threads + Sync, R: Reader + Drop, W: Writer + Drop>(
     ensures unwritten { IfErr result (λ fault. fault ≢ RunFault.Write → sink.new ≡ sink.old) }
 {
     let recording = recording_from(alloc, source)?;
-    let output = certificate_on(rt, alloc, &recording)?;
-    write_output(sink, &output)
+    let certified = certificate_on(rt, alloc, &recording)?;
+    write_texts(sink, &certified.texts, status_of(&certified.verdict))
 }
 
-/// The text of the certificate of the recording.
+/// The verdict on the recording, and the text of its certificate.
 fn certificate_on<H: Threads + Sync>(
     rt: &H,
     alloc: Global,
     recording: &Recording,
-) -> Result<Output, Memory>
-    ensures { IfOk result (λ output. IsCertificateFor recording.now output.bytes.items output.status) }
+) -> Result<Certified, Memory>
+    ensures { IfOk result (λ certified. IsCertificateFor recording.now (joined certified.texts.items)
+        (status_of (verdict_of certified.verdict))) }
 {
     match judge_and_write(rt, alloc, recording, WORKERS, &NoGate) {
-        Ok(certified) => Ok(Output {
-            status: status_of(&certified.verdict),
-            bytes: certified.text,
-        }),
+        Ok(certified) => Ok(certified),
         Err(SearchFault::Memory) => Err(Memory),
         Err(SearchFault::Workers) => unreachable!(),
     }

@@ -3,6 +3,7 @@
 ghost use Rattle.std.specs.Prelude.{◌≡◌, ◌≤◌, true, false, IfOk, IfErr};
 ghost use Rattle.std.specs.Io.KnownBytes.{Appends, Consumes, IsAtEnd};
 ghost use Rattle.specification.specs.Verdict.{IsVerdict};
+ghost use Rattle.certificate.specs.ByRows.{joined};
 ghost use Rattle.certificate.specs.VerdictOf.{verdict_of};
 ghost use Rattle.byte_streams.specs.Streams.{AppendsFront, IsClosed};
 ghost use Rattle.finder_cli.specs.Runs.{IsOfReading, status_of};
@@ -54,6 +55,26 @@ pub fn write_output<W: Writer + Drop>(
         Ok(()) => Ok(output.status),
         Err(_) => Err(RunFault::Write),
     }
+}
+
+/// Writes texts one after the other, and answers the status. Where a write fails a prefix of them all was
+/// written.
+pub fn write_texts<W: Writer + Drop>(
+    sink: &mut Sink<W>,
+    texts: &[Vec<u8>],
+    status: Status,
+) -> Result<Status, RunFault>
+    ensures ok { IfOk result (λ s. (s ≡ status) × Appends sink.old.bytes sink.new.bytes (joined texts.now)) }
+    ensures err { IfErr result (λ fault. (fault ≡ RunFault.Write) × (sink.new.failed ≡ true)
+        × AppendsFront sink.old.bytes sink.new.bytes (joined texts.now)) }
+{
+    for text in texts {
+        match sink.write_whole(text) {
+            Ok(()) => {}
+            Err(_) => return Err(RunFault::Write),
+        }
+    }
+    Ok(status)
 }
 
 /// The verdict on the recording.

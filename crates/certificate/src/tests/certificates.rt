@@ -1,6 +1,7 @@
 //! Tests of certificates of worked recordings.
 
 use crate::{NoGate, SearchFault, Version, certify, judge, judge_and_write, write_certificate};
+use events::Memory;
 use sample_recordings::{
     EMPTY, OPPOSITE_PAIR, PAST_A_NEIGHBOUR, READ_THE_OTHER_WAY, RING_OF_FOUR, THREE_WAY_CYCLE,
     recording,
@@ -17,6 +18,15 @@ enum Way {
     RowByRow,
     /// With the verdict, by so many workers.
     WithVerdict(u32),
+}
+
+/// Texts one after the other.
+fn joined(alloc: Global, texts: &[Vec<u8>]) -> Option<Vec<u8>> {
+    let mut text = Vec::new(alloc);
+    for part in texts {
+        text.extend_from_slice(part.as_slice()).ok()?;
+    }
+    Some(text)
 }
 
 /// The text of the certificate of the recording that a text spells.
@@ -39,7 +49,7 @@ fn certified_once<H: Threads + Sync>(
         },
         Way::WithVerdict(workers) => {
             let certified = judge_and_write(rt, alloc, &recording, workers, &NoGate).ok()?;
-            Some(certified.text)
+            joined(alloc, &certified.texts)
         },
     }
 }
@@ -156,4 +166,83 @@ fn certificates_by_workers_out_of_range(rt: HostRuntime) {
         let refused = are_refused(&rt, alloc, workers) || are_refused(&rt, alloc, workers);
         assert!(rt; refused, "{workers}");
     }
+}
+
+/// The replicas of the wide ring that insert, each with the first letter of its elements' names.
+static INSERTING: [(&str, &str); 15] = [
+    ("0", "a"),
+    ("1", "b"),
+    ("2", "c"),
+    ("3", "d"),
+    ("4", "e"),
+    ("5", "f"),
+    ("6", "g"),
+    ("7", "h"),
+    ("8", "i"),
+    ("9", "j"),
+    ("10", "k"),
+    ("11", "l"),
+    ("12", "m"),
+    ("13", "n"),
+    ("14", "o"),
+];
+
+/// Three inserts of a replica, and their receipt by another one: `#` stands for its number, `$` for its letter.
+const INSERTS: &str = "# ins $0 0 : $0\n# ins $1 1 : $0 $1\n# ins $2 2 : $0 $1 $2\n15 recv # 3\n";
+
+/// A view that shows the last element of a replica, whose letter is `#`, before the first of that of `$`.
+const VIEW: &str = "15 view : #2 $0\n";
+
+/// Adds a pattern with these words for `#` and `$`.
+fn push_filled(text: &mut String, pattern: &str, hash: &str, dollar: &str) -> Result<(), Memory> {
+    for letter in pattern.chars() {
+        match letter {
+            '#' => text.push_str(hash)?,
+            '$' => text.push_str(dollar)?,
+            _ => text.push(letter)?,
+        }
+    }
+    Ok(())
+}
+
+/// Three elements of each of 15 replicas; then another one, which has received all, shows the last of each
+/// replica before the first of the next one, round and round.
+fn wide_ring_once(alloc: Global) -> Result<String, Memory> {
+    let mut text = String::new(alloc);
+    text.push_str("trace 2\nreplicas 16\n")?;
+    for (number, letter) in INSERTING.iter().copied() {
+        push_filled(&mut text, INSERTS, number, letter)?;
+    }
+    for i in 0..INSERTING.len() {
+        let (_, letter) = INSERTING[i];
+        let (_, next) = INSERTING[(i + 1) % INSERTING.len()];
+        push_filled(&mut text, VIEW, letter, next)?;
+    }
+    Ok(text)
+}
+
+/// The same; where the first try finds no memory, by a second.
+fn wide_ring(alloc: Global) -> Result<String, Memory> {
+    match wide_ring_once(alloc) {
+        Err(Memory) => wide_ring_once(alloc),
+        text => text,
+    }
+}
+
+#[test]
+fn more_rows_than_threads_make_in_a_turn(rt: HostRuntime) -> Result<(), Memory> {
+    let text = wide_ring(rt.alloc())?;
+    let Some(wanted) = certified(&rt, rt.alloc(), text.as_str(), Way::RowByRow) else {
+        return Err(Memory);
+    };
+    assert!(rt; wanted.as_slice().starts_with(b"cert 2\nrefused 30\nstep "));
+    for workers in [1, 2, 4] {
+        let way = Way::WithVerdict(workers);
+        let written = certified(&rt, rt.alloc(), text.as_str(), way);
+        assert!(rt;
+            written.is_some_and(|text| text.as_slice() == wanted.as_slice()),
+            "{workers}"
+        );
+    }
+    Ok(())
 }
