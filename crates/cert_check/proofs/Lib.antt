@@ -11,6 +11,7 @@ pub mod RowNumbers
 pub mod Noting
 pub mod RulesFrom
 pub mod Depths
+pub mod KeptLists
 pub mod TableRule
 pub mod Rings
 pub mod StepsRight
