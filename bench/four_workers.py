@@ -1,15 +1,17 @@
 #!/usr/bin/env python3
 """four_workers.py PROGRAM [RUNS] TRACE..: what four workers take beside one, on a machine that is quiet now and then.
 
-Both judge the same traces in turn: user and system seconds and wall time, the least of so many runs, five unless told
-otherwise. Required on each trace is that four workers take at most a tenth more processor time than one, and less wall
-time; the script fails where that does not hold, and where the reports differ.
+One worker and four judge the same traces in turn, one first: user and system seconds and wall time, the least of so many runs
+of each that count, five unless told otherwise. Required on each trace is that four workers take at most a tenth more processor
+time than one, and less wall time, and that all reports are the same; where one of these fails, the status is 1.
 
-On a host that others use too, a processor may be a third or three times as slow for a moment, so that the least of few runs
-is a matter of chance. So a run counts only in a quiet moment: right before it and right after it a loop of fixed length,
-which touches no memory to speak of, takes on each processor at most a fifteenth more than the least that it ever took in the
-trial before. Whether a run counts is settled by these loops alone, without a look at its times. A run that does not count is
-made again; after 30 minutes the script gives up."""
+On a host that others use too, a processor may for a moment take a third more time, or three times as much, so that the least
+of few runs is a matter of chance. So a run counts only in a quiet moment: before it and after it a loop of fixed length, which
+touches no memory to speak of, takes on each processor at most a fifteenth more processor time than the least that it took on
+any of them in a trial before all runs. Other processes of this machine these loops do not see: stop them. Whether a run counts
+is settled by these loops, without a look at its times; the first ones that count are taken, and others are thrown away. Where a
+run of one worker ends in no quiet moment, none of four follows, and one worker begins again. After 30 minutes for all traces
+together the script gives up: it ends with status 2 and no counts."""
 import os
 import sys
 import time
@@ -64,7 +66,8 @@ def quiet_runs(processors: Processors, program: str, path: str, times: int, unti
     quiet = processors.are_quiet()
     while min(map(len, runs.values())) < times:
         if time.monotonic() > until:
-            sys.exit("four_workers.py: no quiet machine in 30 minutes")
+            print("four_workers.py: no quiet moment in 30 minutes", file=sys.stderr)
+            sys.exit(2)
         for workers, of_these in runs.items():
             before = quiet
             if not before:
@@ -94,7 +97,7 @@ def main() -> None:
         name = Path(path).stem
         print(f"{name:20} {2 * times:3} of {made:2} {one.processor:10.3f} {four.processor:11.3f} {four.processor / one.processor:6.2f}"
               f" {one.seconds:7.3f} {four.seconds:7.3f} {four.seconds / one.seconds:6.2f}", flush=True)
-        tally.check(f"{name}: the same report", len(reports) == 1)
+        tally.check(f"{name}: the same report", len(reports) == 1 and b"" not in reports)
         tally.check(f"{name}: processor time", four.processor <= MOST_PROCESSOR * one.processor)
         tally.check(f"{name}: wall time", four.seconds < one.seconds)
     tally.close()

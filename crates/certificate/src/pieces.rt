@@ -19,7 +19,7 @@ use std::{mem, thread};
 /// How many rows stand in one piece.
 ///
 /// Ten and not a power of two: a replica often has as many elements as a power of two, and then a thread would
-/// get the same part of each replica's, which may be the part with the longest rows.
+/// get the same part of the elements of each replica, which may be the part with the longest rows.
 const ROWS: usize = 10;
 
 /// How many threads make pieces side by side.
@@ -193,8 +193,9 @@ fn unmade(alloc: Global) -> Result<Vec<Result<Vec<u8>, Memory>>, Memory>
     Ok(slots)
 }
 
-/// Adds pieces in their order; they are taken out of their slots. A thread's pieces stand one after the other,
-/// and in their order they take turns. The graph, k and the first number serve the contract alone.
+/// Adds pieces in the order of their rows; they are taken out of their slots. In the slots the pieces of a thread
+/// stand one after the other; in the order of rows the threads take turns. The graph, k and the first number serve
+/// the contract alone.
 fn push_pieces(
     graph: &OrderGraph,
     k: u32,
@@ -229,7 +230,10 @@ fn taken(made: &mut [Result<Vec<u8>, Memory>], slot: usize) -> Result<Vec<u8>, M
 
 /// Adds the lines of the rows of layers, one for each element, as texts that are to stand one after the other.
 /// The number of workers says whether threads are used: with 1 the rows are made one after the other in the
-/// caller's thread, as one text; with any other number four threads make a text of ten rows each in turn.
+/// caller's thread, as one text; with any other number four threads take turns at texts of ten rows, in batches
+/// of 5,120 rows, after each of which they wait for one another. Behind the last row up to 512 texts are empty.
+/// Besides the texts it takes memory for a row of each thread, for 512 slots, and for a table of `n * n / 8`
+/// bytes for n elements.
 pub fn push_rows_by<H: Threads + Sync>(
     rt: &H,
     alloc: Global,

@@ -48,7 +48,8 @@ pub fn write_certificate(
     Ok(text)
 }
 
-/// A verdict, and the text of its certificate: these texts one after the other, of which some may be empty.
+/// A verdict, and the text of its certificate: these texts one after the other, first what stands before the
+/// rows. Some may be empty, and where they are cut no contract says.
 #[derive(Drop)]
 pub struct Certified {
     pub verdict: Verdict,
@@ -59,9 +60,11 @@ pub struct Certified {
 /// gives it.
 ///
 /// The responses that cover all others are found once for both. With one worker the rows are made one after
-/// the other in the caller's thread, as one text; with more, four threads make texts of ten rows each in turn,
-/// which stay as they are: nothing is copied to put them together. So memory is for the text and for a row of
-/// each thread, and else time and memory are those of the two calls.
+/// the other in the caller's thread, as one text; with more, four threads make texts of ten rows, 128 each
+/// before they wait for one another. These stay as they are: nothing is copied to put them together. Behind the
+/// last row up to 512 texts are empty. So memory is for the text, with the room that each of its parts has to
+/// spare, for one row of each thread, and for some dozens of bytes for each part; else time and memory are those
+/// of the two calls.
 pub fn judge_and_write<H: Threads + Sync, G: Gate>(
     rt: &H,
     alloc: Global,

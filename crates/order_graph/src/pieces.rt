@@ -8,7 +8,7 @@ use events::Memory;
 /// room and no more of it; then nothing is added. It takes time and memory linear in the piece, but where the
 /// list has to move.
 ///
-/// `covering` uses it.
+/// `OrderGraph::covering_by` puts together by it what its threads kept.
 pub fn push_piece<T: Copy>(piece: &Result<Vec<T>, Memory>, all: &mut Vec<T>) -> Result<(), Memory>
     ensures ok { OnOk result (IsOkAnd piece.now (λ more. all.new.items ≡ all.old.items ++ more.items)) }
     ensures err { OnErr result (all.new.items ≡ all.old.items) }

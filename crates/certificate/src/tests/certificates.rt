@@ -205,8 +205,9 @@ fn push_filled(text: &mut String, pattern: &str, hash: &str, dollar: &str) -> Re
     Ok(())
 }
 
-/// Three elements of each of 15 replicas; then another one, which has received all, shows the last of each
-/// replica before the first of the next one, round and round.
+/// Three elements of each of 15 replicas; then the last replica, which has received all, shows the last element of
+/// each before the first of the next one, once all the way round: 45 elements, more than the 40 rows that four
+/// threads make in a turn.
 fn wide_ring_once(alloc: Global) -> Result<String, Memory> {
     let mut text = String::new(alloc);
     text.push_str("trace 2\nreplicas 16\n")?;
