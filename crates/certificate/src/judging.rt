@@ -10,7 +10,7 @@ ghost use Rattle.level_search.specs.Conflicts.{IsLeastConflict};
 ghost use Rattle.certificate.specs.VerdictOf.{verdict_of};
 
 use super::verdict::Verdict;
-use contents_check::first_fault_by;
+use contents_check::{Checked, check};
 use events::Recording;
 use level_search::{Conflict, Gate, MOST_WORKERS, SearchFault, least_conflict};
 use order_graph::OrderGraph;
@@ -73,13 +73,16 @@ pub fn verdict_and_graph<H: Threads + Sync, G: Gate>(
         return Err(SearchFault::Workers);
     }
     let sight = Sight::of(alloc, recording)?;
-    if let Some(fault) = first_fault_by(rt, alloc, workers, recording, &sight)? {
-        return Ok(Judged {
-            verdict: Verdict::of_fault(fault),
-            graph: None,
-        });
-    }
-    let graph = OrderGraph::covering_by(rt, alloc, workers, recording)?;
+    let covering = match check(rt, alloc, workers, recording, &sight)? {
+        Checked::Faulty(fault) => {
+            return Ok(Judged {
+                verdict: Verdict::of_fault(fault),
+                graph: None,
+            });
+        }
+        Checked::Sound(covering) => covering,
+    };
+    let graph = OrderGraph::of_covering(alloc, recording, covering)?;
     if let Some(order) = order(alloc, &graph)? {
         return Ok(Judged {
             verdict: accepted(recording, &graph, order),

@@ -2,14 +2,18 @@
 use Rattle.std.specs.Prelude.{◌≡◌, ◌↔◌, ℕ, ◌+◌, ◌<◌, ◌≤◌, true, Some, List, ◌++◌, count_by, drop, length, slice_get, take}
 use Rattle.events.specs.Names.{NameBytes}
 use Rattle.events.specs.History.{History}
+use Rattle.specification.specs.Elements.{numbers_in}
 use Rattle.specification.specs.Members.{In, Once}
+use Rattle.specification.specs.Orders.{IsSubsequence}
 use Rattle.contents_check.specs.declared.element.Element.{Element}
 use Rattle.contents_check.specs.declared.elements.Elements.{Elements}
 use Rattle.contents_check.specs.declared.shown.Step.{Step}
-use Rattle.contents_check.specs.declared.shown.Step.TheVariants.{End, New, Gone, Wrong}
+use Rattle.contents_check.specs.declared.shown.Step.TheVariants.{End, New, Gone, Refused}
+use Rattle.contents_check.specs.declared.shown.Shown.{Shown}
+use Rattle.contents_check.specs.declared.shown.Shown.TheVariants.{Wrong, Part, More}
 use Rattle.contents_check.specs.declared.standings.Standing.{Standing}
 use Rattle.contents_check.specs.declared.standings.Standings.{Standings}
-use Rattle.contents_check.specs.Known.{number_of}
+use Rattle.contents_check.specs.Known.{number_of, element_names}
 use Rattle.contents_check.specs.Standings.{AreBehind, is_missing, is_extra, is_live}
 
 -- the name has a live element
@@ -55,10 +59,22 @@ AreOfElements elements w = Once w × ((a : NameBytes) → In a w → (i : ℕ) �
 abbrev pub joined : List NameBytes → ℕ → List NameBytes → ℕ → List NameBytes
 joined w i last j = take i w ++ drop j last
 
--- at these places the one response is at its end, or its name is shown now as well, or the other's is not any more; or the
--- one repeats a name or has one that is no element's
+-- at these places the one response is at its end, or its name is shown now as well, which has this number, or the other's
+-- is not any more; or the one repeats a name or has one that is no element's
 abbrev pub IsStep : Elements → List NameBytes → ℕ → List NameBytes → ℕ → Standings → Step → Type 0
 IsStep elements last j w i new End = (length w ≤ i) × ShowJust elements new.list.items (joined w i last j)
-IsStep elements last j w i new New = (i < length w) × ShowJust elements new.list.items (joined w (i + 1) last j)
+IsStep elements last j w i new (New number) =
+    (i < length w) × ShowJust elements new.list.items (joined w (i + 1) last j) × (slice_get (numbers_in (element_names elements) w) i ≡ Some number)
 IsStep elements last j w i new Gone = (j < length last) × ShowJust elements new.list.items (joined w i last (j + 1))
-IsStep elements last j w i new Wrong = ¬ AreOfElements elements w
+IsStep elements last j w i new Refused = ¬ AreOfElements elements w
+
+-- what a response that repeats no name and has elements' names alone shows is noted, and this is its row
+pub record IsNoted (elements : Elements) (w : List NameBytes) (standings : Standings) (row : List ℕ) : Type 0 where
+  pub just : ShowJust elements standings.list.items w
+  pub row_is : row ≡ numbers_in (element_names elements) w
+
+-- this is what was found of a response, whose row is noted; where it is a part, all its names stand in the one before it
+abbrev pub IsShowing : Type 0 → Elements → List NameBytes → List NameBytes → Standings → List ℕ → Shown → Type 0
+IsShowing Holds elements last w new row Wrong = ¬ Holds
+IsShowing Holds elements last w new row Part = Holds × IsNoted elements w new row × IsSubsequence w last
+IsShowing Holds elements last w new row More = Holds × IsNoted elements w new row

@@ -38,6 +38,16 @@ impl<T: Copy + Drop> Rows<T> {
         Ok(())
     }
 
+    /// Adds a row.
+    pub fn push_row(&mut self, row: &[T]) -> Result<(), Memory>
+        requires { IsCut self.old }
+        ensures cut { OnOk result (IsCut self.new) }
+        ensures rows { OnOk result (rows_of self.new ≡ rows_of self.old ++ row.now ∷ []) }
+    {
+        self.items.extend_from_slice(row)?;
+        self.end_row()
+    }
+
     /// The row with a number, counted from 0; an empty one past the last.
     pub fn row(&self, number: usize) -> &[T]
         requires { IsCut self.now }

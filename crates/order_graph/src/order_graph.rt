@@ -14,6 +14,7 @@ use super::narrowing::{names_kept, new_numbers, places_left};
 use super::pairs::first_list;
 use super::spot::Spot;
 use super::spots::spots_in_lists;
+use contents_check::Covering;
 use element_numbers::{Rows, inserted_names, numbers_of, places_of};
 use events::{Memory, Name, OpName, Recording};
 use indexmap::IndexMap;
@@ -109,6 +110,19 @@ impl OrderGraph {
         let operations = recording.operations(alloc)?;
         let shown = covering_operations_by(rt, alloc, workers, recording, &operations)?;
         OrderGraph::covered(alloc, recording, &operations, shown)
+    }
+
+    /// The graph of operations that cover all, as `check` of `contents_check` found them.
+    pub fn of_covering(
+        alloc: Global,
+        recording: &Recording,
+        covering: Covering,
+    ) -> Result<OrderGraph, Memory>
+    {
+        let operations = recording.operations(alloc)?;
+        let names = inserted_names(alloc, recording, &operations)?;
+        let numbers = numbers_of(alloc, &names)?;
+        OrderGraph::with_spots(alloc, names, numbers, covering.operations, covering.rows)
     }
 
     /// The graph of operations whose responses cover those of all operations.

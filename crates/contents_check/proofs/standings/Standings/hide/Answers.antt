@@ -1,27 +1,30 @@
 -- The name at the place is gone.
-use Rattle.std.proofs.Common.{◌≡◌, ◌∙◌, ◌+◌, ◌++◌, ◌∷◌, List, [], drop, sym, subst, arith}
-use Rattle.std.proofs.lemmas.Option.{slice_get-get_or, none-some}
+use Rattle.std.proofs.Common.{◌≡◌, ◌∙◌, ◌+◌, ◌<◌, ◌++◌, ◌∷◌, List, ℕ, Some, drop, length, get_or, sym, subst, ap, arith}
+use Rattle.std.specs.Prelude.{slice_get}
+use Rattle.std.proofs.lemmas.Option.{slice_get-get_or}
 use Rattle.events.specs.Names.{NameBytes}
 use Rattle.contents_check.specs.Shown.{ShowJust}
-use Rattle.contents_check.proofs.Noting.{number_within, drop_here, in_drop, note_gone}
+use Rattle.contents_check.proofs.Noting.{number_within, drop_here, note_gone}
+use Rattle.contents_check.proofs.RowNumbers.{gone-number, row-length}
 use Rattle.contents_check.proofs.standings.Standings.hide.Goals as goal
 
 pub note-requires-clause-within : goal.note-requires-clause-within
-note-requires-clause-within c = omega (arith, number_within c.args.elements.now c.requires.numbers c.in-Some.name c.in-Some-number.number (sym c.in-Some-number.ensures), c.requires.fits.size)
+note-requires-clause-within c =
+    let elements = c.args.elements.now in
+    let within : c.args.j < length c.args.row.now = omega (arith, row-length elements c.args.last.now c.args.row.now c.requires.row, c.requires.inside) in
+    let number : ℕ = get_or c.args.row.now c.args.j 0 in
+    let at = slice_get-get_or c.args.row.now c.args.j 0 within in
+    let gone = gone-number elements c.requires.numbers c.args.last.now c.args.row.now c.args.j number c.requires.row c.requires.inside c.requires.known at in
+    omega (arith, number_within elements c.requires.numbers gone.0 number gone.2, c.requires.fits.size)
 
-pub returns-in-Some-number-clause-shown : goal.returns-in-Some-number-clause-shown
-returns-in-Some-number-clause-shown c = λ front just.
+pub returns-clause-shown : goal.returns-clause-shown
+returns-clause-shown c = λ front just.
+    let elements = c.args.elements.now in
     let last : List NameBytes = c.args.last.now in
-    let name : NameBytes = c.in-Some.name in
-    let here : drop c.args.j last ≡ name ∷ drop (c.args.j + 1) last = drop_here last c.args.j name (sym c.in-Some.ensures) in
-    note_gone c.args.elements.now c.requires.numbers c.in-Some-number.number c.args.self.now c.note.new.self c.note.ensures name front (drop (c.args.j + 1) last) (sym c.in-Some-number.ensures)
-    (subst (λ l. ShowJust c.args.elements.now c.args.self.now.list.items (front ++ l)) here just)
-
-pub returns-in_default-number-clause-shown : goal.returns-in_default-number-clause-shown
-returns-in_default-number-clause-shown c = λ front just.
-    let k = just.known c.in-Some.name (in_drop front c.args.last.now c.args.j c.in-Some.name (sym c.in-Some.ensures)) in
-    absurd (none-some k.0 (sym c.in_default-number.is ∙ c.number.ensures ∙ k.1))
-
-pub returns-in_default-clause-shown : goal.returns-in_default-clause-shown
-returns-in_default-clause-shown c = λ front just.
-    absurd (none-some _ (sym c.in_default.is ∙ c.get.ensures ∙ slice_get-get_or c.args.last.now c.args.j [] c.requires.inside))
+    let within : c.args.j < length c.args.row.now = omega (arith, row-length elements last c.args.row.now c.requires.row, c.requires.inside) in
+    let number : ℕ = get_or c.args.row.now c.args.j 0 in
+    let at = slice_get-get_or c.args.row.now c.args.j 0 within in
+    let gone = gone-number elements c.requires.numbers last c.args.row.now c.args.j number c.requires.row c.requires.inside c.requires.known at in
+    let here : drop c.args.j last ≡ gone.0 ∷ drop (c.args.j + 1) last = drop_here last c.args.j gone.0 gone.1 in
+    note_gone elements c.requires.numbers number c.args.self.now c.note.new.self c.note.ensures gone.0 front (drop (c.args.j + 1) last) gone.2
+    (subst (λ l. ShowJust elements c.args.self.now.list.items (front ++ l)) here just)

@@ -1,22 +1,32 @@
 -- Once it is noted what the response shows, it shows what is live where it has what it must.
-use Rattle.std.proofs.Common.{sym, subst}
-use Rattle.std.specs.Prelude.{◌↔◌, IsTrue}
+use Rattle.std.proofs.Common.{◌∙◌, sym}
+use Rattle.std.proofs.lemmas.Bool.{false≢true}
 use Rattle.specification.specs.Faults.{IsView}
-use Rattle.contents_check.specs.Shown.{ShowsLive}
-use Rattle.contents_check.proofs.Fronts.{no_iff}
 use Rattle.contents_check.proofs.Noting.{shows_live, has_what_it_must, shows_known}
+use Rattle.contents_check.proofs.Showings.{noted-of, showing-of, wrong-of}
 use Rattle.contents_check.proofs.standings.Standings.shows_live.Goals as goal
 
-pub returns-then-show-clause-shows : goal.returns-then-show-clause-shows
-returns-then-show-clause-shows c =
-    let just = c.show.ensures.shown c.if-show.true in
-    let Part = IsView c.args.recording.now c.args.e in (
-      (λ yes. shows_live c.args.elements.now c.requires.numbers c.show.new.self c.show.ensures.notes.fits c.args.w.now Part just (c.has_what_it_must.ensures.0 yes)),
-      (λ shows. c.has_what_it_must.ensures.1 (has_what_it_must c.args.elements.now c.requires.numbers c.show.new.self c.show.ensures.notes.fits c.args.w.now Part just shows)),
-    )
+pub returns-in-Wrong-clause-shows : goal.returns-in-Wrong-clause-shows
+returns-in-Wrong-clause-shows c = λ shows.
+    wrong-of _ c.args.elements.now c.args.last.now c.args.w.now c.show.new.self c.show.new.next.items c.in_ok-shown.shown c.in-Wrong.is c.in_ok-shown.ensures.shows
+    (shows_known c.args.elements.now c.requires.numbers c.show.new.self c.in_ok-shown.ensures.notes.fits c.args.w.now (IsView c.args.recording.now c.args.e) shows)
 
-pub returns-else-show-clause-shows : goal.returns-else-show-clause-shows
-returns-else-show-clause-shows c =
-    let Part = IsView c.args.recording.now c.args.e in
-    subst (λ b. IsTrue b ↔ ShowsLive Part c.args.elements.now c.show.new.self.list.items c.args.w.now) (sym c.if-show.false)
-    (no_iff (λ shows. c.show.ensures.wrong c.if-show.false (shows_known c.args.elements.now c.requires.numbers c.show.new.self c.show.ensures.notes.fits c.args.w.now Part shows)))
+pub returns-then-has_what_it_must : goal.returns-then-has_what_it_must
+returns-then-has_what_it_must c =
+    let noted = noted-of _ c.args.elements.now c.args.last.now c.args.w.now c.show.new.self c.show.new.next.items c.in_ok-shown.shown c.in_default.not-Wrong c.in_ok-shown.ensures.shows in
+    record {
+      counts = c.in_ok-shown.ensures.notes.counts;
+      behind = c.in_ok-shown.ensures.notes.behind;
+      shows = showing-of _ _ c.args.elements.now c.args.last.now c.args.w.now c.show.new.self c.show.new.next.items c.in_ok-shown.shown c.in_default.not-Wrong c.in_ok-shown.ensures.shows
+          (shows_live c.args.elements.now c.requires.numbers c.show.new.self c.in_ok-shown.ensures.notes.fits c.args.w.now (IsView c.args.recording.now c.args.e) noted.just (c.has_what_it_must.ensures.0 c.if-has_what_it_must.true));
+    }
+
+pub returns-else-has_what_it_must : goal.returns-else-has_what_it_must
+returns-else-has_what_it_must c =
+    let noted = noted-of _ c.args.elements.now c.args.last.now c.args.w.now c.show.new.self c.show.new.next.items c.in_ok-shown.shown c.in_default.not-Wrong c.in_ok-shown.ensures.shows in
+    record {
+      counts = c.in_ok-shown.ensures.notes.counts;
+      behind = c.in_ok-shown.ensures.notes.behind;
+      shows = λ shows. false≢true (sym c.if-has_what_it_must.false
+          ∙ c.has_what_it_must.ensures.1 (has_what_it_must c.args.elements.now c.requires.numbers c.show.new.self c.in_ok-shown.ensures.notes.fits c.args.w.now (IsView c.args.recording.now c.args.e) noted.just shows));
+    }

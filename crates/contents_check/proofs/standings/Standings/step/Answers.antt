@@ -2,12 +2,13 @@
 use Rattle.std.proofs.Common.{◌≡◌, ◌∙◌, ℕ, ◌<◌, List, Some, length, take, drop, sym, subst, arith}
 use Rattle.std.specs.Prelude.{slice_get}
 use Rattle.std.proofs.lemmas.Option.{slice_get_within, none-some}
-use Rattle.specification.proofs.Members.{In-from_place}
+use Rattle.specification.proofs.Members.{In-append_right, In-from_place}
 use Rattle.events.proofs.Places.{slice_get-within}
 use Rattle.events.specs.Names.{NameBytes}
 use Rattle.contents_check.specs.Known.{number_of}
 use Rattle.contents_check.specs.Shown.{joined, ShowJust}
 use Rattle.contents_check.proofs.Noting.{number_within, note_new, joined_next, not_shown, is_shown, stands_twice}
+use Rattle.contents_check.proofs.RowNumbers.{row-at, row-length}
 use Rattle.contents_check.proofs.standings.Standings.step.Goals as goal
 
 pub index-requires : goal.index-requires
@@ -35,7 +36,11 @@ returns-then-not-index-clause-step c =
       slice_get_within w c.args.i name there,
       subst (λ l. ShowJust c.args.elements.now c.note.new.self.list.items l) (sym (joined_next w c.args.i last c.args.j name there))
           (note_new c.args.elements.now c.requires.numbers number c.args.self.now c.note.new.self c.note.ensures name (take c.args.i w) (drop c.args.j last) numbered absent c.requires.shown),
+      row-at c.args.elements.now c.requires.numbers w c.args.i name number there numbered,
     )
+
+pub hide-requires-clause-known : goal.hide-requires-clause-known
+hide-requires-clause-known c = λ a i. c.requires.shown.known a (In-append_right a (take c.args.i c.args.w.now) (drop c.args.j c.args.last.now) i)
 
 pub returns-clause-step : goal.returns-clause-step
 returns-clause-step c = λ of.
@@ -47,4 +52,4 @@ returns-clause-step c = λ of.
     let within : number < length c.args.self.now.list.items = omega (arith, number_within c.args.elements.now c.requires.numbers name number numbered, c.requires.fits.size) in
     let at = slice_get-within c.args.self.now.list.items number c.index.result.now within c.index.ensures in
     let there = is_shown c.args.elements.now c.requires.numbers c.args.self.now.list.items (joined w c.args.i last c.args.j) c.requires.shown name number c.index.result.now numbered at c.if-not-index.false in
-    stands_twice w c.args.i last c.args.j name (sym c.in-Some.ensures) (omega (arith, c.if-j-len.false, c.len.ensures.value)) there of.0
+    stands_twice w c.args.i last c.args.j name (sym c.in-Some.ensures) (omega (arith, c.if-j-row.false, row-length c.args.elements.now last c.args.row.now c.requires.row)) there of.0

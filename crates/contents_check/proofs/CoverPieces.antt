@@ -1,0 +1,44 @@
+-- All operations stand in order; and operations that cover those of one stretch, and then those of the next.
+use Rattle.std.proofs.Common.{◌≡◌, ℕ, ◌+◌, ◌*◌, ◌<◌, ◌≤◌, ◌⊎◌, inl, inr, List, [], ◌∷◌, ◌++◌, Vec, Global, take, drop, length, refl, sym, ap, ◌∙◌, subst, arith}
+use Rattle.std.specs.Prelude.{AllPairs, Contains, IfOk, IsOkAnd, Result, Ok, Err}
+use Rattle.std.proofs.Math.Seq.{take-add}
+use Rattle.events.specs.declared.memory.Memory.{Memory}
+use Rattle.events.specs.Operation.{Operation, ComesBefore}
+use Rattle.events.specs.History.{History}
+use Rattle.events.specs.Operations.{operation_names, response}
+use Rattle.specification.specs.Orders.{IsSubsequence}
+use Rattle.specification.proofs.OperationNames.{AllPairs-from_Rising, operation_names-rise}
+use Rattle.specification.proofs.Members.{In, In-append_left, In-append_right, In-append_cases, In-from_Contains, Contains-from_In}
+use Rattle.contents_check.specs.Covering.{IsPart, AreCovering}
+
+module _ {X : Type 0} where
+  part-later : (y : X) (zs ws : List X) → IsPart zs ws → IsPart zs (y ∷ ws)
+  part-later y [] ws q = tt
+  part-later y (z ∷ zs) ws q = inr q
+
+  part-append : (xs ys zs ws : List X) → IsPart xs ys → IsPart zs ws → IsPart (xs ++ zs) (ys ++ ws)
+  part-append [] [] zs ws p q = q
+  part-append [] (y ∷ ys) zs ws p q = part-later y zs (ys ++ ws) (part-append [] ys zs ws tt q)
+  part-append (x ∷ xs) [] zs ws p q = absurd p
+  part-append (x ∷ xs) (y ∷ ys) zs ws (inl p) q = inl (p.0, part-append xs ys zs ws p.1 q)
+  part-append (x ∷ xs) (y ∷ ys) zs ws (inr p) q = inr (part-append (x ∷ xs) ys zs ws p q)
+
+module _ (h : History) where
+  pub all-in-order : (all : List Operation) → all ≡ operation_names h → AllPairs ComesBefore all
+  all-in-order all is = subst (λ l. AllPairs ComesBefore l) (sym is) (AllPairs-from_Rising ComesBefore (operation_names h) (operation_names-rise h))
+
+  pub none-cover : AreCovering h [] []
+  none-cover = record { part = tt; covered = λ o i. absurd (In-from_Contains [] o i) }
+
+  pub covering-append : (xs ys some more : List Operation) → AreCovering h xs some → AreCovering h ys more → AreCovering h (xs ++ ys) (some ++ more)
+  covering-append xs ys some more one other = record {
+    part = part-append some xs more ys one.part other.part;
+    covered = λ o i. go o (In-append_cases o xs ys (In-from_Contains (xs ++ ys) o i));
+  }
+    where
+      go : (o : Operation) → In o xs ⊎ In o ys
+          → (p : Operation) × Contains (some ++ more) p × ((p ≡ o) ⊎ ComesBefore p o) × IsSubsequence (response h o) (response h p)
+      go o (inl i) = let c = one.covered o (Contains-from_In xs o i) in
+          (c.0, Contains-from_In (some ++ more) c.0 (In-append_left c.0 some more (In-from_Contains some c.0 c.1)), c.2, c.3)
+      go o (inr i) = let c = other.covered o (Contains-from_In ys o i) in
+          (c.0, Contains-from_In (some ++ more) c.0 (In-append_right c.0 some more (In-from_Contains more c.0 c.1)), c.2, c.3)
