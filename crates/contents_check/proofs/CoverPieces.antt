@@ -1,8 +1,6 @@
 -- All operations stand in order; and operations that cover those of one stretch, and then those of the next.
-use Rattle.std.proofs.Common.{◌≡◌, ℕ, ◌+◌, ◌*◌, ◌<◌, ◌≤◌, ◌⊎◌, inl, inr, List, [], ◌∷◌, ◌++◌, Vec, Global, take, drop, length, refl, sym, ap, ◌∙◌, subst, arith}
-use Rattle.std.specs.Prelude.{AllPairs, Contains, IfOk, IsOkAnd, Result, Ok, Err}
-use Rattle.std.proofs.Math.Seq.{take-add}
-use Rattle.events.specs.declared.memory.Memory.{Memory}
+use Rattle.std.proofs.Common.{◌≡◌, ◌⊎◌, inl, inr, List, [], ◌∷◌, ◌++◌, sym, subst}
+use Rattle.std.specs.Prelude.{AllPairs, Contains}
 use Rattle.events.specs.Operation.{Operation, ComesBefore}
 use Rattle.events.specs.History.{History}
 use Rattle.events.specs.Operations.{operation_names, response}

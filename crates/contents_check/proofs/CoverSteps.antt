@@ -1,15 +1,14 @@
 -- One operation more, kept or covered by one that is kept; and one place more of a response that is looked for in another.
-use Rattle.std.proofs.Common.{◌≡◌, ℕ, zero, suc, ◌+◌, ◌<◌, ◌≤◌, ◌⊎◌, inl, inr, Some, List, [], ◌∷◌, ◌++◌, length, take, drop, refl, sym, ap, ◌∙◌, subst, arith}
-use Rattle.std.specs.Prelude.{slice_get, AllPairs, Contains}
+use Rattle.std.proofs.Common.{◌≡◌, ℕ, zero, suc, ◌+◌, ◌≤◌, ◌⊎◌, inl, inr, List, [], ◌∷◌, ◌++◌, length, take, drop, refl, sym, ◌∙◌, subst, arith}
+use Rattle.std.specs.Prelude.{AllPairs}
 use Rattle.std.proofs.lemmas.List.{drop_all, drop-drop}
-use Rattle.std.proofs.lemmas.Option.{same_Some, none-some}
 use Rattle.events.specs.Names.{NameBytes}
 use Rattle.events.specs.Operation.{Operation, ComesBefore}
 use Rattle.events.specs.History.{History}
 use Rattle.events.specs.Operations.{response}
 use Rattle.specification.specs.Orders.{IsSubsequence}
 use Rattle.specification.proofs.Members.{In, Before, In-append_left, In-append_right, In-append_cases, In-from_Contains, Contains-from_In, AllPairs-Before}
-use Rattle.contents_check.specs.Covering.{IsPart, AreCovering, AreKeptOf, IsFoundIn}
+use Rattle.contents_check.specs.Covering.{AreCovering, AreKeptOf, IsFoundIn}
 use Rattle.contents_check.proofs.Parts.{In-part, part-skip, part-keep}
 
 -- the same names in the same order

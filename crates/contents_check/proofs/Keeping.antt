@@ -1,18 +1,17 @@
 -- One operation more of a replica, which is kept or covered by one that is.
-use Rattle.std.proofs.Common.{◌≡◌, ℕ, ◌+◌, ◌-◌, ◌≤◌, ◌<◌, List, [], ◌∷◌, ◌++◌, map, refl, sym, ap, ◌∙◌, subst, arith, inl}
+use Rattle.std.proofs.Common.{◌≡◌, ℕ, ◌+◌, ◌-◌, ◌≤◌, List, [], ◌∷◌, ◌++◌, map, refl, sym, ap, ◌∙◌, subst, arith, inl}
 use Rattle.std.specs.Prelude.{Contains, OnOk, Result, Ok, Err}
 use Rattle.std.proofs.lemmas.List.{map-append}
-use Rattle.events.specs.Names.{NameBytes}
 use Rattle.events.specs.Operation.{Operation}
 use Rattle.events.specs.History.{History}
-use Rattle.events.specs.Operations.{numbers_from, response}
+use Rattle.events.specs.Operations.{response}
 use Rattle.events.proofs.Numbers.{names_push}
 use Rattle.specification.specs.Elements.{numbers_in}
 use Rattle.specification.specs.Orders.{IsSubsequence}
 use Rattle.specification.proofs.Members.{In, In-append_right, In-from_Contains}
 use Rattle.element_numbers.specs.Cuts.{rows_of, IsCut}
 use Rattle.contents_check.specs.declared.covering.Covering.{Covering}
-use Rattle.contents_check.specs.Covering.{first_operations, AreKeptOf, AreRowsOf, IsFoundIn}
+use Rattle.contents_check.specs.Covering.{first_operations, AreKeptOf, IsFoundIn}
 use Rattle.contents_check.specs.Walk.{response_before, IsKept}
 use Rattle.contents_check.proofs.CoverSteps.{one_kept, one_left_out, subsequence-trans}
 

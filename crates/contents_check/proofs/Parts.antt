@@ -1,9 +1,6 @@
 -- A part of a list: its members stand there, what rises there rises in it, and its sums are no greater.
-use Rattle.std.proofs.Common.{◌≡◌, ℕ, ◌≤◌, inl, inr, List, [], ◌∷◌, ◌++◌, length, map, refl, sym, ap, ◌∙◌, subst, arith}
-use Rattle.std.specs.Prelude.{sum_by}
-use Rattle.std.proofs.lemmas.List.Sums.{sum_by-cons}
+use Rattle.std.proofs.Common.{inl, inr, List, [], ◌∷◌, ◌++◌, refl, ◌∙◌}
 use Rattle.specification.proofs.Members.{In}
-use Rattle.specification.proofs.OperationNames.{Rising}
 use Rattle.contents_check.specs.Covering.{IsPart}
 
 module _ {X : Type 0} where

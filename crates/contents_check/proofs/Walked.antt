@@ -1,6 +1,6 @@
 -- What replicas are found to be, those of one part after those of another; and what that says of the recording.
-use Rattle.std.proofs.Common.{◌≡◌, ℕ, zero, suc, ◌+◌, ◌-◌, ◌*◌, ◌<◌, ◌≤◌, List, [], ◌∷◌, ◌++◌, length, map, take, drop, get_or, refl, sym, ◌∙◌, ap, subst, arith, inl, inr, append_assoc, append-nil}
-use Rattle.std.specs.Prelude.{All, AllPairs, flat_map}
+use Rattle.std.proofs.Common.{◌≡◌, ℕ, zero, suc, ◌+◌, ◌<◌, ◌≤◌, List, [], ◌∷◌, ◌++◌, length, map, take, drop, get_or, refl, sym, ◌∙◌, ap, subst, arith, inl, inr, append_assoc}
+use Rattle.std.specs.Prelude.{All, AllPairs}
 use Rattle.std.proofs.Math.Seq.{take-add}
 use Rattle.std.proofs.lemmas.List.{map-append, take-append-drop, take_more}
 use Rattle.std.proofs.lemmas.Grind.{flat_map-append}
@@ -8,8 +8,8 @@ use native.Mathlib.Decide.{ℕ_discrete}
 use Rattle.events.specs.Names.{NameBytes}
 use Rattle.events.specs.Operation.{Operation, ComesBefore}
 use Rattle.events.specs.History.{History, IsLegal}
-use Rattle.events.specs.Operations.{count, numbers_from, operation_names, response, IsOperation}
-use Rattle.specification.specs.Elements.{elements, numbers_in}
+use Rattle.events.specs.Operations.{count, numbers_from, operation_names, response}
+use Rattle.specification.specs.Elements.{numbers_in}
 use Rattle.specification.specs.Faults.{IsRight, IsFirstFault}
 use Rattle.specification.proofs.Dictionary.{ComesBefore-from}
 use Rattle.specification.proofs.Members.{In, In-append_cases, All-member, All-from_members}
@@ -20,9 +20,9 @@ use Rattle.contents_check.specs.declared.covering.Covering.{Covering}
 use Rattle.contents_check.specs.declared.elements.Elements.{Elements as Kept}
 use Rattle.contents_check.specs.declared.fault.Fault.{Fault}
 use Rattle.contents_check.specs.declared.fault.Fault.TheVariants.{Doubled, Contents, Position}
-use Rattle.contents_check.specs.declared.walk.Walked.TheVariants.{Wrong, Right}
+use Rattle.contents_check.specs.declared.walk.Walked.TheVariants.{Right}
 use Rattle.contents_check.specs.declared.first.Checked.TheVariants.{Faulty, Sound}
-use Rattle.contents_check.specs.Covering.{first_operations, operations_of, AreCovering, AreRowsOf, Covers, IsChecked, IsFaultAt, IsFirstFaultAmong, IsWalked}
+use Rattle.contents_check.specs.Covering.{first_operations, operations_of, AreCovering, Covers, IsChecked, IsFaultAt, IsFirstFaultAmong, IsWalked}
 use Rattle.contents_check.specs.FaultOf.{fault_of}
 use Rattle.contents_check.specs.Known.{element_names, AreElementsOf}
 use Rattle.contents_check.specs.Replicas.{IsRightReplica}

@@ -1,6 +1,5 @@
 -- What all replicas are found to be says what the recording is.
-use Rattle.std.proofs.Common.{List, ℕ, subst}
-use Rattle.events.specs.Names.{NameBytes}
+use Rattle.std.proofs.Common.{subst}
 use Rattle.events.specs.Operations.{numbers_from}
 use Rattle.contents_check.specs.Covering.{IsWalked}
 use Rattle.contents_check.specs.Known.{element_names, IsInserted}

@@ -1,5 +1,5 @@
 -- The operations of one replica after those of the replicas before it.
-use Rattle.std.proofs.Common.{◌≡◌, ◌<◌, ◌≤◌, ℕ, ◌+◌, ◌∷◌, [], List, length, take, drop, get_or, sym, subst, arith}
+use Rattle.std.proofs.Common.{◌<◌, ◌≤◌, ℕ, ◌+◌, ◌∷◌, [], List, length, take, drop, get_or, sym, subst, arith}
 use Rattle.std.proofs.lemmas.List.{take_all, take_more}
 use Rattle.events.specs.Names.{NameBytes}
 use Rattle.contents_check.specs.Covering.{IsWalked}

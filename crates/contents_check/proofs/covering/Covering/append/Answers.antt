@@ -1,5 +1,5 @@
 -- One row more; at the end all.
-use Rattle.std.proofs.Common.{◌≡◌, ◌<◌, ◌≤◌, ℕ, ◌∷◌, ◌++◌, [], List, length, take, sym, ap, ◌∙◌, arith, append_assoc}
+use Rattle.std.proofs.Common.{◌<◌, ◌≤◌, ℕ, ◌∷◌, ◌++◌, [], List, length, take, sym, ap, ◌∙◌, arith, append_assoc}
 use Rattle.std.proofs.lemmas.List.{take_all, take_more}
 use Rattle.element_numbers.specs.Cuts.{rows_of}
 use Rattle.element_numbers.proofs.Cuts.{length-cut}

@@ -1,5 +1,5 @@
 -- Contents are right where the response shows what is live after what e sees.
-use Rattle.std.proofs.Common.{◌≡◌, ◌∙◌, ◌+◌, ◌-◌, refl, sym, ap, subst, arith}
+use Rattle.std.proofs.Common.{refl, sym, subst}
 use Rattle.contents_check.specs.Shown.{ShowJust}
 use Rattle.contents_check.specs.Standings.{IsSeenBy}
 use Rattle.contents_check.proofs.Few.{few-elements}
