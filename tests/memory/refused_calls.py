@@ -27,7 +27,7 @@ MOST = 20_000
 
 # Every call that can answer out of memory, by its name in docs/names.md; the list is kept by hand.
 CALLS = """Response::push, Recording::new, Recording::record, Recording::copy, trace_text::read, trace_text::write, Reader::feed,
-Sight::of, first_fault, OrderGraph::of, OrderGraph::covering, Scratch::new, Bound::new, conflict_number, least_cycle,
+Sight::of, first_fault, OrderGraph::of, OrderGraph::of_covering, Scratch::new, Bound::new, conflict_number, least_cycle,
 least_conflict, judge, report::text, report::json, OrderGraph::narrowed, taken, order, certify, write_certificate,
 judge_and_write, Certificate::write, push_row, Certificate::read, check, check_recording, Session::open, Session::record, snapshot,
 watch_snapshot, watch, replay, Registry::add, Registry::names, run, run_cert, run_verify, live, read_words"""
@@ -44,7 +44,7 @@ TESTS = {
     "Sight::of": ("visibility", "a_chain_of_receipts_is_seen", "a_receipt_tells_what_comes_after_it"),
     "first_fault": ("contents_check", "contents_are_those_that_are_visible", "doubled_names_come_first"),
     "OrderGraph::of": ("order_graph", "steps_of_worked_recordings", "marks_of_the_ring_of_four"),
-    "OrderGraph::covering": ("order_graph", "covering_responses_of_the_ring_of_four"),
+    "OrderGraph::of_covering": ("order_graph", "covering_responses_of_the_ring_of_four"),
     "Scratch::new": ("level_search", "a_scratch_fits_its_graph_alone"),
     "Bound::new": ("shared_bound", "two_seats_share_three_sources"),
     "conflict_number": ("level_search", "worked_recordings_for_any_number_of_workers"),

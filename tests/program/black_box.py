@@ -264,8 +264,8 @@ def most_threads(program: str, words: list) -> int:
 
 def threads(tally: Tally, program: str, folder: str) -> None:
     """As many threads search as were asked for, in one run of several near the limits on names: a search may end before all
-    have begun. The check of contents before it, or the search for covering responses, has more than one where more than one worker
-    was asked for; in an accepted recording no other search follows."""
+    have begun. The check before it, which finds the covering responses too, has more than one where more than one worker was asked
+    for; in an accepted recording no other search follows."""
     path = os.path.join(folder, "ring")
     for name, family in ((path, "wide_ring"), (os.path.join(folder, "accepted"), "accepted")):
         with open(name, "wb") as out:

@@ -252,11 +252,11 @@ module _ (h : History) (t : Numbered) (of : IsOf h t) (k first : ℕ) (row : Row
     from = from;
     once = rule_once (elements h) row holds.can;
     gradual = λ r i x y high more p.
-        let s = each_response h t of (IsGradualFrom first depths) (λ j lt. (all j lt).0) r i in
+        let s = each_response h t of (IsGradualFrom first depths) (λ xs ys sub g x y high more b. g x y high more (sub x y b)) (λ j lt. (all j lt).0) r i in
         gradual_names (elements h) k row depths size once holds (response h r.by) (known-response h of.legal of.sound r.by s.0) first s.2 x y high more
         (subst (λ (w : List NameBytes). HasInOrder w x y) s.1 p);
     deep = λ r i x high p.
-        let s = each_response h t of (IsDeepFrom first depths source (k - 1)) (λ j lt. (all j lt).1) r i in
+        let s = each_response h t of (IsDeepFrom first depths source (k - 1)) (λ xs ys sub d x high b. d x high (sub x source b)) (λ j lt. (all j lt).1) r i in
         deep_names (elements h) k row depths size once holds (response h r.by) (known-response h of.legal of.sound r.by s.0) first source a at s.2 x high
         (subst (λ (w : List NameBytes). HasInOrder w x a) s.1 p);
   }

@@ -5,13 +5,13 @@ pub mod WordPairs
 pub mod RowWords
 pub mod TextLines
 pub mod FaultReasons
+pub mod Parts
 pub mod Listed
 pub mod Ranks
 pub mod RowNumbers
 pub mod Noting
 pub mod RulesFrom
 pub mod Depths
-pub mod KeptLists
 pub mod TableRule
 pub mod Rings
 pub mod StepsRight

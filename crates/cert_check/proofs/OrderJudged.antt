@@ -1,4 +1,5 @@
--- An order whose places rise along each response is followed; else the first response along which they do not is not.
+-- An order whose places rise along responses that cover all is followed; else the first of these along which they do
+-- not is the first that is not.
 use Rattle.std.proofs.Common.{◌≡◌, ℕ, ◌<◌, inl, inr, Some, List, map, length, sym, ◌∙◌, ap, subst, arith}
 use Rattle.std.specs.Prelude.{slice_get, slice_index, IsPermutation}
 use Rattle.std.proofs.lemmas.Bool.{cases_lt}
@@ -12,11 +13,14 @@ use Rattle.specification.specs.Responses.{Returned, responses_of}
 use Rattle.specification.specs.Versions.{Version}
 use Rattle.specification.specs.CertificateText.{gives_order}
 use Rattle.specification.specs.ValidCertificate.{IsValid, IsNotFollowed}
-use Rattle.specification.proofs.Members.{In, All-from_members, place_of_In, In-from_place, Before-from_places, AllPairs-Before}
+use Rattle.specification.proofs.Members.{In, All-from_members, Before-from_places, AllPairs-Before}
 use Rattle.specification.proofs.Shown.{ComesBefore-irreflexive}
 use Rattle.specification.proofs.Dictionary.{ComesBefore-asymmetric}
 use Rattle.specification.proofs.OperationNames.{operation_names-rise, operation-listed, listed-operation, AllPairs-from_Rising}
-use Rattle.cert_check.proofs.Listed.{once-elements, known-response, once-response, each_response, list_at}
+use Rattle.specification.proofs.Strong.{returned_by}
+use Rattle.contents_check.proofs.Doubled.{ComesBefore-trans}
+use Rattle.cert_check.proofs.Parts.{Rising-part}
+use Rattle.cert_check.proofs.Listed.{Before-map, Before-map_back, HoldsOfFewer, IsCovered, once-elements, known-response, once-response, kept-listed, covered, of_covered, list_at}
 use Rattle.cert_check.proofs.Ranks.{follows_from_rising, rising_from_follows}
 use Rattle.cert_check.specs.Noted.{Holds, placed_from}
 use Rattle.cert_check.specs.Values.{IsRising}
@@ -34,55 +38,65 @@ module _ (h : History) (t : Numbered) (of : IsOf h t) (order : List NameBytes) (
   holds : Holds (elements h) (length (elements h)) (placed_from 0 order) ranks
   holds = subst (λ (ns : List NameBytes). Holds ns (length ns) (placed_from 0 order) ranks) of.names holds_t
 
+  rises-fewer : HoldsOfFewer (λ l. IsRising (map (slice_index ranks) l))
+  rises-fewer xs ys sub rising a b before =
+      let s = Before-map_back (slice_index ranks) a b xs before in
+      subst (λ x. x < b) s.3 (subst (λ y. slice_index ranks s.0 < y) s.4
+      (rising (slice_index ranks s.0) (slice_index ranks s.1) (Before-map (slice_index ranks) s.0 s.1 ys (sub s.0 s.1 s.2))))
+
+  -- what is covered by an operation along whose list the places rise is followed
+  followed : (o : Operation) → In o (operation_names h) → (c : IsCovered h t o) → RisesAt c.place → IsSubsequence (response h o) order
+  followed o i c rising =
+      follows_from_rising (elements h) order ranks (length (elements h)) (once-elements h of.legal of.sound) perm holds (response h o)
+      (once-response h of.legal of.sound o i) (known-response h of.legal of.sound o i)
+      (of_covered h t of (λ l. IsRising (map (slice_index ranks) l)) rises-fewer o c rising)
+
   pub order_valid : ((j : ℕ) → j < length (lists_of t) → RisesAt j) → (version : Version) → IsValid version h (gives_order order)
   order_valid all version = (
     of.sound,
     (
       perm,
       All-from_members (λ (r : Returned). IsSubsequence r.names order) (responses_of h).returned (λ r i.
-          let s = each_response h t of (λ (l : List ℕ). IsRising (map (slice_index ranks) l)) all r i in
-          subst (λ (w : List NameBytes). IsSubsequence w order) (sym s.1)
-          (follows_from_rising (elements h) order ranks (length (elements h)) (once-elements h of.legal of.sound) perm holds (response h r.by)
-          (once-response h of.legal of.sound r.by s.0) (known-response h of.legal of.sound r.by s.0) s.2)),
+          let by = returned_by h r i in
+          let listed : In r.by (operation_names h) = operation-listed h r.by of.legal by.0 in
+          let c = covered h t of r.by listed in
+          subst (λ (w : List NameBytes). IsSubsequence w order) (sym by.1) (followed r.by listed c (all c.place c.within))),
     ),
   )
 
-  followed_at : (j : ℕ) (o : Operation) → slice_get (operation_names h) j ≡ Some o → RisesAt j → IsSubsequence (response h o) order
-  followed_at j o at rising =
-      let i : In o (operation_names h) = In-from_place (operation_names h) j o at in
-      follows_from_rising (elements h) order ranks (length (elements h)) (once-elements h of.legal of.sound) perm holds (response h o)
-      (once-response h of.legal of.sound o i) (known-response h of.legal of.sound o i)
-      (subst (λ (l : List ℕ). IsRising (map (slice_index ranks) l)) (list_at h t of j o at) rising)
-
-  rises_where_followed : (j : ℕ) (o : Operation) → slice_get (operation_names h) j ≡ Some o → IsSubsequence (response h o) order → RisesAt j
+  rises_where_followed : (j : ℕ) (o : Operation) → slice_get t.operations.items j ≡ Some o → IsSubsequence (response h o) order → RisesAt j
   rises_where_followed j o at sub =
-      let i : In o (operation_names h) = In-from_place (operation_names h) j o at in
+      let i : In o (operation_names h) = kept-listed h t of j o at in
       subst (λ (l : List ℕ). IsRising (map (slice_index ranks) l)) (sym (list_at h t of j o at))
       (rising_from_follows (elements h) order ranks (length (elements h)) (once-elements h of.legal of.sound) perm holds (response h o)
       (once-response h of.legal of.sound o i) (known-response h of.legal of.sound o i) sub)
 
-  pub first_not_followed : (j : ℕ) (o : Operation) → slice_get (operation_names h) j ≡ Some o → (RisesAt j → ⊥) → ((i : ℕ) → i < j → RisesAt i) → IsLeast (IsNotFollowed h order) o
+  -- an operation that is left out is covered by one that is the same or comes before it
+  pub first_not_followed : (j : ℕ) (o : Operation) → slice_get t.operations.items j ≡ Some o → (RisesAt j → ⊥) → ((i : ℕ) → i < j → RisesAt i) → IsLeast (IsNotFollowed h order) o
   first_not_followed j o at stops rises = record {
-    holds = (listed-operation h o (In-from_place (operation_names h) j o at), (λ sub. stops (rises_where_followed j o at sub)));
+    holds = (listed-operation h o (kept-listed h t of j o at), (λ sub. stops (rises_where_followed j o at sub)));
     least = λ f not before. least f not before;
   }
     where
-      behind : (p : ℕ) (f : Operation) → slice_get (operation_names h) p ≡ Some f → j < p → ComesBefore o f
+      behind : (p : ℕ) (f : Operation) → slice_get t.operations.items p ≡ Some f → j < p → ComesBefore o f
       behind p f there lt =
-          AllPairs-Before ComesBefore (operation_names h) o f (AllPairs-from_Rising ComesBefore (operation_names h) (operation_names-rise h))
-          (Before-from_places (operation_names h) o f j p lt at there)
+          AllPairs-Before ComesBefore t.operations.items o f
+          (AllPairs-from_Rising ComesBefore t.operations.items (Rising-part ComesBefore t.operations.items (operation_names h) of.operations.part (operation_names-rise h)))
+          (Before-from_places t.operations.items o f j p lt at there)
 
       least : (f : Operation) → IsNotFollowed h order f → ComesBefore f o → ⊥
       least f not before =
-          let p = place_of_In (operation_names h) f (operation-listed h f of.legal not.0) in
-          elim (cases_lt p.0 j) [
-            | inl lt ↦ not.1 (followed_at p.0 f p.2 (rises p.0 lt))
-            | inr le ↦ elim (cases_lt j p.0) [
-              | inl lt ↦ ComesBefore-asymmetric f o before (behind p.0 f p.2 lt)
+          let listed : In f (operation_names h) = operation-listed h f of.legal not.0 in
+          let c = covered h t of f listed in
+          let first : ComesBefore c.by o = elim c.before [ inl e ↦ subst (λ q. ComesBefore q o) (sym e) before | inr lt ↦ ComesBefore-trans c.by f o lt before ] in
+          elim (cases_lt c.place j) [
+            | inl lt ↦ not.1 (followed f listed c (rises c.place lt))
+            | inr le ↦ elim (cases_lt j c.place) [
+              | inl lt ↦ ComesBefore-asymmetric c.by o first (behind c.place c.by c.at lt)
               | inr ge ↦
-                  (let same : p.0 ≡ j = omega arith in
-                  let e : Some f ≡ Some o = sym p.2 ∙ ap (slice_get (operation_names h)) same ∙ at in
-                  let q : f ≡ o = Prim.cc in
-                  ComesBefore-irreflexive o (subst (λ (z : Operation). ComesBefore z o) q before))
+                  (let same : c.place ≡ j = omega arith in
+                  let e : Some c.by ≡ Some o = sym c.at ∙ ap (slice_get t.operations.items) same ∙ at in
+                  let q : c.by ≡ o = Prim.cc in
+                  ComesBefore-irreflexive o (subst (λ (z : Operation). ComesBefore z o) q first))
             ]
           ]

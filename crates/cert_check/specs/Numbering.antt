@@ -1,4 +1,4 @@
--- The elements with their numbers, and the responses as lists of them.
+-- The elements with their numbers, and responses that cover all as lists of them.
 use Rattle.std.specs.Prelude.{◌≡◌, ℕ, ◌<◌, ◌==◌, ◌^◌, Option, List, [], All, length, map, slice_index_or}
 use Rattle.std.specs.Cmp.Lexicographic.{pointwise}
 use Rattle.indexmap.specs.IndexMap.{get}
@@ -10,6 +10,7 @@ use Rattle.specification.specs.Elements.{elements, number_in, numbers_in}
 use Rattle.specification.specs.Members.{Once}
 use Rattle.specification.specs.Versions.{Version, one, two}
 use Rattle.element_numbers.specs.Cuts.{rows_of, IsCut}
+use Rattle.contents_check.specs.Covering.{AreCovering}
 use Rattle.cert_check.specs.Values.{IsGradualFrom, IsDeepFrom}
 use Rattle.cert_check.specs.declared.numbered.Numbered.{Numbered}
 
@@ -44,13 +45,13 @@ pub record IsNumbering (t : Numbered) : Type 0 where
 abbrev pub AreWithin : ℕ → Numbered → Type 0
 AreWithin bound t = All (λ list. All (λ x. x < bound) list) (lists_of t)
 
--- the elements and the places of a sound recording
+-- the elements of a sound recording, and the places of operations that cover all
 pub record IsOf (h : History) (t : Numbered) : Type 0 where
   pub legal : IsLegal h
   pub sound : IsSound h
   pub numbering : IsNumbering t
   pub names : t.names.items ≡ elements h
-  pub operations : t.operations.items ≡ operation_names h
+  pub operations : AreCovering h (operation_names h) t.operations.items
   pub cut : IsCut t.places
-  pub places : lists_of t ≡ map (λ o. numbers_in (elements h) (response h o)) (operation_names h)
+  pub places : lists_of t ≡ map (λ o. numbers_in (elements h) (response h o)) t.operations.items
   pub within : AreWithin (length t.names.items) t

@@ -19,14 +19,13 @@ use trace_text::{Cause, read};
 /// response of its operation, and a row a step for each of its words, and for each of its names and layers
 /// `n / 64`, n being the number of elements of the recording; one of more than n layers also the sorting of n
 /// depths, about `n * log n` steps. So it is in both versions; the rows of version two have about half as many
-/// names. For the rows a table is made once: each response costs a step for each place of the next one, to see
-/// whether that has all its elements in the same order; where it has not, it costs besides `n / 64` steps, and
-/// each of its places a step, and one for each new element behind it, up to 64; where there are more, or its own
-/// is new, `n / 64` steps. New is an element that the response noted last has not, or in another order. Contents
-/// are checked in two threads, and those of three replicas in three. Its memory is linear in the texts but for
-/// that table, which takes `n * n / 8` bytes, 2 MB for 4,096 elements and 512 MB for 65,536. Out of memory is
-/// answered only where a line of the trace takes memory, or where the trace spells a recording and the
-/// certificate's text a certificate.
+/// names. For orders and rows only those responses are looked at that cover all: each other one is a subsequence
+/// of one of them. For the rows a table is made of these once: each costs `n / 64` steps, and each of its places a
+/// step, and one for each new element behind it, up to 64; where there are more, or its own is new, `n / 64` steps.
+/// New is an element that the one before has not, or in another order. Contents are checked in two threads, and
+/// those of three replicas in three. Its memory is linear in the texts but for that table, which takes
+/// `n * n / 8` bytes, 2 MB for 4,096 elements and 512 MB for 65,536. Out of memory is answered only where a line of
+/// the trace takes memory, or where the trace spells a recording and the certificate's text a certificate.
 pub fn check<H: Threads + Sync>(
     rt: &H,
     alloc: Global,
@@ -55,9 +54,9 @@ pub fn check<H: Threads + Sync>(
 /// `trace_text::Reader` does piece by piece. So the trace's text need not stand in memory.
 ///
 /// It costs what `check` does but for the reading of the trace. Beside the recording and the certificate's
-/// text it keeps what is visible in the recording, the numbers of the elements and of the places, the table
-/// and the depths for the rows, and of one row at a time the numbers that have a depth, the layers (at most
-/// `2 * n + 2` lists) and the two sets of `are_deep`.
+/// text it keeps what is visible in the recording, the numbers of the elements, those responses that cover all as
+/// numbers, the table and the depths for the rows, and of one row at a time the numbers that have a depth, the
+/// layers (at most `2 * n + 2` lists) and the two sets of `are_deep`.
 pub fn check_recording<H: Threads + Sync>(
     rt: &H,
     alloc: Global,

@@ -2,12 +2,15 @@
 
 ghost use Rattle.std.specs.Prelude.{◌≡◌, IfOk, List, map};
 ghost use Rattle.events.specs.History.{IsLegal};
+ghost use Rattle.events.specs.Operations.{operation_names};
 ghost use Rattle.specification.specs.Conflict.{Step};
+ghost use Rattle.specification.specs.Elements.{elements};
 ghost use Rattle.specification.specs.Faults.{IsSound};
 ghost use Rattle.specification.specs.LayerRule.{Row};
 ghost use Rattle.specification.specs.Lines.{text_of};
 ghost use Rattle.specification.specs.CertificateText.{gives_cycle, row_line, step_line, IsSpellable};
 ghost use Rattle.certificate_text.specs.CertificateOf.{version_in};
+ghost use Rattle.contents_check.specs.Covering.{Covers};
 ghost use Rattle.cert_check.specs.Judged.{IsJudged};
 
 use super::answer::{Answer, Kind, Reason};
@@ -15,14 +18,17 @@ use super::numbered::Numbered;
 use super::rows::rows_fault;
 use super::steps::first_wrong_step;
 use certificate_text::Version;
+use contents_check::Covering;
 use events::{Memory, Recording};
 use std::alloc::Global;
 
 /// Whether the steps are a cycle of a sound recording and the rows, of this version, show that none is
-/// shorter. Steps and rows are given by their lines.
+/// shorter. Steps and rows are given by their lines. The rows are judged by the responses that cover all, which
+/// show the same elements before one another as all do.
 pub fn judge_cycle(
     alloc: Global,
     recording: &Recording,
+    covering: Covering,
     version: Version,
     k: u32,
     steps: &[u8],
@@ -30,6 +36,7 @@ pub fn judge_cycle(
 ) -> Result<Answer, Memory>
     requires legal { IsLegal recording.now }
     requires sound { IsSound recording.now }
+    requires covers { Covers recording.now (elements recording.now) (operation_names recording.now) covering }
     ensures { IfOk result (λ answer. (listed : List Step) (layers : List Row)
         → IsSpellable (gives_cycle k listed layers) → steps.now ≡ text_of (map step_line listed)
         → rows.now ≡ text_of (map row_line layers)
@@ -41,7 +48,7 @@ pub fn judge_cycle(
     if k < 3 {
         return Ok(Answer::Yes(Kind::Refused));
     }
-    let numbered = Numbered::of(alloc, recording)?;
+    let numbered = Numbered::of(alloc, recording, covering)?;
     match rows_fault(alloc, &numbered, version, k, rows)? {
         None => Ok(Answer::Yes(Kind::Refused)),
         Some(why) => Ok(Answer::No(why)),

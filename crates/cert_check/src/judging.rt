@@ -2,10 +2,13 @@
 
 ghost use Rattle.std.specs.Prelude.{IfOk};
 ghost use Rattle.events.specs.History.{IsLegal};
+ghost use Rattle.events.specs.Operations.{operation_names};
+ghost use Rattle.specification.specs.Elements.{elements};
 ghost use Rattle.specification.specs.Faults.{IsSound};
 ghost use Rattle.specification.specs.CertificateText.{Certificate, IsSpellable};
 ghost use Rattle.certificate_text.specs.CertificateOf.{version_in};
 ghost use Rattle.certificate_text.specs.Outlines.{Outlines};
+ghost use Rattle.contents_check.specs.Covering.{Covers};
 ghost use Rattle.cert_check.specs.Judged.{IsJudged};
 
 use super::answer::{Answer, Reason};
@@ -13,7 +16,7 @@ use super::cycle::judge_cycle;
 use super::faults::judge_fault;
 use super::order::judge_order;
 use certificate_text::{Outline, Version};
-use contents_check::first_fault;
+use contents_check::{Checked, Covering, check};
 use events::{Memory, Recording};
 use std::alloc::Global;
 use std::thread::Threads;
@@ -33,28 +36,30 @@ pub fn judge<H: Threads + Sync>(
         → IsJudged (version_in version) recording.now c answer) }
 {
     let sight = Sight::of(alloc, recording)?;
-    match first_fault(rt, alloc, recording, &sight)? {
-        Some(fault) => Ok(judge_fault(outline, &fault)),
-        None => judge_sound(alloc, recording, version, outline),
+    match check(rt, alloc, 2, recording, &sight)? {
+        Checked::Faulty(fault) => Ok(judge_fault(outline, &fault)),
+        Checked::Sound(covering) => judge_sound(alloc, recording, covering, version, outline),
     }
 }
 
-/// The same, of a recording that has no fault.
+/// The same, of a recording that has no fault, by operations that cover all.
 fn judge_sound(
     alloc: Global,
     recording: &Recording,
+    covering: Covering,
     version: Version,
     outline: &Outline<'_>,
 ) -> Result<Answer, Memory>
     requires legal { IsLegal recording.now }
     requires sound { IsSound recording.now }
+    requires covers { Covers recording.now (elements recording.now) (operation_names recording.now) covering }
     ensures { IfOk result (λ answer. (c : Certificate) → IsSpellable c → Outlines outline.now c
         → IsJudged (version_in version) recording.now c answer) }
 {
     match outline {
-        Outline::Accepted { names } => judge_order(alloc, recording, names),
+        Outline::Accepted { names } => judge_order(alloc, recording, covering, names),
         Outline::Refused { k, steps, rows } => {
-            judge_cycle(alloc, recording, version, *k, steps, rows)
+            judge_cycle(alloc, recording, covering, version, *k, steps, rows)
         }
         _ => Ok(Answer::No(Reason::WrongFault)),
     }

@@ -1,8 +1,9 @@
-//! A recording's elements by number, and its responses as lists of numbers.
+//! A recording's elements by number, and responses that cover all as lists of numbers.
 
 use super::row_depths::RowDepths;
 use super::values::is_rising;
-use element_numbers::{Rows, inserted_names, numbers_of, places_of};
+use contents_check::Covering;
+use element_numbers::{Rows, inserted_names, numbers_of};
 use events::{Memory, Name, OpName, Recording};
 use format_words::{name_of, next_word};
 use indexmap::IndexMap;
@@ -16,10 +17,11 @@ struct Place {
     likely: u32,
 }
 
-/// The elements of a recording with their numbers, and each operation's response as numbers.
+/// The elements of a recording with their numbers, and the responses of operations that cover all as numbers.
 ///
 /// Elements are numbered from 0 in the order of their inserts' operations. There is one row of places for
-/// each operation, in the order of their names.
+/// each of these operations, in the order of their names. Each response of the recording is a subsequence of that
+/// of one of them, which is the same operation or comes before it.
 #[derive(Drop)]
 pub struct Numbered {
     pub names: Vec<Name>,
@@ -32,11 +34,13 @@ ghost use Rattle.std.specs.Prelude.{◌≡◌, ◌+◌, ◌<◌, ◌≤◌, ◌�
 ghost use Rattle.std.specs.Prelude.{IfSome, IsPermutation, IsTrue, MatchBool, MatchOption, length, map};
 ghost use Rattle.std.specs.Prelude.{slice_get, slice_index, Some, None};
 ghost use Rattle.events.specs.Names.{IsName};
-ghost use Rattle.specification.specs.Elements.{number_in};
+ghost use Rattle.events.specs.Operations.{operation_names};
+ghost use Rattle.specification.specs.Elements.{elements, number_in};
 ghost use Rattle.specification.specs.Faults.{IsSound};
 ghost use Rattle.bit_tables.specs.Rule.{HaveDepths};
 ghost use Rattle.format_words.specs.Words.{words_behind};
 ghost use Rattle.element_numbers.specs.Cuts.{IsCut};
+ghost use Rattle.contents_check.specs.Covering.{Covers};
 ghost use Rattle.cert_check.specs.Numbering.{IsNumbering, IsOf, AreWithin, lists_of, places_at};
 ghost use Rattle.cert_check.specs.Noted.{Noted, Holds, CanBeNoted, placed_from};
 ghost use Rattle.cert_check.specs.RowDepths.{IsUnset, IsWritten};
@@ -44,21 +48,22 @@ ghost use Rattle.cert_check.specs.RowWords.{GoesOn, IsRowWord, Stops, pairs_of, 
 ghost use Rattle.cert_check.specs.Values.{IsRising};
 
 impl Numbered {
-    /// The elements and places of a recording that has no fault. It takes memory and time linear in the
-    /// places of all responses, the operations and the elements.
-    pub fn of(alloc: Global, recording: &Recording) -> Result<Numbered, Memory>
-        requires { IsSound recording.now }
+    /// The elements of a recording that has no fault, and the places of operations that cover all. It takes
+    /// memory and time linear in the operations and the elements.
+    pub fn of(alloc: Global, recording: &Recording, covering: Covering) -> Result<Numbered, Memory>
+        requires sound { IsSound recording.now }
+        requires covers { Covers recording.now (elements recording.now) (operation_names recording.now) covering }
         ensures { IfOk result (λ t. IsOf recording.now t) }
     {
-        let operations = recording.operations(alloc)?;
-        let names = inserted_names(alloc, recording, &operations)?;
+        let all = recording.operations(alloc)?;
+        let names = inserted_names(alloc, recording, &all)?;
         let numbers = numbers_of(alloc, &names)?;
-        let places = places_of(alloc, recording, &operations, &names, &numbers)?;
+        let Covering { operations, rows } = covering;
         Ok(Numbered {
             names,
             numbers,
             operations,
-            places,
+            places: rows,
         })
     }
 

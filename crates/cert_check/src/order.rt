@@ -3,10 +3,13 @@
 ghost use Rattle.std.specs.Prelude.{◌≡◌, All, IfOk, IsPermutation, List, length};
 ghost use Rattle.events.specs.Names.{IsName, NameBytes};
 ghost use Rattle.events.specs.History.{History};
+ghost use Rattle.events.specs.Operations.{operation_names};
+ghost use Rattle.specification.specs.Elements.{elements};
 ghost use Rattle.specification.specs.Faults.{IsSound};
 ghost use Rattle.specification.specs.Lines.{names_text};
 ghost use Rattle.specification.specs.Versions.{Version};
 ghost use Rattle.specification.specs.CertificateText.{gives_order};
+ghost use Rattle.contents_check.specs.Covering.{Covers};
 ghost use Rattle.cert_check.specs.Judged.{IsJudged};
 ghost use Rattle.cert_check.specs.Noted.{Holds, placed_from};
 ghost use Rattle.element_numbers.specs.Cuts.{IsCut};
@@ -14,20 +17,28 @@ ghost use Rattle.cert_check.specs.Numbering.{IsOf, AreWithin, lists_of};
 
 use super::answer::{Answer, Kind, Reason};
 use super::numbered::Numbered;
+use contents_check::Covering;
 use events::{Memory, Recording};
 use std::alloc::Global;
 
 /// Whether each response of a sound recording follows the order, and that is one of all elements. That is
-/// asked of certificates of both versions.
+/// asked of certificates of both versions. Only the responses that cover all are looked at: another follows where
+/// these do, and the first that does not is one of these.
 ///
 /// The order is given by its names, each after one space.
-pub fn judge_order(alloc: Global, recording: &Recording, names: &[u8]) -> Result<Answer, Memory>
-    requires { IsSound recording.now }
+pub fn judge_order(
+    alloc: Global,
+    recording: &Recording,
+    covering: Covering,
+    names: &[u8],
+) -> Result<Answer, Memory>
+    requires sound { IsSound recording.now }
+    requires covers { Covers recording.now (elements recording.now) (operation_names recording.now) covering }
     ensures { IfOk result (λ answer. (version : Version) (order : List NameBytes) → All IsName order
         → names.now ≡ names_text order
         → IsJudged version recording.now (gives_order order) answer) }
 {
-    let numbered = Numbered::of(alloc, recording)?;
+    let numbered = Numbered::of(alloc, recording, covering)?;
     let found = numbered.ranks_of(alloc, names)?;
     match found {
         None => Ok(Answer::No(Reason::NotOrder)),

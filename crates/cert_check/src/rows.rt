@@ -1,13 +1,13 @@
 //! Rows of layers.
 
 ghost use Rattle.std.specs.Prelude.{◌≡◌, ◌↔◌, ◌-◌, ◌<◌, ◌≤◌, [], ℕ, All, IfNone, IfOk, IsTrue, List};
-ghost use Rattle.std.specs.Prelude.{MatchOption, Some, length, map, slice_get, true};
+ghost use Rattle.std.specs.Prelude.{MatchOption, Some, length, map, slice_get};
 ghost use Rattle.events.specs.Names.{IsName};
 ghost use Rattle.specification.specs.LayerRule.{Row};
 ghost use Rattle.specification.specs.Lines.{text_of};
 ghost use Rattle.specification.specs.CertificateText.{IsRow, row_line};
 ghost use Rattle.specification.specs.ValidCertificate.{HasSource};
-ghost use Rattle.bit_tables.specs.Lists.{HasInOrder, IsTableOf};
+ghost use Rattle.bit_tables.specs.Lists.{IsTableOf};
 ghost use Rattle.format_words.specs.Words.{words_behind};
 ghost use Rattle.certificate_text.specs.CertificateOf.{version_in};
 ghost use Rattle.element_numbers.specs.Cuts.{IsCut};
@@ -167,25 +167,9 @@ fn first_source(rows: &[u8]) -> Option<Name>
     }
 }
 
-/// Whether the numbers of a list stand in another in the same order, others perhaps between them. Both are gone
-/// through from their ends on, a step for each place of the other. The contract says nothing of a no, which
-/// serves speed alone: what is left out of the table need not be noted.
-fn stands_in(list: &[u32], other: &[u32]) -> bool
-    ensures { result ≡ true → (a b : ℕ) → HasInOrder list.now a b → HasInOrder other.now a b }
-{
-    let mut left = list.len();
-    'places: for i in (0..other.len()).rev() {
-        if left > 0 && list[left - 1] == other[i] {
-            left -= 1;
-        }
-    }
-    left == 0
-}
-
-/// Which elements are shown after which. A response is left out where the next one has all its elements in the
-/// same order; to see that costs, for each response, a step for each place of the next one. Each other one is
-/// noted beside the one noted last, of which it mostly has the elements in the same order: so it costs `n / 64`
-/// steps for n elements, a step for each of its places, and what is new in it.
+/// Which elements are shown after which, in the responses that cover all. Each is noted beside the one before, of
+/// which it mostly has the elements in the same order: so it costs `n / 64` steps for n elements, a step for each
+/// of its places, and what is new in it.
 fn shown_after(alloc: Global, numbered: &Numbered) -> Result<AfterTable, Memory>
     requires cut { IsCut numbered.now.places }
     requires within { AreWithin (length numbered.now.names.items) numbered.now }
@@ -197,9 +181,6 @@ fn shown_after(alloc: Global, numbered: &Numbered) -> Result<AfterTable, Memory>
     let mut known = [].as_slice();
     for i in 0..numbered.places.ends.len() {
         let row = numbered.places.row(i);
-        if stands_in(row, numbered.places.row(i + 1)) {
-            continue;
-        }
         table.add(&mut noter, known, row)?;
         known = row;
     }
@@ -209,12 +190,11 @@ fn shown_after(alloc: Global, numbered: &Numbered) -> Result<AfterTable, Memory>
 /// The first thing that is wrong with the rows of a certificate for `k` of 3 and more: one row after the
 /// other, in order of numbers, and then a row too many. The rows are given by their lines.
 ///
-/// It makes a table of which elements are shown after which, `n * n / 8` bytes for n elements. A response is left
-/// out where the next one has all its elements in the same order; to see that costs each response a step for each
-/// place of the next one. Each other one costs besides `n / 64` steps, and each of its places a step, and one for
-/// each new element behind it, up to 64; where there are more, or its own is new, `n / 64` steps. New is an
-/// element that the response noted last has not, or in another order. The depths of one row after the other are
-/// noted in the same memory, in n steps for all rows, and then for each row as `meets_rule` says.
+/// It makes a table of which elements are shown after which, `n * n / 8` bytes for n elements, of the responses
+/// that cover all. Each of these costs `n / 64` steps, and each of its places a step, and one for each new element
+/// behind it, up to 64; where there are more, or its own is new, `n / 64` steps. New is an element that the one
+/// before has not, or in another order. The depths of one row after the other are noted in the same memory, in n
+/// steps for all rows, and then for each row as `meets_rule` says.
 pub fn rows_fault(
     alloc: Global,
     numbered: &Numbered,

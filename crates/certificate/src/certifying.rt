@@ -3,9 +3,12 @@
 ghost use Rattle.std.specs.Prelude.{◌≡◌, IfOk, MatchOption};
 ghost use Rattle.specification.specs.CertificateText.{IsSpellable};
 ghost use Rattle.specification.specs.ExactRows.{IsCertificateOf};
+ghost use Rattle.specification.specs.Faults.{IsSound};
+ghost use Rattle.specification.specs.Responses.{responses_of};
 ghost use Rattle.specification.specs.ValidCertificate.{IsValid};
 ghost use Rattle.specification.specs.Verdict.{IsVerdict};
 ghost use Rattle.specification.specs.Versions.{two};
+ghost use Rattle.order_graph.specs.Covers.{IsCoveredBy};
 ghost use Rattle.certificate_text.specs.CertificateOf.{certificate_of};
 ghost use Rattle.certificate.specs.ByRows.{HasNoRows, HasRows, certificate_with};
 ghost use Rattle.certificate.specs.VerdictOf.{verdict_of};
@@ -13,9 +16,11 @@ ghost use Rattle.certificate.specs.VerdictOf.{verdict_of};
 use super::rows::rows_of_layers;
 use super::verdict::Verdict;
 use certificate_text::{Certificate, Layers, Row};
+use contents_check::{Checked, check_in_turn};
 use events::{Memory, Recording};
 use order_graph::OrderGraph;
 use std::alloc::Global;
+use visibility::Sight;
 use witnesses::{Order, Steps};
 
 /// The certificate of a verdict, in version two: its fault, its order, or its steps, and for `k` of 3 and
@@ -27,7 +32,8 @@ use witnesses::{Order, Steps};
 /// recording gives the same bytes.
 ///
 /// A fault, an order and a cycle of two elements cost their own length. For a greater `k` a table of n * n
-/// bits for n elements is made once, by responses that cover all. Each of these costs n / 64 steps, and each of
+/// bits for n elements is made once, by responses that cover all, for which the contents are checked once more.
+/// Each of these costs n / 64 steps, and each of
 /// its places a step, and one for each new element behind it, up to 64; where there are more, or its own is
 /// new, n / 64 steps. New is an element that the response before has not, or in another order. Each row then
 /// costs n / 64 steps for each name in it and each layer, and memory for its names. So the memory may be
@@ -74,8 +80,20 @@ fn rows_for(alloc: Global, recording: &Recording, verdict: &Verdict) -> Result<V
     let Some(k) = number_with_rows(verdict) else {
         return Ok(Vec::new(alloc));
     };
-    let graph = OrderGraph::covering(alloc, recording)?;
+    let graph = covering_graph(alloc, recording)?;
     rows_of_layers(alloc, &graph, k)
+}
+
+/// The graph of responses that cover all, which a check of the contents finds in the caller's thread.
+pub fn covering_graph(alloc: Global, recording: &Recording) -> Result<OrderGraph, Memory>
+    requires { IsSound recording.now }
+    ensures { IfOk result (λ graph. IsCoveredBy (responses_of recording.now) graph) }
+{
+    let sight = Sight::of(alloc, recording)?;
+    match check_in_turn(alloc, recording, &sight)? {
+        Checked::Sound(covering) => OrderGraph::of_covering(alloc, recording, covering),
+        Checked::Faulty(_) => unreachable!(),
+    }
 }
 
 /// The conflict number of a verdict whose certificate has rows: a refusal with 3 or more.

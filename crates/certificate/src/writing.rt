@@ -10,7 +10,7 @@ ghost use Rattle.order_graph.specs.Covers.{IsCoveredBy};
 ghost use Rattle.certificate.specs.ByRows.{IsTextOfCertificate, certificate_with, joined};
 ghost use Rattle.certificate.specs.VerdictOf.{verdict_of};
 
-use super::certifying::{number_with_rows, with_rows};
+use super::certifying::{covering_graph, number_with_rows, with_rows};
 use super::judging::{Judged, verdict_and_graph};
 use super::pieces::{push_rows_by, row_maker};
 use super::verdict::Verdict;
@@ -42,7 +42,7 @@ pub fn write_certificate(
     let Some(k) = number_with_rows(verdict) else {
         return Ok(text);
     };
-    let graph = OrderGraph::covering(alloc, recording)?;
+    let graph = covering_graph(alloc, recording)?;
     let maker = row_maker(alloc, &graph, k)?;
     maker.push_rows(&mut text)?;
     Ok(text)
@@ -121,7 +121,7 @@ fn made_or_new(
 {
     match made {
         Some(graph) => Ok(graph),
-        None => OrderGraph::covering(alloc, recording),
+        None => covering_graph(alloc, recording),
     }
 }
 

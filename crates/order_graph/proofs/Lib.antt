@@ -7,8 +7,6 @@ pub mod InOrder
 pub mod Shown
 pub mod Totals
 pub mod Parts
-pub mod CoverSteps
-pub mod CoverPieces
 pub mod Made
 pub mod Listed
 pub mod Covers

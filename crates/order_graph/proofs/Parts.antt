@@ -1,10 +1,10 @@
 -- A part of a list: its members stand there, what rises there rises in it, and its sums are no greater.
-use Rattle.std.proofs.Common.{◌≡◌, ℕ, ◌≤◌, inl, inr, List, [], ◌∷◌, ◌++◌, length, map, refl, sym, ap, ◌∙◌, subst, arith}
+use Rattle.std.proofs.Common.{◌≡◌, ℕ, ◌≤◌, inl, inr, List, [], ◌∷◌, length, map, refl, sym, ap, ◌∙◌, subst, arith}
 use Rattle.std.specs.Prelude.{sum_by}
 use Rattle.std.proofs.lemmas.List.Sums.{sum_by-cons}
 use Rattle.specification.proofs.Members.{In}
 use Rattle.specification.proofs.OperationNames.{Rising}
-use Rattle.order_graph.specs.Covers.{IsPart}
+use Rattle.contents_check.specs.Covering.{IsPart}
 
 module _ {X : Type 0} where
   pub part-all : (xs : List X) → IsPart xs xs
@@ -35,23 +35,6 @@ module _ {X : Type 0} where
   length-part (x ∷ xs) [] p = absurd p
   length-part (x ∷ xs) (y ∷ ys) (inl p) = omega (arith, length-part xs ys p.1)
   length-part (x ∷ xs) (y ∷ ys) (inr p) = omega (arith, length-part (x ∷ xs) ys p)
-
-  -- one member more at the end, which the part has too or leaves out
-  pub part-skip : (z : X) (xs ys : List X) → IsPart xs ys → IsPart xs (ys ++ z ∷ [])
-  part-skip z [] ys p = tt
-  part-skip z (x ∷ xs) [] p = absurd p
-  part-skip z (x ∷ xs) (y ∷ ys) (inl p) = inl (p.0, part-skip z xs ys p.1)
-  part-skip z (x ∷ xs) (y ∷ ys) (inr p) = inr (part-skip z (x ∷ xs) ys p)
-
-  last-part : (z : X) (ys : List X) → IsPart (z ∷ []) (ys ++ z ∷ [])
-  last-part z [] = inl (refl, tt)
-  last-part z (y ∷ ys) = inr (last-part z ys)
-
-  pub part-keep : (z : X) (xs ys : List X) → IsPart xs ys → IsPart (xs ++ z ∷ []) (ys ++ z ∷ [])
-  part-keep z [] ys p = last-part z ys
-  part-keep z (x ∷ xs) [] p = absurd p
-  part-keep z (x ∷ xs) (y ∷ ys) (inl p) = inl (p.0, part-keep z xs ys p.1)
-  part-keep z (x ∷ xs) (y ∷ ys) (inr p) = inr (part-keep z (x ∷ xs) ys p)
 
 pub part-map : {X Y : Type 0} (f : X → Y) (xs ys : List X) → IsPart xs ys → IsPart (map f xs) (map f ys)
 part-map f [] ys p = tt

@@ -5,18 +5,15 @@
 //! the places.
 #![tactic(auto)]
 
-mod covering;
 mod looked;
 mod narrowing;
 mod order_graph;
 mod pairs;
-mod pieces;
 mod spot;
 mod spots;
 
 pub use looked::Looked;
 pub use order_graph::OrderGraph;
-pub use pieces::push_piece;
 pub use spot::Spot;
 
 #[cfg(test)]

@@ -8,7 +8,6 @@ ghost use Rattle.specification.specs.Elements.{elements, number_in};
 ghost use Rattle.specification.specs.LayerRule.{narrowed};
 ghost use Rattle.specification.specs.Responses.{responses_of, AreProper, IsLeastShowing};
 
-use super::covering::{covering_operations, covering_operations_by};
 use super::looked::Looked;
 use super::narrowing::{names_kept, new_numbers, places_left};
 use super::pairs::first_list;
@@ -20,17 +19,16 @@ use events::{Memory, Name, OpName, Recording};
 use indexmap::IndexMap;
 use std::alloc::Global;
 use std::marker::Model;
-use std::thread::Threads;
 
 /// The elements of a recording and its responses, as lists of the elements' numbers.
 ///
 /// Elements are numbered from 0 in the order of their inserts' operations. There is one list for each
 /// operation whose response is kept, in the order of their names: `of` keeps all, also where the response is
-/// empty, and `covering` some that cover them. Lists and their places are numbered from 0. A spot of an
+/// empty, and `of_covering` some that cover them. Lists and their places are numbered from 0. A spot of an
 /// element is a place where it stands.
 ///
-/// Its memory is linear in the places of the responses that are kept. Only `of`, `covering`, `covering_by`
-/// and `narrowed` take memory.
+/// Its memory is linear in the places of the responses that are kept. Only `of`, `of_covering` and `narrowed`
+/// take memory.
 #[derive(Drop)]
 pub struct OrderGraph {
     names: Vec<Name>,
@@ -57,7 +55,8 @@ impl Model for OrderGraph {
 }
 
 impl OrderGraph {
-    ghost use Rattle.order_graph.specs.Covers.{AreCovering, IsCoveredBy, IsPart, responses_on};
+    ghost use Rattle.contents_check.specs.Covering.{Covers, IsPart};
+    ghost use Rattle.order_graph.specs.Covers.{IsCoveredBy, responses_on};
     ghost use Rattle.order_graph.specs.Lists.{lists_of, row, ticked, AreFew};
     ghost use Rattle.element_numbers.specs.Cuts.{rows_of};
     ghost use Rattle.order_graph.specs.Kept.{names_at, responses_kept, AreListed};
@@ -78,67 +77,27 @@ impl OrderGraph {
         OrderGraph::on(alloc, recording, names, shown)
     }
 
-    /// The graph of some responses that cover all: a response is left out where it is found to be a subsequence
-    /// of the last one kept, which has then all that it shows, and a lesser operation. It is not looked for in
-    /// one that is more than twice as long.
+    /// The graph of some responses that cover all, whose numbers were found with them.
     ///
-    /// So it has the same orders and cycles as the graph of all responses, and the same least operations that
-    /// show one element before another; it has fewer lists and places. It takes time linear in the places of
-    /// all responses, of which it compares the names with one another, and looks up only those of the kept
-    /// ones; memory is linear in the operations, the elements and the places of the kept responses.
-    pub fn covering(alloc: Global, recording: &Recording) -> Result<OrderGraph, Memory>
-        requires { IsSound recording.now }
-        ensures { IfOk result (λ g. IsCoveredBy (responses_of recording.now) g) }
-    {
-        let operations = recording.operations(alloc)?;
-        let shown = covering_operations(alloc, recording, &operations)?;
-        OrderGraph::covered(alloc, recording, &operations, shown)
-    }
-
-    /// The same, where the number of workers says whether threads are used: with any other number than 1 at
-    /// most half as many parts of the operations, or two where that is less, are gone through side by side, and
-    /// of each part the first response is kept.
-    pub fn covering_by(
-        rt: &(impl Threads + Sync),
-        alloc: Global,
-        workers: u32,
-        recording: &Recording,
-    ) -> Result<OrderGraph, Memory>
-        requires { IsSound recording.now }
-        ensures { IfOk result (λ g. IsCoveredBy (responses_of recording.now) g) }
-    {
-        let operations = recording.operations(alloc)?;
-        let shown = covering_operations_by(rt, alloc, workers, recording, &operations)?;
-        OrderGraph::covered(alloc, recording, &operations, shown)
-    }
-
-    /// The graph of operations that cover all, as `check` of `contents_check` found them.
+    /// It has the same orders and cycles as the graph of all responses, and the same least operations that show
+    /// one element before another; it has fewer lists and places. It takes time and memory linear in the
+    /// operations, the elements and the places of these responses, which it keeps as they are: it reads no response
+    /// and looks up none of their names.
     pub fn of_covering(
         alloc: Global,
         recording: &Recording,
         covering: Covering,
     ) -> Result<OrderGraph, Memory>
+        requires sound { IsSound recording.now }
+        requires covering { Covers recording.now (elements recording.now) (operation_names recording.now) covering }
+        ensures { IfOk result (λ g. IsCoveredBy (responses_of recording.now) g) }
     {
+        // Its contract has that the recording is legal.
+        let _ = recording.replicas();
         let operations = recording.operations(alloc)?;
         let names = inserted_names(alloc, recording, &operations)?;
         let numbers = numbers_of(alloc, &names)?;
         OrderGraph::with_spots(alloc, names, numbers, covering.operations, covering.rows)
-    }
-
-    /// The graph of operations whose responses cover those of all operations.
-    fn covered(
-        alloc: Global,
-        recording: &Recording,
-        operations: &[OpName],
-        shown: Vec<OpName>,
-    ) -> Result<OrderGraph, Memory>
-        requires sound { IsSound recording.now }
-        requires operations { operations.now ≡ operation_names recording.now }
-        requires covering { AreCovering recording.now (operation_names recording.now) shown.items }
-        ensures { IfOk result (λ g. IsCoveredBy (responses_of recording.now) g) }
-    {
-        let names = inserted_names(alloc, recording, operations)?;
-        OrderGraph::on(alloc, recording, names, shown)
     }
 
     /// The graph of the responses of these operations, over the elements of the recording.

@@ -3,6 +3,5 @@
 mod generated;
 mod graphs;
 mod narrowed;
-mod pieces;
 mod plain;
 mod worked;

@@ -3,11 +3,13 @@
 ghost use Rattle.specification.specs.Faults.{IsSound};
 
 use crate::OrderGraph;
+use contents_check::{Checked, check};
 use events::{Memory, Recording};
 use sample_recordings::check_sound;
 use std::alloc::Global;
 use std::test::Fail;
 use std::thread::Threads;
+use visibility::Sight;
 
 /// Of which responses a graph is.
 #[derive(Clone, Copy)]
@@ -18,18 +20,33 @@ pub enum Kept {
     CoveringByThreads,
 }
 
+/// The graph of responses that cover all, found in so many workers; none where the recording has a fault.
+fn covering_graph(
+    rt: &(impl Threads + Sync),
+    alloc: Global,
+    workers: u32,
+    recording: &Recording,
+) -> Result<Option<OrderGraph>, Memory> {
+    let sight = Sight::of(alloc, recording)?;
+    match check(rt, alloc, workers, recording, &sight)? {
+        Checked::Faulty(_) => Ok(None),
+        Checked::Sound(covering) => Ok(Some(OrderGraph::of_covering(alloc, recording, covering)?)),
+    }
+}
+
+/// The graph of a recording; none where the check finds a fault that is not there.
 fn graph_of(
     rt: &(impl Threads + Sync),
     alloc: Global,
     recording: &Recording,
     kept: Kept,
-) -> Result<OrderGraph, Memory>
+) -> Result<Option<OrderGraph>, Memory>
     requires { IsSound recording.now }
 {
     match kept {
-        Kept::All => OrderGraph::of(alloc, recording),
-        Kept::Covering => OrderGraph::covering(alloc, recording),
-        Kept::CoveringByThreads => OrderGraph::covering_by(rt, alloc, 4, recording),
+        Kept::All => Ok(Some(OrderGraph::of(alloc, recording)?)),
+        Kept::Covering => covering_graph(rt, alloc, 1, recording),
+        Kept::CoveringByThreads => covering_graph(rt, alloc, 4, recording),
     }
 }
 
@@ -44,9 +61,12 @@ pub fn ask<Q: FnOnce(&Recording, &OrderGraph) -> Result<bool, Fail>>(
     requires { Q.IsAlwaysCallable question }
 {
     check_sound(rt, alloc, &recording)?;
-    let graph = match graph_of(rt, alloc, &recording, kept) {
-        Ok(graph) => graph,
+    let made = match graph_of(rt, alloc, &recording, kept) {
+        Ok(made) => made,
         Err(Memory) => graph_of(rt, alloc, &recording, kept)?,
     };
-    question(&recording, &graph)
+    match made {
+        Some(graph) => question(&recording, &graph),
+        None => Err("the check finds a fault in a sound recording")?,
+    }
 }

@@ -17,6 +17,10 @@ const LATER_REPLICA_FIRST: &str = "trace 1\nreplicas 2\n1 ins a 0 : a\n0 ins b 0
 /// Deleted where nobody else sees it, before anybody reads.
 const DELETED_UNSEEN: &str = "trace 1\nreplicas 1\n0 ins a 0 : a\n0 del a :\n0 read :\n";
 
+/// Its third response and its fourth are found in its second.
+const COVERED_TWICE: &str =
+    "trace 1\nreplicas 1\n0 ins a 0 : a\n0 ins b 1 : a b\n0 read : a b\n0 del a : b\n0 ins c 1 : b c\n";
+
 /// Two elements by their numbers, and the numbers of the least operation that shows the one before the
 /// other; none where no operation does.
 #[derive(Clone, Copy)]
@@ -128,6 +132,14 @@ static PAIR_SHOWN: [Shown; 3] = [
 /// The least operation is named, and no later one that shows the same.
 static LEAST_SHOWN: [Shown; 2] = [Shown(0, 1, Some((1, 2))), Shown(1, 0, Some((0, 1)))];
 
+/// a, b and c have the numbers 0, 1 and 2.
+static COVERED_SHOWN: [Shown; 4] = [
+    Shown(0, 1, Some((0, 2))),
+    Shown(1, 2, Some((0, 5))),
+    Shown(0, 2, None),
+    Shown(1, 0, None),
+];
+
 #[test]
 fn steps_of_worked_recordings(rt: HostRuntime) -> Result<(), Fail> {
     let rows = [
@@ -183,22 +195,33 @@ fn an_element_that_no_response_shows(rt: HostRuntime) -> Result<(), Fail> {
     Ok(())
 }
 
-/// Whether six responses of the ring are kept: not that of c alone after that of b and c, and not that of
-/// d alone after that of c and d.
-fn has_six_lists(ring: &OrderGraph) -> bool {
-    ring.lists() == 6
-        && is_operation(ring.shown_by(3), 3, 1)
-        && is_operation(ring.shown_by(4), 4, 2)
-        && is_operation(ring.shown_by(5), 5, 2)
+#[test]
+fn covering_responses_of_the_ring_of_four(rt: HostRuntime) -> Result<(), Fail> {
+    for kept in [Kept::Covering, Kept::CoveringByThreads] {
+        let ring = recording(rt.alloc(), RING_OF_FOUR)?;
+        let right = ask(&rt, rt.alloc(), ring, kept, |recording, graph| {
+            Ok(has_shown(graph, &RING_SHOWN) && tells_the_same(recording, graph))
+        })?;
+        assert!(rt; right);
+    }
+    Ok(())
+}
+
+/// Whether three responses are kept: not the same once more, and not that of b alone after that of a and b.
+fn has_three_lists(graph: &OrderGraph) -> bool {
+    graph.lists() == 3
+        && is_operation(graph.shown_by(0), 0, 1)
+        && is_operation(graph.shown_by(1), 0, 2)
+        && is_operation(graph.shown_by(2), 0, 5)
 }
 
 #[test]
-fn covering_responses_of_the_ring_of_four(rt: HostRuntime) -> Result<(), Fail> {
-    let ring = recording(rt.alloc(), RING_OF_FOUR)?;
-    let right = ask(&rt, rt.alloc(), ring, Kept::Covering, |recording, graph| {
+fn covering_responses_of_one_replica(rt: HostRuntime) -> Result<(), Fail> {
+    let alone = recording(rt.alloc(), COVERED_TWICE)?;
+    let right = ask(&rt, rt.alloc(), alone, Kept::Covering, |recording, graph| {
         Ok(
-            has_six_lists(graph)
-                && has_shown(graph, &RING_SHOWN)
+            has_three_lists(graph)
+                && has_shown(graph, &COVERED_SHOWN)
                 && tells_the_same(recording, graph),
         )
     })?;

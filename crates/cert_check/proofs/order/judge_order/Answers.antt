@@ -2,7 +2,6 @@
 use Rattle.std.proofs.Common.{◌≡◌, ◌∙◌, ℕ, List, length, sym, ap, subst}
 use Rattle.std.specs.Prelude.{All, IsPermutation}
 use Rattle.events.specs.Names.{NameBytes, IsName}
-use Rattle.events.specs.Operation.{Operation}
 use Rattle.cert_check.specs.Noted.{Holds, placed_from}
 use Rattle.cert_check.specs.Numbering.{AreWithin}
 use Rattle.format_words.specs.Words.{words_behind}
@@ -15,7 +14,7 @@ returns-in-None c = λ version order each text.
     let of = c.in_ok-numbered.ensures in
     let words : words_behind c.args.names.now ≡ order = ap words_behind text ∙ names-behind order each in
     let none = rw c.in-None.is at c.in_ok-found.ensures in
-    (c.requires, (λ perm. none (subst (All IsName) (sym words) each) (subst (λ (l : List NameBytes). IsPermutation c.in_ok-numbered.numbered.names.items l) (sym words) (subst (λ (ns : List NameBytes). IsPermutation ns order) (sym of.names) perm))))
+    (c.requires.sound, (λ perm. none (subst (All IsName) (sym words) each) (subst (λ (l : List NameBytes). IsPermutation c.in_ok-numbered.numbered.names.items l) (sym words) (subst (λ (ns : List NameBytes). IsPermutation ns order) (sym of.names) perm))))
 
 pub judge_ranks-requires-clause-within : goal.judge_ranks-requires-clause-within
 judge_ranks-requires-clause-within c =
@@ -27,7 +26,7 @@ judge_ranks-requires-clause-within c =
 
 pub judge_ranks-requires-clause-operations : goal.judge_ranks-requires-clause-operations
 judge_ranks-requires-clause-operations c =
-    ap (λ (l : List Operation). length l) c.in_ok-numbered.ensures.operations ∙ sym (lists-count c.args.recording.now c.in_ok-numbered.numbered c.in_ok-numbered.ensures)
+    sym (lists-count c.args.recording.now c.in_ok-numbered.numbered c.in_ok-numbered.ensures)
 
 pub returns : goal.returns
 returns c = λ version order each text.

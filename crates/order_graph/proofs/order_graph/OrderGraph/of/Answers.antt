@@ -2,7 +2,7 @@
 use Rattle.std.proofs.Common.{List, sym, subst}
 use Rattle.events.specs.Operation.{Operation}
 use Rattle.events.specs.Operations.{operation_names}
-use Rattle.order_graph.specs.Covers.{IsPart}
+use Rattle.contents_check.specs.Covering.{IsPart}
 use Rattle.order_graph.proofs.Parts.{part-all}
 use Rattle.order_graph.proofs.order_graph.OrderGraph.of.Goals as goal
 
