@@ -1,11 +1,10 @@
--- All operations stand in order; and operations that cover those of one stretch, and then those of the next.
-use Rattle.std.proofs.Common.{◌≡◌, ◌⊎◌, inl, inr, List, [], ◌∷◌, ◌++◌, sym, subst}
-use Rattle.std.specs.Prelude.{AllPairs, Contains}
+-- Operations that cover those of one stretch, and then those of the next.
+use Rattle.std.proofs.Common.{◌≡◌, ◌⊎◌, inl, inr, List, [], ◌∷◌, ◌++◌}
+use Rattle.std.specs.Prelude.{Contains}
 use Rattle.events.specs.Operation.{Operation, ComesBefore}
 use Rattle.events.specs.History.{History}
-use Rattle.events.specs.Operations.{operation_names, response}
+use Rattle.events.specs.Operations.{response}
 use Rattle.specification.specs.Orders.{IsSubsequence}
-use Rattle.specification.proofs.OperationNames.{AllPairs-from_Rising, operation_names-rise}
 use Rattle.specification.proofs.Members.{In, In-append_left, In-append_right, In-append_cases, In-from_Contains, Contains-from_In}
 use Rattle.contents_check.specs.Covering.{IsPart, AreCovering}
 
@@ -22,9 +21,6 @@ module _ {X : Type 0} where
   part-append (x ∷ xs) (y ∷ ys) zs ws (inr p) q = inr (part-append (x ∷ xs) ys zs ws p q)
 
 module _ (h : History) where
-  pub all-in-order : (all : List Operation) → all ≡ operation_names h → AllPairs ComesBefore all
-  all-in-order all is = subst (λ l. AllPairs ComesBefore l) (sym is) (AllPairs-from_Rising ComesBefore (operation_names h) (operation_names-rise h))
-
   pub none-cover : AreCovering h [] []
   none-cover = record { part = tt; covered = λ o i. absurd (In-from_Contains [] o i) }
 
