@@ -61,8 +61,8 @@ impl Covering {
     }
 }
 
-/// Whether the names of a response are found in another in the same order; it may miss this where the
-/// response has not half as many. Names are compared in runs, as far as both go on alike; after each run one
+/// Whether the names of a response are found in another in the same order; it may answer no where the
+/// response has fewer than half as many. Names are compared in runs, as far as both go on alike; after each run one
 /// of the other is passed. So its time is linear in the responses, and it stops where fewer places are left
 /// than names.
 fn stands_in(response: &Response, other: &Response) -> bool

@@ -18,7 +18,7 @@ pub struct Recent {
 }
 
 impl Recent {
-    /// Nothing was looked up: any number stands in a slot.
+    /// Nothing was looked up: each slot holds 0, which is believed only where element 0 has the name.
     pub fn new() -> Recent {
         Recent { slots: [0; SLOTS] }
     }

@@ -47,7 +47,8 @@ pub enum Shown {
 impl Standings {
     /// What the response of `e` shows beside the one before it, `last`. It is right where it repeats no name and
     /// has just the names of the live elements, or some of them where `e` is a view. What `last` shows is noted;
-    /// now it is noted of this one, where it is right, and its numbers are put into `next`.
+    /// now it is noted of this one, where it is right, and its numbers are put into `next`. Where it is wrong, nothing is
+    /// promised of the notes or of `next`.
     ///
     /// Names are compared with those of `last` in runs, as far as both go on alike, and only where they
     /// differ is a name looked up. The numbers of `last` are given, in `row`, and of a run they are copied. It
