@@ -2,7 +2,7 @@
 //! be one, and whether it is a part of what the one before it shows.
 
 ghost use Rattle.std.specs.Prelude.{◌≡◌, ◌↔◌, ◌+◌, ◌<◌, ◌^◌, ◌++◌, ℕ, ◌≤◌, Some, IfOk, IsTrue, List, [], drop, length};
-ghost use Rattle.std.specs.Prelude.{OnOk, take};
+ghost use Rattle.std.specs.Prelude.{OnOk, take, true};
 ghost use Rattle.events.specs.Names.{NameBytes};
 ghost use Rattle.events.specs.History.{History};
 ghost use Rattle.specification.specs.Elements.{numbers_in};
@@ -164,6 +164,10 @@ impl Standings {
         ensures notes { OnlyNotes elements.now self.old self.new }
         ensures step { IsStep elements.now last.now j w.now i self.new result }
     {
+        if self.is_gone(row, j) {
+            self.hide(elements, last, row, j);
+            return Step::Gone;
+        }
         let Some(name) = w.get(i) else {
             return Step::End;
         };
@@ -179,6 +183,20 @@ impl Standings {
             return Step::Gone;
         }
         Step::Refused
+    }
+
+    /// Whether a row goes on at a place with the number of an element that is not live, so that a right response shows
+    /// it no more.
+    fn is_gone(&self, row: &[u32], j: usize) -> bool
+        ensures { result ≡ true → j < length row.now }
+    {
+        match row.get(j) {
+            None => false,
+            Some(number) => match self.list.get(*number as usize) {
+                None => false,
+                Some(standing) => !standing.is_live(),
+            },
+        }
     }
 
     /// Notes that the name at a place of a response is not shown any more.

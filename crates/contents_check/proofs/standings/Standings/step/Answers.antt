@@ -39,6 +39,9 @@ returns-then-not-index-clause-step c =
       row-at c.args.elements.now c.requires.numbers w c.args.i name number there numbered,
     )
 
+pub hide-requires-then-j-row-clause-known : goal.hide-requires-then-j-row-clause-known
+hide-requires-then-j-row-clause-known c = λ a i. c.requires.shown.known a (In-append_right a (take c.args.i c.args.w.now) (drop c.args.j c.args.last.now) i)
+
 pub hide-requires-clause-known : goal.hide-requires-clause-known
 hide-requires-clause-known c = λ a i. c.requires.shown.known a (In-append_right a (take c.args.i c.args.w.now) (drop c.args.j c.args.last.now) i)
 
