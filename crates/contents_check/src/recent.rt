@@ -39,15 +39,11 @@ impl Recent {
         Some(number)
     }
 
-    /// Keeps the number of the element that a change inserts or deletes: probably the next response shows its
-    /// name, or shows it no more.
+    /// Keeps the number of the element that a change inserts: probably the next response shows its name.
     pub fn expect(&mut self, elements: &Elements, change: Change) {
-        match change {
-            Change::Nothing => {}
-            Change::Insert(number) | Change::Delete(number) => {
-                if let Some(slot) = elements.slots.get(number) {
-                    self.slots[*slot as usize % SLOTS] = number;
-                }
+        if let Change::Insert(number) = change {
+            if let Some(slot) = elements.slots.get(number) {
+                self.slots[*slot as usize % SLOTS] = number;
             }
         }
     }
