@@ -124,35 +124,42 @@ module _ (first m : ℕ) (layers rows : List (List ℕ)) (standing shown standin
         ]),
   )
 
+  -- what is shown so far stands in one layer more
+  pub gradual_more : ((y : ℕ) → Has shown y → Has standing' y) → (j x y : ℕ) → j < m + 1 → StandsBelow j layers x → Has (row_of rows x) y → first ≤ y → StandsBelow (j + 1) layers y
+  gradual_more subset = λ j x y low stands has from.
+      elim (cases_eq j m) [
+        | inl last ↦
+            let by_m : StandsBelow m layers x = rw last at stands in
+            let next : StandsBelow (m + 1) layers y =
+            elim ((standing_more y).0 (subset y ((is.shown_is y).1 (x, by_m, has)))) [
+              | inl less ↦ absurd (omega (arith, less, from))
+              | inr s ↦ s
+            ] in
+            rw last next
+        | inr before ↦ is.gradual j x y (omega arith) stands has from
+      ]
+
+  -- what is shown by one layer more
+  pub shown_more : (y : ℕ) → (Has shown y ⊎ ((x : ℕ) × Contains (get_or layers m []) x × Has (row_of rows x) y)) ↔ ((x : ℕ) × StandsBelow (m + 1) layers x × Has (row_of rows x) y)
+  shown_more y = (
+    λ has. elim has [
+      | inl was ↦ let s = (is.shown_is y).0 was in (s.0, stands_before m (m + 1) layers s.0 (omega arith) s.1, s.2)
+      | inr s ↦ (s.0, (m, (omega arith), s.1), s.2)
+    ],
+    λ s. elim (stands_more m layers s.0 s.1) [
+      | inl before ↦ inl ((is.shown_is y).1 (s.0, before, s.2))
+      | inr here ↦ inr (s.0, here, s.2)
+    ],
+  )
+
   -- one layer more
   pub tested_step : (shown' : List ℕ) → ((y : ℕ) → Has shown y → Has standing' y)
       → ((y : ℕ) → Has shown' y ↔ (Has shown y ⊎ ((x : ℕ) × Contains (get_or layers m []) x × Has (row_of rows x) y)))
       → IsTested first (m + 1) layers rows standing' shown'
   tested_step shown' subset more = record {
     standing_is = standing_more;
-    shown_is = λ y. (
-      λ has. elim ((more y).0 has) [
-        | inl was ↦ let s = (is.shown_is y).0 was in (s.0, stands_before m (m + 1) layers s.0 (omega arith) s.1, s.2)
-        | inr s ↦ (s.0, (m, (omega arith), s.1), s.2)
-      ],
-      λ s. (more y).1
-          (elim (stands_more m layers s.0 s.1) [
-            | inl before ↦ inl ((is.shown_is y).1 (s.0, before, s.2))
-            | inr here ↦ inr (s.0, here, s.2)
-          ]),
-    );
-    gradual = λ j x y low stands has from.
-        elim (cases_eq j m) [
-          | inl last ↦
-              let by_m : StandsBelow m layers x = rw last at stands in
-              let next : StandsBelow (m + 1) layers y =
-              elim ((standing_more y).0 (subset y ((is.shown_is y).1 (x, by_m, has)))) [
-                | inl less ↦ absurd (omega (arith, less, from))
-                | inr s ↦ s
-              ] in
-              rw last next
-          | inr before ↦ is.gradual j x y (omega arith) stands has from
-        ];
+    shown_is = λ y. (λ has. (shown_more y).0 ((more y).0 has), λ s. (more y).1 ((shown_more y).1 s));
+    gradual = gradual_more subset;
   }
 
   -- layers that meet the rule pass the test
@@ -172,8 +179,10 @@ module _ (first m : ℕ) (layers rows : List (List ℕ)) (standing shown standin
       ])
 
 -- after the last layer
-module _ (n first source : ℕ) (layers rows lists : List (List ℕ)) (standing shown : List ℕ) (depth : ℕ → ℕ) (ahead : All (λ layer. All (λ x. first ≤ x) layer) layers)
-    (ok : All (λ layer. All (λ x. x < n) layer) layers) (is : IsTested first (length layers) layers rows standing shown) (table : IsTableOf n lists rows)
+module _ (n first source : ℕ) (layers rows lists : List (List ℕ)) (IsShownLast : Type 0) (depth : ℕ → ℕ) (ahead : All (λ layer. All (λ x. first ≤ x) layer) layers)
+    (ok : All (λ layer. All (λ x. x < n) layer) layers)
+    (gradual : (j x y : ℕ) → j < length layers → StandsBelow j layers x → Has (row_of rows x) y → first ≤ y → StandsBelow (j + 1) layers y)
+    (shown_is : IsShownLast ↔ ((x : ℕ) × StandsBelow (length layers) layers x × Has (row_of rows x) source)) (table : IsTableOf n lists rows)
     (depths : AreDepths first layers depth) where
   tested_gradual : (x y : ℕ) → first ≤ x → first ≤ y → IsShown lists x y → depth y ≤ depth x + 1
   tested_gradual x y high from s =
@@ -182,32 +191,36 @@ module _ (n first source : ℕ) (layers rows lists : List (List ℕ)) (standing 
         | inl below ↦
             let stands : StandsBelow (depth x + 1) layers x = (depths.below (depth x + 1) x high (omega arith)).0 (omega arith) in
             let low : x < n = stands_within n layers ok (depth x + 1) x stands in
-            let next : StandsBelow (depth x + 1 + 1) layers y = is.gradual (depth x + 1) x y below stands ((table.shown x y low).1 s) from in
+            let next : StandsBelow (depth x + 1 + 1) layers y = gradual (depth x + 1) x y below stands ((table.shown x y low).1 s) from in
             let shallow : depth y < depth x + 1 + 1 = (depths.below (depth x + 1 + 1) y from (omega arith)).1 next in
             omega arith
       ]
 
-  tested_deep : (¬ Has shown source) → (x : ℕ) → first ≤ x → IsShown lists x source → length layers ≤ depth x
+  tested_deep : (¬ IsShownLast) → (x : ℕ) → first ≤ x → IsShown lists x source → length layers ≤ depth x
   tested_deep none x high s =
       elim (cases_lt (depth x) (length layers)) [
         | inr deep ↦ deep
         | inl below ↦
             let stands : StandsBelow (length layers) layers x = (depths.below (length layers) x high (omega arith)).0 below in
             let low : x < n = stands_within n layers ok (length layers) x stands in
-            absurd (none ((is.shown_is source).1 (x, stands, (table.shown x source low).1 s)))
+            absurd (none (shown_is.1 (x, stands, (table.shown x source low).1 s)))
       ]
 
-  pub tested_all : (Has shown source → ⊥) ↔ MeetsRule lists first source (length layers) depth
+  pub tested_all : (IsShownLast → ⊥) ↔ MeetsRule lists first source (length layers) depth
   tested_all = (
     λ none. record { gradual = tested_gradual; deep = tested_deep none },
     λ meets has.
-        let s = (is.shown_is source).0 has in
+        let s = shown_is.0 has in
         let low : s.0 < n = stands_within n layers ok (length layers) s.0 s.1 in
         let high : first ≤ s.0 = stands_from first layers ahead (length layers) s.0 s.1 in
         let shallow : depth s.0 < length layers = (depths.below (length layers) s.0 high (omega arith)).1 s.1 in
         let deep : length layers ≤ depth s.0 = meets.deep s.0 high ((table.shown s.0 source low).0 s.2) in
         omega arith,
   )
+
+-- where there is no layer nothing is shown
+pub none_below : (layers : List (List ℕ)) (rows : List (List ℕ)) (y : ℕ) → length layers ≡ 0 → ((x : ℕ) × StandsBelow (length layers) layers x × Has (row_of rows x) y) → ⊥
+none_below layers rows y none s = omega (arith, none, s.1.1)
 
 -- the answer `!b`
 pub negated : (b : Bool) (P : Type 0) → (IsTrue b ↔ P) → IsTrue (not b) ↔ (P → ⊥)

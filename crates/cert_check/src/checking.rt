@@ -9,29 +9,23 @@ use super::judging::judge;
 use certificate_text::Outline;
 use events::{Memory, Recording, Refusal};
 use std::alloc::Global;
-use std::thread::Threads;
 use trace_text::{Cause, read};
 
 /// Whether the certificate is valid for the recording that the trace spells, in the version that its text's
 /// first line names; where not, the first reason.
 ///
 /// It searches nothing. Beyond reading the texts and looking for a fault, a step of a certificate costs the
-/// response of its operation, and a row a step for each of its words, and for each of its names and layers
-/// `n / 64`, n being the number of elements of the recording; one of more than n layers also the sorting of n
-/// depths, about `n * log n` steps. So it is in both versions; the rows of version two have about half as many
+/// response of its operation, and a row a step for each of its words, and for each layer and each name that is not in
+/// the last one `n / 64`, n being the number of elements of the recording; one of more than n layers also the sorting
+/// of n depths, about `n * log n` steps. So it is in both versions; the rows of version two have about half as many
 /// names. For orders and rows only those responses are looked at that cover all: each other one is a subsequence
 /// of one of them. For the rows a table is made of these once: each costs `n / 64` steps, and each of its places a
 /// step, and one for each new element behind it, up to 64; where there are more, or its own is new, `n / 64` steps.
-/// New is an element that the one before has not, or in another order. Contents are checked in two threads.
+/// New is an element that the one before has not, or in another order. It starts no thread.
 /// Its memory is linear in the texts but for that table, which takes
 /// `n * n / 8` bytes, 2 MB for 4,096 elements and 512 MB for 65,536. Out of memory is answered only where a line of
 /// the trace takes memory, or where the trace spells a recording and the certificate's text a certificate.
-pub fn check<H: Threads + Sync>(
-    rt: &H,
-    alloc: Global,
-    trace: &[u8],
-    cert: &[u8],
-) -> Result<Answer, Memory>
+pub fn check(alloc: Global, trace: &[u8], cert: &[u8]) -> Result<Answer, Memory>
     ensures answer { IfOk result (λ a. IsAnswer trace.now cert.now a) }
     // What a yes says of the recording.
     ensures implies { IfOk result (λ a. ImpliesOfTexts trace.now cert.now a) }
@@ -39,7 +33,7 @@ pub fn check<H: Threads + Sync>(
     ensures memory { IfErr result (λ _. TakesMemory trace.now cert.now) }
 {
     match read(alloc, trace) {
-        Ok(recording) => check_recording(rt, alloc, &recording, cert),
+        Ok(recording) => check_recording(alloc, &recording, cert),
         Err(fault) => {
             if is_out_of_memory(fault.cause) {
                 Err(Memory)
@@ -57,8 +51,7 @@ pub fn check<H: Threads + Sync>(
 /// text it keeps what is visible in the recording, the numbers of the elements, those responses that cover all as
 /// numbers, the table and the depths for the rows, and of one row at a time the numbers that have a depth, the
 /// layers (at most `2 * n + 2` lists) and the two sets of `are_deep`.
-pub fn check_recording<H: Threads + Sync>(
-    rt: &H,
+pub fn check_recording(
     alloc: Global,
     recording: &Recording,
     cert: &[u8],
@@ -72,7 +65,7 @@ pub fn check_recording<H: Threads + Sync>(
     // Each recording is legal.
     let _replicas = recording.replicas();
     match Outline::read(cert) {
-        Ok((version, outline)) => judge(rt, alloc, recording, version, &outline),
+        Ok((version, outline)) => judge(alloc, recording, version, &outline),
         Err(_) => Ok(Answer::No(Reason::CertText)),
     }
 }

@@ -3,7 +3,6 @@
 use super::{Answer, Kind, Reason, check};
 use events::{Memory, Name, OpName};
 use std::alloc::Global;
-use std::thread::Threads;
 
 /// Three replicas that each see two of the three elements in an order, in a ring.
 const THREE_WAY: &str =
@@ -30,20 +29,19 @@ const EMPTY: &str = "trace 1\nreplicas 1\n";
 
 /// The checker's answer; a call that finds no memory is made again.
 fn answer(
-    rt: &(impl Threads + Sync),
     alloc: Global,
     trace: &str,
     cert: &str,
 ) -> Result<Answer, Memory> {
-    match check(rt, alloc, trace.as_bytes(), cert.as_bytes()) {
+    match check(alloc, trace.as_bytes(), cert.as_bytes()) {
         Ok(answer) => Ok(answer),
-        Err(Memory) => check(rt, alloc, trace.as_bytes(), cert.as_bytes()),
+        Err(Memory) => check(alloc, trace.as_bytes(), cert.as_bytes()),
     }
 }
 
 /// Whether the checker says that the certificate is valid, and so shows this.
-fn is_valid<H: Threads + Sync>(rt: &H, alloc: Global, trace: &str, cert: &str, kind: Kind) -> bool {
-    match answer(rt, alloc, trace, cert) {
+fn is_valid(alloc: Global, trace: &str, cert: &str, kind: Kind) -> bool {
+    match answer(alloc, trace, cert) {
         Ok(said) => said == Answer::Yes(kind) && said != Answer::No(Reason::Trace),
         Err(Memory) => false,
     }
@@ -91,8 +89,8 @@ fn name(text: &str) -> Option<Name> {
 }
 
 /// Whether the checker says that the certificate is not valid, and why.
-fn is_invalid<H: Threads + Sync>(rt: &H, alloc: Global, trace: &str, cert: &str, why: Why) -> bool {
-    match (answer(rt, alloc, trace, cert), reason(why)) {
+fn is_invalid(alloc: Global, trace: &str, cert: &str, why: Why) -> bool {
+    match (answer(alloc, trace, cert), reason(why)) {
         (Ok(said), Some(why)) => { said == Answer::No(why) && said != Answer::Yes(Kind::Refused) }
         _ => false,
     }
@@ -122,8 +120,7 @@ fn headed(alloc: Global, version: &str, lines: &str) -> Result<String, Memory> {
 
 /// Whether the lines of a row, after the first line of a version, are valid. Where there is no memory to join
 /// them, they are joined again.
-fn is_valid_in<H: Threads + Sync>(
-    rt: &H,
+fn is_valid_in(
     alloc: Global,
     version: &str,
     row: (&str, &str, Kind),
@@ -134,7 +131,7 @@ fn is_valid_in<H: Threads + Sync>(
         Err(Memory) => headed(alloc, version, lines),
     };
     match joined {
-        Ok(cert) => is_valid(rt, alloc, trace, cert.as_str(), kind),
+        Ok(cert) => is_valid(alloc, trace, cert.as_str(), kind),
         Err(Memory) => false,
     }
 }
@@ -144,11 +141,11 @@ fn valid_certificates(rt: HostRuntime) {
     for row in VALID.iter().copied() {
         let (_, lines, _) = row;
         assert!(rt;
-            is_valid_in(&rt, rt.alloc(), "cert 1\n", row),
+            is_valid_in(rt.alloc(), "cert 1\n", row),
             "in version 1, at {lines}"
         );
         assert!(rt;
-            is_valid_in(&rt, rt.alloc(), "cert 2\n", row),
+            is_valid_in(rt.alloc(), "cert 2\n", row),
             "in version 2, at {lines}"
         );
     }
@@ -164,7 +161,7 @@ static WITH_ROWS: [&str; 2] = [
 fn valid_rows(rt: HostRuntime) {
     for cert in WITH_ROWS.iter().copied() {
         assert!(rt;
-            is_valid(&rt, rt.alloc(), THREE_WAY, cert, Kind::Refused),
+            is_valid(rt.alloc(), THREE_WAY, cert, Kind::Refused),
             "at {cert}"
         );
     }
@@ -312,6 +309,6 @@ static INVALID: [(&str, &str, Why); 33] = [
 #[test]
 fn reasons_against_certificates(rt: HostRuntime) {
     for (trace, cert, why) in INVALID.iter().copied() {
-        assert!(rt; is_invalid(&rt, rt.alloc(), trace, cert, why), "at {cert}");
+        assert!(rt; is_invalid(rt.alloc(), trace, cert, why), "at {cert}");
     }
 }

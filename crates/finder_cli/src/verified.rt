@@ -16,7 +16,6 @@ use byte_streams::{Reader, Sink, Source, Writer};
 use cert_check::{Answer, Reason, check_recording};
 use events::{Memory, Recording};
 use std::alloc::Global;
-use std::thread::Threads;
 
 /// Reads a trace to its end, then a certificate, and writes the checker's line: whether the certificate is
 /// valid for the recording that the trace spells.
@@ -26,8 +25,7 @@ use std::thread::Threads;
 ///
 /// The trace's text never stands in memory: it is read by pieces of 65,536 bytes. What is kept is the
 /// recording, the certificate's text, and what `check_recording` takes for the two.
-pub fn run_verify<H: Threads + Sync, T: Reader + Drop, C: Reader + Drop, W: Writer + Drop>(
-    rt: &H,
+pub fn run_verify<T: Reader + Drop, C: Reader + Drop, W: Writer + Drop>(
     alloc: Global,
     trace: &mut Source<T>,
     cert: &mut Source<C>,
@@ -50,13 +48,12 @@ pub fn run_verify<H: Threads + Sync, T: Reader + Drop, C: Reader + Drop, W: Writ
 {
     let recording = recording_to_end(alloc, trace)?;
     let cert_text = whole_text(alloc, cert)?;
-    let output = line_on(rt, alloc, &recording, &cert_text)?;
+    let output = line_on(alloc, &recording, &cert_text)?;
     write_output(sink, &output)
 }
 
 /// The line of the checker's answer on the certificate's text and each trace of which this was read.
-fn line_on<H: Threads + Sync>(
-    rt: &H,
+fn line_on(
     alloc: Global,
     recording: &Option<Recording>,
     cert: &[u8],
@@ -64,7 +61,7 @@ fn line_on<H: Threads + Sync>(
     ensures { IfOk result (λ output. (trace : List ℕ) → IsRecordingOf trace recording.now
         → IsLineOn trace cert.now output.bytes.items output.status) }
 {
-    let answer = answer_on(rt, alloc, cert, recording)?;
+    let answer = answer_on(alloc, cert, recording)?;
     let bytes = line_of(alloc, &answer)?;
     Ok(Output {
         bytes,
@@ -73,8 +70,7 @@ fn line_on<H: Threads + Sync>(
 }
 
 /// The checker's answer. It is of the trace where no recording was read, whatever the certificate's text.
-fn answer_on<H: Threads + Sync>(
-    rt: &H,
+fn answer_on(
     alloc: Global,
     cert: &[u8],
     recording: &Option<Recording>,
@@ -84,7 +80,7 @@ fn answer_on<H: Threads + Sync>(
 {
     match recording {
         None => Ok(Answer::No(Reason::Trace)),
-        Some(recording) => check_recording(rt, alloc, recording, cert),
+        Some(recording) => check_recording(alloc, recording, cert),
     }
 }
 

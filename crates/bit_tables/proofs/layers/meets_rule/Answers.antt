@@ -1,23 +1,25 @@
-use Rattle.std.proofs.Common.{◌≡◌, ℕ, ◌∙◌, List, [], length, map, get_or, sym, arith, true≢false}
-use Rattle.std.specs.Prelude.{◌↔◌, IsTrue}
+use Rattle.std.proofs.Common.{◌≡◌, ℕ, ◌∙◌, ◌+◌, ◌<◌, ◌⊎◌, inl, inr, List, [], length, map, get_or, refl, sym, arith, true≢false}
+use Rattle.std.specs.Prelude.{◌↔◌, Contains, IsTrue}
 use Rattle.std.proofs.lemmas.List.{length-map}
+use Rattle.bit_tables.specs.Lists.{row_of}
 use Rattle.bit_tables.specs.Sets.{Has}
-use Rattle.bit_tables.proofs.LayerLemmas.{IsTested, all-from, all-within, list-here, tested_step, tested_subset, tested_all, negated}
+use Rattle.bit_tables.proofs.LayerLemmas.{IsTested, all-from, all-within, list-here, tested_step, tested_subset, tested_all, gradual_more, shown_more, none_below, negated}
 use Rattle.bit_tables.proofs.layers.meets_rule.Goals as goal
 
 pub layers-preserved : goal.layers-preserved
 layers-preserved c =
     let inv = c.layers.invariant in
     let all : List (List ℕ) = map (λ layer. layer.items) c.args.layers.now in
-    let here : get_or all c.layers.layer-index [] ≡ c.layer-item.result.items =
-    list-here (λ layer. layer.items) c.args.layers.now c.layers.layer-index c.layer-item.result (omega arith) c.layer-item.is in
+    let here : get_or all c.layers.i [] ≡ c.index-layers-i.result.items =
+    list-here (λ layer. layer.items) c.args.layers.now c.layers.i c.index-layers-i.result (omega arith) c.index-layers-i.is in
     let grown = rw (c.deref.ensures.value, ← here) at c.add_layer.ensures.has in
     let more = rw (c.deref-in-layers.ensures.value, ← here) at c.add_successors.ensures.has in
     let subset : IsTrue c.is_subset.result ↔ ((x : ℕ) → Has c.layers.shown x → Has c.add_layer.new.into x) = c.is_subset.ensures in
     record {
       standing_len = c.add_layer.ensures.len ∙ inv.standing_len;
       shown_len = c.add_successors.ensures.len ∙ inv.shown_len;
-      tested = tested_step c.args.first c.layers.layer-index all _ _ _ _ inv.tested grown _ (subset.0 c.if-not-is_subset.false) more;
+      last = inr (omega arith);
+      tested = tested_step c.args.first c.layers.i all _ _ _ _ inv.tested grown _ (subset.0 c.if-not-is_subset.false) more;
     }
 
 pub returns-then-not-is_subset : goal.returns-then-not-is_subset
@@ -25,8 +27,8 @@ returns-then-not-is_subset c lists depth table depths =
     let inv = c.layers.invariant in
     let all : List (List ℕ) = map (λ layer. layer.items) c.args.layers.now in
     let count : length all ≡ length c.args.layers.now = length-map c.args.layers.now (λ layer. layer.items) in
-    let here : get_or all c.layers.layer-index [] ≡ c.layer-item.result.items =
-    list-here (λ layer. layer.items) c.args.layers.now c.layers.layer-index c.layer-item.result (omega arith) c.layer-item.is in
+    let here : get_or all c.layers.i [] ≡ c.index-layers-i.result.items =
+    list-here (λ layer. layer.items) c.args.layers.now c.layers.i c.index-layers-i.result (omega arith) c.index-layers-i.is in
     let grown = rw (c.deref.ensures.value, ← here) at c.add_layer.ensures.has in
     let ok = all-within (λ layer. layer.items) c.args.layers.now c.args.n c.requires.within in
     let ahead = all-from (λ layer. layer.items) c.args.layers.now c.args.first c.requires.from in
@@ -36,20 +38,42 @@ returns-then-not-is_subset c lists depth table depths =
       λ meets.
           absurd
           (true≢false
-          (sym (subset.1 (tested_subset c.args.first c.layers.layer-index all _ _ _ _ inv.tested grown c.args.n c.args.source lists depth (omega arith) ahead ok table depths meets))
+          (sym (subset.1 (tested_subset c.args.first c.layers.i all _ _ _ _ inv.tested grown c.args.n c.args.source lists depth (omega arith) ahead ok table depths meets))
           ∙ c.if-not-is_subset.true)),
     )
+
+pub returns-then-i-layers : goal.returns-then-i-layers
+returns-then-i-layers c lists depth table depths =
+    let inv = c.layers.invariant in
+    let all : List (List ℕ) = map (λ layer. layer.items) c.args.layers.now in
+    let count : length all ≡ length c.args.layers.now = length-map c.args.layers.now (λ layer. layer.items) in
+    let last : c.layers.i + 1 ≡ length all = omega arith in
+    let here : get_or all c.layers.i [] ≡ c.index-layers-i.result.items =
+    list-here (λ layer. layer.items) c.args.layers.now c.layers.i c.index-layers-i.result (omega arith) c.index-layers-i.is in
+    let grown = rw (c.deref.ensures.value, ← here) at c.add_layer.ensures.has in
+    let ok = all-within (λ layer. layer.items) c.args.layers.now c.args.n c.requires.within in
+    let ahead = all-from (λ layer. layer.items) c.args.layers.now c.args.first c.requires.from in
+    let subset : IsTrue c.is_subset.result ↔ ((x : ℕ) → Has c.layers.shown x → Has c.add_layer.new.into x) = c.is_subset.ensures in
+    let shown = rw (c.deref-then-i-layers.ensures.value, ← here) at c.is_shown.ensures in
+    let none = negated c.is_shown.result _ shown in
+    let gradual_to = gradual_more c.args.first c.layers.i all c.args.table.now c.layers.standing c.layers.shown c.add_layer.new.into inv.tested grown (subset.0 c.if-not-is_subset.false) in
+    let more_to = shown_more c.args.first c.layers.i all c.args.table.now c.layers.standing c.layers.shown c.add_layer.new.into inv.tested grown c.args.source in
+    let gradual = rw last at gradual_to in
+    let more = rw last at more_to in
+    let whole = tested_all c.args.n c.args.first c.args.source all c.args.table.now lists _ depth ahead ok gradual more table depths in
+    rw (← count) (λ t. whole.0 (none.0 t), λ meets. none.1 (whole.1 meets))
 
 pub returns : goal.returns
 returns c lists depth table depths =
     let inv = c.layers.invariant in
     let all : List (List ℕ) = map (λ layer. layer.items) c.args.layers.now in
     let count : length all ≡ length c.args.layers.now = length-map c.args.layers.now (λ layer. layer.items) in
-    let done : length all ≡ c.layers.layer-index = omega arith in
-    let is : IsTested c.args.first (length all) all c.args.table.now c.layers.standing c.layers.shown = rw done inv.tested in
+    let empty : length all ≡ 0 = elim inv.last [
+      | inl none ↦ omega (arith, none, count, c.layers-test.false)
+      | inr some ↦ absurd (omega (arith, some, count, c.layers-test.false))
+    ] in
     let ok = all-within (λ layer. layer.items) c.args.layers.now c.args.n c.requires.within in
     let ahead = all-from (λ layer. layer.items) c.args.layers.now c.args.first c.requires.from in
-    let shown : IsTrue c.contains.result ↔ Has c.layers.shown c.args.source = c.contains.ensures in
-    let none = negated c.contains.result (Has c.layers.shown c.args.source) shown in
-    let whole = tested_all c.args.n c.args.first c.args.source all c.args.table.now lists c.layers.standing c.layers.shown depth ahead ok is table depths in
-    rw (← count) (λ t. whole.0 (none.0 t), λ meets. none.1 (whole.1 meets))
+    let whole = tested_all c.args.n c.args.first c.args.source all c.args.table.now lists ⊥ depth ahead ok (λ j x y low. absurd (omega (arith, low, empty)))
+        (λ no. absurd no, λ s. none_below all c.args.table.now c.args.source empty s) table depths in
+    rw (← count) (λ _. whole.0 (λ no. no), λ _. refl)

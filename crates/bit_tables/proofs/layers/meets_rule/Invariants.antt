@@ -1,4 +1,4 @@
-use Rattle.std.proofs.Common.{◌≡◌, ◌+◌, ◌/◌, length, map}
+use Rattle.std.proofs.Common.{◌≡◌, ◌+◌, ◌<◌, ◌/◌, ◌⊎◌, length, map}
 use Rattle.bit_tables.proofs.LayerLemmas.{IsTested}
 use Rattle.bit_tables.proofs.layers.meets_rule.Given as goal
 
@@ -6,5 +6,6 @@ abbrev pub invariant-layers : goal.invariant-layers
 invariant-layers l = record {
   standing_len : length l.standing ≡ l.n / 64 + 1;
   shown_len : length l.shown ≡ l.n / 64 + 1;
-  tested : IsTested l.first l.layer-index (map (λ layer. layer.items) l.layers) l.table l.standing l.shown;
+  last : l.i ≡ 0 ⊎ l.i < length l.layers;
+  tested : IsTested l.first l.i (map (λ layer. layer.items) l.layers) l.table l.standing l.shown;
 }
