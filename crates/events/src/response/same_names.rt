@@ -96,10 +96,11 @@ fn same_within(a: &[u8], b: &[u8], most: usize) -> usize
     let mut same = 0;
     'lanes: while LANES < most - same {
         let more = same_in_lanes(after(a, same), after(b, same));
-        same += more;
         if more < LANES {
-            return same;
+            return same + more;
         }
+        // Not `more`: the processor goes on to the next sixteen before it knows it.
+        same += LANES;
     }
     let last = most - LANES;
     last + same_in_lanes(after(a, last), after(b, last))

@@ -19,8 +19,9 @@ lanes-preserved c =
     let s : ℕ = c.lanes.same in
     let n : ℕ = c.same_in_lanes-more.result in
     record {
-      within = omega (arith, c.same_in_lanes-more.ensures.within, c.lanes-test.true);
-      same = and-so-many c.args.a.now c.args.b.now s 16 n c.lanes.invariant.same (from s 16 n c.args.a.now c.args.b.now _ _ c.after.ensures c.after-in-lanes.ensures c.same_in_lanes-more.ensures);
+      within = omega (arith, c.lanes-test.true);
+      same = λ k h. and-so-many c.args.a.now c.args.b.now s 16 n c.lanes.invariant.same (from s 16 n c.args.a.now c.args.b.now _ _ c.after.ensures c.after-in-lanes.ensures c.same_in_lanes-more.ensures) k
+          (omega (arith, h, c.same_in_lanes-more.ensures.within, c.if-more-lt-LANES.false));
     }
 
 pub returns : goal.returns
