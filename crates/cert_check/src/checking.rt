@@ -51,11 +51,7 @@ pub fn check(alloc: Global, trace: &[u8], cert: &[u8]) -> Result<Answer, Memory>
 /// text it keeps what is visible in the recording, the numbers of the elements, those responses that cover all as
 /// numbers, the table and the depths for the rows, and of one row at a time the numbers that have a depth, the
 /// layers (at most `2 * n + 2` lists) and the two sets of `are_deep`.
-pub fn check_recording(
-    alloc: Global,
-    recording: &Recording,
-    cert: &[u8],
-) -> Result<Answer, Memory>
+pub fn check_recording(alloc: Global, recording: &Recording, cert: &[u8]) -> Result<Answer, Memory>
     ensures answer { IfOk result (λ a. IsAnswerOn recording.now cert.now a) }
     // What a yes says of the recording.
     ensures implies { IfOk result (λ a. ImpliesOn recording.now cert.now a) }

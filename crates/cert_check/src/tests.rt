@@ -28,11 +28,7 @@ const TWICE: &str = "trace 1\nreplicas 2\n0 ins a 0 : a\n1 ins a 0 : a\n";
 const EMPTY: &str = "trace 1\nreplicas 1\n";
 
 /// The checker's answer; a call that finds no memory is made again.
-fn answer(
-    alloc: Global,
-    trace: &str,
-    cert: &str,
-) -> Result<Answer, Memory> {
+fn answer(alloc: Global, trace: &str, cert: &str) -> Result<Answer, Memory> {
     match check(alloc, trace.as_bytes(), cert.as_bytes()) {
         Ok(answer) => Ok(answer),
         Err(Memory) => check(alloc, trace.as_bytes(), cert.as_bytes()),
@@ -120,11 +116,7 @@ fn headed(alloc: Global, version: &str, lines: &str) -> Result<String, Memory> {
 
 /// Whether the lines of a row, after the first line of a version, are valid. Where there is no memory to join
 /// them, they are joined again.
-fn is_valid_in(
-    alloc: Global,
-    version: &str,
-    row: (&str, &str, Kind),
-) -> bool {
+fn is_valid_in(alloc: Global, version: &str, row: (&str, &str, Kind)) -> bool {
     let (trace, lines, kind) = row;
     let joined = match headed(alloc, version, lines) {
         Ok(cert) => Ok(cert),

@@ -87,9 +87,9 @@ module _ (h : History) (table : SightTable) (elements : Elements) where
     each = All-from_members (IsOnTheWay h table elements) (ways ++ way ∷ []) (λ w i. elim (In-append_cases w ways (way ∷ []) i) [
       | inl j ↦ All-member (IsOnTheWay h table elements) ways w are.each j
       | inr j ↦ elim j [
-          | inl e ↦ subst (IsOnTheWay h table elements) (sym e) is
-          | inr z ↦ absurd z
-        ]
+        | inl e ↦ subst (IsOnTheWay h table elements) (sym e) is
+        | inr z ↦ absurd z
+      ]
     ]);
   }
 

@@ -121,11 +121,7 @@ pub fn walk_all(
 }
 
 /// These replicas before their first operations.
-fn begin_all(
-    alloc: Global,
-    elements: &Elements,
-    replicas: &[u32],
-) -> Result<Vec<OnTheWay>, Memory>
+fn begin_all(alloc: Global, elements: &Elements, replicas: &[u32]) -> Result<Vec<OnTheWay>, Memory>
     ensures { IfOk result (λ ways. (h : History) (table : SightTable)
         → AreOnTheWay h table elements.now replicas.now ways.items) }
 {

@@ -53,11 +53,7 @@ pub fn run_verify<T: Reader + Drop, C: Reader + Drop, W: Writer + Drop>(
 }
 
 /// The line of the checker's answer on the certificate's text and each trace of which this was read.
-fn line_on(
-    alloc: Global,
-    recording: &Option<Recording>,
-    cert: &[u8],
-) -> Result<Output, Memory>
+fn line_on(alloc: Global, recording: &Option<Recording>, cert: &[u8]) -> Result<Output, Memory>
     ensures { IfOk result (λ output. (trace : List ℕ) → IsRecordingOf trace recording.now
         → IsLineOn trace cert.now output.bytes.items output.status) }
 {
@@ -70,11 +66,7 @@ fn line_on(
 }
 
 /// The checker's answer. It is of the trace where no recording was read, whatever the certificate's text.
-fn answer_on(
-    alloc: Global,
-    cert: &[u8],
-    recording: &Option<Recording>,
-) -> Result<Answer, Memory>
+fn answer_on(alloc: Global, cert: &[u8], recording: &Option<Recording>) -> Result<Answer, Memory>
     ensures { IfOk result (λ a. (trace : List ℕ) → IsRecordingOf trace recording.now
         → IsAnswer trace cert.now a) }
 {

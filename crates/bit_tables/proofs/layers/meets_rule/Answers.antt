@@ -75,5 +75,5 @@ returns c lists depth table depths =
     let ok = all-within (λ layer. layer.items) c.args.layers.now c.args.n c.requires.within in
     let ahead = all-from (λ layer. layer.items) c.args.layers.now c.args.first c.requires.from in
     let whole = tested_all c.args.n c.args.first c.args.source all c.args.table.now lists ⊥ depth ahead ok (λ j x y low. absurd (omega (arith, low, empty)))
-        (λ no. absurd no, λ s. none_below all c.args.table.now c.args.source empty s) table depths in
+    (λ no. absurd no, λ s. none_below all c.args.table.now c.args.source empty s) table depths in
     rw (← count) (λ _. whole.0 (λ no. no), λ _. refl)

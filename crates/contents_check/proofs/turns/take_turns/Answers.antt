@@ -28,17 +28,17 @@ loop-i-preserved c =
     let are = c.loop-i.invariant.on_the_way in
     elim c.if-k-end.branch [
       | then-k-end+in_ok-go_on+then-is_some w ↦ record {
-          end = subst (λ v. c.if-k-end.end ≤ length v.items) (sym w.ways-is) (omega (arith, w.end-is, w.if-k-end.true, c.loop-i.invariant.end, length-set ways k w.go_on.new.self));
-          on_the_way = subst (λ v. AreOnTheWay h table elements all v.items) (sym w.ways-is)
-              (one_goes_on h table elements all ways k w.go_on.new.self w.index_mut-way.result.now (w.in_ok-go_on.ensures.replica ∙ ap (λ (o : OnTheWay). o.replica) w.index_mut-way.ensures.value) are w.in_ok-go_on.ensures.on_the_way);
-        }
+        end = subst (λ v. c.if-k-end.end ≤ length v.items) (sym w.ways-is) (omega (arith, w.end-is, w.if-k-end.true, c.loop-i.invariant.end, length-set ways k w.go_on.new.self));
+        on_the_way = subst (λ v. AreOnTheWay h table elements all v.items) (sym w.ways-is)
+            (one_goes_on h table elements all ways k w.go_on.new.self w.index_mut-way.result.now (w.in_ok-go_on.ensures.replica ∙ ap (λ (o : OnTheWay). o.replica) w.index_mut-way.ensures.value) are w.in_ok-go_on.ensures.on_the_way);
+      }
       | then-k-end+in_ok-go_on+else-is_some w ↦ record {
-          end = subst (λ v. c.if-k-end.end ≤ length v.items) (sym w.ways-is) (omega (arith, w.end-is, c.loop-i.invariant.end, length-set ways k w.go_on.new.self));
-          on_the_way = subst (λ v. AreOnTheWay h table elements all v.items) (sym w.ways-is)
-              (one_goes_on h table elements all ways k w.go_on.new.self w.index_mut-way.result.now (w.in_ok-go_on.ensures.replica ∙ ap (λ (o : OnTheWay). o.replica) w.index_mut-way.ensures.value) are w.in_ok-go_on.ensures.on_the_way);
-        }
+        end = subst (λ v. c.if-k-end.end ≤ length v.items) (sym w.ways-is) (omega (arith, w.end-is, c.loop-i.invariant.end, length-set ways k w.go_on.new.self));
+        on_the_way = subst (λ v. AreOnTheWay h table elements all v.items) (sym w.ways-is)
+            (one_goes_on h table elements all ways k w.go_on.new.self w.index_mut-way.result.now (w.in_ok-go_on.ensures.replica ∙ ap (λ (o : OnTheWay). o.replica) w.index_mut-way.ensures.value) are w.in_ok-go_on.ensures.on_the_way);
+      }
       | else-k-end w ↦ record {
-          end = subst (λ v. c.if-k-end.end ≤ length v.items) (sym w.ways-is) (omega (arith, w.end-is, c.loop-i.invariant.end));
-          on_the_way = subst (λ v. AreOnTheWay h table elements all v.items) (sym w.ways-is) are;
-        }
+        end = subst (λ v. c.if-k-end.end ≤ length v.items) (sym w.ways-is) (omega (arith, w.end-is, c.loop-i.invariant.end));
+        on_the_way = subst (λ v. AreOnTheWay h table elements all v.items) (sym w.ways-is) are;
+      }
     ]
