@@ -9,6 +9,7 @@ use super::judging::judge;
 use certificate_text::Outline;
 use events::{Memory, Recording, Refusal};
 use std::alloc::Global;
+use std::thread::Threads;
 use trace_text::{Cause, read};
 
 /// Whether the certificate is valid for the recording that the trace spells, in the version that its text's
@@ -25,7 +26,12 @@ use trace_text::{Cause, read};
 /// Its memory is linear in the texts but for that table, which takes
 /// `n * n / 8` bytes, 2 MB for 4,096 elements and 512 MB for 65,536. Out of memory is answered only where a line of
 /// the trace takes memory, or where the trace spells a recording and the certificate's text a certificate.
-pub fn check(alloc: Global, trace: &[u8], cert: &[u8]) -> Result<Answer, Memory>
+pub fn check<H: Threads + Sync>(
+    rt: &H,
+    alloc: Global,
+    trace: &[u8],
+    cert: &[u8],
+) -> Result<Answer, Memory>
     ensures answer { IfOk result (λ a. IsAnswer trace.now cert.now a) }
     // What a yes says of the recording.
     ensures implies { IfOk result (λ a. ImpliesOfTexts trace.now cert.now a) }
@@ -33,7 +39,7 @@ pub fn check(alloc: Global, trace: &[u8], cert: &[u8]) -> Result<Answer, Memory>
     ensures memory { IfErr result (λ _. TakesMemory trace.now cert.now) }
 {
     match read(alloc, trace) {
-        Ok(recording) => check_recording(alloc, &recording, cert),
+        Ok(recording) => check_recording(rt, alloc, &recording, cert),
         Err(fault) => {
             if is_out_of_memory(fault.cause) {
                 Err(Memory)
@@ -51,7 +57,12 @@ pub fn check(alloc: Global, trace: &[u8], cert: &[u8]) -> Result<Answer, Memory>
 /// text it keeps what is visible in the recording, the numbers of the elements, those responses that cover all as
 /// numbers, the table and the depths for the rows, and of one row at a time the numbers that have a depth, the
 /// layers (at most `2 * n + 2` lists) and the two sets of `are_deep`.
-pub fn check_recording(alloc: Global, recording: &Recording, cert: &[u8]) -> Result<Answer, Memory>
+pub fn check_recording<H: Threads + Sync>(
+    rt: &H,
+    alloc: Global,
+    recording: &Recording,
+    cert: &[u8],
+) -> Result<Answer, Memory>
     ensures answer { IfOk result (λ a. IsAnswerOn recording.now cert.now a) }
     // What a yes says of the recording.
     ensures implies { IfOk result (λ a. ImpliesOn recording.now cert.now a) }
@@ -61,7 +72,7 @@ pub fn check_recording(alloc: Global, recording: &Recording, cert: &[u8]) -> Res
     // Each recording is legal.
     let _replicas = recording.replicas();
     match Outline::read(cert) {
-        Ok((version, outline)) => judge(alloc, recording, version, &outline),
+        Ok((version, outline)) => judge(rt, alloc, recording, version, &outline),
         Err(_) => Ok(Answer::No(Reason::CertText)),
     }
 }

@@ -16,14 +16,16 @@ use super::cycle::judge_cycle;
 use super::faults::judge_fault;
 use super::order::judge_order;
 use certificate_text::{Outline, Version};
-use contents_check::{Checked, Covering, check_in_turn};
+use contents_check::{Checked, Covering, check};
 use events::{Memory, Recording};
 use std::alloc::Global;
+use std::thread::Threads;
 use visibility::Sight;
 
 /// Whether the certificate with this outline, of this version, is valid for the recording; where not, the
 /// first reason.
-pub fn judge(
+pub fn judge<H: Threads + Sync>(
+    rt: &H,
     alloc: Global,
     recording: &Recording,
     version: Version,
@@ -34,7 +36,7 @@ pub fn judge(
         → IsJudged (version_in version) recording.now c answer) }
 {
     let sight = Sight::of(alloc, recording)?;
-    match check_in_turn(alloc, recording, &sight)? {
+    match check(rt, alloc, 1, recording, &sight)? {
         Checked::Faulty(fault) => Ok(judge_fault(outline, &fault)),
         Checked::Sound(covering) => judge_sound(alloc, recording, covering, version, outline),
     }

@@ -3,6 +3,7 @@
 use super::{Answer, Kind, Reason, check};
 use events::{Memory, Name, OpName};
 use std::alloc::Global;
+use std::thread::Threads;
 
 /// Three replicas that each see two of the three elements in an order, in a ring.
 const THREE_WAY: &str =
@@ -28,16 +29,21 @@ const TWICE: &str = "trace 1\nreplicas 2\n0 ins a 0 : a\n1 ins a 0 : a\n";
 const EMPTY: &str = "trace 1\nreplicas 1\n";
 
 /// The checker's answer; a call that finds no memory is made again.
-fn answer(alloc: Global, trace: &str, cert: &str) -> Result<Answer, Memory> {
-    match check(alloc, trace.as_bytes(), cert.as_bytes()) {
+fn answer(
+    rt: &(impl Threads + Sync),
+    alloc: Global,
+    trace: &str,
+    cert: &str,
+) -> Result<Answer, Memory> {
+    match check(rt, alloc, trace.as_bytes(), cert.as_bytes()) {
         Ok(answer) => Ok(answer),
-        Err(Memory) => check(alloc, trace.as_bytes(), cert.as_bytes()),
+        Err(Memory) => check(rt, alloc, trace.as_bytes(), cert.as_bytes()),
     }
 }
 
 /// Whether the checker says that the certificate is valid, and so shows this.
-fn is_valid(alloc: Global, trace: &str, cert: &str, kind: Kind) -> bool {
-    match answer(alloc, trace, cert) {
+fn is_valid<H: Threads + Sync>(rt: &H, alloc: Global, trace: &str, cert: &str, kind: Kind) -> bool {
+    match answer(rt, alloc, trace, cert) {
         Ok(said) => said == Answer::Yes(kind) && said != Answer::No(Reason::Trace),
         Err(Memory) => false,
     }
@@ -85,8 +91,8 @@ fn name(text: &str) -> Option<Name> {
 }
 
 /// Whether the checker says that the certificate is not valid, and why.
-fn is_invalid(alloc: Global, trace: &str, cert: &str, why: Why) -> bool {
-    match (answer(alloc, trace, cert), reason(why)) {
+fn is_invalid<H: Threads + Sync>(rt: &H, alloc: Global, trace: &str, cert: &str, why: Why) -> bool {
+    match (answer(rt, alloc, trace, cert), reason(why)) {
         (Ok(said), Some(why)) => { said == Answer::No(why) && said != Answer::Yes(Kind::Refused) }
         _ => false,
     }
@@ -116,14 +122,19 @@ fn headed(alloc: Global, version: &str, lines: &str) -> Result<String, Memory> {
 
 /// Whether the lines of a row, after the first line of a version, are valid. Where there is no memory to join
 /// them, they are joined again.
-fn is_valid_in(alloc: Global, version: &str, row: (&str, &str, Kind)) -> bool {
+fn is_valid_in<H: Threads + Sync>(
+    rt: &H,
+    alloc: Global,
+    version: &str,
+    row: (&str, &str, Kind),
+) -> bool {
     let (trace, lines, kind) = row;
     let joined = match headed(alloc, version, lines) {
         Ok(cert) => Ok(cert),
         Err(Memory) => headed(alloc, version, lines),
     };
     match joined {
-        Ok(cert) => is_valid(alloc, trace, cert.as_str(), kind),
+        Ok(cert) => is_valid(rt, alloc, trace, cert.as_str(), kind),
         Err(Memory) => false,
     }
 }
@@ -133,11 +144,11 @@ fn valid_certificates(rt: HostRuntime) {
     for row in VALID.iter().copied() {
         let (_, lines, _) = row;
         assert!(rt;
-            is_valid_in(rt.alloc(), "cert 1\n", row),
+            is_valid_in(&rt, rt.alloc(), "cert 1\n", row),
             "in version 1, at {lines}"
         );
         assert!(rt;
-            is_valid_in(rt.alloc(), "cert 2\n", row),
+            is_valid_in(&rt, rt.alloc(), "cert 2\n", row),
             "in version 2, at {lines}"
         );
     }
@@ -153,7 +164,7 @@ static WITH_ROWS: [&str; 2] = [
 fn valid_rows(rt: HostRuntime) {
     for cert in WITH_ROWS.iter().copied() {
         assert!(rt;
-            is_valid(rt.alloc(), THREE_WAY, cert, Kind::Refused),
+            is_valid(&rt, rt.alloc(), THREE_WAY, cert, Kind::Refused),
             "at {cert}"
         );
     }
@@ -301,6 +312,6 @@ static INVALID: [(&str, &str, Why); 33] = [
 #[test]
 fn reasons_against_certificates(rt: HostRuntime) {
     for (trace, cert, why) in INVALID.iter().copied() {
-        assert!(rt; is_invalid(rt.alloc(), trace, cert, why), "at {cert}");
+        assert!(rt; is_invalid(&rt, rt.alloc(), trace, cert, why), "at {cert}");
     }
 }

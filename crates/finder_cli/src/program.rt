@@ -121,7 +121,7 @@ fn do_asked<H: AllocGlobal + Threads + Wait + Sync, N: World, W: Writer + Drop>(
             },
         ) => on_file(rt, Engine::Verdict { workers, form }, world, sink, file),
         Ok(Task::Cert { file }) => on_file(rt, Engine::Cert, world, sink, file),
-        Ok(Task::Verify { file, cert }) => check_files(rt.alloc(), world, sink, file, cert),
+        Ok(Task::Verify { file, cert }) => check_files(rt, world, sink, file, cert),
         Ok(Task::Live { workers, file }) => on_file(
             rt,
             Engine::Live { workers },
@@ -166,8 +166,8 @@ fn on_file<H: AllocGlobal + Threads + Wait + Sync, N: World, W: Writer + Drop>(
 }
 
 /// Writes the checker's line on the trace in `file` and the certificate in `cert`. The trace is opened first.
-fn check_files<N: World, W: Writer + Drop>(
-    alloc: Global,
+fn check_files<H: AllocGlobal + Threads + Sync, N: World, W: Writer + Drop>(
+    rt: &H,
     world: &mut N,
     sink: &mut Sink<W>,
     file: Word,
@@ -183,22 +183,22 @@ fn check_files<N: World, W: Writer + Drop>(
         world.close(&trace);
         return Err(ProgramFault::Read { file: cert });
     };
-    let ran = check(alloc, &mut trace, &mut other, sink);
+    let ran = check(rt, &mut trace, &mut other, sink);
     world.close(&trace);
     world.close(&other);
     answer_on(file, ran)
 }
 
 /// Writes the checker's line on a trace and a certificate.
-fn check<T: Reader + Drop, C: Reader + Drop, W: Writer + Drop>(
-    alloc: Global,
+fn check<H: AllocGlobal + Threads + Sync, T: Reader + Drop, C: Reader + Drop, W: Writer + Drop>(
+    rt: &H,
     trace: &mut Source<T>,
     cert: &mut Source<C>,
     sink: &mut Sink<W>,
 ) -> Result<Status, RunFault>
     ensures { Checks trace.old trace.new cert.old cert.new sink.old sink.new result }
 {
-    run_verify(alloc, trace, cert, sink)
+    run_verify(rt, rt.alloc(), trace, cert, sink)
 }
 
 /// The program's answer for an engine's on the file.

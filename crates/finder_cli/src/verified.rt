@@ -16,6 +16,7 @@ use byte_streams::{Reader, Sink, Source, Writer};
 use cert_check::{Answer, Reason, check_recording};
 use events::{Memory, Recording};
 use std::alloc::Global;
+use std::thread::Threads;
 
 /// Reads a trace to its end, then a certificate, and writes the checker's line: whether the certificate is
 /// valid for the recording that the trace spells.
@@ -25,7 +26,8 @@ use std::alloc::Global;
 ///
 /// The trace's text never stands in memory: it is read by pieces of 65,536 bytes. What is kept is the
 /// recording, the certificate's text, and what `check_recording` takes for the two.
-pub fn run_verify<T: Reader + Drop, C: Reader + Drop, W: Writer + Drop>(
+pub fn run_verify<H: Threads + Sync, T: Reader + Drop, C: Reader + Drop, W: Writer + Drop>(
+    rt: &H,
     alloc: Global,
     trace: &mut Source<T>,
     cert: &mut Source<C>,
@@ -48,16 +50,21 @@ pub fn run_verify<T: Reader + Drop, C: Reader + Drop, W: Writer + Drop>(
 {
     let recording = recording_to_end(alloc, trace)?;
     let cert_text = whole_text(alloc, cert)?;
-    let output = line_on(alloc, &recording, &cert_text)?;
+    let output = line_on(rt, alloc, &recording, &cert_text)?;
     write_output(sink, &output)
 }
 
 /// The line of the checker's answer on the certificate's text and each trace of which this was read.
-fn line_on(alloc: Global, recording: &Option<Recording>, cert: &[u8]) -> Result<Output, Memory>
+fn line_on<H: Threads + Sync>(
+    rt: &H,
+    alloc: Global,
+    recording: &Option<Recording>,
+    cert: &[u8],
+) -> Result<Output, Memory>
     ensures { IfOk result (λ output. (trace : List ℕ) → IsRecordingOf trace recording.now
         → IsLineOn trace cert.now output.bytes.items output.status) }
 {
-    let answer = answer_on(alloc, cert, recording)?;
+    let answer = answer_on(rt, alloc, cert, recording)?;
     let bytes = line_of(alloc, &answer)?;
     Ok(Output {
         bytes,
@@ -66,13 +73,18 @@ fn line_on(alloc: Global, recording: &Option<Recording>, cert: &[u8]) -> Result<
 }
 
 /// The checker's answer. It is of the trace where no recording was read, whatever the certificate's text.
-fn answer_on(alloc: Global, cert: &[u8], recording: &Option<Recording>) -> Result<Answer, Memory>
+fn answer_on<H: Threads + Sync>(
+    rt: &H,
+    alloc: Global,
+    cert: &[u8],
+    recording: &Option<Recording>,
+) -> Result<Answer, Memory>
     ensures { IfOk result (λ a. (trace : List ℕ) → IsRecordingOf trace recording.now
         → IsAnswer trace cert.now a) }
 {
     match recording {
         None => Ok(Answer::No(Reason::Trace)),
-        Some(recording) => check_recording(alloc, recording, cert),
+        Some(recording) => check_recording(rt, alloc, recording, cert),
     }
 }
 

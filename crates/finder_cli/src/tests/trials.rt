@@ -46,7 +46,7 @@ fn answered<H: Threads + Sync>(
     let mut source = Source::new(trace);
     let mut sink = Sink::new(page);
     if is_check {
-        return run_verify(alloc, &mut source, &mut Source::new(cert), &mut sink);
+        return run_verify(rt, alloc, &mut source, &mut Source::new(cert), &mut sink);
     }
     run(rt, alloc, &mut source, &mut sink, 4, Form::Text)
 }
