@@ -96,5 +96,6 @@ pub fn meets_rule(
         }
         add_successors(&mut shown, table, layer);
     }
+    // There is no layer.
     Ok(true)
 }

@@ -17,7 +17,7 @@ use trace_text::{Cause, read};
 ///
 /// It searches nothing. Beyond reading the texts and looking for a fault, a step of a certificate costs the
 /// response of its operation, and a row a step for each of its words, and for each layer and each name that is not in
-/// the last one `n / 64`, n being the number of elements of the recording; one of more than n layers also the sorting
+/// the last layer `n / 64`, n being the number of elements of the recording; one of more than n layers also the sorting
 /// of n depths, about `n * log n` steps. So it is in both versions; the rows of version two have about half as many
 /// names. For orders and rows only those responses are looked at that cover all: each other one is a subsequence
 /// of one of them. For the rows a table is made of these once: each costs `n / 64` steps, and each of its places a

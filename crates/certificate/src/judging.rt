@@ -23,8 +23,8 @@ use witnesses::Order;
 /// The verdict on a recording.
 ///
 /// The number of workers, 1 to 64, is tested before the recording is looked at. One walk over each replica
-/// checks its contents and finds its responses that cover the others: with more than one worker the replicas are
-/// gone through in at most as many threads; with one all is done in the caller's thread. The
+/// checks its contents and finds its responses that cover the others: with more than one worker one half of the
+/// replicas is gone through beside the other, in a second thread; with one all is done in the caller's thread. The
 /// search for the conflict number is made only where no order follows every response; the gate is called round
 /// each of its searches. The least cycle is then found in the caller's thread.
 ///

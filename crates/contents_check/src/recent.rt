@@ -39,7 +39,8 @@ impl Recent {
         Some(number)
     }
 
-    /// Keeps the number of the element that a change inserts: probably the next response shows its name.
+    /// Keeps the number of the element that a change inserts: probably the next response shows its name. It decides cost
+    /// alone.
     pub fn expect(&mut self, elements: &Elements, change: Change) {
         if let Change::Insert(number) = change {
             if let Some(slot) = elements.slots.get(number) {

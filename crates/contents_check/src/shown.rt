@@ -186,7 +186,7 @@ impl Standings {
     }
 
     /// Whether a row goes on at a place with the number of an element that is not live, so that a right response shows
-    /// it no more.
+    /// it no more. It decides cost alone.
     fn is_gone(&self, row: &[u32], j: usize) -> bool
         ensures { result ≡ true → j < length row.now }
     {

@@ -94,7 +94,8 @@ impl OnTheWay {
 /// order in which they stand in the recording, for which memory is read from one end to the other.
 ///
 /// It costs the places of the replicas' responses, the entries of the recording, and for each replica the operations
-/// that it sees and some bytes for each element.
+/// that it sees and some bytes for each element. The walks of all these replicas stand at once, and what they keep
+/// stands twice when it is put together.
 pub fn walk_all(
     alloc: Global,
     elements: &Elements,
@@ -162,8 +163,8 @@ fn take_turns(
     Ok(())
 }
 
-/// Which of these replicas, counted from the first of them, has an operation at the i-th entry, where they follow one
-/// another. It decides cost alone.
+/// The place among these replicas, where they follow one another, of the one that has an operation at the i-th entry;
+/// it may be past the last of them. It decides cost alone.
 fn turn_at(recording: &Recording, i: u32, replicas: &[u32]) -> Option<usize> {
     let first = replicas.first()?;
     let entry = recording.entry(i)?;

@@ -99,7 +99,7 @@ fn same_within(a: &[u8], b: &[u8], most: usize) -> usize
         if more < LANES {
             return same + more;
         }
-        // Not `more`: the processor goes on to the next sixteen before it knows it.
+        // `more` is `LANES` here; with the constant the processor goes on to the next sixteen before it knows it.
         same += LANES;
     }
     let last = most - LANES;
