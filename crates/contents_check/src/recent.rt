@@ -1,6 +1,6 @@
 //! The numbers of names that were looked up lately, so that they are found again without a look into the map.
 
-ghost use Rattle.std.specs.Prelude.{◌≡◌, ◌<◌};
+ghost use Rattle.std.specs.Prelude.{◌≡◌, ◌<◌, ◌^◌};
 ghost use Rattle.contents_check.specs.Known.{number_of, AreNumbered};
 
 use super::changes::Change;
@@ -14,7 +14,7 @@ const SLOTS: usize = 1024;
 /// is believed only where its element has the name.
 #[derive(Drop)]
 pub struct Recent {
-    slots: [usize; SLOTS],
+    slots: [u32; SLOTS],
 }
 
 impl Recent {
@@ -30,12 +30,12 @@ impl Recent {
         ensures { result ≡ number_of elements.now name.now }
     {
         let slot = slot_of(name) as usize;
-        let kept = self.slots[slot];
+        let kept = self.slots[slot] as usize;
         if elements.is_number_of(kept, name) {
             return Some(kept);
         }
         let number = elements.number(name)?;
-        self.slots[slot] = number;
+        self.slots[slot] = in_slot(number);
         Some(number)
     }
 
@@ -44,10 +44,17 @@ impl Recent {
     pub fn expect(&mut self, elements: &Elements, change: Change) {
         if let Change::Insert(number) = change {
             if let Some(slot) = elements.slots.get(number) {
-                self.slots[*slot as usize % SLOTS] = number;
+                self.slots[*slot as usize % SLOTS] = in_slot(number);
             }
         }
     }
+}
+
+/// A number as a slot holds it. A recording has fewer elements than 2 ^ 32; a greater number would not be found again.
+fn in_slot(number: usize) -> u32
+    ensures { number < 2 ^ 32 → result ≡ number }
+{
+    (number % (1 << 32)) as u32
 }
 
 /// The slot of a name, by its last three bytes, in which the names of a replica differ most, and by its first
