@@ -1,6 +1,6 @@
 -- How far a text goes on with names that stand one after the other.
-use Rattle.std.specs.Prelude.{◌≡◌, ℕ, ◌≤◌, ◌<◌, ◌==◌, Bool, true, IsTrue, Option, Some, None, List, length, take, slice_get}
-use Rattle.events.specs.Names.{NameBytes}
+use Rattle.std.specs.Prelude.{◌≡◌, ℕ, ◌≤◌, ◌<◌, ◌==◌, ◌++◌, [], ◌∷◌, Bool, true, IsTrue, Option, Some, None, List, length, take, slice_get, All}
+use Rattle.events.specs.Names.{NameBytes, IsName}
 use Rattle.events.specs.Packed.{spaced}
 
 -- after a name the text is at its end, or a space follows
@@ -19,3 +19,12 @@ pub record IsLongestRun (text : List ℕ) (names : List NameBytes) (n bytes : �
   pub bytes_are : bytes ≡ length (spaced (take n names))
   pub begins : 0 < n → BeginsWith text (take n names)
   pub most : (m : ℕ) → m ≤ length names → BeginsWith text (take m names) → m ≤ n
+
+-- the text begins with these names, n of them in so many bytes, and with no name more unless they are `most`
+pub record AreFirstNames (most : ℕ) (text : List ℕ) (names : List NameBytes) (n bytes : ℕ) : Type 0 where
+  pub are : All IsName names
+  pub count : n ≡ length names
+  pub bytes_are : bytes ≡ length (spaced names)
+  pub few : length names ≤ most
+  pub begins : 0 < length names → BeginsWith text names
+  pub all : length names < most → (a : NameBytes) → IsName a → BeginsWith text (names ++ a ∷ []) → ⊥

@@ -54,7 +54,8 @@ impl Response {
 
     /// Puts names at the end, whose bytes and ends are these where their first space is at `from`. Where
     /// memory is wanted the response is as it was.
-    fn push_packed(&mut self, bytes: &[u8], ends: &[u32], from: usize) -> Result<(), Memory>
+    #[inline(always)]
+    pub(super) fn push_packed(&mut self, bytes: &[u8], ends: &[u32], from: usize) -> Result<(), Memory>
         requires { (names : List NameBytes) × (All IsName names) × (bytes.now ≡ spaced names)
             × (ends.now ≡ ends_of from names) }
         ensures ok { OnOk result ((names : List NameBytes) → bytes.now ≡ spaced names
@@ -73,7 +74,7 @@ impl Response {
 }
 
 /// What stands before a place.
-fn front<T: Copy>(items: &[T], place: usize) -> &[T]
+pub(super) fn front<T: Copy>(items: &[T], place: usize) -> &[T]
     requires { place ≤ length items.now }
     ensures { result.now ≡ take place items.now }
 {
@@ -142,7 +143,7 @@ fn bytes_until(ends: &[u32], from: usize, count: usize) -> usize
 }
 
 /// Whether the text is at its end here, or has a space.
-fn ends_word(text: &[u8], place: usize) -> bool
+pub(super) fn ends_word(text: &[u8], place: usize) -> bool
     ensures { result ≡ may_follow (slice_get text.now place) }
 {
     match text.get(place) {

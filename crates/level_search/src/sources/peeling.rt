@@ -86,7 +86,8 @@ impl Peeling {
     }
 
     /// Lets an element that is left await the last that stands before it and is left; where there is none
-    /// it is free.
+    /// it is free. Where it awaited another, all that stand before it above that one are gone, so only those below
+    /// are looked at.
     fn await_one(&mut self, graph: &OrderGraph, table: &ShownTable, x: u32) -> Result<(), Memory>
         requires { length table.now ≡ length graph.now.elements }
     {
@@ -94,7 +95,8 @@ impl Peeling {
         if x >= elements || self.gone.contains(x as usize) {
             return Ok(());
         }
-        match table.before(x).last_outside(&self.gone, elements) {
+        let above = at(&self.awaited, x).min(elements);
+        match table.before(x).last_outside(&self.gone, above) {
             None => self.free.push(x)?,
             Some(y) => {
                 put(&mut self.awaited, x, y);

@@ -9,8 +9,7 @@ use Rattle.events.specs.Packed.{spaced}
 use Rattle.events.specs.Runs.{IsLongestRun}
 use Rattle.format_words.specs.Words.{words_behind}
 use Rattle.format_words.specs.Reading.{names_at, onto}
-use Rattle.format_words.proofs.NameRuns.{onto-nil, onto-run, onto-word, run-within, some-bytes}
-use Rattle.format_words.proofs.NamesRead.{some-word-at, names-stop}
+use Rattle.format_words.proofs.NameRuns.{onto-run, run-within, some-bytes}
 use Rattle.format_words.proofs.name_list.push_next.Goals as goal
 
 -- a run of some names of a list from a place on
@@ -38,12 +37,9 @@ returns-then-run-gt0-clause-shorter c =
     run_shorter c.args.rest.now c.args.like.now c.in_ok-run.ensures.names c.args.place c.in_ok-run.run'.names c.in_ok-run.run'.bytes c.in_ok-run.ensures.ok c.if-run-gt0.true _ c.after.ensures
 
 pub returns-in_err-word-clause-stop : goal.returns-in_err-word-clause-stop
-returns-in_err-word-clause-stop c = absurd (some-word-at c.args.rest.now c.requires c.in_err-word.ensures.word)
-
-pub returns-in_err-push_word-clause-stop : goal.returns-in_err-push_word-clause-stop
-returns-in_err-push_word-clause-stop c =
-    let p = err_from_is_err_and c.from_residual-in_err-push_word.result c.from_residual-in_err-push_word.ensures.1 in
-    rw (p.1, p.2) (λ is. names-stop [] _ _ _ _ (onto-nil (names_at (words_behind c.args.rest.now))) c.in_ok-word.ensures.word (c.in_err-push_word.ensures is))
+returns-in_err-word-clause-stop c =
+    let p = err_from_is_err_and c.from_residual-in_err-word.result c.from_residual-in_err-word.ensures.1 in
+    rw (p.1, p.2) (λ is. c.in_err-word.ensures.stop is)
 
 no-more : (old new others : List NameBytes) (n : ℕ) → n ≤ 0 → new ≡ old ++ take n others → new ≡ old
 no-more old new others n none is =
@@ -53,6 +49,4 @@ no-more old new others n none is =
 pub returns-clause-names : goal.returns-clause-names
 returns-clause-names c =
     let same = no-more c.args.names.now _ _ c.in_ok-run.run'.names c.if-run-gt0.false c.in_ok-run.ensures.value in
-    onto-word c.args.names.now _ _ _ c.in_ok-word.word.now c.in_ok-word.ensures.word c.in_ok-push_word.ensures.1
-    ∙ ap (λ (l : List NameBytes). onto (l ++ c.in_ok-word.word.now ∷ []) (names_at (words_behind c.in_ok-word.behind.now))) (sym same)
-    ∙ ap (λ (l : List NameBytes). onto l (names_at (words_behind c.in_ok-word.behind.now))) (sym c.in_ok-push_word.ensures.0)
+    ap (λ (l : List NameBytes). onto l (names_at (words_behind c.args.rest.now))) (sym same) ∙ c.in_ok-word.ensures.names
