@@ -1,5 +1,5 @@
 -- The names that a text begins with, and one name more.
-use Rattle.std.proofs.Common.{◌≡◌, ◌∙◌, ℕ, zero, suc, ◌+◌, ◌*◌, ◌<◌, ◌≤◌, ◌++◌, true, List, [], ◌∷◌, length, take, drop, set, slice_get, All, sym, refl, ap, ap₂, subst, arith, take-add}
+use Rattle.std.proofs.Common.{◌≡◌, ◌∙◌, ℕ, ◌+◌, ◌*◌, ◌<◌, ◌≤◌, ◌++◌, List, [], ◌∷◌, length, take, drop, slice_get, All, sym, refl, ap, ap₂, arith, take-add}
 use Rattle.std.proofs.lemmas.List.{append-nil, length-append, length-drop, length-take, drop-take}
 use Rattle.std.proofs.lemmas.List.Elements.{All-push}
 use Rattle.std.proofs.Math.Seq.{drop-append_seam}

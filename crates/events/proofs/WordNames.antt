@@ -1,12 +1,11 @@
 -- The name that a word is: as many bytes as may stand in one, before a space or the end.
-use Rattle.std.proofs.Common.{◌≡◌, ◌∙◌, ℕ, zero, suc, ◌+◌, ◌<◌, ◌≤◌, ◌++◌, Bool, true, false, cond, List, [], ◌∷◌, length, take, drop, slice_get, sym, refl, ap, subst, arith, eqb}
+use Rattle.std.proofs.Common.{◌≡◌, ◌∙◌, ℕ, suc, ◌+◌, ◌<◌, ◌≤◌, ◌++◌, Bool, true, false, cond, List, [], ◌∷◌, length, take, drop, slice_get, sym, refl, ap, subst, arith}
 use Rattle.std.specs.Prelude.{◌&&◌}
 use Rattle.std.specs.List.{prefix_len, list_all}
 use Rattle.std.proofs.lemmas.Bool.{eqb-true}
 use Rattle.std.proofs.lemmas.List.{append-nil}
 use Rattle.std.proofs.lemmas.List.Folds.{length-prefix_len}
 use Rattle.events.specs.Names.{NameBytes, IsName, is_name_byte}
-use Rattle.events.specs.Packed.{spaced}
 use Rattle.events.specs.Runs.{BeginsWith, may_follow}
 
 -- the first that pass do pass

@@ -470,10 +470,22 @@ fn names_of_texts_are_put(rt: HostRuntime) {
     assert!(rt; begins_with_names(alloc, b" a  b", &["a"], 2));
     assert!(rt; begins_with_names(alloc, b" a b\x07 c", &["a"], 2));
     let long = b" sixteen_letters0 sixteen_letters1x sixteen_letters2 y";
-    let names = ["sixteen_letters0", "sixteen_letters1x", "sixteen_letters2", "y"];
+    let names = [
+        "sixteen_letters0",
+        "sixteen_letters1x",
+        "sixteen_letters2",
+        "y",
+    ];
     assert!(rt; begins_with_names(alloc, long, &names, 54));
     let most = b" a two_times_sixteen_letters_or_so_ b";
-    assert!(rt; begins_with_names(alloc, most, &["a", "two_times_sixteen_letters_or_so_", "b"], 37));
+    assert!(rt;
+        begins_with_names(
+            alloc,
+            most,
+            &["a", "two_times_sixteen_letters_or_so_", "b"],
+            37
+        )
+    );
     let more = b" a two_times_sixteen_letters_and_one b";
     assert!(rt; begins_with_names(alloc, more, &["a"], 2));
 }

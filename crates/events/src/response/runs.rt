@@ -55,7 +55,12 @@ impl Response {
     /// Puts names at the end, whose bytes and ends are these where their first space is at `from`. Where
     /// memory is wanted the response is as it was.
     #[inline(always)]
-    pub(super) fn push_packed(&mut self, bytes: &[u8], ends: &[u32], from: usize) -> Result<(), Memory>
+    pub(super) fn push_packed(
+        &mut self,
+        bytes: &[u8],
+        ends: &[u32],
+        from: usize,
+    ) -> Result<(), Memory>
         requires { (names : List NameBytes) × (All IsName names) × (bytes.now ≡ spaced names)
             × (ends.now ≡ ends_of from names) }
         ensures ok { OnOk result ((names : List NameBytes) → bytes.now ≡ spaced names
@@ -88,8 +93,19 @@ fn put_ends(own: &mut Vec<u32>, ends: &[u32], from: usize, begin: usize)
     requires begin { begin < 2 ^ 32 }
     ensures { own.new.items ≡ own.old.items ++ map (λ end. begin + (end - from)) ends.now }
 {
+    let start = own.len();
+    let _ = own.extend_from_slice(ends);
+    move_ends(&mut own[start..], from, begin);
+}
+
+/// Moves ends, each as far after `begin` as it was after `from`.
+fn move_ends(ends: &mut [u32], from: usize, begin: usize)
+    requires range { All (λ end. (from ≤ end) × (begin + (end - from) < 2 ^ 32)) ends.old }
+    requires begin { begin < 2 ^ 32 }
+    ensures { ends.new ≡ map (λ end. begin + (end - from)) ends.old }
+{
     for k in 0..ends.len() {
-        own.push_reserved((begin + (ends[k] as usize - from)) as u32);
+        ends[k] = (begin + (ends[k] as usize - from)) as u32;
     }
 }
 

@@ -1,5 +1,5 @@
 -- The bytes stand in front of the spaces, the first of which does not pass.
-use Rattle.std.proofs.Common.{◌≡◌, ◌∙◌, ℕ, ◌<◌, ◌++◌, List, length, drop, replicate, refl, ap, arith}
+use Rattle.std.proofs.Common.{refl}
 use Rattle.events.specs.Names.{is_name_byte}
 use Rattle.events.proofs.Prefixes.{padded-stops}
 use Rattle.events.proofs.allowed.allowed_in_few.Goals as goal

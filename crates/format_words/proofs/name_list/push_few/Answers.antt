@@ -1,7 +1,5 @@
 -- The names that the rest begins with, or a word that is one.
-use Rattle.std.proofs.Common.{◌≡◌, ◌∙◌, ℕ, ◌<◌, ◌++◌, [], List, length, drop, sym, ap, arith, length-drop}
-use Rattle.std.proofs.lemmas.List.{append-nil}
-use Rattle.std.proofs.lemmas.Result.{err_from_is_err_and}
+use Rattle.std.proofs.Common.{◌≡◌, ◌∙◌, ℕ, ◌<◌, ◌++◌, List, length, drop, sym, ap, arith, length-drop}
 use Rattle.events.specs.Names.{NameBytes}
 use Rattle.events.specs.Packed.{spaced}
 use Rattle.events.specs.Runs.{AreFirstNames}

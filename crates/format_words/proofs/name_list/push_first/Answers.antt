@@ -1,5 +1,5 @@
 -- The next word is a name, or it is none.
-use Rattle.std.proofs.Common.{◌≡◌, ◌∙◌, ◌++◌, ◌∷◌, [], List, sym, ap}
+use Rattle.std.proofs.Common.{◌∙◌, [], List, sym, ap}
 use Rattle.std.proofs.lemmas.Result.{err_from_is_err_and}
 use Rattle.events.specs.Names.{NameBytes}
 use Rattle.format_words.specs.Words.{words_behind}

@@ -1,5 +1,5 @@
 -- What may stand in a name is a name where it is neither nothing nor too long, and ends with the word.
-use Rattle.std.proofs.Common.{◌≡◌, ◌∙◌, ℕ, ◌∷◌, true, false, List, length, slice_get, sym, ap, arith}
+use Rattle.std.proofs.Common.{◌≡◌, ◌∙◌, ◌∷◌, true, false, length, slice_get, sym, ap, arith}
 use Rattle.events.specs.Runs.{may_follow}
 use Rattle.events.proofs.WordNames.{some-name, name-there}
 use Rattle.events.proofs.response.words.name_size.Goals as goal
