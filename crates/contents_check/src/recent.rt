@@ -1,4 +1,5 @@
-//! The numbers of names that were looked up lately, so that they are found again without a look into the map.
+//! The numbers of names that were looked up lately, or that an operation just seen inserts, so that they are found without
+//! a look into the map.
 
 ghost use Rattle.std.specs.Prelude.{◌≡◌, ◌<◌, ◌^◌};
 ghost use Rattle.contents_check.specs.Known.{number_of, AreNumbered};
@@ -50,7 +51,8 @@ impl Recent {
     }
 }
 
-/// A number as a slot holds it. A recording has fewer elements than 2 ^ 32; a greater number would not be found again.
+/// A number as a slot holds it. A recording has at most 65,536 elements; a number of 2 ^ 32 or more would not be found
+/// again.
 fn in_slot(number: usize) -> u32
     ensures { number < 2 ^ 32 → result ≡ number }
 {

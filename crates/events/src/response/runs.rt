@@ -1,4 +1,4 @@
-//! Names of another response that a text goes on with.
+//! Runs of names: those of another response that a text goes on with, and how a run is put at the end of a response.
 
 ghost use Rattle.std.specs.Prelude.{◌≡◌, ℕ, ◌+◌, ◌-◌, ◌<◌, ◌≤◌, ◌^◌, ◌++◌, Some, All, IfOk, OnOk, OnErr};
 ghost use Rattle.std.specs.Prelude.{List, length, map, take, drop, slice_get, slice_index, vec_len};
@@ -94,6 +94,7 @@ fn put_ends(own: &mut Vec<u32>, ends: &[u32], from: usize, begin: usize)
     ensures { own.new.items ≡ own.old.items ++ map (λ end. begin + (end - from)) ends.now }
 {
     let start = own.len();
+    // There is room, so it does not fail.
     let _ = own.extend_from_slice(ends);
     move_ends(&mut own[start..], from, begin);
 }

@@ -17,7 +17,8 @@ const NONE: u32 = u32::MAX;
 struct Peeling {
     /// The elements that were taken away.
     gone: BitSet,
-    /// For each element one that is left and stands before it.
+    /// For each element the last that stood before it and was left when that was looked up: all that stand before it
+    /// above that one are gone. `NONE` where none was looked up.
     awaited: Vec<u32>,
     /// For each element the first of those that await it.
     first: Vec<u32>,

@@ -6,7 +6,7 @@ use Rattle.format_words.specs.Words.{words_behind}
 use Rattle.format_words.specs.Reading.{names_at, onto}
 use Rattle.format_words.proofs.NameRuns.{onto-nil, onto-word}
 use Rattle.format_words.proofs.NamesRead.{some-word-at, names-stop}
-use Rattle.format_words.proofs.name_list.push_first.Goals as goal
+use Rattle.format_words.proofs.name_list.push_next_word.Goals as goal
 
 pub returns-in_err-word-clause-stop : goal.returns-in_err-word-clause-stop
 returns-in_err-word-clause-stop c = absurd (some-word-at c.args.rest.now c.requires c.in_err-word.ensures.word)
