@@ -1,0 +1,256 @@
+//! The jobs that a user waits for: which traces each has, and what is done with them.
+
+use super::digest::Digest;
+use super::families::{
+    accepted, concurrent, exchanged, lacking, long_responses, nameless, ring, short_lived,
+    small_cycle,
+};
+use super::random::Random;
+use super::shape::{DAY, NEAR_ALL, NEAR_NAMES, SMALL_TEAM, Shape};
+use super::short::{count_of_entries, first_sixteenths, leave_out, line_begins, short_session};
+use super::user::{Form, certify, live, verdict};
+use anyhow::Result;
+use std::alloc::Global;
+use std::sync::Wait;
+use std::thread::Threads;
+
+/// How many workers `verdict` and `cert` have by default.
+const WORKERS: u32 = 4;
+
+/// How large a job's sessions are.
+#[derive(Clone, Copy)]
+pub enum Scale {
+    /// As in the benchmark.
+    Full,
+    /// So small that a run takes no time.
+    Small,
+}
+
+impl Scale {
+    /// The shape at this scale.
+    fn of(self, shape: Shape) -> Shape {
+        match self {
+            Scale::Full => shape,
+            Scale::Small => Shape {
+                entries: (shape.entries / 16).min(120),
+                inserts: (shape.inserts / 8).min(20),
+                places: (shape.places / 64).min(1500),
+                ..shape
+            },
+        }
+    }
+
+    /// So many times at full scale, and once at the small one.
+    fn times(self, times: u64) -> u64 {
+        match self {
+            Scale::Full => times,
+            Scale::Small => 1,
+        }
+    }
+}
+
+/// Has a session judged when so many sixteenths of its trace are there, for each of these, and when all is.
+fn as_it_grows<H: Threads + Sync>(
+    rt: &H,
+    alloc: Global,
+    digest: &mut Digest,
+    trace: &[u8],
+    sixteenths: &[usize],
+    workers: u32,
+    form: Form,
+) -> Result<()> {
+    for count in sixteenths {
+        let part = first_sixteenths(trace, *count);
+        verdict(rt, alloc, digest, part, workers, form)?;
+    }
+    verdict(rt, alloc, digest, trace, workers, form)
+}
+
+/// When a session is judged whose making takes long beside that: at each eighth.
+const OFTEN: &[usize] = &[2, 4, 6, 8, 10, 12, 14];
+
+/// When others are: at each quarter.
+const SOMETIMES: &[usize] = &[4, 8, 12];
+
+/// When one is judged in which groups have heard of each other.
+const HEARD: &[usize] = &[10, 11, 12, 13, 14, 15];
+
+/// Long sessions, accepted or with a first fault, from the text of the trace to the report, as they grow.
+pub fn long<H: Threads + Sync>(
+    rt: &H,
+    alloc: Global,
+    digest: &mut Digest,
+    seed: u64,
+    scale: Scale,
+) -> Result<()> {
+    for i in 0..scale.times(4) {
+        let trace = accepted(alloc, scale.of(SMALL_TEAM), seed ^ i)?;
+        as_it_grows(rt, alloc, digest, &trace, OFTEN, WORKERS, Form::Json)?;
+    }
+    let trace = accepted(alloc, scale.of(DAY), seed)?;
+    as_it_grows(rt, alloc, digest, &trace, OFTEN, WORKERS, Form::Text)?;
+    let trace = accepted(alloc, scale.of(NEAR_NAMES), seed)?;
+    as_it_grows(rt, alloc, digest, &trace, SOMETIMES, 1, Form::Text)?;
+    let trace = lacking(alloc, scale.of(DAY), seed)?;
+    as_it_grows(rt, alloc, digest, &trace, OFTEN, WORKERS, Form::Text)?;
+    let trace = long_responses(alloc, scale.of(NEAR_NAMES), seed)?;
+    as_it_grows(rt, alloc, digest, &trace, SOMETIMES, 1, Form::Json)?;
+    let trace = accepted(alloc, scale.of(NEAR_ALL), seed)?;
+    as_it_grows(rt, alloc, digest, &trace, OFTEN, 1, Form::Text)
+}
+
+/// Thousands of short sessions, and what a shrinker makes of them.
+pub fn short<H: Threads + Sync>(
+    rt: &H,
+    alloc: Global,
+    digest: &mut Digest,
+    seed: u64,
+    scale: Scale,
+) -> Result<()> {
+    let mut random = Random::new(seed);
+    let mut rest = Vec::new(alloc);
+    for i in 0..scale.times(2000) {
+        let trace = short_session(alloc, &mut random, seed ^ i << 20)?;
+        verdict(rt, alloc, digest, &trace, 1, Form::Json)?;
+        let begins = line_begins(alloc, &trace)?;
+        for entry in 0..count_of_entries(&begins) {
+            leave_out(&mut rest, &trace, &begins, entry)?;
+            verdict(rt, alloc, digest, &rest, 1, Form::Json)?;
+        }
+    }
+    Ok(())
+}
+
+/// Sessions in which two and more responses can't be right together. What groups show is judged on the way too, when they
+/// have heard of each other.
+pub fn refused<H: Threads + Sync>(
+    rt: &H,
+    alloc: Global,
+    digest: &mut Digest,
+    seed: u64,
+    scale: Scale,
+) -> Result<()> {
+    let trace = exchanged(alloc, scale.of(NEAR_NAMES), seed)?;
+    verdict(rt, alloc, digest, &trace, WORKERS, Form::Text)?;
+    let trace = small_cycle(alloc, scale.of(NEAR_NAMES), seed)?;
+    verdict(rt, alloc, digest, &trace, WORKERS, Form::Text)?;
+    for groups in [3, 8, 16] {
+        let shape = Shape {
+            groups,
+            grows: groups == 8,
+            ..NEAR_NAMES
+        };
+        let trace = ring(alloc, scale.of(shape), seed ^ groups as u64)?;
+        as_it_grows(rt, alloc, digest, &trace, HEARD, WORKERS, Form::Text)?;
+    }
+    let shape = Shape { groups: 5, ..DAY };
+    let trace = ring(alloc, scale.of(shape), seed)?;
+    as_it_grows(rt, alloc, digest, &trace, HEARD, WORKERS, Form::Text)?;
+    let shape = Shape {
+        replicas: 3,
+        groups: 3,
+        inserts: 1200,
+        ..NEAR_NAMES
+    };
+    for i in 0..scale.times(2) {
+        let trace = ring(alloc, scale.of(shape), seed ^ i << 8)?;
+        as_it_grows(rt, alloc, digest, &trace, HEARD, WORKERS, Form::Json)?;
+    }
+    Ok(())
+}
+
+/// Certificates of sessions that are refused with three and more responses, made and checked.
+pub fn certificates<H: Threads + Sync>(
+    rt: &H,
+    alloc: Global,
+    digest: &mut Digest,
+    seed: u64,
+    scale: Scale,
+) -> Result<()> {
+    let trace = small_cycle(alloc, scale.of(NEAR_NAMES), seed)?;
+    certify(rt, alloc, digest, &trace, WORKERS)?;
+    for groups in [3, 8, 16] {
+        let shape = Shape {
+            groups,
+            grows: groups == 8,
+            ..NEAR_NAMES
+        };
+        let trace = ring(alloc, scale.of(shape), seed ^ groups as u64)?;
+        certify(rt, alloc, digest, &trace, WORKERS)?;
+    }
+    let shape = Shape {
+        groups: 16,
+        inserts: 1024,
+        places: 65_536,
+        ..NEAR_ALL
+    };
+    let trace = ring(alloc, scale.of(shape), seed)?;
+    certify(rt, alloc, digest, &trace, WORKERS)
+}
+
+/// Live sessions: a recorder for each replica beside a watcher.
+pub fn lively<H: Threads + Wait + Sync>(
+    rt: &H,
+    alloc: Global,
+    digest: &mut Digest,
+    seed: u64,
+    scale: Scale,
+) -> Result<()> {
+    for i in 0..scale.times(4) {
+        let trace = accepted(alloc, scale.of(SMALL_TEAM), seed ^ i)?;
+        live_as_it_grows(rt, alloc, digest, &trace)?;
+    }
+    for i in 0..scale.times(2) {
+        let trace = small_cycle(alloc, scale.of(DAY), seed ^ i << 8)?;
+        live_as_it_grows(rt, alloc, digest, &trace)?;
+        let trace = accepted(alloc, scale.of(DAY), seed ^ i << 8)?;
+        live_as_it_grows(rt, alloc, digest, &trace)?;
+    }
+    let trace = accepted(alloc, scale.of(NEAR_NAMES), seed)?;
+    live_as_it_grows(rt, alloc, digest, &trace)
+}
+
+/// A live session of the first half of a trace, and one of all.
+fn live_as_it_grows<H: Threads + Wait + Sync>(
+    rt: &H,
+    alloc: Global,
+    digest: &mut Digest,
+    trace: &[u8],
+) -> Result<()> {
+    live(rt, alloc, digest, first_sixteenths(trace, 8), WORKERS)?;
+    live(rt, alloc, digest, trace, WORKERS)
+}
+
+/// Awkward sessions: windows of long lists, long names, lists without a name, elements that all come at the same time,
+/// and elements that are gone before another replica shows them.
+pub fn awkward<H: Threads + Sync>(
+    rt: &H,
+    alloc: Global,
+    digest: &mut Digest,
+    seed: u64,
+    scale: Scale,
+) -> Result<()> {
+    let shape = Shape {
+        views: 900,
+        ..NEAR_NAMES
+    };
+    let trace = accepted(alloc, scale.of(shape), seed)?;
+    as_it_grows(rt, alloc, digest, &trace, SOMETIMES, 1, Form::Text)?;
+    let trace = long_responses(alloc, scale.of(shape), seed)?;
+    as_it_grows(rt, alloc, digest, &trace, SOMETIMES, 1, Form::Text)?;
+    let trace = accepted(alloc, scale.of(Shape { width: 32, ..DAY }), seed)?;
+    as_it_grows(rt, alloc, digest, &trace, SOMETIMES, 1, Form::Text)?;
+    let trace = nameless(alloc, scale.of(NEAR_ALL), seed)?;
+    as_it_grows(rt, alloc, digest, &trace, SOMETIMES, 1, Form::Text)?;
+    let trace = concurrent(
+        alloc,
+        scale.of(Shape {
+            inserts: 240,
+            ..NEAR_NAMES
+        }),
+        seed,
+    )?;
+    as_it_grows(rt, alloc, digest, &trace, SOMETIMES, 1, Form::Text)?;
+    let trace = short_lived(alloc, scale.of(NEAR_ALL), seed)?;
+    as_it_grows(rt, alloc, digest, &trace, SOMETIMES, 1, Form::Text)
+}
