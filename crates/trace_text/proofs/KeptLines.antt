@@ -272,6 +272,21 @@ word-kept kept few line k = record {
   few_word = omega arith;
 }
 
+-- whole words at once, and the begin of one more
+pub at-once-kept : (kept : Kept) (bytes words part : List ℕ) → bytes ≡ words ++ part → HasNoSpace part → ((front : List ℕ) × (words ≡ front ++ 32 ∷ []))
+    → length part ≤ 32 → length kept.whole + length kept.word + length bytes ≤ 135334
+    → Keeps kept bytes (record { whole = (kept.whole ++ kept.word) ++ words; word = part })
+at-once-kept kept bytes words part is alone ends few room line k =
+    let front : List ℕ = kept.whole ++ kept.word in
+    let same : front ++ bytes ≡ (front ++ words) ++ part = ap (λ b. front ++ b) is ∙ sym (append_assoc front words part) in
+    record {
+      stands = subst (λ (l : Line). StandsFor l (line ++ bytes)) same (stands-on front line bytes k.stands);
+      ends = inr (front ++ ends.0, ap (λ w. front ++ w) ends.1 ∙ sym (append_assoc front ends.0 (32 ∷ [])));
+      one_word = alone;
+      few_whole = omega (arith, room, ap length is, length-append words part, length-append front words, length-append kept.whole kept.word);
+      few_word = few;
+    }
+
 long-front : (whole : Line) → EndsWithWord whole → 135334 ≤ length whole → (front : Line) × (whole ≡ front ++ 32 ∷ []) × (135333 ≤ length front)
 long-front whole (inl none) long = absurd (omega (arith, ap length none, long))
 long-front whole (inr (front, is)) long = (front, is, omega (arith, ap length is, long, length-append front (32 ∷ [])))

@@ -1,6 +1,6 @@
 //! What is kept of a line whose LF has not come, however long it grows.
 
-ghost use Rattle.std.specs.Prelude.{◌≡◌, ◌↔◌, ◌∷◌, ◌++◌, true, MatchOption};
+ghost use Rattle.std.specs.Prelude.{◌≡◌, ◌↔◌, ◌∷◌, ◌++◌, [], ℕ, true, IfSome, List, MatchOption};
 ghost use Rattle.events.specs.Names.{IsName};
 ghost use Rattle.trace_text.specs.Kept.{HasNoSpace};
 
@@ -17,8 +17,8 @@ const LONG_LINE: usize = 135_334;
 /// A line that is judged as the line that came so far, whatever follows.
 ///
 /// It is the line itself until its whole words are longer than the longest right line. Names that follow
-/// these are left out. Where a word has more than 32 bytes, or one that follows these is no name, the line
-/// can't be right any more: then one space stands for it, since no right line begins so.
+/// these are left out. Where a word that bytes leave begun has more than 32 bytes, or one that follows these is no name, the
+/// line can't be right any more: then one space stands for it, since no right line begins so.
 #[derive(Drop)]
 pub struct KeptLine {
     whole: Vec<u8>,
@@ -42,6 +42,15 @@ fn split_word(text: &[u8]) -> Option<(&[u8], &[u8])>
     Some((&text[..end], &text[end + 1..]))
 }
 
+/// What stands up to the last space, with that, and what follows it; none where there is no space.
+fn split_last_word(text: &[u8]) -> Option<(&[u8], &[u8])>
+    ensures last { IfSome result (λ x. HasNoSpace x.1.now × (text.now ≡ x.0.now ++ x.1.now)) }
+    ensures words { IfSome result (λ x. (front : List ℕ) × (x.0.now ≡ front ++ 32 ∷ [])) }
+{
+    let end = text.iter().rposition(|byte| *byte == b' ')? + 1;
+    Some((&text[..end], &text[end..]))
+}
+
 /// Whether the word is a name.
 #[tactic(auto, unfolding(format_words::specs::Reading::name_of))]
 fn is_name(word: &[u8]) -> bool
@@ -51,7 +60,7 @@ fn is_name(word: &[u8]) -> bool
 }
 
 impl KeptLine {
-    ghost use Rattle.std.specs.Prelude.{◌≡◌, ◌↔◌, ◌<◌, ◌^◌, ◌∷◌, ◌++◌, [], length, OnOk, true};
+    ghost use Rattle.std.specs.Prelude.{◌≡◌, ◌↔◌, ◌<◌, ◌≤◌, ◌+◌, ◌^◌, ◌∷◌, ◌++◌, [], length, OnOk, true};
     ghost use Rattle.events.specs.Names.{IsName};
     ghost use Rattle.trace_text.specs.Kept.{EMPTY, GIVEN_UP, HasNoSpace, Keeps};
 
@@ -167,14 +176,44 @@ impl KeptLine {
         Ok(())
     }
 
-    /// Adds bytes of the line. It takes time in proportion to them.
+    /// Adds bytes of the line. It takes time in proportion to them. Where they end a word and the line is not long yet, all
+    /// that they have of whole words is put behind the word begun at once.
     pub fn add(&mut self, bytes: &[u8]) -> Result<(), Memory>
         ensures { OnOk result (Keeps self.old bytes.now self.new) }
     {
         if self.is_given_up() {
             return Ok(());
         }
+        if let Some((words, part)) = split_last_word(bytes) {
+            if part.len() <= MOST_BYTES as usize && self.has_room(bytes) {
+                return self.add_at_once(words, part);
+            }
+        }
         self.add_words(bytes)
+    }
+
+    /// Whether the line is not long with these bytes.
+    fn has_room(&self, bytes: &[u8]) -> bool
+        ensures { result ≡ true → length self.now.whole + length self.now.word + length bytes.now ≤ LONG_LINE }
+    {
+        match LONG_LINE.checked_sub(bytes.len()) {
+            None => false,
+            Some(room) => self.whole_len() <= room && self.word_len() <= room - self.whole_len(),
+        }
+    }
+
+    /// Adds whole words, of which the first goes on with the word begun, and the begin of one more.
+    fn add_at_once(&mut self, words: &[u8], part: &[u8]) -> Result<(), Memory>
+        ensures { OnOk result (self.new ≡ record {
+          whole = (self.old.whole ++ self.old.word) ++ words.now;
+          word = part.now;
+        }) }
+    {
+        self.whole.extend_from_slice(self.word.as_slice())?;
+        self.whole.extend_from_slice(words)?;
+        self.word.clear();
+        self.word.extend_from_slice(part)?;
+        Ok(())
     }
 
     /// Adds bytes of the line, word by word, until one space stands for the line.
