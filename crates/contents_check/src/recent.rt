@@ -6,22 +6,40 @@ ghost use Rattle.contents_check.specs.Known.{number_of, AreNumbered};
 
 use super::changes::Change;
 use super::elements::Elements;
-use events::Name;
+use events::{Memory, Name};
+use std::alloc::Global;
 
-/// How many numbers are kept.
+/// How many numbers are kept at most.
 const SLOTS: usize = 1024;
 
 /// For each slot the number of an element whose name was looked up lately. Names share slots, so a number
-/// is believed only where its element has the name.
+/// is believed only where its element has the name. The mask is one less than the number of slots, a power of two.
 #[derive(Drop)]
 pub struct Recent {
-    slots: [u32; SLOTS],
+    slots: Vec<u32>,
+    mask: usize,
+}
+
+/// One less than the number of slots for so many elements: a power of two, two to four times as many as these, but at most
+/// `SLOTS`. It decides cost alone.
+fn mask_for(elements: usize) -> usize {
+    let mut mask = SLOTS - 1;
+    for _ in 0..10 {
+        if mask / 4 < elements {
+            return mask;
+        }
+        mask /= 2;
+    }
+    mask
 }
 
 impl Recent {
-    /// Nothing was looked up: each slot holds 0, which is believed only where element 0 has the name.
-    pub fn new() -> Recent {
-        Recent { slots: [0; SLOTS] }
+    /// Nothing was looked up: each slot holds 0, which is believed only where element 0 has the name. It takes memory for
+    /// the slots.
+    pub fn new(alloc: Global, elements: &Elements) -> Result<Recent, Memory> {
+        let mask = mask_for(elements.list.len());
+        let slots = vec![in alloc; 0; mask.saturating_add(1)]?;
+        Ok(Recent { slots, mask })
     }
 
     /// The number of a name. It costs one comparison of names where the name was looked up lately, and
@@ -31,12 +49,12 @@ impl Recent {
         ensures { result ≡ number_of elements.now name.now }
     {
         let slot = slot_of(name) as usize;
-        let kept = self.slots[slot] as usize;
+        let kept = self.kept(slot);
         if elements.is_number_of(kept, name) {
             return Some(kept);
         }
         let number = elements.number(name)?;
-        self.slots[slot] = in_slot(number);
+        self.keep(slot, number);
         Some(number)
     }
 
@@ -45,8 +63,25 @@ impl Recent {
     pub fn expect(&mut self, elements: &Elements, change: Change) {
         if let Change::Insert(number) = change {
             if let Some(slot) = elements.slots.get(number) {
-                self.slots[*slot as usize % SLOTS] = in_slot(number);
+                self.keep(*slot as usize, number);
             }
+        }
+    }
+
+    /// The number in a slot.
+    #[inline(always)]
+    fn kept(&self, slot: usize) -> usize {
+        match self.slots.get(slot & self.mask) {
+            Some(number) => *number as usize,
+            None => 0,
+        }
+    }
+
+    /// Puts a number into a slot.
+    #[inline(always)]
+    fn keep(&mut self, slot: usize, number: usize) {
+        if let Some(place) = self.slots.get_mut(slot & self.mask) {
+            *place = in_slot(number);
         }
     }
 }
