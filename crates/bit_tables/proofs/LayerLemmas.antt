@@ -12,37 +12,38 @@ use Rattle.bit_tables.specs.Rule.{StandsBelow, AreDepths, MeetsRule}
 abbrev pub IsAmongFirst : ℕ → List ℕ → ℕ → Type 0
 IsAmongFirst i w x = (k : ℕ) × (k < i) × (get_or w k x ≡ x)
 
--- what is known of the first m layers: the numbers below the first that counts are among those that stand
-pub record IsTested (first m : ℕ) (layers rows : List (List ℕ)) (standing shown : List ℕ) : Type 0 where
+-- what is known of the first m layers: the numbers below the first that counts are among those that stand; of those that
+-- are shown from the least on
+pub record IsTested (first least m : ℕ) (layers rows : List (List ℕ)) (standing shown : List ℕ) : Type 0 where
   pub standing_is : (y : ℕ) → Has standing y ↔ ((y < first) ⊎ StandsBelow m layers y)
-  pub shown_is : (y : ℕ) → Has shown y ↔ ((x : ℕ) × StandsBelow m layers x × Has (row_of rows x) y)
+  pub shown_is : (y : ℕ) → least ≤ y → Has shown y ↔ ((x : ℕ) × StandsBelow m layers x × Has (row_of rows x) y)
   pub gradual : (j x y : ℕ) → j < m → StandsBelow j layers x → Has (row_of rows x) y → first ≤ y → StandsBelow (j + 1) layers y
 
 -- the row of one number more
 pub successors_step : (rows : List (List ℕ)) (w : List ℕ) (i : ℕ) (old into new row : List ℕ) → i < length w → row ≡ row_of rows (get_or w i 0)
-    → ((y : ℕ) → Has into y ↔ (Has old y ⊎ ((x : ℕ) × IsAmongFirst i w x × Has (row_of rows x) y)))
-    → ((y : ℕ) → Has new y ↔ (Has into y ⊎ Has row y))
-    → (y : ℕ) → Has new y ↔ (Has old y ⊎ ((x : ℕ) × IsAmongFirst (i + 1) w x × Has (row_of rows x) y))
-successors_step rows w i old into new row within is before grown y =
+    → (least : ℕ) → ((y : ℕ) → least ≤ y → Has into y ↔ (Has old y ⊎ ((x : ℕ) × IsAmongFirst i w x × Has (row_of rows x) y)))
+    → ((y : ℕ) → least ≤ y → Has new y ↔ (Has into y ⊎ Has row y))
+    → (y : ℕ) → least ≤ y → Has new y ↔ (Has old y ⊎ ((x : ℕ) × IsAmongFirst (i + 1) w x × Has (row_of rows x) y))
+successors_step rows w i old into new row within is least before grown y from =
     let first : ℕ = get_or w i 0 in (
-      λ has. elim ((grown y).0 has) [
+      λ has. elim ((grown y from).0 has) [
         | inl was ↦
-            elim ((before y).0 was) [
+            elim ((before y from).0 was) [
               | inl o ↦ inl o
               | inr s ↦ inr (s.0, (s.1.0, (omega arith), s.1.2), s.2)
             ]
         | inr here ↦ inr (first, (i, (omega arith), get_or_default w i first 0 within), rw is at here)
       ],
-      λ h. (grown y).1
+      λ h. (grown y from).1
           (elim h [
-            | inl o ↦ inl ((before y).1 (inl o))
+            | inl o ↦ inl ((before y from).1 (inl o))
             | inr s ↦
                 elim (cases_eq s.1.0 i) [
                   | inl last ↦
                       let at : get_or w i s.0 ≡ s.0 = ap (λ k. get_or w k s.0) (sym last) ∙ s.1.2 in
                       let same : first ≡ s.0 = get_or_default w i 0 s.0 within ∙ at in
                       inr (rw (is, same) s.2)
-                  | inr past ↦ inl ((before y).1 (inr (s.0, (s.1.0, (omega arith), s.1.2), s.2)))
+                  | inr past ↦ inl ((before y from).1 (inr (s.0, (s.1.0, (omega arith), s.1.2), s.2)))
                 ]
           ]),
     )
@@ -89,9 +90,9 @@ stands_from first layers ok m x (i, low, (k, inside, at)) =
     ]
 
 -- before the first layer
-pub tested_none : (first : ℕ) (layers rows : List (List ℕ)) (standing shown : List ℕ) → ((y : ℕ) → Has standing y ↔ (y < first)) → ((y : ℕ) → ¬ Has shown y)
-    → IsTested first 0 layers rows standing shown
-tested_none first layers rows standing shown below none_shown = record {
+pub tested_none : (first least : ℕ) (layers rows : List (List ℕ)) (standing shown : List ℕ) → ((y : ℕ) → Has standing y ↔ (y < first)) → ((y : ℕ) → ¬ Has shown y)
+    → IsTested first least 0 layers rows standing shown
+tested_none first least layers rows standing shown below none_shown = record {
   standing_is = λ y. (
     λ has. inl ((below y).0 has),
     λ s. elim s [
@@ -99,11 +100,11 @@ tested_none first layers rows standing shown below none_shown = record {
       | inr stands ↦ absurd (let none : stands.0 < 0 = stands.1 in omega arith)
     ],
   );
-  shown_is = λ y. (λ has. absurd (none_shown y has), λ s. absurd (let low : s.1.0 < 0 = s.1.1 in omega arith));
+  shown_is = λ y _. (λ has. absurd (none_shown y has), λ s. absurd (let low : s.1.0 < 0 = s.1.1 in omega arith));
   gradual = λ j x y low. absurd (omega arith);
 }
 
-module _ (first m : ℕ) (layers rows : List (List ℕ)) (standing shown standing' : List ℕ) (is : IsTested first m layers rows standing shown)
+module _ (first least m : ℕ) (low_least : least ≤ first) (layers rows : List (List ℕ)) (standing shown standing' : List ℕ) (is : IsTested first least m layers rows standing shown)
     (grown : (y : ℕ) → Has standing' y ↔ (Has standing y ⊎ Contains (get_or layers m []) y)) where
   standing_more : (y : ℕ) → Has standing' y ↔ ((y < first) ⊎ StandsBelow (m + 1) layers y)
   standing_more y = (
@@ -131,7 +132,7 @@ module _ (first m : ℕ) (layers rows : List (List ℕ)) (standing shown standin
         | inl last ↦
             let by_m : StandsBelow m layers x = rw last at stands in
             let next : StandsBelow (m + 1) layers y =
-            elim ((standing_more y).0 (subset y ((is.shown_is y).1 (x, by_m, has)))) [
+            elim ((standing_more y).0 (subset y ((is.shown_is y (omega (arith, low_least, from))).1 (x, by_m, has)))) [
               | inl less ↦ absurd (omega (arith, less, from))
               | inr s ↦ s
             ] in
@@ -140,25 +141,25 @@ module _ (first m : ℕ) (layers rows : List (List ℕ)) (standing shown standin
       ]
 
   -- what is shown by one layer more
-  pub shown_more : (y : ℕ) → (Has shown y ⊎ ((x : ℕ) × Contains (get_or layers m []) x × Has (row_of rows x) y)) ↔ ((x : ℕ) × StandsBelow (m + 1) layers x × Has (row_of rows x) y)
-  shown_more y = (
+  pub shown_more : (y : ℕ) → least ≤ y → (Has shown y ⊎ ((x : ℕ) × Contains (get_or layers m []) x × Has (row_of rows x) y)) ↔ ((x : ℕ) × StandsBelow (m + 1) layers x × Has (row_of rows x) y)
+  shown_more y from = (
     λ has. elim has [
-      | inl was ↦ let s = (is.shown_is y).0 was in (s.0, stands_before m (m + 1) layers s.0 (omega arith) s.1, s.2)
+      | inl was ↦ let s = (is.shown_is y from).0 was in (s.0, stands_before m (m + 1) layers s.0 (omega arith) s.1, s.2)
       | inr s ↦ (s.0, (m, (omega arith), s.1), s.2)
     ],
     λ s. elim (stands_more m layers s.0 s.1) [
-      | inl before ↦ inl ((is.shown_is y).1 (s.0, before, s.2))
+      | inl before ↦ inl ((is.shown_is y from).1 (s.0, before, s.2))
       | inr here ↦ inr (s.0, here, s.2)
     ],
   )
 
   -- one layer more
   pub tested_step : (shown' : List ℕ) → ((y : ℕ) → Has shown y → Has standing' y)
-      → ((y : ℕ) → Has shown' y ↔ (Has shown y ⊎ ((x : ℕ) × Contains (get_or layers m []) x × Has (row_of rows x) y)))
-      → IsTested first (m + 1) layers rows standing' shown'
+      → ((y : ℕ) → least ≤ y → Has shown' y ↔ (Has shown y ⊎ ((x : ℕ) × Contains (get_or layers m []) x × Has (row_of rows x) y)))
+      → IsTested first least (m + 1) layers rows standing' shown'
   tested_step shown' subset more = record {
     standing_is = standing_more;
-    shown_is = λ y. (λ has. (shown_more y).0 ((more y).0 has), λ s. (more y).1 ((shown_more y).1 s));
+    shown_is = λ y from. (λ has. (shown_more y from).0 ((more y from).0 has), λ s. (more y from).1 ((shown_more y from).1 s));
     gradual = gradual_more subset;
   }
 
@@ -167,13 +168,13 @@ module _ (first m : ℕ) (layers rows : List (List ℕ)) (standing shown standin
       → All (λ layer. All (λ x. x < n) layer) layers → IsTableOf n lists rows → AreDepths first layers depth → MeetsRule lists first source (length layers) depth
       → (y : ℕ) → Has shown y → Has standing' y
   tested_subset n source lists depth within ahead ok table depths meets y has =
-      let s = (is.shown_is y).0 has in
-      let low : s.0 < n = stands_within n layers ok m s.0 s.1 in
-      let high : first ≤ s.0 = stands_from first layers ahead m s.0 s.1 in
-      let shallow : depth s.0 < m = (depths.below m s.0 high (omega arith)).1 s.1 in
       (standing_more y).1 (elim (cases_lt y first) [
         | inl less ↦ inl less
         | inr from ↦
+            let s = (is.shown_is y (omega (arith, low_least, from))).0 has in
+            let low : s.0 < n = stands_within n layers ok m s.0 s.1 in
+            let high : first ≤ s.0 = stands_from first layers ahead m s.0 s.1 in
+            let shallow : depth s.0 < m = (depths.below m s.0 high (omega arith)).1 s.1 in
             let step : depth y ≤ depth s.0 + 1 = meets.gradual s.0 y high from ((table.shown s.0 y low).0 s.2) in
             inr ((depths.below (m + 1) y from (omega arith)).0 (omega arith))
       ])

@@ -7,9 +7,10 @@ use Rattle.std.proofs.lemmas.Bool.{cases_eq, cases_lt}
 use Rattle.std.proofs.lemmas.List.{get_or_append_left, get_or_default, length-append}
 use Rattle.std.proofs.Math.Seq.{get_or-append_seam}
 use Rattle.std.proofs.lemmas.List.Elements.{Contains-push, Contains-append_left, Contains-push_cases}
-use Rattle.std.proofs.lemmas.Nat.Bits.{bit_at_and, bit_at_not, bit_at-zero, bit_at-lt, shr_and_one}
+use Rattle.std.proofs.lemmas.Nat.Bits.{bit_at_and, bit_at_not, bit_at-zero, bit_at-lt, bit_at_above, shr_and_one}
+use Rattle.std.proofs.lemmas.Nat.{and_le_l, pow-add}
+use native.Mathlib.Nat.{div-div-eq-div-mul, div-le_self}
 use Rattle.bit_tables.specs.Sets.{Has}
-use Rattle.bit_tables.specs.Lists.{row_of}
 use Rattle.bit_tables.specs.Ways.{AreThoseBelow}
 
 pub not_in-none : (x : ℕ) → ¬ Contains {X = ℕ} [] x
@@ -94,6 +95,11 @@ module _ (P : ℕ → Type 0) where
       let low : x < n = ((are.has x).0 there).0 in
       omega (arith, low, le)
 
+-- a set has a number or not
+pub cases_has : (set : List ℕ) (x : ℕ) → Has set x ⊎ (¬ Has set x)
+unfolding Has
+cases_has set x = cases_eq (bit_at (get_or set (x / 64) 0) (x % 64)) 1
+
 -- the bits of one word that another has not
 pub lacking-bit : (a b i : ℕ) → b < 2 ^ 64 → i < 64 → (bit_at (bit_and a (bit_not w64 b)) i ≡ 1) ↔ ((bit_at a i ≡ 1) × (bit_at b i ≡ 1 → ⊥))
 lacking-bit a b i small low =
@@ -130,3 +136,51 @@ module _ (set other : List ℕ) (word a b : ℕ) (one : a ≡ get_or set word 0)
   lacking-test i low =
       let each = lacking-has i low in
       rw (shr_and_one) (λ t. each.0 (eqb-true _ 1 t), λ h. eq-eqb _ 1 (each.1 h))
+
+  -- and of the word from a place on
+  module _ (place : ℕ) (low_place : place < 64) where
+    pub rest-bit : (j : ℕ) → bit_at (bit_and a (bit_not w64 b) / 2 ^ place) j ≡ bit_at (bit_and a (bit_not w64 b)) (place + j)
+    rest-bit j =
+        let n : ℕ = bit_and a (bit_not w64 b) in
+        ap (λ m. m % 2) (div-div-eq-div-mul n (2 ^ place) (2 ^ j) ∙ ap (λ m. n / m) (sym (pow-add 2 place j)))
+
+    -- where the first bits of the rest are 0, what the set has of these numbers the other has too
+    pub rest-before : (count : ℕ) → ((j : ℕ) → j < count → bit_at (bit_and a (bit_not w64 b) / 2 ^ place) j ≡ 0)
+        → (x : ℕ) → x / 64 ≡ word → place ≤ x % 64 → x % 64 < place + count → Has set x → Has other x
+    rest-before count zeros x here from before has =
+        let j : ℕ = x % 64 - place in
+        let at : place + j ≡ x % 64 = omega arith in
+        let same : 64 * word + x % 64 ≡ x = omega arith in
+        let bit : bit_at (bit_and a (bit_not w64 b)) (x % 64) ≡ 0 = ap (λ i. bit_at (bit_and a (bit_not w64 b)) i) (sym at) ∙ sym (rest-bit j) ∙ zeros j (omega arith) in
+        elim (cases_has other x) [
+          | inl there ↦ there
+          | inr lacks ↦
+              let one : bit_at (bit_and a (bit_not w64 b)) (x % 64) ≡ 1 = (lacking-has (x % 64) (omega arith)).1 (subst (λ y. Has set y × (¬ Has other y)) (sym same) (has, lacks)) in
+              absurd (omega (arith, bit, one))
+        ]
+
+    pub rest-none : bit_and a (bit_not w64 b) / 2 ^ place ≡ 0 → (x : ℕ) → x / 64 ≡ word → place ≤ x % 64 → Has set x → Has other x
+    rest-none zero x here from has = rest-before 64 (λ j low. ap (λ w. bit_at w j) zero ∙ bit_at-zero j) x here from (omega arith) has
+
+    -- the first bit of the rest that is 1
+    pub rest-small : a < 2 ^ 64 → bit_and a (bit_not w64 b) / 2 ^ place < 2 ^ 64
+    rest-small fits =
+        let n : ℕ = bit_and a (bit_not w64 b) in
+        let less : n ≤ a = and_le_l a (bit_not w64 b) in
+        let part : n / 2 ^ place ≤ n = div-le_self n (2 ^ place) in
+        omega (arith, fits, less, part)
+
+    pub rest-first : (i : ℕ) → place + i < 64 → bit_at (bit_and a (bit_not w64 b) / 2 ^ place) i ≡ 1
+        → Has set (64 * word + place + i) × (¬ Has other (64 * word + place + i))
+    rest-first i low bit =
+        let same : 64 * word + (place + i) ≡ 64 * word + place + i = omega arith in
+        subst (λ y. Has set y × (¬ Has other y)) same ((lacking-has (place + i) low).0 (sym (rest-bit i) ∙ bit))
+
+    pub rest-within : (i : ℕ) → a < 2 ^ 64 → bit_at (bit_and a (bit_not w64 b) / 2 ^ place) i ≡ 1 → place + i < 64
+    rest-within i fits bit = elim (cases_lt (place + i) 64) [
+      | inl low ↦ low
+      | inr high ↦
+          let less : bit_and a (bit_not w64 b) ≤ a = and_le_l a (bit_not w64 b) in
+          let none : bit_at (bit_and a (bit_not w64 b)) (place + i) ≡ 0 = bit_at_above (bit_and a (bit_not w64 b)) 64 (place + i) (omega (arith, less, fits)) high in
+          absurd (omega (arith, sym (rest-bit i) ∙ bit, none))
+    ]

@@ -30,7 +30,7 @@ row-within rows c x has = elim (cases_lt c (length rows)) [
 pub record IsWalked (most n first source m : ℕ) (rows layers : List (List ℕ)) (reached shown : List ℕ) : Type 0 where
   pub count : length layers ≡ m
   pub reached_is : (y : ℕ) → Has reached y ↔ ((y < first) ⊎ StandsBelow m layers y)
-  pub shown_is : m < most → (y : ℕ) → Has shown y ↔ ((y ≡ source) ⊎ ((x : ℕ) × StandsBelow m layers x × Has (row_of rows x) y))
+  pub shown_is : m < most → (y : ℕ) → first ≤ y → Has shown y ↔ ((y ≡ source) ⊎ ((x : ℕ) × StandsBelow m layers x × Has (row_of rows x) y))
   pub sound : (j x : ℕ) → j < m → Contains (at layers j) x → (x < n) × Way rows first j source x
   pub found : (j x : ℕ) → j < m → x < n → Way rows first j source x → StandsBelow (j + 1) layers x
   pub apart : (i j x : ℕ) → i < j → j < m → Contains (at layers i) x → Contains (at layers j) x → ⊥
@@ -50,7 +50,7 @@ module _ (most n first source : ℕ) (rows : List (List ℕ)) (size : length row
       λ has. inl ((below y).0 has),
       λ s. elim s [ inl low ↦ (below y).1 low | inr stands ↦ absurd (let none : stands.0 < 0 = stands.1 in omega (arith, none)) ],
     );
-    shown_is = λ _ y. (
+    shown_is = λ _ y _. (
       λ has. inl ((source_alone y).0 has),
       λ s. elim s [ inl e ↦ (source_alone y).1 e | inr p ↦ absurd (let none : p.1.0 < 0 = p.1.1 in omega (arith, none)) ],
     );
@@ -62,16 +62,16 @@ module _ (most n first source : ℕ) (rows : List (List ℕ)) (size : length row
 
   -- what a way of m steps leads to is shown by the first m layers
   shows : (m : ℕ) (layers : List (List ℕ)) (reached shown : List ℕ) → IsWalked most n first source m rows layers reached shown → m < most → (x : ℕ) → Way rows first m source x → Has shown x
-  shows zero layers reached shown is more x way = (is.shown_is more x).1 (inl (sym way))
+  shows zero layers reached shown is more x way = (is.shown_is more x (way-counts zero x way)).1 (inl (sym way))
   shows (suc m) layers reached shown is more x way =
       let known : way.0 < n = (let lt = row-within rows way.0 x way.2.has in omega (arith, lt, size)) in
       let stands : StandsBelow (m + 1) layers way.0 = is.found m way.0 (omega arith) known way.1 in
       let all : StandsBelow (suc m) layers way.0 = (stands.0, (let lt = stands.1 in omega (arith, lt)), stands.2) in
-      (is.shown_is more x).1 (inr (way.0, all, way.2.has))
+      (is.shown_is more x way.2.to).1 (inr (way.0, all, way.2.has))
 
   module _ (m : ℕ) (layers : List (List ℕ)) (layer reached shown reached' shown' : List ℕ) (is : IsWalked most n first source m rows layers reached shown) (more : m < most)
       (new : AreThoseBelow (λ x. Has shown x × (¬ Has reached x)) n layer) (more_reached : (y : ℕ) → Has reached' y ↔ (Has reached y ⊎ Contains layer y))
-      (more_shown : m + 1 < most → (y : ℕ) → Has shown' y ↔ (Has shown y ⊎ ((x : ℕ) × Contains layer x × Has (row_of rows x) y))) where
+      (more_shown : m + 1 < most → (y : ℕ) → first ≤ y → Has shown' y ↔ (Has shown y ⊎ ((x : ℕ) × Contains layer x × Has (row_of rows x) y))) where
     abbrev all : List (List ℕ)
     all = layers ++ layer ∷ []
 
@@ -112,7 +112,7 @@ module _ (most n first source : ℕ) (rows : List (List ℕ)) (size : length row
     ]
 
     new-way : (x : ℕ) → Contains layer x → Way rows first m source x
-    new-way x c = elim ((is.shown_is more x).0 ((new.has x).0 c).1.0) [
+    new-way x c = elim ((is.shown_is more x (new-counts x c)).0 ((new.has x).0 c).1.0) [
       | inl e ↦ elim (cases_lt 0 m) [
         | inl some ↦
             let stands : StandsBelow 1 layers source = is.found 0 source some within refl in
@@ -163,16 +163,16 @@ module _ (most n first source : ℕ) (rows : List (List ℕ)) (size : length row
           ]
         ],
       );
-      shown_is = λ again y. (
-        λ has. elim ((more_shown again y).0 has) [
-          | inl was ↦ elim ((is.shown_is more y).0 was) [ inl e ↦ inl e | inr s ↦ inr (s.0, join s.0 (inl s.1), s.2) ]
+      shown_is = λ again y from. (
+        λ has. elim ((more_shown again y from).0 has) [
+          | inl was ↦ elim ((is.shown_is more y from).0 was) [ inl e ↦ inl e | inr s ↦ inr (s.0, join s.0 (inl s.1), s.2) ]
           | inr s ↦ inr (s.0, join s.0 (inr s.1), s.2)
         ],
         λ s. elim s [
-          | inl e ↦ (more_shown again y).1 (inl ((is.shown_is more y).1 (inl e)))
+          | inl e ↦ (more_shown again y from).1 (inl ((is.shown_is more y from).1 (inl e)))
           | inr p ↦ elim (split p.0 p.1) [
-            | inl before ↦ (more_shown again y).1 (inl ((is.shown_is more y).1 (inr (p.0, before, p.2))))
-            | inr here ↦ (more_shown again y).1 (inr (p.0, here, p.2))
+            | inl before ↦ (more_shown again y from).1 (inl ((is.shown_is more y from).1 (inr (p.0, before, p.2))))
+            | inr here ↦ (more_shown again y from).1 (inr (p.0, here, p.2))
           ]
         ],
       );

@@ -1,11 +1,11 @@
 //! Sets of numbers, a bit each.
 
-ghost use Rattle.std.specs.Prelude.{◌≡◌, ◌<◌, ◌≤◌, ◌+◌, ◌*◌, ◌/◌, ◌⊎◌, ◌↔◌, ℕ, IfOk, OnOk, IfSome, IfNone};
-ghost use Rattle.std.specs.Prelude.{IsTrue, true, List, [], ◌∷◌, ◌++◌, if◌then◌else◌, length, slice_index};
+ghost use Rattle.std.specs.Prelude.{◌≡◌, ◌<◌, ◌≤◌, ◌+◌, ◌*◌, ◌/◌, ◌%◌, ◌⊎◌, ◌↔◌, ℕ, IfOk, IfSome, IfNone};
+ghost use Rattle.std.specs.Prelude.{IsTrue, true, List, length, slice_index};
 ghost use Rattle.bit_tables.specs.Sets.{Has, room};
-ghost use Rattle.bit_tables.specs.Ways.{AreThoseBelow, IsOutside};
+ghost use Rattle.bit_tables.specs.Ways.{AreThoseBelow};
 
-use super::words::{empty, fill, is_within, join};
+use super::words::{empty, fill, is_within, join, join_from};
 use std::alloc::{AllocError, Global};
 use std::marker::Model;
 
@@ -81,6 +81,15 @@ impl BitSet {
         ensures has { (x : ℕ) → Has self.new x ↔ (Has self.old x ⊎ Has other.now x) }
     {
         join(&mut self.words, &other.words);
+    }
+
+    /// Adds what the other set has from a number on; it may add lesser ones that the other set has.
+    pub fn union_from(&mut self, other: &BitSet, first: usize)
+        requires { length self.old ≡ length other.now }
+        ensures len { length self.new ≡ length self.old }
+        ensures has { (x : ℕ) → first ≤ x → Has self.new x ↔ (Has self.old x ⊎ Has other.now x) }
+    {
+        join_from(&mut self.words, &other.words, first / 64);
     }
 
     /// Whether the other set has all that this one has.
@@ -159,52 +168,72 @@ impl BitSet {
 }
 
 impl BitSet {
-    /// The numbers below `n` that this set has and the other has not, in rising order. It takes 64 steps for
-    /// each word in which there is one, and one for each other.
-    pub fn outside(&self, alloc: Global, other: &BitSet, n: u32) -> Result<Vec<u32>, AllocError>
-        ensures { IfOk result (λ v. AreThoseBelow (λ x. Has self.now x × (¬ Has other.now x)) n v.items) }
+    /// The least number from `from` on and below `n` that this set has and the other has not. It takes a step for each
+    /// word that it passes over.
+    pub fn first_outside(&self, other: &BitSet, from: u32, n: u32) -> Option<u32>
+        ensures some { IfSome result (λ x. (from ≤ x) × (x < n) × Has self.now x × (¬ Has other.now x)) }
+        ensures first { IfSome result (λ x. (y : ℕ) → from ≤ y → y < x → Has self.now y → Has other.now y) }
+        ensures none { IfNone result ((y : ℕ) → from ≤ y → y < n → Has self.now y → Has other.now y) }
     {
-        let mut numbers = Vec::new(alloc);
-        for word in 0..n / 64 + 1 {
-            self.add_outside(other, word, n, &mut numbers)?;
+        let mut place = from % 64;
+        'words: for word in from / 64..n / 64 + 1 {
+            if let Some(x) = self.first_in_word(other, word, place) {
+                return if x < u64::from(n) {
+                    Some(x as u32)
+                } else {
+                    None
+                };
+            }
+            place = 0;
         }
-        Ok(numbers)
+        None
     }
 
-    /// Adds those of the 64 numbers of a word.
-    fn add_outside(
-        &self,
-        other: &BitSet,
-        word: u32,
-        n: u32,
-        numbers: &mut Vec<u32>,
-    ) -> Result<(), AllocError>
-        requires within { word ≤ n / 64 }
-        requires before { AreThoseBelow (IsOutside self.now other.now n) (64 * word) numbers.old.items }
-        ensures { OnOk result (AreThoseBelow (IsOutside self.now other.now n) (64 * (word + 1))
-            numbers.new.items) }
+    /// The least of the 64 numbers of a word, from a place among them on, that this set has and the other has not.
+    #[inline(always)]
+    fn first_in_word(&self, other: &BitSet, word: u32, place: u32) -> Option<u64>
+        requires { place < 64 }
+        ensures some { IfSome result (λ x. (x / 64 ≡ word) × (place ≤ x % 64) × Has self.now x × (¬ Has other.now x)) }
+        ensures first { IfSome result (λ x. (y : ℕ) → y / 64 ≡ word → place ≤ y % 64 → y < x → Has self.now y
+            → Has other.now y) }
+        ensures none { IfNone result ((y : ℕ) → y / 64 ≡ word → place ≤ y % 64 → Has self.now y
+            → Has other.now y) }
     {
         let bits = self.word(word);
         let lacking = bits & !other.word(word);
-        if lacking == 0 {
-            return Ok(());
+        let rest = lacking >> place;
+        if rest == 0 {
+            return None;
         }
-        for i in 0..64u32 {
-            let x = 64 * word + i;
-            let is_wanted = x < n && lacking >> i & 1 == 1;
-            push_if(numbers, x, is_wanted)?;
-        }
-        Ok(())
+        Some(64 * u64::from(word) + u64::from(place) + u64::from(rest.trailing_zeros()))
     }
-}
 
-/// Adds a number where it is wanted.
-fn push_if(numbers: &mut Vec<u32>, x: u32, is_wanted: bool) -> Result<(), AllocError>
-    ensures { OnOk result (numbers.new.items
-        ≡ (if is_wanted then numbers.old.items ++ x ∷ [] else numbers.old.items)) }
-{
-    if is_wanted {
-        numbers.push(x)?;
+    /// The numbers below `n` that this set has and the other has not, in rising order. It takes a step for
+    /// each word and one for each of them.
+    pub fn outside(&self, alloc: Global, other: &BitSet, n: u32) -> Result<Vec<u32>, AllocError>
+        ensures { IfOk result (λ v. AreThoseBelow (λ x. Has self.now x × (¬ Has other.now x)) n v.items) }
+    {
+        self.outside_from(alloc, other, 0, n)
     }
-    Ok(())
+
+    /// The same, where the other set has what this one has of the numbers below `first`, which are not looked at.
+    pub fn outside_from(
+        &self,
+        alloc: Global,
+        other: &BitSet,
+        first: u32,
+        n: u32,
+    ) -> Result<Vec<u32>, AllocError>
+        requires within { first ≤ n }
+        requires none { (y : ℕ) → y < first → Has self.now y → Has other.now y }
+        ensures { IfOk result (λ v. AreThoseBelow (λ x. Has self.now x × (¬ Has other.now x)) n v.items) }
+    {
+        let mut numbers = Vec::new(alloc);
+        let mut from = first;
+        'numbers: while let Some(x) = self.first_outside(other, from, n) {
+            numbers.push(x)?;
+            from = x + 1;
+        }
+        Ok(numbers)
+    }
 }

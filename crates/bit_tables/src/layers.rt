@@ -21,16 +21,16 @@ pub fn add_layer(into: &mut BitSet, layer: &[u32])
     }
 }
 
-/// Adds what stands after a number of the layer in some list.
-pub fn add_successors(into: &mut BitSet, table: &AfterTable, layer: &[u32])
+/// Adds what stands after a number of the layer in some list, from `first` on; of lesser numbers nothing is promised.
+pub fn add_successors(into: &mut BitSet, table: &AfterTable, layer: &[u32], first: usize)
     requires within { All (λ x. x < length table.now) layer.now }
     requires width { HaveWidth (length into.old) table.now }
     ensures len { length into.new ≡ length into.old }
-    ensures has { (y : ℕ) → Has into.new y
+    ensures has { (y : ℕ) → first ≤ y → Has into.new y
         ↔ (Has into.old y ⊎ ((x : ℕ) × Contains layer.now x × Has (row_of table.now x) y)) }
 {
     'numbers: for x in layer {
-        into.union_with(table.after(*x as usize));
+        into.union_from(table.after(*x as usize), first);
     }
 }
 
@@ -63,8 +63,9 @@ fn is_shown(shown: &BitSet, table: &AfterTable, layer: &[u32], number: usize) ->
 /// than one layer deeper than one that stands before it in some list of the table, and what stands before the
 /// source is in no layer. Of the numbers below `first` nothing is asked, as if they stood in no list.
 ///
-/// It takes `n / 64` steps for each layer and each number in the layers, but one step for each number of the last
-/// layer, of which no more is asked than whether it stands before the source; and two sets of memory.
+/// It takes `n / 64` steps for each layer and each number in the layers, fewer where few numbers count, but one step for
+/// each number of the last layer, of which no more is asked than whether it stands before the source; and two sets of
+/// memory.
 pub fn meets_rule(
     alloc: Global,
     table: &AfterTable,
@@ -85,6 +86,7 @@ pub fn meets_rule(
     let mut standing = BitSet::new(alloc, n)?;
     standing.add_below(first);
     let mut shown = BitSet::new(alloc, n)?;
+    let least = first.min(source);
     'layers: for i in 0..layers.len() {
         let layer = &layers[i];
         add_layer(&mut standing, layer);
@@ -94,7 +96,7 @@ pub fn meets_rule(
         if i + 1 == layers.len() {
             return Ok(!is_shown(&shown, table, layer, source));
         }
-        add_successors(&mut shown, table, layer);
+        add_successors(&mut shown, table, layer, least);
     }
     // There is no layer.
     Ok(true)

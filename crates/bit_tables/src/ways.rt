@@ -23,18 +23,25 @@ fn numbers_below(alloc: Global, n: u32, first: u32) -> Result<BitSet, AllocError
     Ok(numbers)
 }
 
-/// Adds what stands after a number of the layer, unless this layer, counted from 0, is the last of so many:
-/// what it shows is then asked of no other.
-fn add_unless_last(into: &mut BitSet, table: &AfterTable, layer: &[u32], d: u32, count: u32)
+/// Adds what stands after a number of the layer, from `first` on, unless this layer, counted from 0, is the last of so
+/// many: what it shows is then asked of no other.
+fn add_unless_last(
+    into: &mut BitSet,
+    table: &AfterTable,
+    layer: &[u32],
+    first: u32,
+    d: u32,
+    count: u32,
+)
     requires within { All (λ x. x < length table.now) layer.now }
     requires width { HaveWidth (length into.old) table.now }
     requires few { d < count }
     ensures len { length into.new ≡ length into.old }
-    ensures has { d + 1 < count → (y : ℕ) → Has into.new y
+    ensures has { d + 1 < count → (y : ℕ) → first ≤ y → Has into.new y
         ↔ (Has into.old y ⊎ ((x : ℕ) × Contains layer.now x × Has (row_of table.now x) y)) }
 {
     if d + 1 < count {
-        add_successors(into, table, layer);
+        add_successors(into, table, layer, first as usize);
     }
 }
 
@@ -42,8 +49,8 @@ fn add_unless_last(into: &mut BitSet, table: &AfterTable, layer: &[u32], d: u32,
 /// lead to from the source, and no fewer, in rising order. A step leads to what the table has of a number,
 /// and all steps go through numbers that count.
 ///
-/// It takes `n / 64` steps for each layer and for each number in the layers but the last, and memory for
-/// these numbers and two sets.
+/// It takes `n / 64` steps for each layer and for each number in the layers but the last, fewer where few numbers count,
+/// and memory for these numbers and two sets.
 pub fn layers_from(
     alloc: Global,
     table: &AfterTable,
@@ -65,9 +72,9 @@ pub fn layers_from(
     shown.insert(source as usize);
     let mut layers = Vec::new(alloc);
     for d in 0..count {
-        let layer = shown.outside(alloc, &reached, n)?;
+        let layer = shown.outside_from(alloc, &reached, first, n)?;
         add_layer(&mut reached, layer.as_slice());
-        add_unless_last(&mut shown, table, layer.as_slice(), d, count);
+        add_unless_last(&mut shown, table, layer.as_slice(), first, d, count);
         layers.push(layer)?;
     }
     Ok(layers)

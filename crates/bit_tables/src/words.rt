@@ -15,6 +15,18 @@ pub fn join(into: &mut [u64], from: &[u64])
     }
 }
 
+/// Adds the bits of `from` to those of `into`, word by word from this one on.
+pub fn join_from(into: &mut [u64], from: &[u64], first: usize)
+    requires { length into.old ≡ length from.now }
+    ensures len { length into.new ≡ length into.old }
+    ensures joined { (k : ℕ) → first ≤ k → k < length into.old →
+        slice_index into.new k ≡ bit_or (slice_index into.old k) (slice_index from.now k) }
+{
+    'words: for k in first..from.len() {
+        into[k] |= from[k];
+    }
+}
+
 /// Whether `b` has each bit that `a` has.
 pub fn is_within(a: &[u64], b: &[u64]) -> bool
     requires { length a.now ≡ length b.now }

@@ -1,12 +1,12 @@
 -- Layers of a search over a table.
-use Rattle.std.proofs.Common.{◌≡◌, ℕ, zero, suc, ◌+◌, ◌<◌, ◌≤◌, ◌⊎◌, List, length, add-one, inl, inr, sym, subst, arith}
+use Rattle.std.proofs.Common.{◌≡◌, ℕ, zero, suc, ◌+◌, ◌<◌, ◌≤◌, ◌⊎◌, List, add-one, inl, inr, sym, subst, arith}
 use Rattle.std.specs.Prelude.{◌↔◌}
 use Rattle.std.proofs.lemmas.Bool.{cases_lt}
 use Rattle.bit_tables.specs.Sets.{Has}
 use Rattle.bit_tables.proofs.SetLemmas.{Has-either}
 use Rattle.bit_tables.specs.Lists.{row_of}
 use Rattle.shown_table.specs.Tables.{IsShown, IsShownTable}
-use Rattle.level_search.specs.Balls.{IsAtLevel, IsBall, IsInLayer}
+use Rattle.level_search.specs.Balls.{IsAtLevel, IsInLayer}
 use Rattle.level_search.specs.Graph.{Before}
 use Rattle.level_search.specs.Rings.{Reaches}
 use Rattle.level_search.specs.Walks.{HasCycle}
@@ -118,3 +118,14 @@ module _ (n : ℕ) (rows table : List (List ℕ)) (is : IsShownTable n rows tabl
       let long = at.long (suc on.0) (cycle_of on.0 walk.0 walk.1 on.2) in
       let lt = on.1 in
       omega arith
+
+-- one element of the layer more: between the last bound and it there is none
+pub layer_from : (from x : ℕ) (sets : Sets) → from ≤ x → ((y : ℕ) → from ≤ y → y < x → Has sets.reached y → Has sets.near y)
+    → (y : ℕ) → IsInLayer (x + 1) sets y → ¬ (y ≡ x) → IsInLayer from sets y
+layer_from from x sets le none y layer apart = elim (cases_lt y from) [
+  | inl low ↦ record { known = low; reached = layer.reached; not_near = layer.not_near }
+  | inr high ↦ absurd (layer.not_near (none y high (let k = layer.known in omega arith) layer.reached))
+]
+
+pub layer_to : (from more : ℕ) (sets : Sets) (y : ℕ) → from ≤ more → IsInLayer from sets y → IsInLayer more sets y
+layer_to from more sets y le layer = record { known = (let k = layer.known in omega arith); reached = layer.reached; not_near = layer.not_near }

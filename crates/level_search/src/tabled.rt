@@ -23,10 +23,12 @@ fn closes(graph: &OrderGraph, table: &ShownTable, element: u32, sets: &Sets) -> 
     ensures missed { result ≡ false → (x : ℕ) → IsInLayer (length graph.now.elements) sets.now x
         → ¬ Has (row_of table.now x) element }
 {
-    for x in 0..graph.elements() {
-        if sets.has_in_layer(x) && table.before(x).contains(element as usize) {
+    let mut from = 0;
+    'layer: while let Some(x) = sets.next_in_layer(graph, from) {
+        if table.before(x).contains(element as usize) {
             return true;
         }
+        from = x + 1;
     }
     false
 }

@@ -93,3 +93,35 @@ fn the_numbers_that_another_set_lacks(rt: HostRuntime) -> Result<(), Fail> {
     }
     Ok(())
 }
+
+#[test]
+fn the_first_number_that_another_set_lacks(rt: HostRuntime) -> Result<(), Fail> {
+    let set = set_of(rt.alloc(), [3, 64, 65, 200].as_slice())?;
+    let rows = [
+        ([].as_slice(), 0, 300, Some(3)),
+        ([].as_slice(), 4, 300, Some(64)),
+        ([3, 64].as_slice(), 3, 300, Some(65)),
+        ([].as_slice(), 66, 200, None),
+        ([].as_slice(), 66, 201, Some(200)),
+        ([].as_slice(), 201, 300, None),
+        ([].as_slice(), 300, 3, None),
+    ];
+    for (lacking, from, below, expected) in rows {
+        let other = set_of(rt.alloc(), lacking)?;
+        assert_eq!(rt; set.first_outside(&other, from, below), expected);
+    }
+    Ok(())
+}
+
+#[test]
+fn a_union_from_a_number_on(rt: HostRuntime) -> Result<(), Fail> {
+    let mut set = set_of(rt.alloc(), [5, 299].as_slice())?;
+    let other = set_of(rt.alloc(), [6, 130, 190, 200].as_slice())?;
+    set.union_from(&other, 140);
+    for n in 140..400 {
+        let is_wanted = [190, 200, 299].as_slice().contains(&n);
+        assert_eq!(rt; set.contains(n), is_wanted);
+    }
+    assert!(rt; set.contains(5));
+    Ok(())
+}

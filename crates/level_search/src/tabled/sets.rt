@@ -1,6 +1,6 @@
 //! The sets of elements on which a search over a table writes.
 
-ghost use Rattle.std.specs.Prelude.{◌≡◌, ℕ, ◌*◌, ◌<◌, ◌⊎◌, ◌↔◌, IfOk, IsTrue, false, length};
+ghost use Rattle.std.specs.Prelude.{◌≡◌, ℕ, ◌*◌, ◌<◌, ◌≤◌, ◌⊎◌, ◌↔◌, IfNone, IfOk, IfSome, false, length};
 ghost use Rattle.order_graph.specs.Lists.{lists_of};
 ghost use Rattle.bit_tables.specs.Sets.{Has};
 ghost use Rattle.bit_tables.specs.Lists.{row_of};
@@ -36,11 +36,16 @@ impl Sets {
         })
     }
 
-    /// Whether an element is in the layer.
-    pub fn has_in_layer(&self, x: u32) -> bool
-        ensures { IsTrue result ↔ (Has self.now.reached x × (¬ Has self.now.near x)) }
+    /// The first element of the layer from a number on.
+    pub fn next_in_layer(&self, graph: &OrderGraph, from: u32) -> Option<u32>
+        ensures some { IfSome result (λ x. (from ≤ x) × IsInLayer (length graph.now.elements) self.now x) }
+        ensures small { IfSome result (λ x. x < u32.MAX) }
+        ensures first { IfSome result (λ x. (y : ℕ) → from ≤ y → y < x → Has self.now.reached y → Has self.now.near y) }
+        ensures none { IfNone result ((y : ℕ) → from ≤ y → y < length graph.now.elements → Has self.now.reached y
+            → Has self.now.near y) }
     {
-        self.reached.contains(x as usize) && !self.near.contains(x as usize)
+        self.reached
+            .first_outside(&self.near, from, graph.elements())
     }
 
     /// Only the source is reached.
@@ -68,10 +73,10 @@ impl Sets {
             × IsInLayer (length graph.now.elements) self.old x × Has (row_of table.now x) y) }
     {
         self.next.clear();
-        for x in 0..graph.elements() {
-            if self.has_in_layer(x) {
-                self.next.union_with(table.before(x));
-            }
+        let mut from = 0;
+        'layer: while let Some(x) = self.next_in_layer(graph, from) {
+            self.next.union_with(table.before(x));
+            from = x + 1;
         }
     }
 

@@ -6,7 +6,7 @@ pub numbers-preserved : goal.numbers-preserved
 numbers-preserved c =
     let inv = c.numbers.invariant in
     record {
-      len = omega (arith, c.union_with.ensures.len, inv.len);
-      has = successors_step c.args.table.now c.args.layer.now c.numbers.x-index c.args.into.now c.numbers.into c.union_with.new.self c.after.result.now
-          (omega arith) c.after.ensures inv.has c.union_with.ensures.has;
+      len = omega (arith, c.union_from.ensures.len, inv.len);
+      has = successors_step c.args.table.now c.args.layer.now c.numbers.x-index c.args.into.now c.numbers.into c.union_from.new.self c.after.result.now
+          (omega arith) c.after.ensures c.args.first inv.has c.union_from.ensures.has;
     }

@@ -1,4 +1,4 @@
-use Rattle.std.proofs.Common.{◌≡◌, ℕ, ◌⊎◌, length}
+use Rattle.std.proofs.Common.{◌≡◌, ℕ, ◌≤◌, ◌⊎◌, length}
 use Rattle.std.specs.Prelude.{◌↔◌}
 use Rattle.bit_tables.specs.Sets.{Has}
 use Rattle.bit_tables.specs.Lists.{row_of}
@@ -8,5 +8,5 @@ use Rattle.bit_tables.proofs.layers.add_successors.Given as goal
 abbrev pub invariant-numbers : goal.invariant-numbers
 invariant-numbers l = record {
   len : length l.into ≡ length l.fn.into;
-  has : (y : ℕ) → Has l.into y ↔ (Has l.fn.into y ⊎ ((x : ℕ) × IsAmongFirst l.x-index l.layer x × Has (row_of l.table x) y));
+  has : (y : ℕ) → l.first ≤ y → Has l.into y ↔ (Has l.fn.into y ⊎ ((x : ℕ) × IsAmongFirst l.x-index l.layer x × Has (row_of l.table x) y));
 }

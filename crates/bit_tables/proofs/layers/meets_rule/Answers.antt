@@ -19,7 +19,8 @@ layers-preserved c =
       standing_len = c.add_layer.ensures.len ∙ inv.standing_len;
       shown_len = c.add_successors.ensures.len ∙ inv.shown_len;
       last = inr (omega arith);
-      tested = tested_step c.args.first c.layers.i all _ _ _ _ inv.tested grown _ (subset.0 c.if-not-is_subset.false) more;
+      least = inv.least;
+      tested = tested_step c.args.first c.min-least.result c.layers.i inv.least.0 all _ _ _ _ inv.tested grown _ (subset.0 c.if-not-is_subset.false) more;
     }
 
 pub returns-then-not-is_subset : goal.returns-then-not-is_subset
@@ -38,7 +39,7 @@ returns-then-not-is_subset c lists depth table depths =
       λ meets.
           absurd
           (true≢false
-          (sym (subset.1 (tested_subset c.args.first c.layers.i all _ _ _ _ inv.tested grown c.args.n c.args.source lists depth (omega arith) ahead ok table depths meets))
+          (sym (subset.1 (tested_subset c.args.first c.min-least.result c.layers.i inv.least.0 all _ _ _ _ inv.tested grown c.args.n c.args.source lists depth (omega arith) ahead ok table depths meets))
           ∙ c.if-not-is_subset.true)),
     )
 
@@ -56,8 +57,8 @@ returns-then-i-layers c lists depth table depths =
     let subset : IsTrue c.is_subset.result ↔ ((x : ℕ) → Has c.layers.shown x → Has c.add_layer.new.into x) = c.is_subset.ensures in
     let shown = rw (c.deref-then-i-layers.ensures.value, ← here) at c.is_shown.ensures in
     let none = negated c.is_shown.result _ shown in
-    let gradual_to = gradual_more c.args.first c.layers.i all c.args.table.now c.layers.standing c.layers.shown c.add_layer.new.into inv.tested grown (subset.0 c.if-not-is_subset.false) in
-    let more_to = shown_more c.args.first c.layers.i all c.args.table.now c.layers.standing c.layers.shown c.add_layer.new.into inv.tested grown c.args.source in
+    let gradual_to = gradual_more c.args.first c.min-least.result c.layers.i inv.least.0 all c.args.table.now c.layers.standing c.layers.shown c.add_layer.new.into inv.tested grown (subset.0 c.if-not-is_subset.false) in
+    let more_to = shown_more c.args.first c.min-least.result c.layers.i inv.least.0 all c.args.table.now c.layers.standing c.layers.shown c.add_layer.new.into inv.tested grown c.args.source inv.least.1 in
     let gradual = rw last at gradual_to in
     let more = rw last at more_to in
     let whole = tested_all c.args.n c.args.first c.args.source all c.args.table.now lists _ depth ahead ok gradual more table depths in

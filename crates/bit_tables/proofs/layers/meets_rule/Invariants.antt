@@ -1,4 +1,4 @@
-use Rattle.std.proofs.Common.{◌≡◌, ◌+◌, ◌<◌, ◌/◌, ◌⊎◌, length, map}
+use Rattle.std.proofs.Common.{◌≡◌, ◌+◌, ◌<◌, ◌≤◌, ◌/◌, ◌⊎◌, length, map}
 use Rattle.bit_tables.proofs.LayerLemmas.{IsTested}
 use Rattle.bit_tables.proofs.layers.meets_rule.Given as goal
 
@@ -7,5 +7,6 @@ invariant-layers l = record {
   standing_len : length l.standing ≡ l.n / 64 + 1;
   shown_len : length l.shown ≡ l.n / 64 + 1;
   last : l.i ≡ 0 ⊎ l.i < length l.layers;
-  tested : IsTested l.first l.i (map (λ layer. layer.items) l.layers) l.table l.standing l.shown;
+  least : (l.least ≤ l.first) × (l.least ≤ l.source);
+  tested : IsTested l.first l.least l.i (map (λ layer. layer.items) l.layers) l.table l.standing l.shown;
 }

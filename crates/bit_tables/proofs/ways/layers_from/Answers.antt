@@ -1,4 +1,4 @@
-use Rattle.std.proofs.Common.{◌≡◌, ℕ, ◌+◌, ◌/◌, ◌<◌, ◌∙◌, ◌⊎◌, List, [], ◌∷◌, ◌++◌, Vec, Global, map, length, ap, sym, subst, arith}
+use Rattle.std.proofs.Common.{◌≡◌, ℕ, ◌+◌, ◌/◌, ◌<◌, ◌≤◌, ◌∙◌, ◌⊎◌, inl, List, [], ◌∷◌, ◌++◌, Vec, Global, map, length, ap, sym, subst, arith}
 use Rattle.std.specs.Prelude.{◌↔◌, All, Contains}
 use Rattle.std.proofs.lemmas.List.{map-append}
 use Rattle.bit_tables.specs.Sets.{Has, room}
@@ -6,6 +6,9 @@ use Rattle.bit_tables.specs.Lists.{row_of}
 use Rattle.bit_tables.proofs.Those.{those_all}
 use Rattle.bit_tables.proofs.WayLemmas.{IsWalked, walked_more, walked-layer}
 use Rattle.bit_tables.proofs.ways.layers_from.Goals as goal
+
+pub outside_from-requires-clause-none : goal.outside_from-requires-clause-none
+outside_from-requires-clause-none c = λ y low has. (c.loop-d.invariant.walked.reached_is y).1 (inl low)
 
 pub add_layer-requires : goal.add_layer-requires
 add_layer-requires c =
@@ -28,8 +31,8 @@ loop-d-preserved c =
     ap (map items) c.in_ok-push.ensures.items ∙ map-append items c.loop-d.layers.items (c.in_ok-layer.layer ∷ []) in
     let more_reached : (y : ℕ) → Has c.add_layer.new.into y ↔ (Has c.loop-d.reached y ⊎ Contains layer y) =
     subst (λ l. (y : ℕ) → Has c.add_layer.new.into y ↔ (Has c.loop-d.reached y ⊎ Contains l y)) c.as_slice.ensures.value c.add_layer.ensures.has in
-    let more_shown : c.loop-d.d + 1 < c.args.count → (y : ℕ) → Has c.add_unless_last.new.into y ↔ (Has c.loop-d.shown y ⊎ ((x : ℕ) × Contains layer x × Has (row_of c.args.table.now x) y)) =
-    subst (λ l. c.loop-d.d + 1 < c.args.count → (y : ℕ) → Has c.add_unless_last.new.into y ↔ (Has c.loop-d.shown y ⊎ ((x : ℕ) × Contains l x × Has (row_of c.args.table.now x) y)))
+    let more_shown : c.loop-d.d + 1 < c.args.count → (y : ℕ) → c.args.first ≤ y → Has c.add_unless_last.new.into y ↔ (Has c.loop-d.shown y ⊎ ((x : ℕ) × Contains layer x × Has (row_of c.args.table.now x) y)) =
+    subst (λ l. c.loop-d.d + 1 < c.args.count → (y : ℕ) → c.args.first ≤ y → Has c.add_unless_last.new.into y ↔ (Has c.loop-d.shown y ⊎ ((x : ℕ) × Contains l x × Has (row_of c.args.table.now x) y)))
     c.as_slice-in-loop-d.ensures.value c.add_unless_last.ensures.has in
     record {
       reached_len = c.add_layer.ensures.len ∙ inv.reached_len;
