@@ -54,6 +54,7 @@ impl Covering {
     {
         self.operations
             .extend_from_slice(more.operations.as_slice())?;
+        self.rows.make_room(more.rows.ends.len(), more.rows.items.len())?;
         for k in 0..more.rows.ends.len() {
             self.rows.push_row(more.rows.row(k))?;
         }

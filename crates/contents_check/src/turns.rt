@@ -126,7 +126,7 @@ fn begin_all(alloc: Global, elements: &Elements, replicas: &[u32]) -> Result<Vec
     ensures { IfOk result (λ ways. (h : History) (table : SightTable)
         → AreOnTheWay h table elements.now replicas.now ways.items) }
 {
-    let mut ways = Vec::new(alloc);
+    let mut ways = Vec::with_capacity(alloc, replicas.len())?;
     for r in replicas {
         ways.push(OnTheWay::new(alloc, elements, *r)?)?;
     }

@@ -6,6 +6,12 @@ ghost use Rattle.std.specs.Prelude.{slice_index_or, vec_len};
 use events::Memory;
 use std::alloc::Global;
 
+/// For how many rows there is room once there is one.
+const FIRST_ROWS: usize = 16;
+
+/// For how many values there is room at least once there is a row.
+const FIRST_VALUES: usize = 64;
+
 /// Rows of values, one after the other, and where each ends. What stands after the last end is a row
 /// that is begun.
 #[derive(Drop)]
@@ -44,8 +50,31 @@ impl<T: Copy + Drop> Rows<T> {
         ensures cut { OnOk result (IsCut self.new) }
         ensures rows { OnOk result (rows_of self.new ≡ rows_of self.old ++ row.now ∷ []) }
     {
+        self.make_first_room(row.len())?;
         self.items.extend_from_slice(row)?;
         self.end_row()
+    }
+
+    /// Makes room for so many rows more, which have so many values together.
+    pub fn make_room(&mut self, rows: usize, values: usize) -> Result<(), Memory>
+        ensures items { self.new.items.items ≡ self.old.items.items }
+        ensures ends { self.new.ends.items ≡ self.old.ends.items }
+    {
+        self.ends.reserve(rows)?;
+        self.items.reserve(values)?;
+        Ok(())
+    }
+
+    /// Where no row is ended, makes room for some and for so many values. It decides cost alone.
+    fn make_first_room(&mut self, values: usize) -> Result<(), Memory>
+        ensures items { self.new.items.items ≡ self.old.items.items }
+        ensures ends { self.new.ends.items ≡ self.old.ends.items }
+    {
+        if self.ends.is_empty() {
+            self.ends.reserve(FIRST_ROWS)?;
+            self.items.reserve(values.max(FIRST_VALUES))?;
+        }
+        Ok(())
     }
 
     /// The row with a number, counted from 0; an empty one past the last.

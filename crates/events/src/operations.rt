@@ -14,11 +14,22 @@ impl Recording {
         ensures names { IfOk result (λ names. names.items ≡ operation_names self.now) }
         ensures legal { IsLegal self.now }
     {
-        let mut names = Vec::new(alloc);
+        let mut names = Vec::with_capacity(alloc, self.operation_count())?;
         for r in 0..self.replicas() {
             add_replica(&mut names, r, self.count(r))?;
         }
         Ok(names)
+    }
+
+    /// How many operations there are. It decides cost alone.
+    fn operation_count(&self) -> usize
+        ensures legal { IsLegal self.now }
+    {
+        let mut count: u32 = 0;
+        for r in 0..self.replicas() {
+            count = count.saturating_add(self.count(r));
+        }
+        count as usize
     }
 
     /// What an operation returned; none where there is no such operation.

@@ -1,6 +1,6 @@
 //! What stands right after each element in some list.
 
-ghost use Rattle.std.specs.Prelude.{◌≡◌, ℕ, ◌+◌, ◌<◌, ◌≤◌, ◌⊎◌, ◌↔◌, ◌^◌, All, Contains, IfOk, OnOk};
+ghost use Rattle.std.specs.Prelude.{◌≡◌, ℕ, ◌+◌, ◌<◌, ◌≤◌, ◌⊎◌, ◌↔◌, ◌^◌, ◌∷◌, ◌++◌, [], All, Contains, IfOk, OnOk};
 ghost use Rattle.std.specs.Prelude.{length, vec_len};
 ghost use Rattle.order_graph.specs.Lists.{lists_of, row};
 ghost use Rattle.witness_order.specs.Edges.{lists_in, IsNext, AreSuccessors, AreLastListed};
@@ -28,8 +28,22 @@ fn note(successors: &mut Vec<Vec<u32>>, last: &mut Vec<u32>, x: u32, y: u32) -> 
     if last[x as usize] == y {
         return Ok(());
     }
-    successors[x as usize].push(y)?;
+    list_one(&mut successors[x as usize], y)?;
     last[x as usize] = y;
+    Ok(())
+}
+
+/// For how many successors a list has room once it has one.
+const FIRST_ROOM: usize = 8;
+
+/// Lists one more.
+fn list_one(list: &mut Vec<u32>, y: u32) -> Result<(), Memory>
+    ensures { OnOk result (list.new.items ≡ list.old.items ++ y ∷ []) }
+{
+    if list.is_empty() {
+        list.reserve(FIRST_ROOM)?;
+    }
+    list.push(y)?;
     Ok(())
 }
 

@@ -7,7 +7,7 @@ use Rattle.contents_check.proofs.InTurns.{none_yet, one_more}
 use Rattle.contents_check.proofs.turns.begin_all.Goals as goal
 
 pub loop-r-init : goal.loop-r-init
-loop-r-init c = λ h table. subst (λ (l : List OnTheWay). AreOnTheWay h table c.args.elements.now [] l) (sym c.new-ways.ensures.items) (none_yet h table c.args.elements.now)
+loop-r-init c = λ h table. subst (λ (l : List OnTheWay). AreOnTheWay h table c.args.elements.now [] l) (sym c.in_ok-ways.ensures.items) (none_yet h table c.args.elements.now)
 
 pub loop-r-preserved : goal.loop-r-preserved
 loop-r-preserved c = λ h table.

@@ -1,6 +1,5 @@
 -- One entry more.
 use Rattle.std.proofs.Common.{◌≡◌, ℕ, ◌<◌, List, [], ◌∷◌, ◌++◌, Vec, Global, length, set, vec_len, arith}
-use Rattle.std.proofs.lemmas.Grind.{common_steps}
 use Rattle.bit_tables.proofs.DepthLemmas.{put-has}
 use Rattle.witness_order.specs.Edges.{lists_in}
 use Rattle.witness_order.proofs.Listing.{length-more, listed-more}
@@ -10,21 +9,21 @@ pub returns-clause-listed : goal.returns-clause-listed
 returns-clause-listed c =
     let vectors : List (Vec ℕ Global) = c.args.successors.now.items in
     let known : c.args.x < length vectors = omega arith in
-    let pushed : c.push.new.self.items ≡ c.index_mut.result.now.items ++ c.args.y ∷ [] = grind (arith, common_steps, c.in_ok-push.ensures.items) in
-    λ z w. put-has vectors c.args.x c.index_mut.result.now c.push.new.self c.args.y known c.index_mut.ensures.value pushed z w
+    let pushed : c.list_one.new.list.items ≡ c.index_mut.result.now.items ++ c.args.y ∷ [] = c.in_ok-list_one.ensures in
+    λ z w. put-has vectors c.args.x c.index_mut.result.now c.list_one.new.list c.args.y known c.index_mut.ensures.value pushed z w
 
 pub returns-clause-short : goal.returns-clause-short
 returns-clause-short c =
     let vectors : List (Vec ℕ Global) = c.args.successors.now.items in
     let known : c.args.x < length vectors = omega arith in
-    let pushed : c.push.new.self.items ≡ c.index_mut.result.now.items ++ c.args.y ∷ [] = grind (arith, common_steps, c.in_ok-push.ensures.items) in
-    λ z. length-more vectors c.args.x c.args.y c.index_mut.result.now c.push.new.self known c.index_mut.ensures.value pushed z
+    let pushed : c.list_one.new.list.items ≡ c.index_mut.result.now.items ++ c.args.y ∷ [] = c.in_ok-list_one.ensures in
+    λ z. length-more vectors c.args.x c.args.y c.index_mut.result.now c.list_one.new.list known c.index_mut.ensures.value pushed z
 
 pub returns-clause-last : goal.returns-clause-last
 returns-clause-last c =
     let vectors : List (Vec ℕ Global) = c.args.successors.now.items in
     let known : c.args.x < length vectors = omega arith in
-    let pushed : c.push.new.self.items ≡ c.index_mut.result.now.items ++ c.args.y ∷ [] = grind (arith, common_steps, c.in_ok-push.ensures.items) in
+    let pushed : c.list_one.new.list.items ≡ c.index_mut.result.now.items ++ c.args.y ∷ [] = c.in_ok-list_one.ensures in
     let within : c.args.x < length c.args.last.now.items = let same = c.requires.size in omega arith in
-    listed-more (vec_len c.args.successors.now) c.args.x c.args.y (lists_in vectors) (lists_in (set vectors c.args.x c.push.new.self)) c.args.last.now.items within
-    (λ z w. put-has vectors c.args.x c.index_mut.result.now c.push.new.self c.args.y known c.index_mut.ensures.value pushed z w) c.requires.last
+    listed-more (vec_len c.args.successors.now) c.args.x c.args.y (lists_in vectors) (lists_in (set vectors c.args.x c.list_one.new.list)) c.args.last.now.items within
+    (λ z w. put-has vectors c.args.x c.index_mut.result.now c.list_one.new.list c.args.y known c.index_mut.ensures.value pushed z w) c.requires.last
