@@ -33,7 +33,6 @@ pub record AreListed (names : List NameBytes) (number : NameBytes → Option ℕ
   pub count : length shown ≡ length (rows_of places)
 
 -- that, and the spots are those of the places
-pub record AreKept (names : List NameBytes) (number : NameBytes → Option ℕ) (shown : List Operation) (places : Rows ℕ) (spots : Rows Spot) : Type 0 where
+pub record AreKept (names : List NameBytes) (number : NameBytes → Option ℕ) (shown : List Operation) (places : Rows ℕ) (spots : List (List Spot)) : Type 0 where
   pub listed : AreListed names number shown places
-  pub spots_cut : IsCut spots
-  pub spots_are : (x : ℕ) → slice_index_or (rows_of spots) x [] ≡ spots_of (rows_of places) x
+  pub spots_are : (x : ℕ) → slice_index_or spots x [] ≡ spots_of (rows_of places) x

@@ -12,7 +12,7 @@ use super::looked::Looked;
 use super::narrowing::{names_kept, new_numbers, places_left};
 use super::pairs::first_list;
 use super::spot::Spot;
-use super::spots::spots_in_lists;
+use super::spots::{spots_at, spots_in_lists};
 use contents_check::Covering;
 use element_numbers::{Rows, inserted_names, numbers_of, places_of};
 use events::{Memory, Name, OpName, Recording};
@@ -35,7 +35,7 @@ pub struct OrderGraph {
     numbers: IndexMap<Name, u32>,
     shown: Vec<OpName>,
     places: Rows<u32>,
-    spots: Rows<Spot>,
+    spots: Vec<Vec<Spot>>,
 }
 
 impl Model for OrderGraph {
@@ -45,13 +45,15 @@ impl Model for OrderGraph {
     ghost use Rattle.specification.specs.Responses.{Responses};
     ghost use Rattle.element_numbers.specs.Cuts.{rows_of};
     ghost use Rattle.order_graph.specs.Kept.{responses_kept, AreKept};
+    ghost use Rattle.std.specs.Prelude.{map};
 
     ghost Value = { Responses };
 
     ghost view = { λ g. responses_kept g.names.items g.shown.items (rows_of g.places) };
 
     ghost invariant = { λ g. AreKept g.names.items
-        (get (pointwise ◌==◌) g.numbers) g.shown.items g.places g.spots };
+        (get (pointwise ◌==◌) g.numbers) g.shown.items g.places
+        (map (λ s. s.items) g.spots.items) };
 }
 
 impl OrderGraph {
@@ -224,14 +226,14 @@ impl OrderGraph {
     pub fn spots(&self, x: u32) -> u32
         ensures { result ≡ length (spots_of (lists_of self.now) x) }
     {
-        self.spots.row(x as usize).len() as u32
+        spots_at(&self.spots, x as usize).len() as u32
     }
 
     /// The i-th spot of an element, from 0, in order of lists; none past the last.
     pub fn spot(&self, x: u32, i: u32) -> Option<Spot>
         ensures { result ≡ slice_get (spots_of (lists_of self.now) x) i }
     {
-        self.spots.row(x as usize).get(i as usize).copied()
+        spots_at(&self.spots, x as usize).get(i as usize).copied()
     }
 
     /// The least operation whose response shows element a before element b; none where no response does.
@@ -239,7 +241,7 @@ impl OrderGraph {
     pub fn before(&self, a: u32, b: u32) -> Option<OpName>
         ensures { IsLeastShowing self.now a b result }
     {
-        let list = first_list(&self.places, self.spots.row(a as usize), a, b)?;
+        let list = first_list(&self.places, spots_at(&self.spots, a as usize), a, b)?;
         self.shown_by(list)
     }
 }

@@ -73,33 +73,29 @@ fn all_spots(alloc: Global, elements: usize, places: &Rows<u32>) -> Result<Vec<V
     Ok(spots)
 }
 
-/// These lists one after the other.
-fn joined(alloc: Global, lists: &[Vec<Spot>]) -> Result<Rows<Spot>, Memory>
-    ensures cut { IfOk result (λ t. IsCut t) }
-    ensures rows { IfOk result (λ t. rows_of t ≡ map (λ s. s.items) lists.now) }
-{
-    let mut rows = Rows::new(alloc);
-    for list in lists {
-        rows.items.extend_from_slice(list.as_slice())?;
-        rows.end_row()?;
-    }
-    Ok(rows)
-}
-
-/// The spots of each of so many elements, in order of lists.
+/// The spots of each of so many elements, in order of lists: a list for each element.
 pub fn spots_in_lists(
     alloc: Global,
     elements: usize,
     places: &Rows<u32>,
-) -> Result<Rows<Spot>, Memory>
+) -> Result<Vec<Vec<Spot>>, Memory>
     requires whole { IsCut places.now }
     requires few { length (rows_of places.now) < 2 ^ 32 }
     requires known { (l : ℕ) → All (λ x. x < elements) (row (rows_of places.now) l) }
     requires short { (l : ℕ) → length (row (rows_of places.now) l) < 2 ^ 32 }
-    ensures cut { IfOk result (λ t. IsCut t) }
-    ensures spots { IfOk result (λ t. (x : ℕ)
-        → slice_index_or (rows_of t) x [] ≡ spots_of (rows_of places.now) x) }
+    ensures { IfOk result (λ v. (x : ℕ)
+        → slice_index_or (map (λ s. s.items) v.items) x [] ≡ spots_of (rows_of places.now) x) }
 {
     let spots = all_spots(alloc, elements, places)?;
-    joined(alloc, spots.as_slice())
+    Ok(spots)
+}
+
+/// The spots of an element; none past the last element.
+pub fn spots_at(spots: &[Vec<Spot>], x: usize) -> &[Spot]
+    ensures { result.now ≡ slice_index_or (map (λ s. s.items) spots.now) x [] }
+{
+    match spots.get(x) {
+        None => &[],
+        Some(spots) => spots.as_slice(),
+    }
 }
