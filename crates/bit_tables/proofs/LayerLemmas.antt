@@ -1,5 +1,5 @@
 -- Layers of numbers, one after the other.
-use Rattle.std.proofs.Common.{◌≡◌, ℕ, ◌+◌, ◌<◌, ◌≤◌, ◌⊎◌, ◌∙◌, Bool, true, false, not, List, [], length, map, get_or, ap, sym, refl, inl, inr, arith, true≢false}
+use Rattle.std.proofs.Common.{◌≡◌, ℕ, ◌+◌, ◌-◌, ◌<◌, ◌≤◌, ◌⊎◌, ◌∙◌, Bool, true, false, not, List, [], length, map, get_or, ap, sym, refl, inl, inr, arith, true≢false}
 use Rattle.std.specs.Prelude.{◌↔◌, All, Contains, IsTrue}
 use Rattle.std.proofs.lemmas.Bool.{cases_eq, cases_lt}
 use Rattle.std.proofs.lemmas.List.{get_or-map, get_or_past, get_or_default}
@@ -47,6 +47,20 @@ successors_step rows w i old into new row within is least before grown y from =
                 ]
           ]),
     )
+
+-- a number more whose row is among what was added: the number at the place before has all of it
+pub successors_skipped : (rows : List (List ℕ)) (w : List ℕ) (i : ℕ) (old into : List ℕ) → i < length w → 0 < i
+    → ((y : ℕ) → Has (row_of rows (get_or w i 0)) y → Has (row_of rows (get_or w (i - 1) 0)) y)
+    → (least : ℕ) → ((y : ℕ) → least ≤ y → Has into y ↔ (Has old y ⊎ ((x : ℕ) × IsAmongFirst i w x × Has (row_of rows x) y)))
+    → (y : ℕ) → least ≤ y → Has into y ↔ (Has old y ⊎ ((x : ℕ) × IsAmongFirst (i + 1) w x × Has (row_of rows x) y))
+successors_skipped rows w i old into within later included least before =
+    let last : ℕ = get_or w (i - 1) 0 in
+    let there : get_or w (i - 1) last ≡ last = get_or_default w (i - 1) last 0 (omega arith) in
+    successors_step rows w i old into into (row_of rows (get_or w i 0)) within refl least before
+    (λ y from. (λ has. inl has, λ h. elim h [
+      | inl has ↦ has
+      | inr here ↦ (before y from).1 (inr (last, (i - 1, (omega arith), there), included y here))
+    ]))
 
 -- what is known of what has lists, of the lists
 module _ {V : Type 0} (list : V → List ℕ) (vs : List V) where

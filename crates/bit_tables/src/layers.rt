@@ -1,7 +1,7 @@
 //! The layer rule of a row, asked of a table.
 
 ghost use Rattle.std.specs.Prelude.{◌≡◌, ◌<◌, ◌≤◌, ◌+◌, ◌/◌, ◌⊎◌, ◌↔◌, ℕ, All, Contains, IfOk, IsTrue, List};
-ghost use Rattle.std.specs.Prelude.{length, map};
+ghost use Rattle.std.specs.Prelude.{length, map, slice_index, true, ◌-◌};
 ghost use Rattle.bit_tables.specs.Sets.{Has, room};
 ghost use Rattle.bit_tables.specs.Lists.{HaveWidth, IsTableOf, row_of};
 ghost use Rattle.bit_tables.specs.Rule.{AreDepths, MeetsRule};
@@ -21,6 +21,18 @@ pub fn add_layer(into: &mut BitSet, layer: &[u32])
     }
 }
 
+/// Whether a row that was added has all that the row of the number at a place of a layer has: that of the number at the
+/// place before.
+fn is_added(table: &AfterTable, layer: &[u32], i: usize) -> bool
+    requires { i < length layer.now }
+    ensures { result ≡ true → (0 < i) × ((y : ℕ) → Has (row_of table.now (slice_index layer.now i)) y
+        → Has (row_of table.now (slice_index layer.now (i - 1))) y) }
+{
+    i > 0
+        && layer[i - 1].checked_add(1) == Some(layer[i])
+        && table.is_included(layer[i] as usize)
+}
+
 /// Adds what stands after a number of the layer in some list, from `first` on; of lesser numbers nothing is promised.
 pub fn add_successors(into: &mut BitSet, table: &AfterTable, layer: &[u32], first: usize)
     requires within { All (λ x. x < length table.now) layer.now }
@@ -29,8 +41,10 @@ pub fn add_successors(into: &mut BitSet, table: &AfterTable, layer: &[u32], firs
     ensures has { (y : ℕ) → first ≤ y → Has into.new y
         ↔ (Has into.old y ⊎ ((x : ℕ) × Contains layer.now x × Has (row_of table.now x) y)) }
 {
-    'numbers: for x in layer {
-        into.union_from(table.after(*x as usize), first);
+    'numbers: for i in 0..layer.len() {
+        if !is_added(table, layer, i) {
+            into.union_from(table.after(layer[i] as usize), first);
+        }
     }
 }
 

@@ -1,7 +1,8 @@
 //! Which numbers stand after which in some lists.
 
-ghost use Rattle.std.specs.Prelude.{◌≡◌, ◌<◌, ◌+◌, ◌/◌, ℕ, [], ◌∷◌, ◌++◌, All, IfOk, OnOk, List, length};
+ghost use Rattle.std.specs.Prelude.{◌≡◌, ◌<◌, ◌+◌, ◌/◌, ℕ, [], ◌∷◌, ◌++◌, All, IfOk, OnOk, List, length, true};
 ghost use Rattle.bit_tables.specs.Sets.{Has};
+ghost use Rattle.bit_tables.specs.Included.{AreIncluded, IsIncluded};
 ghost use Rattle.bit_tables.specs.Lists.{HasList, HaveWidth, IsTableOf, row_of};
 
 use super::bits::BitSet;
@@ -9,17 +10,24 @@ use super::noting::Noter;
 use std::alloc::{AllocError, Global};
 use std::marker::Model;
 
-/// For each number the set of those that stand after it in some list.
+/// For each number the set of those that stand after it in some list. It may have noted, for each number, that the row of
+/// the number before has all that its row has: then it was noted for all, and no list was added since.
 #[derive(Drop)]
 pub struct AfterTable {
     rows: Vec<BitSet>,
+    included: Vec<bool>,
 }
 
 /// Its rows.
 impl Model for AfterTable {
+    ghost use Rattle.std.specs.Prelude.{ℕ, List};
+    ghost use Rattle.bit_tables.specs.Included.{AreIncluded};
+
     ghost Value = { List (List ℕ) };
 
     ghost view = { λ t. t.rows.items };
+
+    ghost invariant = { λ t. AreIncluded t.rows.items t.included.items };
 }
 
 /// So many empty rows, each with room for the numbers up to `n`.
@@ -42,7 +50,10 @@ impl AfterTable {
         ensures { IfOk result (λ t. IsTableOf n [] t) }
     {
         let rows = empty_rows(alloc, n)?;
-        Ok(AfterTable { rows })
+        Ok(AfterTable {
+            rows,
+            included: Vec::new(alloc),
+        })
     }
 
     /// Notes one list more, beside a list that the table knows.
@@ -65,7 +76,28 @@ impl AfterTable {
             → IsTableOf (length self.old) (lists ++ list.now ∷ []) self.new) }
         ensures known { OnOk result (HasList self.new list.now) }
     {
+        self.included.clear();
         noter.note(&mut self.rows, known, list)
+    }
+
+    /// Notes for each number whether the row of the number before has all that its row has, which makes layers faster
+    /// where many have. It takes at most `n / 64` steps for each of the n numbers, and a byte of memory each. After an
+    /// error nothing is noted that was not before.
+    pub fn note_included(&mut self, alloc: Global) -> Result<(), AllocError>
+        requires width { HaveWidth (length self.old / 64 + 1) self.old }
+        ensures { self.new ≡ self.old }
+    {
+        let included = included_in(alloc, &self.rows)?;
+        self.included = included;
+        Ok(())
+    }
+
+    /// Whether it was noted that the row of the number before has all that this number's row has. It may be so and not be
+    /// noted.
+    pub fn is_included(&self, a: usize) -> bool
+        ensures { result ≡ true → IsIncluded self.now a }
+    {
+        self.included.get(a) == Some(&true)
     }
 
     /// The numbers that stand after this one in some list.
@@ -75,4 +107,25 @@ impl AfterTable {
     {
         &self.rows[a]
     }
+}
+
+/// Whether the row of the number before has all that the row of this one has.
+fn is_in_row_before(rows: &[BitSet], x: usize) -> bool
+    requires within { x < length rows.now }
+    requires width { HaveWidth (length rows.now / 64 + 1) rows.now }
+    ensures { result ≡ true → IsIncluded rows.now x }
+{
+    x > 0 && rows[x].is_subset(&rows[x - 1])
+}
+
+/// For each number whether the row of the number before has all that its row has.
+fn included_in(alloc: Global, rows: &[BitSet]) -> Result<Vec<bool>, AllocError>
+    requires { HaveWidth (length rows.now / 64 + 1) rows.now }
+    ensures { IfOk result (λ included. AreIncluded rows.now included.items) }
+{
+    let mut included = Vec::with_capacity(alloc, rows.len())?;
+    for x in 0..rows.len() {
+        included.push(is_in_row_before(rows, x))?;
+    }
+    Ok(included)
 }

@@ -184,6 +184,7 @@ fn shown_after(alloc: Global, numbered: &Numbered) -> Result<AfterTable, Memory>
         table.add(&mut noter, known, row)?;
         known = row;
     }
+    table.note_included(alloc)?;
     Ok(table)
 }
 

@@ -42,6 +42,7 @@ pub fn after_table(alloc: Global, graph: &OrderGraph) -> Result<AfterTable, Memo
         table.add(&mut noter, known, list)?;
         known = list;
     }
+    table.note_included(alloc)?;
     Ok(table)
 }
 

@@ -1,8 +1,8 @@
 -- The table of one list more, and of all.
-use Rattle.std.proofs.Common.{◌≡◌, ◌∙◌, ℕ, suc, ◌+◌, ◌<◌, List, [], ◌∷◌, ◌++◌, take, length, sym, ap, subst, arith}
+use Rattle.std.proofs.Common.{◌≡◌, ◌∙◌, ℕ, suc, ◌+◌, ◌/◌, ◌<◌, List, [], ◌∷◌, ◌++◌, take, length, sym, ap, subst, arith}
 use Rattle.std.proofs.Math.Seq.{take-suc}
 use Rattle.std.proofs.lemmas.List.{take_all}
-use Rattle.bit_tables.specs.Lists.{IsTableOf}
+use Rattle.bit_tables.specs.Lists.{HaveWidth, IsTableOf}
 use Rattle.element_numbers.proofs.Cuts.{length-cut}
 use Rattle.cert_check.specs.Numbering.{lists_of}
 use Rattle.cert_check.proofs.rows.shown_after.Goals as goal
@@ -27,9 +27,15 @@ loop-i-preserved c =
       known = c.in_ok-add.ensures.known;
     }
 
+pub note_included-requires : goal.note_included-requires
+note_included-requires c =
+    let inv = c.loop-i.invariant in
+    record { width = subst (λ (m : ℕ). HaveWidth (m / 64 + 1) c.loop-i.table) (sym inv.table.len) inv.table.width }
+
 pub returns : goal.returns
 returns c =
     let lists : List (List ℕ) = lists_of c.args.numbered.now in
     let count : length lists ≡ length c.args.numbered.now.places.ends.items = length-cut 0 c.args.numbered.now.places.ends.items c.args.numbered.now.places.items.items in
-    subst (λ (l : List (List ℕ)). IsTableOf (length c.args.numbered.now.names.items) l c.loop-i.table)
-    (take_all c.loop-i.i lists (omega (arith, c.loop-i-test.false, c.len-i-end.ensures, count))) c.loop-i.invariant.table
+    subst (IsTableOf (length c.args.numbered.now.names.items) lists) (sym c.note_included.ensures)
+    (subst (λ (l : List (List ℕ)). IsTableOf (length c.args.numbered.now.names.items) l c.loop-i.table)
+    (take_all c.loop-i.i lists (omega (arith, c.loop-i-test.false, c.len-i-end.ensures, count))) c.loop-i.invariant.table)

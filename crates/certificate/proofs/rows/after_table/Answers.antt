@@ -1,11 +1,12 @@
 -- The table of one list more, and of all.
-use Rattle.std.proofs.Common.{◌≡◌, ◌∙◌, ℕ, suc, ◌+◌, ◌<◌, List, [], ◌∷◌, ◌++◌, take, length, sym, ap, subst, arith}
+use Rattle.std.proofs.Common.{◌≡◌, ◌∙◌, ℕ, suc, ◌+◌, ◌/◌, ◌<◌, List, [], ◌∷◌, ◌++◌, take, length, sym, ap, subst, arith}
 use Rattle.std.proofs.Math.Seq.{take-suc}
 use Rattle.std.proofs.lemmas.List.{length-map, take_all}
 use Rattle.specification.specs.Elements.{numbers_in}
 use Rattle.specification.specs.Responses.{Responses, Returned}
 use Rattle.order_graph.specs.Lists.{lists_of}
-use Rattle.bit_tables.specs.Lists.{IsTableOf}
+use Rattle.bit_tables.specs.Lists.{HaveWidth, IsTableOf}
+use Rattle.certificate.specs.AfterTables.{IsAfterTable}
 use Rattle.certificate.proofs.rows.after_table.Goals as goal
 
 pub loop-i-preserved : goal.loop-i-preserved
@@ -29,6 +30,11 @@ loop-i-preserved c =
       known = c.in_ok-add.ensures.known;
     }
 
+pub note_included-requires : goal.note_included-requires
+note_included-requires c =
+    let inv = c.loop-i.invariant in
+    record { width = subst (λ (m : ℕ). HaveWidth (m / 64 + 1) c.loop-i.table) (sym inv.table.len) inv.table.width }
+
 pub returns : goal.returns
 returns c =
     let v : Responses = c.args.graph.now in
@@ -36,4 +42,4 @@ returns c =
     let all : IsTableOf (length v.elements) (lists_of v) c.loop-i.table =
     subst (λ (l : List (List ℕ)). IsTableOf (length v.elements) l c.loop-i.table)
     (take_all c.loop-i.i (lists_of v) (omega (arith, c.loop-i-test.false, c.lists-i-end.ensures.value, count))) c.loop-i.invariant.table in
-    record { len = all.len; width = all.width; shown = λ a b low high. all.shown a b low }
+    subst (IsAfterTable v) (sym c.note_included.ensures) (record { len = all.len; width = all.width; shown = λ a b low high. all.shown a b low })
