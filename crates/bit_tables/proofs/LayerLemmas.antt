@@ -57,10 +57,13 @@ successors_skipped rows w i old into within later included least before =
     let last : ℕ = get_or w (i - 1) 0 in
     let there : get_or w (i - 1) last ≡ last = get_or_default w (i - 1) last 0 (omega arith) in
     successors_step rows w i old into into (row_of rows (get_or w i 0)) within refl least before
-    (λ y from. (λ has. inl has, λ h. elim h [
-      | inl has ↦ has
-      | inr here ↦ (before y from).1 (inr (last, (i - 1, (omega arith), there), included y here))
-    ]))
+    (λ y from. (
+      λ has. inl has,
+      λ h. elim h [
+        | inl has ↦ has
+        | inr here ↦ (before y from).1 (inr (last, (i - 1, (omega arith), there), included y here))
+      ],
+    ))
 
 -- what is known of what has lists, of the lists
 module _ {V : Type 0} (list : V → List ℕ) (vs : List V) where

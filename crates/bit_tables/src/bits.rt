@@ -83,7 +83,7 @@ impl BitSet {
         join(&mut self.words, &other.words);
     }
 
-    /// Adds what the other set has from a number on; it may add lesser ones that the other set has.
+    /// Adds what the other set has from a number on. What it has of lesser numbers may be other than before.
     pub fn union_from(&mut self, other: &BitSet, first: usize)
         requires { length self.old ≡ length other.now }
         ensures len { length self.new ≡ length self.old }

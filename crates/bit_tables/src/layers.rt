@@ -21,16 +21,14 @@ pub fn add_layer(into: &mut BitSet, layer: &[u32])
     }
 }
 
-/// Whether a row that was added has all that the row of the number at a place of a layer has: that of the number at the
-/// place before.
-fn is_added(table: &AfterTable, layer: &[u32], i: usize) -> bool
+/// Whether it is known that the row of the number at the place before in a layer has all that the row of the number at this
+/// place has.
+fn row_before_has_all(table: &AfterTable, layer: &[u32], i: usize) -> bool
     requires { i < length layer.now }
     ensures { result ≡ true → (0 < i) × ((y : ℕ) → Has (row_of table.now (slice_index layer.now i)) y
         → Has (row_of table.now (slice_index layer.now (i - 1))) y) }
 {
-    i > 0
-        && layer[i - 1].checked_add(1) == Some(layer[i])
-        && table.is_included(layer[i] as usize)
+    i > 0 && layer[i - 1].checked_add(1) == Some(layer[i]) && table.is_included(layer[i] as usize)
 }
 
 /// Adds what stands after a number of the layer in some list, from `first` on; of lesser numbers nothing is promised.
@@ -42,7 +40,7 @@ pub fn add_successors(into: &mut BitSet, table: &AfterTable, layer: &[u32], firs
         ↔ (Has into.old y ⊎ ((x : ℕ) × Contains layer.now x × Has (row_of table.now x) y)) }
 {
     'numbers: for i in 0..layer.len() {
-        if !is_added(table, layer, i) {
+        if !row_before_has_all(table, layer, i) {
             into.union_from(table.after(layer[i] as usize), first);
         }
     }

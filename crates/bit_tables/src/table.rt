@@ -10,8 +10,8 @@ use super::noting::Noter;
 use std::alloc::{AllocError, Global};
 use std::marker::Model;
 
-/// For each number the set of those that stand after it in some list. It may have noted, for each number, that the row of
-/// the number before has all that its row has: then it was noted for all, and no list was added since.
+/// For each number the set of those that stand after it in some list. It may have noted of some numbers that the row of the
+/// number before has all that their rows have.
 #[derive(Drop)]
 pub struct AfterTable {
     rows: Vec<BitSet>,

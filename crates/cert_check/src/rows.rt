@@ -169,7 +169,8 @@ fn first_source(rows: &[u8]) -> Option<Name>
 
 /// Which elements are shown after which, in the responses that cover all. Each is noted beside the one before, of
 /// which it mostly has the elements in the same order: so it costs `n / 64` steps for n elements, a step for each
-/// of its places, and what is new in it.
+/// of its places, and what is new in it. In the end it notes for each element whether the row of the one before has all of its
+/// row, in up to `n / 64` steps and a byte each.
 fn shown_after(alloc: Global, numbered: &Numbered) -> Result<AfterTable, Memory>
     requires cut { IsCut numbered.now.places }
     requires within { AreWithin (length numbered.now.names.items) numbered.now }

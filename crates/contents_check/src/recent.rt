@@ -14,7 +14,7 @@ const SLOTS: usize = 1024;
 
 /// For each slot the number of an element whose name was looked up lately. Names share slots, so a number
 /// is believed only where its element has the name. The mask is one less than the number of slots, a power of two. And the
-/// number that was found last: names that were typed one after the other have numbers that follow one another.
+/// number that was found last, 0 at first: names that were typed one after the other have numbers that follow one another.
 #[derive(Drop)]
 pub struct Recent {
     slots: Vec<u32>,
@@ -22,8 +22,8 @@ pub struct Recent {
     last: usize,
 }
 
-/// One less than the number of slots for so many elements: a power of two, two to four times as many as these, but at most
-/// `SLOTS`. It decides cost alone.
+/// One less than the number of slots for so many elements: a power of two, two to four times as many as these, but at least 1
+/// and at most `SLOTS`, the tenth power of two. It decides cost alone.
 fn mask_for(elements: usize) -> usize {
     let mut mask = SLOTS - 1;
     for _ in 0..10 {

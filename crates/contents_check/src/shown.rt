@@ -119,7 +119,6 @@ impl Standings {
     {
         // Its contract has that the places of a response are numbers of 64 bits.
         let _ = last.len();
-        next.reserve(w.len())?;
         let mut is_part = true;
         let mut i = 0;
         let mut j = 0;

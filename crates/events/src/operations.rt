@@ -26,8 +26,8 @@ impl Recording {
         ensures legal { IsLegal self.now }
     {
         let mut count: u32 = 0;
-        for r in 0..self.replicas() {
-            count = count.saturating_add(self.count(r));
+        for q in 0..self.replicas() {
+            count = count.saturating_add(self.count(q));
         }
         count as usize
     }

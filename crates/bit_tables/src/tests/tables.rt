@@ -138,6 +138,41 @@ fn lists_beside_the_one_before(rt: HostRuntime) -> Result<(), Fail> {
     Ok(())
 }
 
+/// Whether the row of a number has nothing that the row of the number before has not.
+fn is_in_row_before(table: &AfterTable, a: usize) -> bool
+    requires { length table.now ≡ 70 }
+{
+    if a == 0 || a >= 70 {
+        return false;
+    }
+    for b in 0..70 {
+        if table.after(a).contains(b) && !table.after(a - 1).contains(b) {
+            return false;
+        }
+    }
+    true
+}
+
+#[test]
+fn rows_that_the_row_before_has(rt: HostRuntime) -> Result<(), Fail> {
+    for end in 0..LISTS.len() + 1 {
+        let lists = &LISTS[..end];
+        let mut table = table_of(rt.alloc(), lists)?;
+        for a in 0..71 {
+            assert!(rt; !table.is_included(a), "{a} is not noted");
+        }
+        if table.note_included(rt.alloc()).is_err() {
+            table.note_included(rt.alloc())?;
+        }
+        for a in 0..71 {
+            let is_noted = table.is_included(a);
+            assert_eq!(rt; is_noted, is_in_row_before(&table, a), "{a} of {end} lists");
+        }
+        assert!(rt; is_of_lists(&table, lists), "of {end} lists");
+    }
+    Ok(())
+}
+
 /// The depth of a number, which is the count at most: that of the first pair of the number, or else the count.
 fn depth_of(known: &[(u32, u32)], count: u32, x: u32) -> u32
     ensures { result ≤ count }

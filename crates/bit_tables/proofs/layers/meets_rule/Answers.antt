@@ -1,9 +1,8 @@
-use Rattle.std.proofs.Common.{◌≡◌, ℕ, ◌∙◌, ◌+◌, ◌<◌, ◌⊎◌, inl, inr, List, [], length, map, get_or, refl, sym, arith, true≢false}
-use Rattle.std.specs.Prelude.{◌↔◌, Contains, IsTrue}
+use Rattle.std.proofs.Common.{◌≡◌, ℕ, ◌∙◌, ◌+◌, inl, inr, List, [], length, map, get_or, refl, sym, arith, true≢false}
+use Rattle.std.specs.Prelude.{◌↔◌, IsTrue}
 use Rattle.std.proofs.lemmas.List.{length-map}
-use Rattle.bit_tables.specs.Lists.{row_of}
 use Rattle.bit_tables.specs.Sets.{Has}
-use Rattle.bit_tables.proofs.LayerLemmas.{IsTested, all-from, all-within, list-here, tested_step, tested_subset, tested_all, gradual_more, shown_more, none_below, negated}
+use Rattle.bit_tables.proofs.LayerLemmas.{all-from, all-within, list-here, tested_step, tested_subset, tested_all, gradual_more, shown_more, none_below, negated}
 use Rattle.bit_tables.proofs.layers.meets_rule.Goals as goal
 
 pub layers-preserved : goal.layers-preserved

@@ -1,4 +1,4 @@
-use Rattle.std.proofs.Common.{◌≡◌, ℕ, ◌+◌, ◌/◌, ◌<◌, ◌≤◌, ◌∙◌, ◌⊎◌, inl, List, [], ◌∷◌, ◌++◌, Vec, Global, map, length, ap, sym, subst, arith}
+use Rattle.std.proofs.Common.{◌≡◌, ℕ, ◌+◌, ◌/◌, ◌<◌, ◌≤◌, ◌∙◌, ◌⊎◌, List, [], ◌∷◌, ◌++◌, Vec, Global, map, length, ap, sym, subst, arith}
 use Rattle.std.specs.Prelude.{◌↔◌, All, Contains}
 use Rattle.std.proofs.lemmas.List.{map-append}
 use Rattle.bit_tables.specs.Sets.{Has, room}
@@ -6,9 +6,6 @@ use Rattle.bit_tables.specs.Lists.{row_of}
 use Rattle.bit_tables.proofs.Those.{those_all}
 use Rattle.bit_tables.proofs.WayLemmas.{IsWalked, walked_more, walked-layer}
 use Rattle.bit_tables.proofs.ways.layers_from.Goals as goal
-
-pub outside_from-requires-clause-none : goal.outside_from-requires-clause-none
-outside_from-requires-clause-none c = λ y low has. (c.loop-d.invariant.walked.reached_is y).1 (inl low)
 
 pub add_layer-requires : goal.add_layer-requires
 add_layer-requires c =
