@@ -55,13 +55,19 @@ impl<T: Copy + Drop> Rows<T> {
         self.end_row()
     }
 
-    /// Makes room for so many rows more, which have so many values together.
+    /// Makes room for so many rows more, which have so many values together; where no row is ended yet, for no fewer
+    /// than the first row makes room for.
     pub fn make_room(&mut self, rows: usize, values: usize) -> Result<(), Memory>
         ensures items { self.new.items.items ≡ self.old.items.items }
         ensures ends { self.new.ends.items ≡ self.old.ends.items }
     {
-        self.ends.reserve(rows)?;
-        self.items.reserve(values)?;
+        if rows > 0 && self.ends.is_empty() {
+            self.ends.reserve(rows.max(FIRST_ROWS))?;
+            self.items.reserve(values.max(FIRST_VALUES))?;
+        } else {
+            self.ends.reserve(rows)?;
+            self.items.reserve(values)?;
+        }
         Ok(())
     }
 
@@ -71,8 +77,7 @@ impl<T: Copy + Drop> Rows<T> {
         ensures ends { self.new.ends.items ≡ self.old.ends.items }
     {
         if self.ends.is_empty() {
-            self.ends.reserve(FIRST_ROWS)?;
-            self.items.reserve(values.max(FIRST_VALUES))?;
+            self.make_room(1, values)?;
         }
         Ok(())
     }
