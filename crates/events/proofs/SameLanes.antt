@@ -122,10 +122,6 @@ and-so-many a b s m n before h k lt = elim (cases_lt k s) [
       ap (slice_index a) e ∙ sym (get_or-drop s a (k - s) 0) ∙ h.same (k - s) (omega (arith, more, lt)) ∙ get_or-drop s b (k - s) 0 ∙ sym (ap (slice_index b) e)
 ]
 
--- of parts that are the lists from a place on
-pub from : (s m n : ℕ) (a b p q : List ℕ) → p ≡ drop s a → q ≡ drop s b → AreSame p q m n → AreSame (drop s a) (drop s b) m n
-from s m n a b p q here there h = subst (λ x. AreSame x (drop s b) m n) here (subst (λ x. AreSame p x m n) there h)
-
 -- the same, where the bytes from a place on reach far enough or differ
 pub joined : (a b : List ℕ) (s m n most : ℕ) → ((k : ℕ) → k < s → slice_index a k ≡ slice_index b k) → AreSame (drop s a) (drop s b) m n → s + n ≤ most → (s + n < most → n < m) → AreSame a b most (s + n)
 joined a b s m n most before h within short = record {

@@ -96,9 +96,7 @@ fn put_ends(own: &mut Vec<u32>, ends: &[u32], from: usize, begin: usize)
     let start = own.len();
     // There is room, so it does not fail.
     let _ = own.extend_from_slice(ends);
-    if begin != from {
-        move_ends(&mut own[start..], from, begin);
-    }
+    move_ends(&mut own[start..], from, begin);
 }
 
 /// Moves ends, each as far after `begin` as it was after `from`.

@@ -1,7 +1,6 @@
 //! How far two responses go on with the same names.
 
 ghost use Rattle.std.specs.Prelude.{◌≡◌, ℕ, ◌<◌, ◌≤◌, ◌^◌, All, Some, List, length, slice_get, take, drop};
-ghost use Rattle.std.specs.Prelude.{slice_index, true};
 ghost use Rattle.std.specs.Simd.Lanes.{mask_l};
 ghost use Rattle.events.specs.Names.{IsName};
 ghost use Rattle.events.specs.Packed.{spaced, start_at};
@@ -14,8 +13,6 @@ use std::simd::prelude::*;
 
 /// How many bytes are compared at once.
 const LANES: usize = 16;
-/// How many bytes are compared at once as long as all of them are the same.
-const MANY: usize = 64;
 
 impl Response {
     /// How many names follow one another alike in this response from place `i` and in the other from place
@@ -87,8 +84,8 @@ pub(super) fn same_bytes(a: &[u8], b: &[u8]) -> usize
     same_within(a, b, a.len().min(b.len()))
 }
 
-/// How many of so many bytes are the same from the beginning on. Sixty-four are compared at once as long as all are the
-/// same, then sixteen, also the last sixteen, of which some may have been compared before.
+/// How many of so many bytes are the same from the beginning on. Sixteen are compared at once, also the last
+/// sixteen, of which some may have been compared before.
 fn same_within(a: &[u8], b: &[u8], most: usize) -> usize
     requires { (most ≤ length a.now) × (most ≤ length b.now) }
     ensures { AreSame a.now b.now most result }
@@ -96,7 +93,7 @@ fn same_within(a: &[u8], b: &[u8], most: usize) -> usize
     if most < LANES {
         return same_one_by_one(a, b, most);
     }
-    let mut same = same_in_many(a, b, most);
+    let mut same = 0;
     'lanes: while LANES < most - same {
         let more = same_in_lanes(after(a, same), after(b, same));
         if more < LANES {
@@ -107,40 +104,6 @@ fn same_within(a: &[u8], b: &[u8], most: usize) -> usize
     }
     let last = most - LANES;
     last + same_in_lanes(after(a, last), after(b, last))
-}
-
-/// Of so many bytes some that are the same from the beginning on, sixty-four at a time; more may be the same.
-#[inline(always)]
-fn same_in_many(a: &[u8], b: &[u8], most: usize) -> usize
-    requires { (most ≤ length a.now) × (most ≤ length b.now) }
-    ensures within { result ≤ most }
-    ensures same { (k : ℕ) → k < result → slice_index a.now k ≡ slice_index b.now k }
-{
-    let mut same = 0;
-    'many: while MANY < most - same && are_many_same(after(a, same), after(b, same)) {
-        same += MANY;
-    }
-    same
-}
-
-/// Whether the first sixty-four bytes are the same; it may answer no where they are.
-#[inline(always)]
-fn are_many_same(a: &[u8], b: &[u8]) -> bool
-    requires { (MANY ≤ length a.now) × (MANY ≤ length b.now) }
-    ensures { result ≡ true → AreSame a.now b.now MANY MANY }
-{
-    many_differing(a, b) == 0
-}
-
-/// Of the first sixty-four bytes a bit each: whether they differ.
-#[inline(always)]
-fn many_differing(a: &[u8], b: &[u8]) -> u64
-    requires { (MANY ≤ length a.now) × (MANY ≤ length b.now) }
-    ensures { result ≡ mask_l (unlike (take MANY a.now) (take MANY b.now)) }
-{
-    u8x64::from_slice(a)
-        .simd_ne(u8x64::from_slice(b))
-        .to_bitmask()
 }
 
 /// How many of the first sixteen bytes are the same from the beginning on.

@@ -1,7 +1,11 @@
 -- Sixteen more from a place on, or as far as they are the same.
-use Rattle.std.proofs.Common.{◌-◌, ℕ, arith}
-use Rattle.events.proofs.SameLanes.{and-so-many, from, joined}
+use Rattle.std.proofs.Common.{◌≡◌, ◌-◌, ℕ, List, drop, subst, arith}
+use Rattle.events.specs.SameNames.{AreSame}
+use Rattle.events.proofs.SameLanes.{and-so-many, joined}
 use Rattle.events.proofs.response.same_names.same_within.Goals as goal
+
+from : (s m n : ℕ) (a b p q : List ℕ) → p ≡ drop s a → q ≡ drop s b → AreSame p q m n → AreSame (drop s a) (drop s b) m n
+from s m n a b p q here there h = subst (λ x. AreSame x (drop s b) m n) here (subst (λ x. AreSame p x m n) there h)
 
 pub returns-then-more-lt-LANES : goal.returns-then-more-lt-LANES
 returns-then-more-lt-LANES c =
