@@ -1,5 +1,5 @@
 -- The numbers below a bound that meet a condition, in rising order: with one number more, and past numbers that do not meet it.
-use Rattle.std.proofs.Common.{◌≡◌, ℕ, ◌+◌, ◌*◌, ◌/◌, ◌%◌, ◌-◌, ◌^◌, ◌<◌, ◌≤◌, ◌⊎◌, inl, inr, ◌∙◌, Bool, true, false, cond, eqb, List, [], ◌∷◌, ◌++◌, length, get_or, ap, sym, refl, subst, arith, min, eq-eqb, eqb-true, true≢false, w64}
+use Rattle.std.proofs.Common.{◌≡◌, ℕ, ◌+◌, ◌*◌, ◌/◌, ◌%◌, ◌-◌, ◌^◌, ◌<◌, ◌≤◌, ◌⊎◌, inl, inr, ◌∙◌, List, [], ◌∷◌, ◌++◌, length, get_or, ap, sym, subst, arith, min, w64}
 use Rattle.std.specs.Prelude.{◌↔◌, All, Contains, bit_and}
 use Rattle.std.specs.Int.{bit_at, bit_not}
 use Rattle.std.specs.List.Sorted.{IsStrictlyIncreasing}
@@ -7,7 +7,7 @@ use Rattle.std.proofs.lemmas.Bool.{cases_eq, cases_lt}
 use Rattle.std.proofs.lemmas.List.{get_or_append_left, get_or_default, length-append}
 use Rattle.std.proofs.Math.Seq.{get_or-append_seam}
 use Rattle.std.proofs.lemmas.List.Elements.{Contains-push, Contains-append_left, Contains-push_cases}
-use Rattle.std.proofs.lemmas.Nat.Bits.{bit_at_and, bit_at_not, bit_at-zero, bit_at-lt, bit_at_above, shr_and_one}
+use Rattle.std.proofs.lemmas.Nat.Bits.{bit_at_and, bit_at_not, bit_at-zero, bit_at-lt, bit_at_above}
 use Rattle.std.proofs.lemmas.Nat.{and_le_l, pow-add}
 use native.Mathlib.Nat.{div-div-eq-div-mul, div-le_self}
 use Rattle.bit_tables.specs.Sets.{Has}
@@ -73,13 +73,6 @@ module _ (P : ℕ → Type 0) where
     rising = rising_more xs m are.rising (λ x c. ((are.has x).0 c).0);
   }
 
-  -- the next number, by a test
-  pub those_step : (m : ℕ) (xs ys : List ℕ) (test : Bool) → (test ≡ true) ↔ P m → ys ≡ cond test (xs ++ m ∷ []) xs → AreThoseBelow P m xs → AreThoseBelow P (m + 1) ys
-  those_step m xs ys true tells is are = subst (AreThoseBelow P (m + 1)) (sym is) (those_more m xs (tells.0 refl) are)
-  those_step m xs ys false tells is are =
-      subst (AreThoseBelow P (m + 1)) (sym is) (those_past m (m + 1) xs (omega arith)
-      (λ x low high meets. true≢false (sym (tells.1 (subst P (let e : x ≡ m = omega (arith, low, high) in e) meets)))) are)
-
   -- those below two bounds are those below the lesser
   pub those_below : (n m : ℕ) (xs : List ℕ) → n ≤ m → AreThoseBelow (λ x. (x < n) × P x) m xs → AreThoseBelow P n xs
   those_below n m xs le are = record {
@@ -122,20 +115,6 @@ module _ (set other : List ℕ) (word a b : ℕ) (one : a ≡ get_or set word 0)
       let at : (64 * word + i) / 64 ≡ word = omega (arith, low) in
       let place : (64 * word + i) % 64 ≡ i = omega (arith, low) in
       rw (at, place, ← one, ← two) (lacking-bit a b i small low)
-
-  pub lacking-none : bit_and a (bit_not w64 b) ≡ 0 → (x : ℕ) → 64 * word ≤ x → x < 64 * (word + 1) → ¬ (Has set x × (¬ Has other x))
-  lacking-none zero x from to has =
-      let i : ℕ = x - 64 * word in
-      let low : i < 64 = omega (arith, from, to) in
-      let same : 64 * word + i ≡ x = omega (arith, from) in
-      let bit : bit_at (bit_and a (bit_not w64 b)) i ≡ 1 = (lacking-has i low).1 (subst (λ y. Has set y × (¬ Has other y)) (sym same) has) in
-      let none : bit_at (bit_and a (bit_not w64 b)) i ≡ 0 = ap (λ w. bit_at w i) zero ∙ bit_at-zero i in
-      omega (arith, bit, none)
-
-  pub lacking-test : (i : ℕ) → i < 64 → (eqb (bit_and (bit_and a (bit_not w64 b) / 2 ^ i) 1) 1 ≡ true) ↔ (Has set (64 * word + i) × (¬ Has other (64 * word + i)))
-  lacking-test i low =
-      let each = lacking-has i low in
-      rw (shr_and_one) (λ t. each.0 (eqb-true _ 1 t), λ h. eq-eqb _ 1 (each.1 h))
 
   -- and of the word from a place on
   module _ (place : ℕ) (low_place : place < 64) where

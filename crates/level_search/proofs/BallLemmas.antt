@@ -20,12 +20,6 @@ before_shown rows a b before = (before.list, record { place = before.place; late
 pub shown_before : (rows : List (List ℕ)) (a b : ℕ) → IsShown rows a b → Before rows a b
 shown_before rows a b (l, s) = record { list = l; place = s.place; later = s.later; in_order = s.in_order; first = s.first; second = s.second }
 
-pub layer_more : (n : ℕ) (sets : Sets) (x : ℕ) → IsInLayer n sets x → IsInLayer (n + 1) sets x
-layer_more n sets x layer = record { known = (let k = layer.known in omega arith); reached = layer.reached; not_near = layer.not_near }
-
-pub layer_last : (n : ℕ) (sets : Sets) (x : ℕ) → IsInLayer (n + 1) sets x → ¬ (x ≡ n) → IsInLayer n sets x
-layer_last n sets x layer apart = record { known = (let k = layer.known in omega arith); reached = layer.reached; not_near = layer.not_near }
-
 module _ (n : ℕ) (rows table : List (List ℕ)) (is : IsShownTable n rows table) (known : (a b : ℕ) → Before rows a b → (a < n) × (b < n)) (s : ℕ) where
   -- from an element of the layer exactly as many steps as the level lead to s
   pub layer_reaches : (level : ℕ) (sets : Sets) → IsAtLevel rows s level sets → (x : ℕ) → IsInLayer n sets x → Reaches rows s level x
