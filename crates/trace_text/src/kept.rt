@@ -60,7 +60,7 @@ fn is_name(word: &[u8]) -> bool
 }
 
 impl KeptLine {
-    ghost use Rattle.std.specs.Prelude.{◌≡◌, ◌↔◌, ◌<◌, ◌≤◌, ◌+◌, ◌^◌, ◌∷◌, ◌++◌, [], length, OnOk, true};
+    ghost use Rattle.std.specs.Prelude.{◌≡◌, ◌↔◌, ◌<◌, ◌≤◌, ◌+◌, ◌^◌, ◌∷◌, ◌++◌, [], length, slice_get, OnOk, Some, true};
     ghost use Rattle.events.specs.Names.{IsName};
     ghost use Rattle.trace_text.specs.Kept.{EMPTY, GIVEN_UP, HasNoSpace, Keeps};
 
@@ -177,7 +177,8 @@ impl KeptLine {
     }
 
     /// Adds bytes of the line. It takes time in proportion to them. Where they end a word and the line is not long yet, all
-    /// that they have of whole words is put behind the word begun at once.
+    /// that they have of whole words is put behind the word begun at once. A line that begins with a space is given up by its
+    /// first word, which has no byte.
     pub fn add(&mut self, bytes: &[u8]) -> Result<(), Memory>
         ensures { OnOk result (Keeps self.old bytes.now self.new) }
     {
@@ -185,11 +186,21 @@ impl KeptLine {
             return Ok(());
         }
         if let Some((words, part)) = split_last_word(bytes) {
-            if part.len() <= MOST_BYTES as usize && self.has_room(bytes) {
+            if !self.begins_with_space(bytes)
+                && part.len() <= MOST_BYTES as usize
+                && self.has_room(bytes)
+            {
                 return self.add_at_once(words, part);
             }
         }
         self.add_words(bytes)
+    }
+
+    /// Whether these bytes are the line's first and begin with a space.
+    fn begins_with_space(&self, bytes: &[u8]) -> bool
+        ensures { (result ≡ true) ↔ ((self.now ≡ EMPTY) × (slice_get bytes.now 0 ≡ Some 32)) }
+    {
+        self.is_empty() && bytes.first() == Some(&b' ')
     }
 
     /// Whether the line is not long with these bytes.
