@@ -52,8 +52,6 @@ impl Covering {
         ensures cut { OnOk result (IsCut self.new.rows) }
         ensures rows { OnOk result (rows_of self.new.rows ≡ rows_of self.old.rows ++ rows_of more.now.rows) }
     {
-        self.rows
-            .make_room(more.rows.ends.len(), more.rows.items.len())?;
         self.operations
             .extend_from_slice(more.operations.as_slice())?;
         for k in 0..more.rows.ends.len() {

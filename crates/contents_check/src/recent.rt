@@ -81,7 +81,7 @@ impl Recent {
         }
     }
 
-    /// The number in a slot.
+    /// The number in the slot to which the mask leads from this number of `slot_of`.
     #[inline(always)]
     fn kept(&self, slot: usize) -> usize {
         match self.slots.get(slot & self.mask) {
@@ -90,7 +90,7 @@ impl Recent {
         }
     }
 
-    /// Puts a number into a slot.
+    /// Puts a number into that slot.
     #[inline(always)]
     fn keep(&mut self, slot: usize, number: usize) {
         if let Some(place) = self.slots.get_mut(slot & self.mask) {
@@ -107,8 +107,9 @@ fn in_slot(number: usize) -> u32
     (number % (1 << 32)) as u32
 }
 
-/// The slot of a name, by its last three bytes, in which the names of a replica differ most, and by its first
-/// byte, in which names of different replicas may differ where they end alike.
+/// A number for a name, by its last three bytes, in which the names of a replica differ most, and by its first
+/// byte, in which names of different replicas may differ where they end alike. The slot of the name is this number masked:
+/// with fewer slots than `SLOTS` it is a lesser one.
 pub fn slot_of(name: &Name) -> u16
     ensures { result < 1024 }
 {

@@ -6,10 +6,11 @@ ghost use Rattle.std.specs.Prelude.{slice_index_or, vec_len};
 use events::Memory;
 use std::alloc::Global;
 
-/// For how many rows there is room once there is one.
+/// For how many rows `push_row` makes room where no row is ended yet. `end_row` makes none ahead: where it alone ends rows,
+/// the list of ends grows as any list does.
 const FIRST_ROWS: usize = 16;
 
-/// For how many values there is room at least once there is a row.
+/// For how many values it makes room then at least. Values that are pushed before `end_row` get none ahead.
 const FIRST_VALUES: usize = 64;
 
 /// Rows of values, one after the other, and where each ends. What stands after the last end is a row
@@ -55,29 +56,14 @@ impl<T: Copy + Drop> Rows<T> {
         self.end_row()
     }
 
-    /// Makes room for so many rows more, which have so many values together; where no row is ended yet, for no fewer
-    /// than the first row makes room for.
-    pub fn make_room(&mut self, rows: usize, values: usize) -> Result<(), Memory>
-        ensures items { self.new.items.items ≡ self.old.items.items }
-        ensures ends { self.new.ends.items ≡ self.old.ends.items }
-    {
-        if rows > 0 && self.ends.is_empty() {
-            self.ends.reserve(rows.max(FIRST_ROWS))?;
-            self.items.reserve(values.max(FIRST_VALUES))?;
-        } else {
-            self.ends.reserve(rows)?;
-            self.items.reserve(values)?;
-        }
-        Ok(())
-    }
-
-    /// Where no row is ended, makes room for some and for so many values. It decides cost alone.
+    /// Where no row is ended, makes room for some rows, and for so many values or a few more. It decides cost alone.
     fn make_first_room(&mut self, values: usize) -> Result<(), Memory>
         ensures items { self.new.items.items ≡ self.old.items.items }
         ensures ends { self.new.ends.items ≡ self.old.ends.items }
     {
         if self.ends.is_empty() {
-            self.make_room(1, values)?;
+            self.ends.reserve(FIRST_ROWS)?;
+            self.items.reserve(values.max(FIRST_VALUES))?;
         }
         Ok(())
     }

@@ -62,9 +62,10 @@ fn search_core<H: Threads + Sync, G: Gate>(
 /// number of workers, any gate and any order in which the workers come to run.
 ///
 /// All searches read one table, which has for each element of the core the set of those that some list shows
-/// before it, a bit each: n * n / 8 bytes for n elements, made in time linear in the places. A search takes n
-/// / 64 steps for each element that it reaches, and n for each of its levels. Each worker takes memory linear
-/// in the core. All memory is taken before the first search.
+/// before it, a bit each: n * n / 8 bytes for n elements. What making it takes is said at `ShownTable::of`. A search
+/// keeps sets of n bits. It goes through the n / 64 words of such sets twice at its start, once for each element that it
+/// goes on from, and six times at most for each of its levels, and it takes a few steps more for each element that it
+/// reaches. Each worker takes memory linear in the core. All memory is taken before the first search.
 pub fn conflict_number<H: Threads + Sync, G: Gate>(
     rt: &H,
     alloc: Global,

@@ -12,7 +12,7 @@ use super::looked::Looked;
 use super::narrowing::{names_kept, new_numbers, places_left};
 use super::pairs::first_list;
 use super::spot::Spot;
-use super::spots::{spots_at, spots_in_lists};
+use super::spots::{all_spots, spots_at};
 use contents_check::Covering;
 use element_numbers::{Rows, inserted_names, numbers_of, places_of};
 use events::{Memory, Name, OpName, Recording};
@@ -132,7 +132,7 @@ impl OrderGraph {
         requires { AreListed names.items (get (pointwise ◌==◌) numbers) shown.items places }
         ensures { IfOk result (λ g. g ≡ responses_kept names.items shown.items (rows_of places)) }
     {
-        let spots = spots_in_lists(alloc, names.len(), &places)?;
+        let spots = all_spots(alloc, names.len(), &places)?;
         Ok(OrderGraph {
             names,
             numbers,

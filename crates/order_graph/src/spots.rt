@@ -55,8 +55,13 @@ fn row_spots(list: u32, row: &[u32], spots: &mut Vec<Vec<Spot>>) -> Result<(), M
     Ok(())
 }
 
-/// The spots of each element. They are counted first, so that none has to move.
-fn all_spots(alloc: Global, elements: usize, places: &Rows<u32>) -> Result<Vec<Vec<Spot>>, Memory>
+/// The spots of each of so many elements, in order of lists: a list for each element. They are counted first, so that
+/// none has to move.
+pub fn all_spots(
+    alloc: Global,
+    elements: usize,
+    places: &Rows<u32>,
+) -> Result<Vec<Vec<Spot>>, Memory>
     requires whole { IsCut places.now }
     requires few { length (rows_of places.now) < 2 ^ 32 }
     requires known { (l : ℕ) → All (λ x. x < elements) (row (rows_of places.now) l) }
@@ -70,23 +75,6 @@ fn all_spots(alloc: Global, elements: usize, places: &Rows<u32>) -> Result<Vec<V
     for list in 0..places.ends.len() {
         row_spots(list as u32, places.row(list), &mut spots)?;
     }
-    Ok(spots)
-}
-
-/// The spots of each of so many elements, in order of lists: a list for each element.
-pub fn spots_in_lists(
-    alloc: Global,
-    elements: usize,
-    places: &Rows<u32>,
-) -> Result<Vec<Vec<Spot>>, Memory>
-    requires whole { IsCut places.now }
-    requires few { length (rows_of places.now) < 2 ^ 32 }
-    requires known { (l : ℕ) → All (λ x. x < elements) (row (rows_of places.now) l) }
-    requires short { (l : ℕ) → length (row (rows_of places.now) l) < 2 ^ 32 }
-    ensures { IfOk result (λ v. (x : ℕ)
-        → slice_index_or (map (λ s. s.items) v.items) x [] ≡ spots_of (rows_of places.now) x) }
-{
-    let spots = all_spots(alloc, elements, places)?;
     Ok(spots)
 }
 
