@@ -8,10 +8,9 @@ unless told otherwise. The exit status and the texts must be those of a run with
 The program is run as it is, with the runtime of gcc's sanitizer loaded before it, so what is seen is what passes through the C
 library: a block that is freed twice or was never given out, a copy (memcpy, memmove, memset) or a read or write of a file that
 leaves its block, a copy onto itself, one from or to a freed block, and blocks that nothing points to when the program ends. What
-is not seen: the program's own loads and stores, and the stack. First a small C program with such faults, compiled without the
-sanitizer like the program, must be reported for each fault. A program that was compiled with AddressSanitizer (instrumented.py
-makes one) is run without another runtime: then each load and store is checked, on the stack too, and lost blocks are not looked
-for."""
+is not seen: the program's own loads and stores, and the stack. Valgrind sees those to blocks (under_valgrind.py), and the program
+that `rt try` makes and runs has a sanitizer of its own. First a small C program with such faults, compiled without the sanitizer
+like the program, must be reported for each fault."""
 import os
 import subprocess
 import sys
@@ -31,10 +30,6 @@ OPTIONS = f"exitcode={REPORTED}:detect_leaks=1:detect_stack_use_after_return=1"
 FAULTS = {0: 0, 1: 0, 2: 17, 3: 17, 4: 16, 5: 0, 6: 0, 7: 0, 8: 17}
 
 
-def is_instrumented(program: str) -> bool:
-    return b"__asan_init" in Path(program).read_bytes()
-
-
 def runtime(folder: str) -> str:
     """What is loaded before the program: gcc's runtime, and the look for lost blocks."""
     found = subprocess.run(["gcc", "-print-file-name=libasan.so"], capture_output=True, text=True, check=True).stdout.strip()
@@ -45,8 +40,7 @@ def runtime(folder: str) -> str:
 
 def checked(loaded: str, words: list, text: bytes = b"") -> Ended:
     """A run with the sanitizer."""
-    preload = [f"LD_PRELOAD={loaded}"] if loaded else []
-    return run("env", [*preload, f"ASAN_OPTIONS={OPTIONS}", *words], text)
+    return run("env", [f"LD_PRELOAD={loaded}", f"ASAN_OPTIONS={OPTIONS}", *words], text)
 
 
 def try_faults(tally: Tally, loaded: str, folder: str) -> None:
@@ -64,10 +58,8 @@ def main() -> None:
     program = program_of(sys.argv[:2])
     tally = Tally()
     with tempfile.TemporaryDirectory() as folder, ThreadPoolExecutor(os.cpu_count()) as pool:
-        loaded = "" if is_instrumented(program) else runtime(folder)
-        print("compiled with AddressSanitizer" if not loaded else "with the runtime loaded before it", flush=True)
-        if loaded:
-            try_faults(tally, loaded, folder)
+        loaded = runtime(folder)
+        try_faults(tally, loaded, folder)
 
         def tried(case: tuple) -> tuple:
             words, text = case

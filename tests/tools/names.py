@@ -129,7 +129,8 @@ FILES = {
     "example of a program that records live": "crates/live_example/src/main.rt",
 }
 
-# The folders whose scripts are listed by name, and what their files may end with.
+# The folders whose scripts are listed by name, and what their files may end with; one without an ending is listed where its first
+# line names what runs it.
 SCRIPTS = "tests/program tests/tools tests/memory tests/proofs tests/shared tests/reference bench bench/peers recorders " \
           "recorders/engines recorders/properties"
 ENDINGS = {".py", ".mjs", ".rs", ".h", ".c", ".cpp", ".el"}
@@ -227,9 +228,16 @@ def row_of_tools() -> str:
             f"their modules in `tools/explaining/`: {', '.join(f'`{name}`' for name in names)}")
 
 
+def is_script(path: Path) -> bool:
+    """Whether a file ends as scripts do, or has no ending and begins with the line that names what runs it, as bench/run."""
+    if not path.is_file():
+        return False
+    return path.suffix in ENDINGS or (not path.suffix and path.read_bytes().startswith(b"#!"))
+
+
 def row_of_scripts(folder: str) -> str:
     """A folder of scripts, and their names, with which the documents call them."""
-    scripts = [path.name for path in sorted((ROOT / folder).iterdir()) if path.is_file() and path.suffix in ENDINGS]
+    scripts = [path.name for path in sorted((ROOT / folder).iterdir()) if is_script(path)]
     return f"- scripts in `{folder}/`: {', '.join(f'`{name}`' for name in scripts)}"
 
 
