@@ -1,6 +1,7 @@
 #!/usr/bin/env python3
 """pieces.py PROGRAM: traces that come through a pipe in pieces: vectors cut anywhere, endless streams, lines of a gigabyte."""
 import random
+import resource
 import subprocess
 import sys
 import threading
@@ -96,11 +97,22 @@ def long_line(front: bytes, piece: bytes, back: bytes):
     yield back
 
 
+def processor_seconds() -> float:
+    """The processor time of all runs that have ended."""
+    used = resource.getrusage(resource.RUSAGE_CHILDREN)
+    return used.ru_utime + used.ru_stime
+
+
 def try_long_lines(program: str, tally: Tally) -> None:
-    """A line of a gigabyte takes no more memory than one that is right, and its fault comes with its LF."""
-    read = b"trace 1\nreplicas 1\n0 read :"
+    """A line of a gigabyte takes no more memory than one that is right, and its fault comes with its LF. One that is given up
+    at its beginning takes far less processor time than one whose names are all looked at."""
+    two_lines = b"trace 1\nreplicas 1\n"
+    read = two_lines + b"0 read :"
     view = b"trace 2\nreplicas 1\n0 view :"
     name = b" abcdefghijklmnopqrstuvwxyz01234"
+    long_word = b" abcdefghijklmnopqrstuvwxyz0123456"
+    page = name * 63 + long_word + name * 63 + name[:30]  # 4,096 bytes: no read of whole pages ends with the long word
+    seconds = {}
     for what, front, piece, back, words in (
             ("bytes without LF", b"", b"x", b"", "line 1: cut"),
             ("bytes", b"trace 1\n", b"x", b"\n", "line 2: replicas"),
@@ -109,12 +121,22 @@ def try_long_lines(program: str, tally: Tally) -> None:
             ("names", read, name, b"\n", "line 3: long response"),
             ("names and a word that is none", read, name, b" !\n", "line 3: shape"),
             ("names and two spaces", read, name, b"  a\n", "line 3: shape"),
+            ("names behind a space", two_lines, name, b"\n", "line 3: shape"),
+            ("names behind a space without LF", two_lines, name, b"", "line 3: cut"),
+            ("names behind many and a word that is none", read + name * 5000 + b" !", name, b"\n", "line 3: shape"),
+            ("names behind a word of 33 bytes", read + long_word, name, b"\n", "line 3: shape"),
+            ("names, and words of 33 bytes in each piece", read, page, b"\n", "line 3: shape"),
             ("names of a view", view, name, b"\n", "line 3: long response"),
             ("names of a view in version 1", view.replace(b"trace 2", b"trace 1"), name, b"\n", "line 3: shape")):
+        before = processor_seconds()
         ran = measured([program, "verdict", "-"], long_line(front, piece, back), 240)
+        seconds[what] = processor_seconds() - before
         tally.same(f"a gigabyte of {what}", ran.ended, fault(words))
         tally.check(f"a gigabyte of {what} in a minute", ran.seconds < 60, f"{ran.seconds:.1f} s")
         tally.check(f"a gigabyte of {what} in 100 megabytes", ran.memory < 100_000_000, f"{ran.memory / 1e6:.0f} MB")
+    for what in ("bytes", "spaces", "names behind a space", "names behind many and a word that is none"):
+        tally.check(f"a gigabyte of {what} is given up early", seconds[what] < seconds["names"] / 2,
+                    f"{seconds[what]:.2f} s of processor, names {seconds['names']:.2f} s")
 
 
 def main() -> None:

@@ -9,16 +9,23 @@ use format_words::name_of;
 use std::alloc::Global;
 use std::marker::Model;
 
-/// Whole words of an entry that have this many bytes hold more names than a response may have. A word has at
-/// most 32 bytes, and a space after it: so these are 4,102 words at least, of which at most five stand before
-/// the response's names.
+/// Whole words of an entry that have this many bytes, or more, hold more names than a response may have. A word of an entry
+/// has at most 32 bytes, and a space after it: so these are 4,102 words at least, of which at most five stand before the
+/// response's names.
 const LONG_LINE: usize = 135_334;
 
 /// A line that is judged as the line that came so far, whatever follows.
 ///
-/// It is the line itself until its whole words are longer than the longest right line. Names that follow
-/// these are left out. Where a word that bytes leave begun has more than 32 bytes, or one that follows these is no name, the
-/// line can't be right any more: then one space stands for it, since no right line begins so.
+/// It is the line itself, as whole words and the word begun, but for these cases.
+///
+/// A line that begins with a space is given up, and so is one where added bytes leave a word begun of more than 32 bytes. It
+/// can't be right any more. One space stands for it, since no right line begins so, and what follows is not looked at.
+///
+/// Added bytes that make what is kept longer than 135,334 bytes are gone through word by word. A name that ends behind whole
+/// words of 135,334 bytes, or more, is left out; any other word of at most 32 bytes that ends there gives the line up. Where a
+/// word of more than 32 bytes ends, the one space of a line given up and the word's own stand for all up to there: what
+/// follows is kept behind these two in the same way. Other bytes are not looked through for such words, which stay as they
+/// are.
 #[derive(Drop)]
 pub struct KeptLine {
     whole: Vec<u8>,
@@ -162,7 +169,8 @@ impl KeptLine {
         self.word.clear();
     }
 
-    /// Ends the word begun with a space.
+    /// Ends the word begun with a space: puts it after the whole words, or where these are long, leaves out a name and gives
+    /// the line up at any other word.
     fn end_word(&mut self) -> Result<(), Memory>
         ensures { OnOk result (Keeps self.old (32 ∷ []) self.new) }
     {
@@ -176,9 +184,9 @@ impl KeptLine {
         Ok(())
     }
 
-    /// Adds bytes of the line. It takes time in proportion to them. Where they end a word and the line is not long yet, all
-    /// that they have of whole words is put behind the word begun at once. A line that begins with a space is given up by its
-    /// first word, which has no byte.
+    /// Adds bytes of the line. It takes time in proportion to them. Where they end a word, leave one begun of at most 32 bytes,
+    /// and what is kept has at most 135,334 bytes with them, all that they have of whole words is put behind the word begun at
+    /// once. But a line that begins with a space is given up by its first word, which has no byte.
     pub fn add(&mut self, bytes: &[u8]) -> Result<(), Memory>
         ensures { OnOk result (Keeps self.old bytes.now self.new) }
     {
@@ -203,7 +211,7 @@ impl KeptLine {
         self.is_empty() && bytes.first() == Some(&b' ')
     }
 
-    /// Whether the line is not long with these bytes.
+    /// Whether what is kept has at most 135,334 bytes with these.
     fn has_room(&self, bytes: &[u8]) -> bool
         ensures { result ≡ true → length self.now.whole + length self.now.word + length bytes.now ≤ LONG_LINE }
     {
@@ -227,7 +235,8 @@ impl KeptLine {
         Ok(())
     }
 
-    /// Adds bytes of the line, word by word, until one space stands for the line.
+    /// Adds bytes of the line, word by word, until one space stands for the line where a word has ended. Behind a word of more
+    /// than 32 bytes two stand there, so the rest is looked through too.
     fn add_words(&mut self, bytes: &[u8]) -> Result<(), Memory>
         ensures { OnOk result (Keeps self.old bytes.now self.new) }
     {

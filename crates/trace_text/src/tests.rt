@@ -2,7 +2,9 @@
 
 ghost use Rattle.std.specs.Prelude.{◌<◌};
 
+mod by_words;
 mod faults;
+mod kept_lines;
 mod limits;
 mod long_lines;
 mod piecewise;
