@@ -13,13 +13,11 @@ use std::alloc::Global;
 const SLOTS: usize = 1024;
 
 /// For each slot the number of an element whose name was looked up lately. Names share slots, so a number
-/// is believed only where its element has the name. The mask is one less than the number of slots, a power of two. And the
-/// number that was found last, 0 at first: names that were typed one after the other have numbers that follow one another.
+/// is believed only where its element has the name. The mask is one less than the number of slots, a power of two.
 #[derive(Drop)]
 pub struct Recent {
     slots: Vec<u32>,
     mask: usize,
-    last: usize,
 }
 
 /// One less than the number of slots for so many elements: a power of two, two to four times as many as these, but at least 1
@@ -41,33 +39,22 @@ impl Recent {
     pub fn new(alloc: Global, elements: &Elements) -> Result<Recent, Memory> {
         let mask = mask_for(elements.list.len());
         let slots = vec![in alloc; 0; mask.saturating_add(1)]?;
-        Ok(Recent {
-            slots,
-            mask,
-            last: 0,
-        })
+        Ok(Recent { slots, mask })
     }
 
-    /// The number of a name. It costs one comparison of names where its number is behind that found last, two where the
-    /// name was looked up lately, and else a look into the map as well.
+    /// The number of a name. It costs one comparison of names where the name was looked up lately, and
+    /// else a look into the map as well.
     pub fn number(&mut self, elements: &Elements, name: &Name) -> Option<usize>
         requires { AreNumbered elements.now }
         ensures { result ≡ number_of elements.now name.now }
     {
-        let next = self.last.saturating_add(1);
-        if elements.is_number_of(next, name) {
-            self.last = next;
-            return Some(next);
-        }
         let slot = slot_of(name) as usize;
         let kept = self.kept(slot);
         if elements.is_number_of(kept, name) {
-            self.last = kept;
             return Some(kept);
         }
         let number = elements.number(name)?;
         self.keep(slot, number);
-        self.last = number;
         Some(number)
     }
 
