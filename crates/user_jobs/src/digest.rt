@@ -9,8 +9,14 @@ pub struct Digest(u64);
 const PRIME: u64 = 0x0000_0100_0000_01b3;
 
 impl Digest {
+    /// The digest of nothing.
     pub fn new() -> Digest {
         Digest(0xcbf2_9ce4_8422_2325)
+    }
+
+    /// Its number.
+    pub fn value(&self) -> u64 {
+        self.0
     }
 
     /// Takes in a number.
@@ -33,7 +39,7 @@ impl Digest {
 
 impl fmt::Display for Digest {
     fn fmt<W: fmt::Write>(&self, f: &mut fmt::Formatter<W>) -> fmt::Result {
-        let number = self.0;
+        let number = self.value();
         write!(f, "{number:016x}")
     }
 }

@@ -5,9 +5,11 @@ use super::families::{
     accepted, concurrent, exchanged, lacking, long_responses, nameless, ring, short_lived,
     small_cycle,
 };
+use super::judged::Judged;
 use super::random::Random;
+use super::seeds::Seeds;
 use super::shape::{DAY, NEAR_ALL, NEAR_NAMES, SMALL_TEAM, Shape};
-use super::short::{count_of_entries, first_sixteenths, leave_out, line_begins, short_session};
+use super::short::{count_of_entries, first_sixteenths, leave_out, line_begins, new_session};
 use super::user::{Form, certify, live, verdict};
 use anyhow::Result;
 use std::alloc::Global;
@@ -83,23 +85,24 @@ pub fn long<H: Threads + Sync>(
     seed: u64,
     scale: Scale,
 ) -> Result<()> {
-    for i in 0..scale.times(4) {
-        let trace = accepted(alloc, scale.of(SMALL_TEAM), seed ^ i)?;
+    let mut seeds = Seeds::new(seed, 0);
+    for _ in 0..scale.times(4) {
+        let trace = accepted(alloc, scale.of(SMALL_TEAM), seeds.take())?;
         as_it_grows(rt, alloc, digest, &trace, OFTEN, WORKERS, Form::Json)?;
     }
-    let trace = accepted(alloc, scale.of(DAY), seed)?;
+    let trace = accepted(alloc, scale.of(DAY), seeds.take())?;
     as_it_grows(rt, alloc, digest, &trace, OFTEN, WORKERS, Form::Text)?;
-    let trace = accepted(alloc, scale.of(NEAR_NAMES), seed)?;
+    let trace = accepted(alloc, scale.of(NEAR_NAMES), seeds.take())?;
     as_it_grows(rt, alloc, digest, &trace, SOMETIMES, 1, Form::Text)?;
-    let trace = lacking(alloc, scale.of(DAY), seed)?;
+    let trace = lacking(alloc, scale.of(DAY), seeds.take())?;
     as_it_grows(rt, alloc, digest, &trace, OFTEN, WORKERS, Form::Text)?;
-    let trace = long_responses(alloc, scale.of(NEAR_NAMES), seed)?;
+    let trace = long_responses(alloc, scale.of(NEAR_NAMES), seeds.take())?;
     as_it_grows(rt, alloc, digest, &trace, SOMETIMES, 1, Form::Json)?;
-    let trace = accepted(alloc, scale.of(NEAR_ALL), seed)?;
+    let trace = accepted(alloc, scale.of(NEAR_ALL), seeds.take())?;
     as_it_grows(rt, alloc, digest, &trace, OFTEN, 1, Form::Text)
 }
 
-/// Thousands of short sessions, and what a shrinker makes of them.
+/// Thousands of short sessions, and what a shrinker makes of them; no text is judged twice.
 pub fn short<H: Threads + Sync>(
     rt: &H,
     alloc: Global,
@@ -107,15 +110,19 @@ pub fn short<H: Threads + Sync>(
     seed: u64,
     scale: Scale,
 ) -> Result<()> {
-    let mut random = Random::new(seed);
+    let mut seeds = Seeds::new(seed, 1);
+    let mut random = Random::new(seeds.take());
+    let mut judged = Judged::new(alloc);
     let mut rest = Vec::new(alloc);
-    for i in 0..scale.times(2000) {
-        let trace = short_session(alloc, &mut random, seed ^ i << 20)?;
+    for _ in 0..scale.times(3000) {
+        let trace = new_session(alloc, &mut random, &mut seeds, &mut judged)?;
         verdict(rt, alloc, digest, &trace, 1, Form::Json)?;
         let begins = line_begins(alloc, &trace)?;
         for entry in 0..count_of_entries(&begins) {
             leave_out(&mut rest, &trace, &begins, entry)?;
-            verdict(rt, alloc, digest, &rest, 1, Form::Json)?;
+            if judged.add(&rest)? {
+                verdict(rt, alloc, digest, &rest, 1, Form::Json)?;
+            }
         }
     }
     Ok(())
@@ -130,9 +137,10 @@ pub fn refused<H: Threads + Sync>(
     seed: u64,
     scale: Scale,
 ) -> Result<()> {
-    let trace = exchanged(alloc, scale.of(NEAR_NAMES), seed)?;
+    let mut seeds = Seeds::new(seed, 2);
+    let trace = exchanged(alloc, scale.of(NEAR_NAMES), seeds.take())?;
     verdict(rt, alloc, digest, &trace, WORKERS, Form::Text)?;
-    let trace = small_cycle(alloc, scale.of(NEAR_NAMES), seed)?;
+    let trace = small_cycle(alloc, scale.of(NEAR_NAMES), seeds.take())?;
     verdict(rt, alloc, digest, &trace, WORKERS, Form::Text)?;
     for groups in [3, 8, 16] {
         let shape = Shape {
@@ -140,11 +148,11 @@ pub fn refused<H: Threads + Sync>(
             grows: groups == 8,
             ..NEAR_NAMES
         };
-        let trace = ring(alloc, scale.of(shape), seed ^ groups as u64)?;
+        let trace = ring(alloc, scale.of(shape), seeds.take())?;
         as_it_grows(rt, alloc, digest, &trace, HEARD, WORKERS, Form::Text)?;
     }
     let shape = Shape { groups: 5, ..DAY };
-    let trace = ring(alloc, scale.of(shape), seed)?;
+    let trace = ring(alloc, scale.of(shape), seeds.take())?;
     as_it_grows(rt, alloc, digest, &trace, HEARD, WORKERS, Form::Text)?;
     let shape = Shape {
         replicas: 3,
@@ -152,8 +160,8 @@ pub fn refused<H: Threads + Sync>(
         inserts: 1200,
         ..NEAR_NAMES
     };
-    for i in 0..scale.times(2) {
-        let trace = ring(alloc, scale.of(shape), seed ^ i << 8)?;
+    for _ in 0..scale.times(2) {
+        let trace = ring(alloc, scale.of(shape), seeds.take())?;
         as_it_grows(rt, alloc, digest, &trace, HEARD, WORKERS, Form::Json)?;
     }
     Ok(())
@@ -167,7 +175,8 @@ pub fn certificates<H: Threads + Sync>(
     seed: u64,
     scale: Scale,
 ) -> Result<()> {
-    let trace = small_cycle(alloc, scale.of(NEAR_NAMES), seed)?;
+    let mut seeds = Seeds::new(seed, 3);
+    let trace = small_cycle(alloc, scale.of(NEAR_NAMES), seeds.take())?;
     certify(rt, alloc, digest, &trace, WORKERS)?;
     for groups in [3, 8, 16] {
         let shape = Shape {
@@ -175,7 +184,7 @@ pub fn certificates<H: Threads + Sync>(
             grows: groups == 8,
             ..NEAR_NAMES
         };
-        let trace = ring(alloc, scale.of(shape), seed ^ groups as u64)?;
+        let trace = ring(alloc, scale.of(shape), seeds.take())?;
         certify(rt, alloc, digest, &trace, WORKERS)?;
     }
     let shape = Shape {
@@ -184,7 +193,7 @@ pub fn certificates<H: Threads + Sync>(
         places: 65_536,
         ..NEAR_ALL
     };
-    let trace = ring(alloc, scale.of(shape), seed)?;
+    let trace = ring(alloc, scale.of(shape), seeds.take())?;
     certify(rt, alloc, digest, &trace, WORKERS)
 }
 
@@ -196,18 +205,22 @@ pub fn lively<H: Threads + Wait + Sync>(
     seed: u64,
     scale: Scale,
 ) -> Result<()> {
-    for i in 0..scale.times(4) {
-        let trace = accepted(alloc, scale.of(SMALL_TEAM), seed ^ i)?;
+    let mut seeds = Seeds::new(seed, 4);
+    for _ in 0..scale.times(8) {
+        let trace = accepted(alloc, scale.of(SMALL_TEAM), seeds.take())?;
         live_as_it_grows(rt, alloc, digest, &trace)?;
     }
-    for i in 0..scale.times(2) {
-        let trace = small_cycle(alloc, scale.of(DAY), seed ^ i << 8)?;
+    for _ in 0..scale.times(4) {
+        let trace = small_cycle(alloc, scale.of(DAY), seeds.take())?;
         live_as_it_grows(rt, alloc, digest, &trace)?;
-        let trace = accepted(alloc, scale.of(DAY), seed ^ i << 8)?;
+        let trace = accepted(alloc, scale.of(DAY), seeds.take())?;
         live_as_it_grows(rt, alloc, digest, &trace)?;
     }
-    let trace = accepted(alloc, scale.of(NEAR_NAMES), seed)?;
-    live_as_it_grows(rt, alloc, digest, &trace)
+    for _ in 0..scale.times(2) {
+        let trace = accepted(alloc, scale.of(NEAR_NAMES), seeds.take())?;
+        live_as_it_grows(rt, alloc, digest, &trace)?;
+    }
+    Ok(())
 }
 
 /// A live session of the first half of a trace, and one of all.
@@ -230,17 +243,18 @@ pub fn awkward<H: Threads + Sync>(
     seed: u64,
     scale: Scale,
 ) -> Result<()> {
+    let mut seeds = Seeds::new(seed, 5);
     let shape = Shape {
         views: 900,
         ..NEAR_NAMES
     };
-    let trace = accepted(alloc, scale.of(shape), seed)?;
+    let trace = accepted(alloc, scale.of(shape), seeds.take())?;
     as_it_grows(rt, alloc, digest, &trace, SOMETIMES, 1, Form::Text)?;
-    let trace = long_responses(alloc, scale.of(shape), seed)?;
+    let trace = long_responses(alloc, scale.of(shape), seeds.take())?;
     as_it_grows(rt, alloc, digest, &trace, SOMETIMES, 1, Form::Text)?;
-    let trace = accepted(alloc, scale.of(Shape { width: 32, ..DAY }), seed)?;
+    let trace = accepted(alloc, scale.of(Shape { width: 32, ..DAY }), seeds.take())?;
     as_it_grows(rt, alloc, digest, &trace, SOMETIMES, 1, Form::Text)?;
-    let trace = nameless(alloc, scale.of(NEAR_ALL), seed)?;
+    let trace = nameless(alloc, scale.of(NEAR_ALL), seeds.take())?;
     as_it_grows(rt, alloc, digest, &trace, SOMETIMES, 1, Form::Text)?;
     let trace = concurrent(
         alloc,
@@ -248,9 +262,9 @@ pub fn awkward<H: Threads + Sync>(
             inserts: 240,
             ..NEAR_NAMES
         }),
-        seed,
+        seeds.take(),
     )?;
     as_it_grows(rt, alloc, digest, &trace, SOMETIMES, 1, Form::Text)?;
-    let trace = short_lived(alloc, scale.of(NEAR_ALL), seed)?;
+    let trace = short_lived(alloc, scale.of(NEAR_ALL), seeds.take())?;
     as_it_grows(rt, alloc, digest, &trace, SOMETIMES, 1, Form::Text)
 }

@@ -1,13 +1,16 @@
 //! The jobs that a user of this software waits for, on sessions that are made up from a seed. It prints one number for
-//! all results, and no times: `user_jobs JOB SEED` does a job, and with the seed 0 each job at a small scale.
+//! all results, and no times: `user_jobs JOB SEED` does a job, and without words, or with the word `every`, it does each
+//! job at a small scale.
 #![tactic(auto)]
 
 mod digest;
 mod elements;
 mod families;
 mod jobs;
+mod judged;
 mod random;
 mod replica;
+mod seeds;
 mod session;
 mod shape;
 mod short;

@@ -2,9 +2,11 @@
 //! line left out.
 
 use super::families::{accepted, lacking, ring};
+use super::judged::Judged;
 use super::random::Random;
+use super::seeds::Seeds;
 use super::shape::Shape;
-use anyhow::Result;
+use anyhow::{Result, anyhow};
 use std::alloc::Global;
 
 /// How many lines a trace has before its entries.
@@ -28,7 +30,7 @@ fn short_shape(random: &mut Random) -> Shape {
 }
 
 /// A short session of some kind.
-pub fn short_session(alloc: Global, random: &mut Random, seed: u64) -> Result<Vec<u8>> {
+fn short_session(alloc: Global, random: &mut Random, seed: u64) -> Result<Vec<u8>> {
     let shape = short_shape(random);
     if shape.groups > 1 {
         return ring(alloc, shape, seed);
@@ -37,6 +39,22 @@ pub fn short_session(alloc: Global, random: &mut Random, seed: u64) -> Result<Ve
         return lacking(alloc, shape, seed);
     }
     accepted(alloc, shape, seed)
+}
+
+/// A short session whose text was not judged before, and now counts as judged: sessions are drawn until one is new.
+pub fn new_session(
+    alloc: Global,
+    random: &mut Random,
+    seeds: &mut Seeds,
+    judged: &mut Judged,
+) -> Result<Vec<u8>> {
+    for _ in 0..1000 {
+        let trace = short_session(alloc, random, seeds.take())?;
+        if judged.add(&trace)? {
+            return Ok(trace);
+        }
+    }
+    Err(anyhow!("no session is new"))
 }
 
 /// Where the lines of a text begin, the line behind the last too.

@@ -72,8 +72,8 @@ pub fn verdict<H: Threads + Sync>(
     Ok(())
 }
 
-/// Has a trace certified as `cert` does, and takes in the certificate; and has this checked as `verify` does, which
-/// must say yes.
+/// Has a trace certified as `cert` does, and takes in the verdict's report and the certificate; and has this checked as
+/// `verify` does, which must say yes, and takes in which yes it says.
 pub fn certify<H: Threads + Sync>(
     rt: &H,
     alloc: Global,
@@ -88,8 +88,12 @@ pub fn certify<H: Threads + Sync>(
         certificate.extend_from_slice(text)?;
     }
     digest.bytes(&certificate);
+    digest.bytes(report_of(alloc, &recording, &certified.verdict, Form::Text)?.as_slice());
     match check_recording(rt, alloc, &recording, &certificate)? {
-        Answer::Yes(_) => Ok(()),
+        Answer::Yes(kind) => {
+            digest.bytes(format!(in alloc; "{kind:?}")?.as_bytes());
+            Ok(())
+        }
         Answer::No(_) => Err(anyhow!("the certificate is not valid")),
     }
 }
