@@ -1,4 +1,4 @@
-//! A seed for each session, so that no two are made alike.
+//! A seed for each session, so that no two have the same.
 
 /// The seeds of a job's sessions, one after the other. Where the seed that it begins with is below 2 ^ 32, no other such
 /// seed and no other job gives one of them.

@@ -63,7 +63,8 @@ pub const DAY: Shape = Shape {
     grows: false,
 };
 
-/// The shape of a session near all limits: 16 replicas with 262,144 entries and 65,536 inserts in all.
+/// The shape of a session near all limits but that on inserts: 16 replicas with 262,144 entries in all, which may insert 65,536
+/// elements, and insert some 40,000 of them.
 pub const NEAR_ALL: Shape = Shape {
     replicas: 16,
     entries: 16_384,
