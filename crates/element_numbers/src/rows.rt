@@ -1,7 +1,7 @@
 //! Rows of different lengths in one flat list, with their ends.
 
 ghost use Rattle.std.specs.Prelude.{◌≡◌, ◌<◌, ◌≤◌, ◌-◌, take, drop, [], ◌∷◌, ◌++◌, OnOk, length};
-ghost use Rattle.std.specs.Prelude.{slice_index_or, vec_len};
+ghost use Rattle.std.specs.Prelude.{◌+◌, slice_index_or, vec_capacity, vec_len};
 
 use events::Memory;
 use std::alloc::Global;
@@ -56,10 +56,13 @@ impl<T: Copy + Drop> Rows<T> {
         self.end_row()
     }
 
-    /// Where no row is ended, makes room for some rows, and for so many values or a few more. It decides cost alone.
+    /// Where no row is ended, makes room for the first rows: for 16, and for so many values, 64 at least.
     fn make_first_room(&mut self, values: usize) -> Result<(), Memory>
         ensures items { self.new.items.items ≡ self.old.items.items }
         ensures ends { self.new.ends.items ≡ self.old.ends.items }
+        ensures room_for_rows { OnOk result (length self.old.ends.items ≡ 0 → 16 ≤ vec_capacity self.new.ends) }
+        ensures room_for_values { OnOk result (length self.old.ends.items ≡ 0
+            → vec_len self.new.items + values ≤ vec_capacity self.new.items) }
     {
         if self.ends.is_empty() {
             self.ends.reserve(FIRST_ROWS)?;
