@@ -105,7 +105,7 @@ def processor_seconds() -> float:
 
 def try_long_lines(program: str, tally: Tally) -> None:
     """A line of a gigabyte takes no more memory than one that is right, and its fault comes with its LF. One that is given up
-    at its beginning takes far less processor time than one whose names are all looked at."""
+    early takes far less processor time than one whose names are all looked at."""
     two_lines = b"trace 1\nreplicas 1\n"
     read = two_lines + b"0 read :"
     view = b"trace 2\nreplicas 1\n0 view :"
