@@ -1,7 +1,6 @@
 #!/usr/bin/env python3
 """pieces.py PROGRAM: traces that come through a pipe in pieces: vectors cut anywhere, endless streams, lines of a gigabyte."""
 import random
-import resource
 import subprocess
 import sys
 import threading
@@ -11,7 +10,7 @@ from pathlib import Path
 ROOT = Path(__file__).resolve().parents[2]
 sys.path.insert(0, str(ROOT / "tests"))
 from shared.measured import measured  # noqa: E402
-from shared.program import Ended, Tally, fault, program_of, run  # noqa: E402
+from shared.program import Ended, Tally, fault, processor_seconds, program_of, run  # noqa: E402
 
 VECTORS = ROOT / "tests" / "vectors"
 SEED = 11
@@ -97,12 +96,6 @@ def long_line(front: bytes, piece: bytes, back: bytes):
     yield back
 
 
-def processor_seconds() -> float:
-    """The processor time of all runs that have ended."""
-    used = resource.getrusage(resource.RUSAGE_CHILDREN)
-    return used.ru_utime + used.ru_stime
-
-
 def try_long_lines(program: str, tally: Tally) -> None:
     """A line of a gigabyte takes no more memory than one that is right, and its fault comes with its LF. One that is given up
     early takes far less processor time than one whose names are all looked at."""
@@ -134,7 +127,8 @@ def try_long_lines(program: str, tally: Tally) -> None:
         tally.same(f"a gigabyte of {what}", ran.ended, fault(words))
         tally.check(f"a gigabyte of {what} in a minute", ran.seconds < 60, f"{ran.seconds:.1f} s")
         tally.check(f"a gigabyte of {what} in 100 megabytes", ran.memory < 100_000_000, f"{ran.memory / 1e6:.0f} MB")
-    for what in ("bytes", "spaces", "names behind a space", "names behind many and a word that is none"):
+    for what in ("bytes", "spaces", "names behind a space", "names behind many and a word that is none",
+                 "names, and words of 33 bytes in each piece"):
         tally.check(f"a gigabyte of {what} is given up early", seconds[what] < seconds["names"] / 2,
                     f"{seconds[what]:.2f} s of processor, names {seconds['names']:.2f} s")
 

@@ -1,5 +1,6 @@
 """Runs the built program as a user would, and keeps count of what holds."""
 import os
+import resource
 import select
 import shutil
 import signal
@@ -56,6 +57,12 @@ class Quick:
             os.kill(child, signal.SIGKILL)
         os.close(handle)
         return os.waitpid(child, 0)[1]
+
+
+def processor_seconds() -> float:
+    """The processor time of all runs that have ended."""
+    used = resource.getrusage(resource.RUSAGE_CHILDREN)
+    return used.ru_utime + used.ru_stime
 
 
 def is_short(path: Path) -> bool:

@@ -342,21 +342,25 @@ still-given-up bytes line k = given-up (line ++ bytes) (32 ∷ bytes) (never-sti
 pub keeps-both : (a b c : Kept) (x y : Line) → Keeps a x b → Keeps b y c → Keeps a (x ++ y) c
 keeps-both a b c x y h k line kept = subst (IsKeptOf c) (append_assoc line x y) (k (line ++ x) (h line kept))
 
--- one part more, and the space behind it
-pub one-part-more : (a b c d : Kept) (bytes front part behind rest : Line) → bytes ≡ front ++ rest → rest ≡ part ++ 32 ∷ behind → Keeps a front b → Keeps b part c → Keeps c (32 ∷ []) d →
-    (more : List ℕ) × (bytes ≡ more ++ behind) × Keeps a more d
-one-part-more a b c d bytes front part behind rest whole cut h k m = (
-  (front ++ part) ++ 32 ∷ [],
-  whole ∙ ap (λ l. front ++ l) cut ∙ sym (append_assoc front part (32 ∷ behind)) ∙ sym (append_assoc (front ++ part) (32 ∷ []) behind),
-  keeps-both a c d (front ++ part) (32 ∷ []) (keeps-both a b c front part h k) m,
+-- one word more, and the space behind it
+pub one-word-more : (a b c : Kept) (bytes front part behind rest : Line) → bytes ≡ front ++ rest → rest ≡ part ++ 32 ∷ behind → Keeps a front b → Keeps b (part ++ 32 ∷ []) c →
+    (more : List ℕ) × (bytes ≡ more ++ behind) × Keeps a more c
+one-word-more a b c bytes front part behind rest whole cut h k = (
+  front ++ (part ++ 32 ∷ []),
+  whole ∙ ap (λ l. front ++ l) (cut ∙ sym (append_assoc part (32 ∷ []) behind)) ∙ sym (append_assoc front (part ++ 32 ∷ []) behind),
+  keeps-both a b c front (part ++ 32 ∷ []) h k,
 )
 
--- where one space stands for the line then, the rest of the bytes changes nothing
-pub given-up-on : (a b c d : Kept) (bytes front part behind rest : Line) → bytes ≡ front ++ rest → rest ≡ part ++ 32 ∷ behind → Keeps a front b → Keeps b part c → Keeps c (32 ∷ []) d →
-    d ≡ GIVEN_UP → Keeps a bytes d
-given-up-on a b c d bytes front part behind rest whole cut h k m is =
-    let so_far = one-part-more a b c d bytes front part behind rest whole cut h k m in
-    subst (λ (l : Line). Keeps a l d) (sym so_far.1) (keeps-both a d d so_far.0 behind so_far.2 (subst (λ (z : Kept). Keeps z behind z) (sym is) (still-given-up behind)))
+-- where one space stands for the line, further bytes change nothing
+pub given-up-stays : (a b : Kept) (bytes behind : Line) → Keeps a bytes b → b ≡ GIVEN_UP → Keeps a (bytes ++ behind) b
+given-up-stays a b bytes behind h is = keeps-both a b b bytes behind h (subst (λ (z : Kept). Keeps z behind z) (sym is) (still-given-up behind))
+
+-- so where it stands for the line behind a word, the rest of the bytes changes nothing
+pub given-up-on : (a b c : Kept) (bytes front part behind rest : Line) → bytes ≡ front ++ rest → rest ≡ part ++ 32 ∷ behind → Keeps a front b → Keeps b (part ++ 32 ∷ []) c →
+    c ≡ GIVEN_UP → Keeps a bytes c
+given-up-on a b c bytes front part behind rest whole cut h k is =
+    let so_far = one-word-more a b c bytes front part behind rest whole cut h k in
+    subst (λ (l : Line). Keeps a l c) (sym so_far.1) (given-up-stays a c so_far.0 behind so_far.2 is)
 
 no-bytes : (word : Line) → length word ≡ 0 → word ≡ []
 no-bytes [] h = refl

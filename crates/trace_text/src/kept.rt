@@ -21,11 +21,9 @@ const LONG_LINE: usize = 135_334;
 /// A line that begins with a space is given up, and so is one where added bytes leave a word begun of more than 32 bytes. It
 /// can't be right any more. One space stands for it, since no right line begins so, and what follows is not looked at.
 ///
-/// Added bytes that make what is kept longer than 135,334 bytes are gone through word by word. A name that ends behind whole
-/// words of 135,334 bytes, or more, is left out; any other word of at most 32 bytes that ends there gives the line up. Where a
-/// word of more than 32 bytes ends, the one space of a line given up and the word's own stand for all up to there: what
-/// follows is kept behind these two in the same way. Other bytes are not looked through for such words, which stay as they
-/// are.
+/// Added bytes that make what is kept longer than 135,334 bytes are gone through word by word. A word of more than 32 bytes
+/// gives the line up, and behind whole words of 135,334 bytes, or more, any word that is no name does; a name that ends there
+/// is left out. Other bytes are not looked through for such words, which stay as they are.
 #[derive(Drop)]
 pub struct KeptLine {
     whole: Vec<u8>,
@@ -235,15 +233,25 @@ impl KeptLine {
         Ok(())
     }
 
-    /// Adds bytes of the line, word by word, until one space stands for the line where a word has ended. Behind a word of more
-    /// than 32 bytes two stand there, so the rest is looked through too.
+    /// Adds what is left of a word, and ends it.
+    fn add_word(&mut self, part: &[u8]) -> Result<(), Memory>
+        requires { HasNoSpace part.now }
+        ensures { OnOk result (Keeps self.old (part.now ++ 32 ∷ []) self.new) }
+    {
+        self.add_part(part)?;
+        if self.is_given_up() {
+            return Ok(());
+        }
+        self.end_word()
+    }
+
+    /// Adds bytes of the line, word by word, until one space stands for the line.
     fn add_words(&mut self, bytes: &[u8]) -> Result<(), Memory>
         ensures { OnOk result (Keeps self.old bytes.now self.new) }
     {
         let mut rest = bytes;
         while let Some((part, behind)) = split_word(rest) {
-            self.add_part(part)?;
-            self.end_word()?;
+            self.add_word(part)?;
             if self.is_given_up() {
                 return Ok(());
             }
