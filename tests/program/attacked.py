@@ -24,7 +24,7 @@ from reference.traces import MOST_ENTRIES, MOST_INSERTS, MOST_NAMES, MOST_PLACES
 from shared.forger import line  # noqa: E402
 from shared.measured import measured  # noqa: E402
 from shared.program import Ended, Tally, fault, program_of  # noqa: E402
-from shared.two_orders import TwoOrders  # noqa: E402
+from shared.two_orders import Exchanged, TwoOrders, names_that_share_slots  # noqa: E402
 
 THREE_WAY = ROOT / "tests" / "vectors" / "all-three-way-cycle.trace"
 BLOCK = 2 ** 20
@@ -172,7 +172,7 @@ TRACES = [
 ]
 
 # Certificates that must get a no, beside the trace of the three-way cycle or another small one. The words are the checker's.
-TWENTY, HUNDRED = TwoOrders(10), TwoOrders(50)
+TWENTY, HUNDRED, SHARED = TwoOrders(10), TwoOrders(50), Exchanged(*names_that_share_slots())
 CERTIFICATES = [
     Shape("one line without end", around(b"", b"x"), "text"),
     Shape("binary bytes", around(b"cert 2\n", BINARY), "text"),
@@ -185,6 +185,7 @@ CERTIFICATES = [
     Shape("as many steps as k", long_ring, "missing x"),
     Shape("right steps in responses of 20 names", ring(TWENTY.round().encode()), f"missing {TWENTY.of[0][0]}", TWENTY.trace()),
     Shape("right steps in responses of 100 names", ring(HUNDRED.round().encode()), f"missing {HUNDRED.of[0][0]}", HUNDRED.trace()),
+    Shape("right steps of two names that share a slot", ring(SHARED.round().encode()), f"missing {SHARED.of[0][0]}", SHARED.trace()),
     Shape("as many layers as k", wide_row, "short x"),
     Shape("right rows, and rows too many", around(b"cert 2\nrefused 3\n" + STEPS + ROWS, b"layers x / b\n"), "extra x"),
     Shape("rows of the first source", around(b"cert 2\nrefused 3\n" + STEPS, b"layers x / b\n"), "missing a"),

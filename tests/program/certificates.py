@@ -18,14 +18,16 @@ from reference.traces import spellings  # noqa: E402
 from reference.verdicts import first_fault, recording_of  # noqa: E402
 from shared.forger import line  # noqa: E402
 from shared.forgeries import ANOTHERS, KINDS, Certified, certified, forgery, generated  # noqa: E402
-from shared.program import Ended, Tally, fault, is_short, program_of, run  # noqa: E402
-from shared.two_orders import TwoOrders  # noqa: E402
+from shared.program import Ended, Tally, fault, is_short, processor_seconds, program_of, run  # noqa: E402
+from shared.two_orders import Exchanged, TwoOrders, names_that_share_slots, share_slots  # noqa: E402
 
 VECTORS = ROOT / "tests" / "vectors"
 SEED = 1984
 FORGERIES = 3000
 RECORDINGS = 200
 WALKS = 60
+STEPS = 40_000
+OTHERS = "z000001", "z200000"
 THREE_WAY = VECTORS / "all-three-way-cycle.trace"
 USAGE = [["cert"], ["cert", "t", "u"], ["cert", "--json", "t"], ["cert", "--workers", "2", "t"], ["verify"], ["verify", "t"], ["verify", "t", "u", "v"],
          ["verify", "--json", "t", "u"], ["cert", b"\xff"]]
@@ -115,6 +117,22 @@ def walks(tally: Tally, program: str, folder: str, rnd: random.Random) -> None:
         tally.same(f"verify of {len(steps)} steps, walk {number}", run(program, ["verify", "-", path], case.trace.encode()), line(case.answer(text)))
 
 
+def shared_slots(tally: Tally, program: str, folder: str) -> None:
+    """Right steps of two names, the places of which the checker notes in one slot, take about as long as those of two others."""
+    trace, path = os.path.join(folder, "trace"), os.path.join(folder, "cert")
+    seconds = []
+    for names in OTHERS, names_that_share_slots():
+        case = Exchanged(*names)
+        Path(trace).write_text(case.trace())
+        Path(path).write_text(f"cert 2\nrefused {STEPS}\n" + case.round() * (STEPS // 2))
+        before = processor_seconds()
+        got = run(program, ["verify", trace, path])
+        seconds.append(processor_seconds() - before)
+        tally.same(f"verify of {STEPS} steps of {names}", got, line(f"no missing {case.of[0][0]}\n"))
+    tally.check("the others share no slot", not share_slots(*OTHERS))
+    tally.check("names that share a slot", seconds[1] < 4 * seconds[0], f"{seconds[1]:.2f} s of processor, others {seconds[0]:.2f} s")
+
+
 def command_line(tally: Tally, program: str, folder: str) -> None:
     trace, cert = str(THREE_WAY), str(THREE_WAY.with_suffix(".cert2"))
     missing, other = os.path.join(folder, "missing"), os.path.join(folder, "other")
@@ -148,6 +166,7 @@ def main() -> None:
     with tempfile.TemporaryDirectory() as folder:
         forgeries(tally, program, folder, given.forgeries, given.seed)
         walks(tally, program, folder, random.Random(given.seed))
+        shared_slots(tally, program, folder)
         command_line(tally, program, folder)
     tally.close()
 

@@ -1,4 +1,4 @@
-"""A recording in which two replicas show the same elements in two orders, and cycles through its elements that may be long."""
+"""Recordings in which two replicas show the same elements in two orders, and cycles through their elements that may be long."""
 import random
 
 LETTERS = "abcdefghijklmnopqrstuvwxyz"
@@ -39,3 +39,54 @@ class TwoOrders:
         """Two right steps for each of so many rounds, which lead back to their begin."""
         names = [rnd.choice(self.of[i % 2]) for i in range(2 * rounds)]
         return [self.step(name, other) for name, other in zip(names, names[1:] + names[:1])]
+
+
+INSERTERS, EACH = 6, 680
+MULTIPLIER, MIXER, TOP = 65_599, 11_400_714_819_323_198_485, 2 ** 64
+
+
+def mixed(front: int, name: str) -> int:
+    """What the checker's slots are taken from: a name behind what stands for an operation."""
+    for byte in name.encode():
+        front = (front * MULTIPLIER + byte) % TOP
+    return front
+
+
+def slot(replica: int, n: int, name: str) -> int:
+    """The slot in which `FoundPlaces` of the checker notes where a name was found in the response of an operation."""
+    return (mixed((replica * MULTIPLIER + n) % TOP, name) * MIXER % TOP) >> 44
+
+
+def share_slots(name: str, other: str) -> bool:
+    """Whether the checker notes the places of two names in one slot, in each of the two reads of `Exchanged`."""
+    return all(slot(r, 1, name) == slot(r, 1, other) for r in (INSERTERS, INSERTERS + 1))
+
+
+def names_that_share_slots(many: int = 400_000) -> tuple:
+    """Two names among so many, whose places in both reads of `Exchanged` the checker notes in one slot."""
+    names = sorted((f"z{i:06d}" for i in range(many)), key=lambda name: mixed(0, name) * MIXER % TOP)
+    return next((name, other) for name, other in zip(names, names[1:]) if share_slots(name, other))
+
+
+class Exchanged:
+    """Six replicas insert 680 elements each, and two read them all, the second with the last two, which are given, exchanged."""
+
+    def __init__(self, first: str, second: str) -> None:
+        self.first, self.second = first, second
+        self.of = [[f"{'abcdef'[r]}{i:03d}" for i in range(EACH)] for r in range(INSERTERS)]
+        self.of[-1][-2:] = [first, second]
+
+    def trace(self) -> str:
+        """Each inserts its elements at the end, and shows its own."""
+        lines = ["trace 1", f"replicas {INSERTERS + 2}"]
+        for r, own in enumerate(self.of):
+            lines += [f"{r} ins {name} {i} : {' '.join(own[:i + 1])}" for i, name in enumerate(own)]
+        names = [name for own in self.of for name in own]
+        for r, shown in (INSERTERS, names), (INSERTERS + 1, names[:-2] + [self.second, self.first]):
+            lines += [f"{r} recv {q} {EACH}" for q in range(INSERTERS)]
+            lines.append(f"{r} read : {' '.join(shown)}")
+        return "".join(line + "\n" for line in lines)
+
+    def round(self) -> str:
+        """Two right steps that lead back to their begin."""
+        return f"step {self.first} {self.second} {INSERTERS}.1\nstep {self.second} {self.first} {INSERTERS + 1}.1\n"

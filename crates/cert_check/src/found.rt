@@ -1,7 +1,8 @@
-//! The places where names were found in responses, so that they are found again at once.
+//! The places of names in responses that steps cite, so that they are found again at once.
 
 use events::{OpName, Response};
 use std::alloc::Global;
+use std::cmp::Ordering;
 
 /// How many places are kept.
 const SLOTS: usize = 1_048_576;
@@ -9,27 +10,36 @@ const SLOTS: usize = 1_048_576;
 /// From how many steps on places are kept: fewer are judged sooner without.
 const MANY: u32 = 4_096;
 
-/// The places where names were found in responses of operations. Names share slots, so a place is a guess: it
-/// is believed only where the name stands there.
+/// Where names stand in responses of operations, kept in two ways. Both give guesses: a place is believed only
+/// where the name stands there.
 #[derive(Drop)]
 pub struct FoundPlaces {
+    alloc: Global,
+    /// Where a name was found last, by operation and name. Names share slots, and who writes the trace can choose
+    /// names that share one.
     slots: Vec<u32>,
+    /// The places of each response in order of its names, by replica and number of the operation. It is empty
+    /// until a step was found to be right in that response.
+    sorted: Vec<Vec<Vec<u32>>>,
 }
 
 impl FoundPlaces {
     /// Nothing was found. Room is made for 4 MB of places where there are many steps; where memory is wanted
     /// there is none, and no place is kept.
     pub fn for_steps(alloc: Global, k: u32) -> FoundPlaces {
-        let slots = if k < MANY { 0 } else { SLOTS };
-        match vec![in alloc; 0u32; slots] {
-            Ok(slots) => FoundPlaces { slots },
-            Err(_) => FoundPlaces {
-                slots: Vec::new(alloc),
-            },
+        let count = if k < MANY { 0 } else { SLOTS };
+        let slots = match vec![in alloc; 0u32; count] {
+            Ok(slots) => slots,
+            Err(_) => Vec::new(alloc),
+        };
+        FoundPlaces {
+            alloc,
+            slots,
+            sorted: Vec::new(alloc),
         }
     }
 
-    /// Where a name probably stands in the response of an operation.
+    /// Where a name probably stands in the response of an operation: one look.
     pub fn likely_place(&self, by: OpName, name: &[u8]) -> usize {
         match self.slots.get(slot_of(by, name)) {
             None => 0,
@@ -37,16 +47,23 @@ impl FoundPlaces {
         }
     }
 
-    /// Notes where two names stand in the response of an operation.
+    /// Where a name stands in the response of an operation, if that is known: a search by halving.
+    pub fn place(&self, by: OpName, response: &Response, name: &[u8]) -> Option<usize> {
+        let places = self.sorted.get(by.replica as usize)?.get(by.n as usize)?;
+        let found = places.binary_search_by(|place| compare(response, *place, Some(name)));
+        let place = places.get(found.ok()?)?;
+        Some(*place as usize)
+    }
+
+    /// Notes the places of a response's names, and of these two that they were found last.
     pub fn note(&mut self, by: OpName, response: &Response, from: &[u8], to: &[u8]) {
         if self.slots.is_empty() {
             return;
         }
-        for i in 0..response.len() {
-            if let Some(name) = response.bytes_at(i) {
-                if name == from || name == to {
-                    self.note_place(by, name, i);
-                }
+        self.sort(by, response);
+        for name in [from, to] {
+            if let Some(place) = self.place(by, response, name) {
+                self.note_place(by, name, place);
             }
         }
     }
@@ -60,6 +77,50 @@ impl FoundPlaces {
             *slot = place;
         }
     }
+
+    /// Sorts the places of a response by their names, unless that was done. Where memory is wanted nothing is
+    /// noted.
+    fn sort(&mut self, by: OpName, response: &Response) {
+        let alloc = self.alloc;
+        let Some(of_replica) = member(&mut self.sorted, alloc, by.replica) else {
+            return;
+        };
+        let Some(places) = member(of_replica, alloc, by.n) else {
+            return;
+        };
+        if places.is_empty() {
+            if let Some(sorted) = sorted_places(alloc, response) {
+                *places = sorted;
+            }
+        }
+    }
+}
+
+/// The list with this number, once there are lists up to it.
+fn member<T: Drop>(lists: &mut Vec<Vec<T>>, alloc: Global, number: u32) -> Option<&mut Vec<T>> {
+    let at = number as usize;
+    for _ in lists.len()..at + 1 {
+        lists.push(Vec::new(alloc)).ok()?;
+    }
+    lists.get_mut(at)
+}
+
+/// The places of a response in order of their names; none where memory is wanted.
+fn sorted_places(alloc: Global, response: &Response) -> Option<Vec<u32>> {
+    let count = u32::try_from(response.len()).ok()?;
+    let mut places = Vec::with_capacity(alloc, response.len()).ok()?;
+    for place in 0..count {
+        places.push(place).ok()?;
+    }
+    places.sort_unstable_by(|one: &u32, other: &u32| {
+        compare(response, *one, response.bytes_at(*other as usize))
+    });
+    Some(places)
+}
+
+/// The name at a place beside another one, by their bytes.
+fn compare(response: &Response, place: u32, name: Option<&[u8]>) -> Ordering {
+    response.bytes_at(place as usize).cmp(&name)
 }
 
 /// The slot of a name in the response of an operation.

@@ -28,6 +28,19 @@ fn stands_before(response: &Response, from: &[u8], to: &[u8]) -> bool
     false
 }
 
+/// Whether the two names stand at these places of the response, the one before the other.
+fn stand_at(response: &Response, i: usize, j: usize, from: &[u8], to: &[u8]) -> bool
+    ensures { result ≡ true → Before from.now to.now response.now }
+{
+    if i >= j {
+        return false;
+    }
+    match (response.bytes_at(i), response.bytes_at(j)) {
+        (Some(first), Some(second)) => first == from && second == to,
+        _ => false,
+    }
+}
+
 /// Whether the two names stand in the response where they were found before, the one before the other.
 fn stand_as_found(
     found: &FoundPlaces,
@@ -40,17 +53,18 @@ fn stand_as_found(
 {
     let i = found.likely_place(by, from);
     let j = found.likely_place(by, to);
-    if i >= j {
-        return false;
+    if stand_at(response, i, j, from, to) {
+        return true;
     }
-    match (response.bytes_at(i), response.bytes_at(j)) {
-        (Some(first), Some(second)) => first == from && second == to,
+    match (found.place(by, response, from), found.place(by, response, to)) {
+        (Some(i), Some(j)) => stand_at(response, i, j, from, to),
         _ => false,
     }
 }
 
 /// Whether an operation shows one name before the other; both are given by their bytes. It costs the response,
-/// or less where it has more than six names and places are kept at which both were found in it before.
+/// or where it has more than six names and a step was right in it before, a search by halving for each name, and
+/// mostly one look.
 pub fn shows(
     found: &mut FoundPlaces,
     recording: &Recording,
