@@ -1,16 +1,26 @@
 #!/usr/bin/env python3
 """live.py PROGRAM: the command `live` against `verdict`, whatever the schedule of its threads.
 
-A hundred runs on the three-way cycle, ten on each vector and each example: the bytes, the status and the line on standard
-error must be those of `verdict`. It takes about half a minute."""
+A hundred runs on each vector and each example: the bytes, the status and the line on standard error must be those of
+`verdict`. Then a long chain of receipts, in which each recorder waits for the one before it: thirty runs
+beside as many busy loops as there are processors, of which none may stall. Last a short one, with each request for memory
+refused in turn, while recorders wait: the report, or that a thread or memory is missing. It needs a C compiler (`cc`)."""
+import os
+import subprocess
 import sys
+import tempfile
 from pathlib import Path
 
 ROOT = Path(__file__).resolve().parents[2]
 sys.path.insert(0, str(ROOT / "tests"))
+from memory.refused_memory import refuse_each, shim  # noqa: E402
 from shared.program import Tally, program_of, run  # noqa: E402
 
 CYCLE = ROOT / "examples" / "libinfinity_three_way_cycle.trace"
+REPLICAS = 16
+MOST_ENTRIES = 16384
+TIMES = 100
+TIMES_BUSY = 30
 
 
 def traces() -> list:
@@ -18,17 +28,48 @@ def traces() -> list:
     return sorted((ROOT / "tests" / "vectors").glob("*.trace")) + sorted((ROOT / "examples").glob("*.trace"))
 
 
+def chain(replicas: int, entries: int) -> str:
+    """A trace in which nothing is wrong: each replica begins with a receipt of the last read of the one before it."""
+    lines = ["trace 1", f"replicas {replicas}"]
+    for replica in range(replicas):
+        reads = entries if replica == 0 else entries - 1
+        if replica > 0:
+            lines.append(f"{replica} recv {replica - 1} {entries if replica == 1 else entries - 1}")
+        lines += [f"{replica} read :"] * reads
+    return "\n".join(lines) + "\n"
+
+
+def beside_busy_loops(tally: Tally, program: str, path: Path) -> None:
+    """The long chain, on a machine that has other work."""
+    wanted = run(program, ["verdict", str(path)])
+    loops = [subprocess.Popen([sys.executable, "-c", "while True: pass"]) for _ in range(os.cpu_count() or 1)]
+    try:
+        for i in range(TIMES_BUSY):
+            tally.same(f"live beside busy loops, run {i}", run(program, ["live", str(path)]), wanted)
+    finally:
+        for loop in loops:
+            loop.kill()
+            loop.wait()
+
+
 def main() -> None:
     program = program_of(sys.argv)
     tally = Tally()
     for path in traces():
         wanted = run(program, ["verdict", str(path)])
-        times = 100 if path == CYCLE else 10
-        for workers in (["4"] * (times - 2) + ["1", "64"]):
+        for workers in (["4"] * (TIMES - 2) + ["1", "64"]):
             got = run(program, ["live", "--workers", workers, str(path)])
             tally.same(f"live --workers {workers} {path.name}", got, wanted)
     text = CYCLE.read_bytes()
     tally.same("live of standard input", run(program, ["live", "-"], text), run(program, ["verdict", "-"], text))
+    with tempfile.TemporaryDirectory() as folder:
+        path = Path(folder, "chain.trace")
+        path.write_text(chain(REPLICAS, MOST_ENTRIES))
+        beside_busy_loops(tally, program, path)
+        path.write_text(chain(REPLICAS, 3))
+        seen = refuse_each(tally, shim(folder), folder, [program, "live", str(path)])
+        print(f"{seen.runs} runs of the short chain with a request refused: {seen.memory} out of memory, "
+              f"{seen.thread} without a thread")
     tally.close()
 
 

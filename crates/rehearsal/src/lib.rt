@@ -3,6 +3,7 @@
 //! order the threads came to run.
 #![tactic(auto)]
 
+mod board;
 mod fault;
 mod recorder;
 mod rehearsing;

@@ -1,10 +1,12 @@
 //! The rehearsal: a session is opened, its recorders and its watcher act, and it is closed.
 ghost use Rattle.std.specs.Prelude.{◌≡◌, ◌≤◌, ◌<◌, ◌⊎◌, ◌↔◌, ℕ, List, All, IfOk, IsErrOf};
 ghost use Rattle.events.specs.History.{SameStreams, IsLegal};
+ghost use Rattle.sessions.specs.Replays.{operations_of};
 ghost use Rattle.sessions.specs.Shown.{PassShown};
 ghost use Rattle.rehearsal.specs.Opened.{AreOpened};
 ghost use Rattle.rehearsal.specs.Replays.{AreReplayed, HaveActed};
 
+use super::board::Board;
 use super::fault::{RehearsalFault, foremost, of_watch};
 use super::team::{Back, Team, joined, started};
 use super::watcher::{Returned, Watched, watch_turns};
@@ -17,12 +19,13 @@ use std::sync::Wait;
 use std::thread;
 use std::thread::{Scope, Threads};
 
-/// A session with its passes, and an observer that the first of them made.
+/// A session with its passes, an observer that the first of them made, and the recorders' board.
 #[derive(Drop)]
 struct Opened {
     session: Session,
     passes: Vec<Pass>,
     observer: Observer,
+    board: Board,
 }
 
 /// What comes back when all threads have ended.
@@ -35,8 +38,9 @@ struct Returns {
 /// Replays a recording in a session of its own, and answers what the session then has: a recording with the
 /// same streams.
 ///
-/// For each replica a recorder thread replays its stream, with 1,000,000 tries for each receipt; a watcher
-/// judges four snapshots, each with so many workers, 1 to 64. The gate's `before(r, 0)` and `after(r, 0)` are
+/// For each replica a recorder thread replays its stream; where an operation that it receives is not there yet,
+/// it sleeps until that has been recorded. A watcher judges four snapshots, each with so many workers, 1 to 64.
+/// The gate's `before(r, 0)` and `after(r, 0)` are
 /// called round the replay of replica r, by its thread, and by no search. All threads have ended when it
 /// returns. The recording is held twice at the end, and once more while the watcher judges a snapshot.
 pub fn rehearse<H: Threads + Wait + Sync, G: Gate>(
@@ -56,14 +60,15 @@ pub fn rehearse<H: Threads + Wait + Sync, G: Gate>(
         session,
         passes,
         observer,
+        board,
     } = open(alloc, recording.replicas())?;
     let Returns { passes, observer } = act(
-        rt, alloc, &session, recording, passes, observer, workers, gate,
+        rt, alloc, &session, recording, passes, observer, workers, gate, &board,
     )?;
     Ok(close(session, recording, passes, observer))
 }
 
-/// A session of so many replicas, and an observer that pass 0 made.
+/// A session of so many replicas, an observer that pass 0 made, and a board.
 fn open(alloc: Global, replicas: u32) -> Result<Opened, Memory>
     requires { (1 ≤ replicas) × (replicas ≤ MOST_REPLICAS) }
     ensures replicas { IfOk result (λ o. o.session.replicas ≡ replicas) }
@@ -78,6 +83,7 @@ fn open(alloc: Global, replicas: u32) -> Result<Opened, Memory>
         session,
         passes,
         observer,
+        board: Board::new(alloc, replicas)?,
     })
 }
 
@@ -91,8 +97,10 @@ fn act<H: Threads + Wait + Sync, G: Gate>(
     observer: Observer,
     workers: u32,
     gate: &G,
+    board: &Board,
 ) -> Result<Returns, RehearsalFault>
     requires passes { All (λ p. p.session ≡ session.now) passes.items }
+    requires new { All (λ p. operations_of p ≡ 0) passes.items }
     requires observer { observer.session ≡ session.now }
     ensures acted { IfOk result (HaveActed recording.now session.now passes.items) }
     ensures workers { ¬ IsErrOf result RehearsalFault.Workers }
@@ -102,12 +110,13 @@ fn act<H: Threads + Wait + Sync, G: Gate>(
         rt,
         move |scope| -> Result<Returns, RehearsalFault>
             requires passes { All (λ p. p.session ≡ session.now) passes.items }
+            requires new { All (λ p. operations_of p ≡ 0) passes.items }
             requires observer { observer.session ≡ session.now }
             ensures acted { IfOk result (HaveActed recording.entry.now session.entry.now passes.items) }
             ensures workers { ¬ IsErrOf result RehearsalFault.Workers }
         {
             act_in(
-                rt, alloc, scope, session, recording, passes, observer, workers, gate,
+                rt, alloc, scope, session, recording, passes, observer, workers, gate, board,
             )
         },
     )
@@ -124,8 +133,10 @@ fn act_in<'s, E, H: Threads + Wait + Sync, G: Gate>(
     observer: Observer,
     workers: u32,
     gate: &'s G,
+    board: &'s Board,
 ) -> Result<Returns, RehearsalFault>
     requires passes { All (λ p. p.session ≡ session.now) passes.items }
+    requires new { All (λ p. operations_of p ≡ 0) passes.items }
     requires observer { observer.session ≡ session.now }
     ensures acted { IfOk result (HaveActed recording.now session.now passes.items) }
     ensures workers { ¬ IsErrOf result RehearsalFault.Workers }
@@ -143,7 +154,9 @@ fn act_in<'s, E, H: Threads + Wait + Sync, G: Gate>(
     ) else {
         return Err(RehearsalFault::Thread);
     };
-    let Team { handles, is_whole } = started(rt, alloc, scope, session, recording, gate, passes)?;
+    let Team { handles, is_whole } = started(
+        rt, alloc, scope, session, recording, gate, board, passes,
+    )?;
     let Back { passes, fault } = joined(rt, recording, handles, room);
     let Watched { observer, answer } = watcher.join(rt);
     let unstarted = if is_whole {

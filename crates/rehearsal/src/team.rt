@@ -1,8 +1,10 @@
 //! The recorders' threads: started one after the other, and joined.
 ghost use Rattle.std.specs.Prelude.{◌≡◌, ◌++◌, ◌∷◌, [], true, All, IfOk, IsOk, None, Some, map};
+ghost use Rattle.sessions.specs.Replays.{operations_of};
 ghost use Rattle.rehearsal.specs.Replays.{AreReplayed, HasReplayed};
 ghost use Rattle.rehearsal.specs.declared.fault.RehearsalFault.TheVariants as fault;
 
+use super::board::Board;
 use super::fault::{RehearsalFault, foremost, of_replay};
 use super::recorder::{Replayed, Told, replay_stream};
 use events::{Memory, Recording};
@@ -28,16 +30,18 @@ pub struct Back {
 }
 
 /// Starts a recorder with each of the passes, until one can't be started.
-pub fn started<'s, E, R: Wait + Sync, G: Gate>(
+fn start_each<'s, E, R: Wait + Sync, G: Gate>(
     rt: &'s R,
     alloc: Global,
     scope: &'s Scope<'s, E>,
     session: &'s Session,
     recording: &'s Recording,
     gate: &'s G,
+    board: &'s Board,
     mut passes: Vec<Pass>,
 ) -> Result<Team, Memory>
-    requires { All (λ p. p.session ≡ session.now) passes.items }
+    requires session { All (λ p. p.session ≡ session.now) passes.items }
+    requires new { All (λ p. operations_of p ≡ 0) passes.items }
     ensures whole { IfOk result (λ team. team.is_whole ≡ true
         → map (λ h. h.promise.pass.value) team.handles.items ≡ passes.items) }
     ensures recording { IfOk result (λ team. All
@@ -53,9 +57,10 @@ pub fn started<'s, E, R: Wait + Sync, G: Gate>(
         match scope.spawn_with(
             promise,
             move || -> Told
-                requires { pass.session ≡ session.now }
+                requires session { pass.session ≡ session.now }
+                requires new { operations_of pass ≡ 0 }
                 ensures { HasReplayed recording.entry.now pass result }
-            { replay_stream(rt, alloc, session, pass, recording, gate) },
+            { replay_stream(rt, alloc, session, pass, recording, gate, board) },
         ) {
             Ok(handle) => handles.push(handle)?,
             Err(_) => {
@@ -70,6 +75,34 @@ pub fn started<'s, E, R: Wait + Sync, G: Gate>(
         handles,
         is_whole: true,
     })
+}
+
+/// Starts a recorder with each of the passes, which are of all replicas, in order, and have recorded nothing. If not
+/// all could be started, the others don't wait for them.
+pub fn started<'s, E, R: Wait + Sync, G: Gate>(
+    rt: &'s R,
+    alloc: Global,
+    scope: &'s Scope<'s, E>,
+    session: &'s Session,
+    recording: &'s Recording,
+    gate: &'s G,
+    board: &'s Board,
+    passes: Vec<Pass>,
+) -> Result<Team, Memory>
+    requires session { All (λ p. p.session ≡ session.now) passes.items }
+    requires new { All (λ p. operations_of p ≡ 0) passes.items }
+    ensures whole { IfOk result (λ team. team.is_whole ≡ true
+        → map (λ h. h.promise.pass.value) team.handles.items ≡ passes.items) }
+    ensures recording { IfOk result (λ team. All
+        (λ h. h.promise.recording.value ≡ recording.now) team.handles.items) }
+{
+    let team = start_each(rt, alloc, scope, session, recording, gate, board, passes);
+    match &team {
+        Ok(team) if team.is_whole => {}
+        Ok(team) => board.end_from(rt, team.handles.len()),
+        Err(Memory) => board.end_from(rt, 0),
+    }
+    team
 }
 
 /// Puts a pass that came back at the end, and notes the fault if its replay stopped.

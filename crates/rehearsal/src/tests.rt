@@ -1,8 +1,9 @@
-//! What no clause says: that recorders run beside one another, and that the gate is called round each replay.
+//! What no clause says: that recorders run beside one another, that they wake each other, and that the gate is called
+//! round each replay.
 use super::{RehearsalFault, rehearse};
-use events::Recording;
+use events::{Body, Entry, OpName, Recording, Response};
 use level_search::{Gate, NoGate};
-use sample_recordings::{EMPTY, THREE_WAY_CYCLE, recording};
+use sample_recordings::{EMPTY, RING_OF_FOUR, THREE_WAY_CYCLE, recording};
 use std::alloc::Global;
 use std::sync::Wait;
 use std::sync::atomic::{AtomicU64, Ordering};
@@ -122,5 +123,132 @@ fn workers_are_1_to_64(rt: HostRuntime) -> Result<(), Fail> {
         );
     }
     assert!(rt; rehearsed(&rt, alloc, &recording, 64, &NoGate).is_ok());
+    Ok(())
+}
+
+/// The replays that a gate holds up: that of the first until that of the second has begun, or for `TURNS` turns.
+#[derive(Drop)]
+struct HoldOne {
+    first: u32,
+    second: u32,
+    has_begun: AtomicU64,
+}
+
+impl Gate for HoldOne {
+    fn before(&self, replica: u32, _source: u32) {
+        if replica == self.second {
+            self.has_begun.store(1, Ordering::SeqCst);
+        }
+        if replica == self.first {
+            for _ in 0..TURNS {
+                if self.has_begun.load(Ordering::SeqCst) == 1 {
+                    return;
+                }
+            }
+        }
+    }
+
+    fn after(&self, _replica: u32, _source: u32) {}
+}
+
+/// A recording in which each replica reads so many times, once the replica before it has.
+fn chain(alloc: Global, replicas: u32, reads: u32) -> Option<Recording> {
+    let mut recording = Recording::new(alloc, replicas).ok()?;
+    for replica in 0..replicas {
+        if replica > 0 {
+            let seen = OpName::new(replica - 1, reads)?;
+            let body = Body::Recv { seen };
+            recording.record(Entry { replica, body }).ok()?;
+        }
+        for _ in 0..reads {
+            let response = Response::new(alloc);
+            let body = Body::Read { response };
+            recording.record(Entry { replica, body }).ok()?;
+        }
+    }
+    Some(recording)
+}
+
+/// A recording in which two replicas read in turn, so often, each once the other has.
+fn in_turn(alloc: Global, reads: u32) -> Option<Recording> {
+    let mut recording = Recording::new(alloc, 2).ok()?;
+    for n in 0..reads {
+        for replica in 0..2 {
+            if n > 0 || replica > 0 {
+                let seen = OpName::new(1 - replica, if replica == 0 { n } else { n + 1 })?;
+                let body = Body::Recv { seen };
+                recording.record(Entry { replica, body }).ok()?;
+            }
+            let response = Response::new(alloc);
+            let body = Body::Read { response };
+            recording.record(Entry { replica, body }).ok()?;
+        }
+    }
+    Some(recording)
+}
+
+/// Whether so many rehearsals of a recording answer one with the same counts.
+fn all_alike<H: Threads + Wait + Sync>(
+    rt: &H,
+    alloc: Global,
+    recording: &Recording,
+    times: u32,
+) -> bool {
+    for _ in 0..times {
+        match rehearsed(rt, alloc, recording, 1, &NoGate) {
+            Ok(closed) if have_alike(recording, &closed) => {}
+            _ => return false,
+        }
+    }
+    true
+}
+
+/// The chain, made again where it finds no memory.
+fn chain_of(alloc: Global, replicas: u32, reads: u32) -> Option<Recording> {
+    match chain(alloc, replicas, reads) {
+        None => chain(alloc, replicas, reads),
+        made => made,
+    }
+}
+
+/// The readers in turn, made again where they find no memory.
+fn readers_in_turn(alloc: Global, reads: u32) -> Option<Recording> {
+    match in_turn(alloc, reads) {
+        None => in_turn(alloc, reads),
+        made => made,
+    }
+}
+
+#[test]
+fn each_waits_for_the_one_before(rt: HostRuntime) {
+    let alloc = rt.alloc();
+    let few = chain_of(alloc, 16, 3).expect(&rt, "a recording");
+    assert!(rt; all_alike(&rt, alloc, &few, 100));
+    let many = chain_of(alloc, 16, 300).expect(&rt, "a recording");
+    assert!(rt; all_alike(&rt, alloc, &many, 3));
+}
+
+#[test]
+fn two_wake_each_other(rt: HostRuntime) {
+    let alloc = rt.alloc();
+    let turns = readers_in_turn(alloc, 2000).expect(&rt, "a recording");
+    assert!(rt; all_alike(&rt, alloc, &turns, 10));
+}
+
+#[test]
+fn any_two_held_up(rt: HostRuntime) -> Result<(), Fail> {
+    let alloc = rt.alloc();
+    let ring = recording(alloc, RING_OF_FOUR)?;
+    for first in 0..6 {
+        for second in 0..6 {
+            let gate = HoldOne {
+                first,
+                second,
+                has_begun: AtomicU64::new(0),
+            };
+            let closed = rehearsed(&rt, alloc, &ring, 1, &gate)?;
+            assert!(rt; have_alike(&ring, &closed));
+        }
+    }
     Ok(())
 }

@@ -1,0 +1,98 @@
+//! What no clause says: whom a replay asks, how often and with what, and that it goes on at once.
+ghost use Rattle.std.specs.Prelude.{◌≡◌, IfSome};
+ghost use Rattle.sessions.specs.Shown.{mine};
+
+use super::{opened, recorded, three_way};
+use crate::{Pass, RefusedBody, ReplayFault, Session, Waiter};
+use events::{Body, OpName, Refusal};
+use std::alloc::Global;
+use std::sync::Wait;
+
+/// Counts what it is told and asked, and lets so many tries be made.
+#[derive(Clone, Copy, Debug, PartialEq, Eq)]
+struct Counts {
+    tries: u32,
+    told: u32,
+    asked: u32,
+    lacking: Option<OpName>,
+}
+
+impl Waiter for Counts {
+    ghost knows_of = { λ _ _. Unit {0} };
+
+    fn recorded<R: Wait>(&mut self, _rt: &R) {
+        self.told = self.told.saturating_add(1);
+    }
+
+    fn waits_for<R: Wait>(&mut self, _rt: &R, lacking: OpName, tries: u32) -> bool {
+        self.asked = self.asked.saturating_add(1);
+        self.lacking = Some(lacking);
+        self.asked == tries && tries < self.tries
+    }
+}
+
+/// A session of three replicas, and the first pass.
+fn first_of_three(alloc: Global) -> Option<(Session, Pass)>
+    ensures session { IfSome result (λ s. s.1.session ≡ s.0) }
+    ensures new { IfSome result (λ s. mine s.1 ≡ []) }
+{
+    let (session, mut passes) = opened(alloc, 3).ok()?;
+    let first = passes.remove(0);
+    Some((session, first))
+}
+
+/// How the first replica's part of the three-way cycle is replayed with nobody else there, who waits, and how many
+/// entries there are then.
+fn alone<H: AllocGlobal + Wait>(
+    rt: &H,
+    tries: u32,
+) -> Option<(Result<u32, ReplayFault>, Counts, u64)> {
+    let alloc = rt.alloc();
+    let recording = three_way(alloc)?;
+    let (session, mut first) = first_of_three(alloc)?;
+    let mut counts = Counts {
+        tries,
+        told: 0,
+        asked: 0,
+        lacking: None,
+    };
+    let answer = session.replay_with(rt, alloc, &mut first, &recording, &mut counts);
+    let count = session.count(&mut first);
+    Some((answer, counts, count))
+}
+
+/// The same, made again where it finds no memory.
+fn alone_with_memory<H: AllocGlobal + Wait>(
+    rt: &H,
+    tries: u32,
+) -> Option<(Result<u32, ReplayFault>, Counts, u64)> {
+    match alone(rt, tries) {
+        None => alone(rt, tries),
+        Some((
+            Err(
+                ReplayFault::Refused {
+                    at: _,
+                    why: Refusal::Memory,
+                },
+            ),
+            _,
+            _,
+        )) => alone(rt, tries),
+        answer => answer,
+    }
+}
+
+#[test]
+fn waiter_says_how_often(rt: HostRuntime) {
+    for tries in 1..4 {
+        let (answer, counts, count) = alone_with_memory(&rt, tries).expect(&rt, "memory");
+        assert!(rt; answer == Err(ReplayFault::Stalled { at: 2 }) && count == 2);
+        let wanted = Counts {
+            tries,
+            told: 2,
+            asked: tries,
+            lacking: OpName::new(1, 1),
+        };
+        assert!(rt; counts == wanted);
+    }
+}
