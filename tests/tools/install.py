@@ -13,6 +13,7 @@ from shared.program import Ended, Tally, need, program_of, run  # noqa: E402
 
 INSTALL = str(ROOT / "tools" / "install")
 EXAMPLE = str(ROOT / "examples" / "lost_element.trace")
+CERTIFICATE = str(ROOT / "examples" / "libinfinity_three_way_cycle.cert")
 REPORT = b"replicas 3 operations 3 inserts 2\ncontents 2.1\nstrong no\nweak no\n"
 TOOLS = ["domepeeler", "domepeeler-explain", "domepeeler-judge-many"]
 
@@ -25,6 +26,13 @@ COMPLETED = [
     (["domepeeler", "verdict", "--workers", "1"], {"1", "16"}),
     (["domepeeler-explain", "--s"], {"--small", "--svg"}),
     (["domepeeler-judge-many", "--j"], {"--json", "--jobs"}),
+]
+
+# Words, how the program ends by docs/formats.md, and what the man page says of that under its status alone.
+ENDED = [
+    (["verdict", "{unread}"], Ended(2, b"", b"finder: line 3: shape\n"), "the line on standard error names the first faulty line"),
+    (["cert", "{unread}"], Ended(2, b"", b"finder: line 3: shape\n"), "the line on standard error names the first faulty line"),
+    (["verify", "{unread}", CERTIFICATE], Ended(1, b"no trace\n", b""), "verify prints no trace"),
 ]
 
 
@@ -75,6 +83,20 @@ def manual(tally: Tally, folder: str) -> None:
     tally.check("man: no warnings", not done.stderr, done.stderr)
 
 
+def exit_statuses(tally: Tally, folder: str) -> None:
+    """The paragraph of the man page on the status with which the program ends says what happened, and no other one does."""
+    done = subprocess.run(["man", "-l", f"{folder}/share/man/man1/domepeeler.1"], capture_output=True, text=True, errors="replace",
+                          env=os.environ | {"MANWIDTH": "500", "LC_ALL": "C"})
+    section = done.stdout.partition("\nEXIT STATUS\n")[2].partition("\nENVIRONMENT\n")[0]
+    told = {int(line.split()[0]): " ".join(line.split()[1:]) for line in section.splitlines() if line.strip()}
+    unread = f"{folder}/unread.trace"
+    Path(unread).write_text("trace 1\nreplicas 1\n0 reads :\n")
+    for words, ended, said in ENDED:
+        got = run(f"{folder}/bin/domepeeler", [word.format(unread=unread) for word in words])
+        tally.same(f"status of {words}", got, ended)
+        tally.check(f"man: status of {words}", [status for status in told if said in told[status]] == [ended.status], told)
+
+
 def completions(tally: Tally, folder: str) -> None:
     path = f"{folder}/share/bash-completion/completions/domepeeler"
     for words, offered in COMPLETED:
@@ -103,6 +125,7 @@ def main() -> None:
         files(tally, program, f"{folder}/a place")
         runs(tally, f"{folder}/a place")
         manual(tally, f"{folder}/a place")
+        exit_statuses(tally, f"{folder}/a place")
         completions(tally, f"{folder}/a place")
         os.rename(f"{folder}/a place", f"{folder}/moved")
         runs(tally, f"{folder}/moved")
