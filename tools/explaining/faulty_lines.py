@@ -2,7 +2,7 @@
 import re
 
 CAUSE = re.compile(r"line (\d+): ([a-z ]+)(?:, have (\d+))?$")  # in the program's line on standard error
-MOST_SHOWN = 120  # characters of a faulty line
+MOST_SHOWN = 120  # bytes of a faulty line or word
 GREATEST = 4294967295
 NUMBER = "a number (digits without leading zeros, at most 4294967295)"
 NAME = "a name (1 to 32 letters, digits, `_`, `-` or `.`)"
@@ -30,14 +30,19 @@ def about_fault(error: str, trace: bytes) -> list:
     lines = trace.split(b"\n")
     line = lines[number - 1] if number <= len(lines) else b""
     is_there = number < len(lines) or line
-    shown = [f"line {number} is: {readable(line)}" if is_there else f"line {number} is missing"]
-    return shown + right(cause, have, line, lines)
+    line_told = f"line {number} is: {readable(line)}" if is_there else f"line {number} is missing"
+    return [line_told, *right(cause, have, line, lines)]
 
 
-def readable(line: bytes) -> str:
-    """The line with escapes for all that is no plain ASCII, cut where it is long."""
-    text = ascii(line[:MOST_SHOWN].decode("utf-8", "backslashreplace"))[1:-1]
-    return text + (f".. ({len(line)} bytes)" if len(line) > MOST_SHOWN else "")
+def readable(text: bytes) -> str:
+    """A line or a word, cut where it is long. A byte that is no printable ASCII stands as `\\x` and two digits, and so does a
+    backslash."""
+    told = "".join(map(shown, text[:MOST_SHOWN]))
+    return told + (f".. ({len(text)} bytes)" if len(text) > MOST_SHOWN else "")
+
+
+def shown(byte: int) -> str:
+    return chr(byte) if 32 <= byte < 127 and byte != ord("\\") else f"\\x{byte:02x}"
 
 
 def right(cause: str, have: str | None, line: bytes, lines: list) -> list:
@@ -74,7 +79,7 @@ def what_is_wrong(line: bytes, header: bytes) -> list:
         return ending(line)
     other = next((place for place, byte in enumerate(line) if not 32 <= byte < 127), None)
     if other is not None:
-        return [f"byte {other + 1} of the line is {line[other]}, which no word may have: words are of ASCII"]
+        return [f"byte {other + 1} of the line is {shown(line[other])}, which no word may have: words are of ASCII"]
     words = line.decode().split(" ")
     if "" in words:
         return ["there is a blank too many: two together, or one at an end of the line"]
@@ -87,22 +92,26 @@ def what_is_wrong(line: bytes, header: bytes) -> list:
 def wrong_word(words: list) -> str | None:
     """The first word that can't stand where it does."""
     if not is_number(words[0]):
-        return f"`{words[0]}`, the first word, is not {NUMBER}"
+        return f"{quoted(words[0])}, the first word, is not {NUMBER}"
     kind = words[1] if len(words) > 1 else ""
     if kind == "recv":
         is_right = len(words) == 4 and is_number(words[2]) and is_number(words[3]) and words[3] != "0"
         return None if is_right else "after `recv` stand a replica's number and that of its operation, from 1, and nothing else"
     if kind not in KINDS:
-        return f"`{kind}`, the second word, is not `ins`, `del`, `read`, `view` or `recv`"
+        return f"{quoted(kind)}, the second word, is not `ins`, `del`, `read`, `view` or `recv`"
     colon = KINDS[kind]
     if kind in ("ins", "del") and not (len(words) > 2 and is_name(words[2])):
-        return f"`{words[2] if len(words) > 2 else ''}`, after `{kind}`, is not {NAME}"
+        return f"{quoted(words[2] if len(words) > 2 else '')}, after `{kind}`, is not {NAME}"
     if kind == "ins" and not (len(words) > 3 and is_number(words[3])):
-        return f"`{words[3] if len(words) > 3 else ''}`, after the element, is not {NUMBER}"
+        return f"{quoted(words[3] if len(words) > 3 else '')}, after the element, is not {NUMBER}"
     if len(words) <= colon or words[colon] != ":":
         return "the colon between the operation and its response is missing, or not a word by itself"
     bad = next((word for word in words[colon + 1:] if not is_name(word)), None)
-    return None if bad is None else f"`{bad}`, in the response, is not {NAME}"
+    return None if bad is None else f"{quoted(bad)}, in the response, is not {NAME}"
+
+
+def quoted(word: str) -> str:
+    return f"`{readable(word.encode())}`"
 
 
 def is_number(word: str) -> bool:
