@@ -176,6 +176,29 @@ FAULTS = [
      "a replica has at most 16,384 entries, receipts counted: record shorter sessions, or fewer reads"),
 ]
 
+CRLF = "the line ends with CR LF, where a trace has LF alone"
+MARK = "the file begins with a byte order mark, and a trace has none"
+UTF16 = "the file is UTF-16, and a trace is ASCII"
+RIGHT = b"trace 1\nreplicas 1\n0 read :\n"
+# By name, files that hold this trace otherwise than as a trace is written, and what is said of that first.
+MENDED = [
+    ("lines.trace", RIGHT.replace(b"\n", b"\r\n"), [CRLF]),
+    ("third line.trace", b"trace 1\nreplicas 1\n0 read :\r\n", [CRLF]),
+    ("mark.trace", b"\xef\xbb\xbf" + RIGHT, [MARK]),
+    ("mark's lines.trace", b"\xef\xbb\xbf" + RIGHT.replace(b"\n", b"\r\n"), [MARK, CRLF]),
+    ("wide.trace", b"\xff\xfe" + RIGHT.decode().encode("utf-16-le"), [UTF16]),
+    ("wide lines.trace", b"\xfe\xff" + RIGHT.replace(b"\n", b"\r\n").decode().encode("utf-16-be"), [UTF16, CRLF]),
+]
+# Files that are something else, and what is said of them first.
+NO_TRACES = [
+    (b"", "the file is empty"),
+    ((ROOT / "examples" / "libinfinity_three_way_cycle.cert").read_bytes(),
+     "the file is a certificate, as `cert` writes it: give the trace that it is of"),
+    (b"cert 1\naccepted\norder :\n", "the file is a certificate, as `cert` writes it: give the trace that it is of"),
+    (b"\x89PNG\r\n\x1a\n\0\0\0\rIHDR", "the file is binary, and a trace is lines of ASCII"),
+    (b"\x7fELF\x02\x01\x01\0\0\0", "the file is binary, and a trace is lines of ASCII"),
+]
+
 HOSTILE = ["ins", "del", "read", "recv", "5", "line", "0", "-", ".", "--", "..", "__proto__", "lt", "amp", "NaN", "e-1", "x" * 32]
 
 
@@ -221,6 +244,26 @@ def faults(tally: Tally, program: str, folder: str) -> None:
                Ended(2, b"", b"explain: /bin/false ended with status 1 and without a report\n"))
     got = explain(program, ["--html", f"{folder}/no/such", good])
     tally.check("a page that can't be written", got.status == 2 and b"cannot write" in got.err and b"Traceback" not in got.err, got)
+
+
+def files(tally: Tally, program: str, folder: str) -> None:
+    """What is wrong with a whole file comes first, and the command that mends it does."""
+    for name, text, causes in MENDED:
+        Path(folder, name).write_bytes(text)
+        got = subprocess.run([EXPLAIN, "--program", program, name], cwd=folder, capture_output=True, text=True)
+        own, *lines = [line.strip() for line in got.stderr.splitlines()]
+        tally.check(f"file {name}: the causes first", got.returncode == 2 and own.startswith("finder: ") and lines[:len(causes)] == causes, got)
+        said, _, command = "\n".join(lines[len(causes):len(causes) + 1]).partition(": ")
+        mended = Path(folder, "mended.trace")
+        mended.write_bytes(b"")
+        done = subprocess.run(["sh", "-c", command], cwd=folder, capture_output=True)
+        tally.check(f"file {name}: `{command}` mends it", said == "this mends it" and mended.read_bytes() == RIGHT, done)
+    for text, said in NO_TRACES:
+        got = explain(program, ["-"], text)
+        lines = got.err.decode().splitlines()
+        tally.check(f"file {text[:9]}: {said}", got.status == 2 and lines[0].startswith("finder: line 1: ") and lines[1].strip() == said, got)
+    got = explain(program, ["-"], MENDED[0][1]).err.decode()
+    tally.check("standard input: what mends it", "\n  this mends it: tr -d '\\r' < FILE > mended.trace\n" in got, got)
 
 
 def finding(tally: Tally, program: str, folder: str) -> None:
@@ -414,6 +457,7 @@ def main() -> None:
     words(tally, program)
     with tempfile.TemporaryDirectory() as folder:
         faults(tally, program, folder)
+        files(tally, program, folder)
         finding(tally, program, folder)
         contradicted(tally, folder)
         pages(tally, program, folder)

@@ -1,8 +1,13 @@
 """What is wrong with a line that the program refuses, and what would be right."""
 import re
+import shlex
 
 CAUSE = re.compile(r"line (\d+): ([a-z ]+)(?:, have (\d+))?$")  # in the program's line on standard error
 MOST_SHOWN = 120  # bytes of a faulty line or word
+FIRST_BYTES = 8000  # of a file that are looked at for bytes that no text has
+BINARY = re.compile(rb"[\x00-\x06\x0e-\x1a\x1c-\x1f]")
+UTF16 = b"\xff\xfe", b"\xfe\xff"  # the marks with which such texts begin
+MARK = b"\xef\xbb\xbf"  # that of UTF-8
 GREATEST = 4294967295
 NUMBER = "a number (digits without leading zeros, at most 4294967295)"
 NAME = "a name (1 to 32 letters, digits, `_`, `-` or `.`)"
@@ -21,17 +26,52 @@ LIMITS = {
 KINDS = {"ins": 4, "del": 3, "read": 2, "view": 2}  # how many words stand before the colon
 
 
-def about_fault(error: str, trace: bytes) -> list:
-    """The faulty line with what would be right, where the program's error names a line; else nothing."""
+def about_fault(error: str, trace: bytes, name: str) -> list:
+    """What a faulty line of the file of this name is and what would be right, where the program's error names a line; else
+    nothing. What is wrong with the whole file comes first."""
     found = CAUSE.search(error)
     if found is None:
         return []
     number, cause, have = int(found[1]), found[2].strip(), found[3]
     lines = trace.split(b"\n")
     line = lines[number - 1] if number <= len(lines) else b""
-    is_there = number < len(lines) or line
+    is_ended = number < len(lines)
+    is_there = is_ended or line
     line_told = f"line {number} is: {readable(line)}" if is_there else f"line {number} is missing"
-    return [line_told, *right(cause, have, line, lines)]
+    what = no_trace(trace) if number == 1 else None
+    if what:
+        return [what, line_told]
+    return [*mending(trace, is_ended and line.endswith(b"\r"), name), line_told, *right(cause, have, line.removesuffix(b"\r"), lines)]
+
+
+def no_trace(trace: bytes) -> str | None:
+    """What a file is that begins as no trace does, where that can be told."""
+    if not trace:
+        return "the file is empty"
+    if re.match(rb"cert [12]\r?\n", trace):
+        return "the file is a certificate, as `cert` writes it: give the trace that it is of"
+    if not trace.startswith(UTF16) and BINARY.search(trace[:FIRST_BYTES]):
+        return "the file is binary, and a trace is lines of ASCII"
+    return None
+
+
+def mending(trace: bytes, is_crlf: bool, name: str) -> list:
+    """How the file was written otherwise than a trace, as some editors and systems do, and the command that mends it."""
+    told, commands = [], []
+    if trace.startswith(UTF16):
+        told.append("the file is UTF-16, and a trace is ASCII")
+        commands.append("iconv -f UTF-16 -t UTF-8")
+    if trace.startswith(MARK):
+        told.append("the file begins with a byte order mark, and a trace has none")
+        commands.append("tail -c +4")
+    if is_crlf or trace.startswith(UTF16) and b"\r" in trace:
+        told.append("the line ends with CR LF, where a trace has LF alone")
+        commands.append("tr -d '\\r'")
+    if commands:
+        first, *rest = commands
+        source = "FILE" if name == "-" else shlex.quote(name)
+        told.append("this mends it: " + " | ".join([f"{first} < {source}", *rest]) + " > mended.trace")
+    return told
 
 
 def readable(text: bytes) -> str:
@@ -50,9 +90,9 @@ def right(cause: str, have: str | None, line: bytes, lines: list) -> list:
     if cause in LIMITS:
         return [LIMITS[cause]]
     if cause == "header":
-        return ["the first line of a trace is `trace 1`, or `trace 2` where it may have views, and nothing else", *ending(line)]
+        return ["the first line of a trace is `trace 1`, or `trace 2` where it may have views, and nothing else"]
     if cause == "replicas":
-        return ["the second line is `replicas R`, with R from 1 to 16", *ending(line)]
+        return ["the second line is `replicas R`, with R from 1 to 16"]
     if cause == "cut":
         return ["the last line has no line feed at its end: write one after each line, and see that the file is whole"]
     if cause == "no such replica":
@@ -67,16 +107,10 @@ def right(cause: str, have: str | None, line: bytes, lines: list) -> list:
     return [*what_is_wrong(line, lines[0]), *ENTRIES]
 
 
-def ending(line: bytes) -> list:
-    return ["the line ends with CR LF, where a trace has LF alone"] if line.endswith(b"\r") else []
-
-
 def what_is_wrong(line: bytes, header: bytes) -> list:
     """What keeps a line from being an entry, where that can be told."""
     if not line:
         return ["an empty line is no entry"]
-    if ending(line):
-        return ending(line)
     other = next((place for place, byte in enumerate(line) if not 32 <= byte < 127), None)
     if other is not None:
         return [f"byte {other + 1} of the line is {shown(line[other])}, which no word may have: words are of ASCII"]
