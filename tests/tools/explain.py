@@ -199,6 +199,10 @@ NO_TRACES = [
     (b"\x7fELF\x02\x01\x01\0\0\0", "the file is binary, and a trace is lines of ASCII"),
 ]
 
+# What another program does, as a shell says it, and how it is told that it ended.
+OTHERS = [("echo hello", "0"), ("exit 0", "0"), ("echo '[]'", "0"), ("echo 5; exit 1", "1"), ("echo '{\"a\": 1}'", "0"),
+          ("printf '\\377'", "0"), ("echo 'usage: other' >&2; echo 'or so' >&2; exit 2", "2: usage: other"), ("exit 3", "3")]
+
 HOSTILE = ["ins", "del", "read", "recv", "5", "line", "0", "-", ".", "--", "..", "__proto__", "lt", "amp", "NaN", "e-1", "x" * 32]
 
 
@@ -241,7 +245,7 @@ def faults(tally: Tally, program: str, folder: str) -> None:
     tally.same("no such program", run(EXPLAIN, ["--program", missing, good]),
                Ended(2, b"", f"explain: {missing} of --program can't be run\n".encode()))
     tally.same("a program that answers nothing", run(EXPLAIN, ["--program", "/bin/false", good]),
-               Ended(2, b"", b"explain: /bin/false ended with status 1 and without a report\n"))
+               Ended(2, b"", b"explain: /bin/false printed no report: is it domepeeler? It ended with status 1\n"))
     got = explain(program, ["--html", f"{folder}/no/such", good])
     tally.check("a page that can't be written", got.status == 2 and b"cannot write" in got.err and b"Traceback" not in got.err, got)
 
@@ -282,6 +286,21 @@ def finding(tally: Tally, program: str, folder: str) -> None:
     for name, asked, variables in ways:
         done = subprocess.run([EXPLAIN, *asked, str(good)], capture_output=True, text=True, env=here | variables)
         tally.check(f"the program asked: {name}", f"  a {name}\n" in done.stdout, done)
+
+
+def others(tally: Tally, folder: str) -> None:
+    """Another program, named in each of the three ways: it is asked whether it is domepeeler, by one line and with status 2."""
+    trace, path = text_of(1, "0 ins a 0 : a").encode(), f"{folder}/others"
+    os.mkdir(path)
+    other = Path(path, "domepeeler")
+    for printed, ended in OTHERS:
+        other.write_text(f"#!/bin/sh\ncat > /dev/null\n{printed}\n")
+        other.chmod(0o755)
+        wanted = Ended(2, b"", f"explain: {other} printed no report: is it domepeeler? It ended with status {ended}\n".encode())
+        for words, variables in (["--program", str(other)], {}), ([], {"DOMEPEELER": str(other)}), ([], {"PATH": f"{path}:{os.environ['PATH']}"}):
+            here = {name: value for name, value in os.environ.items() if name != "DOMEPEELER"} | variables
+            done = subprocess.run([EXPLAIN, *words, "-"], input=trace, capture_output=True, env=here)
+            tally.same(f"another program, {printed}, by {words or list(variables)}", Ended(done.returncode, done.stdout, done.stderr), wanted)
 
 
 def contradicted(tally: Tally, folder: str) -> None:
@@ -459,6 +478,7 @@ def main() -> None:
         faults(tally, program, folder)
         files(tally, program, folder)
         finding(tally, program, folder)
+        others(tally, folder)
         contradicted(tally, folder)
         pages(tally, program, folder)
         hostile(tally, program, folder)

@@ -29,6 +29,13 @@ ROWS = [("lost.trace", "contents", "-", "4"), ("-moved {#}.trace", "position", "
         ("long.trace", "refused", "2", "8"), ("with 'blanks' and $signs.trace", "refused", "3", "11"),
         ("b.trace", "accepted", "-", "3"), ("deep/er/a.trace", "accepted", "-", "4")]
 
+# What another program does, as a shell says it, and what is said of the program and that.
+OTHERS = [("echo hello", "{} printed no report: is it domepeeler? It ended with status 0"),
+          ("echo '[]'", "{} printed no report: is it domepeeler? It ended with status 0"),
+          ("echo '{\"a\": 1}'; exit 1", "{} printed no report: is it domepeeler? It ended with status 1"),
+          ("echo 'usage: other' >&2; exit 2", "{} printed no report: is it domepeeler? It ended with status 2: usage: other"),
+          ("kill -9 $$", "no answer")]
+
 
 def write(folder: str, traces: dict) -> None:
     for name, entries in traces.items():
@@ -90,6 +97,20 @@ def statuses(tally: Tally, program: str, folder: str, other: str) -> None:
                 and json.loads(got.out)["error"].endswith("line 3: shape"), got)
     got = judge("/bin/false", [good[0]])
     tally.check("a program that answers nothing: status 2", got.status == 2 and b"1 trace: 1 failed\n" in got.out, got)
+    fault = f"judge_many: {good[0]}: /bin/false printed no report: is it domepeeler? It ended with status 1\n"
+    tally.check("a program that answers nothing: its line", got.err == fault.encode(), got.err)
+
+
+def others(tally: Tally, folder: str, other: str) -> None:
+    """Another program, named by the variable: each trace failed, none is unread, and it is asked whether it is domepeeler."""
+    path = Path(other, "other")
+    for printed, told in OTHERS:
+        path.write_text(f"#!/bin/sh\n{printed}\n")
+        path.chmod(0o755)
+        done = subprocess.run([TOOL, folder], capture_output=True, text=True, env=os.environ | {"DOMEPEELER": str(path)})
+        tally.check(f"another program, {printed}: the counts", done.returncode == 2 and done.stdout.endswith("\n7 traces: 7 failed\n"), done)
+        said = {line.partition(".trace: ")[2] for line in done.stderr.splitlines()}
+        tally.check(f"another program, {printed}: its lines", said == {told.format(path)}, done.stderr)
 
 
 def errors(tally: Tally, program: str, folder: str) -> None:
@@ -129,6 +150,7 @@ def main() -> None:
         table(tally, program, folder)
         json_lines(tally, program, folder)
         statuses(tally, program, folder, other)
+        others(tally, folder, other)
         errors(tally, program, third)
         closed_output(tally, program, folder)
     tally.close()

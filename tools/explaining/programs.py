@@ -52,14 +52,33 @@ def run(program: str, words: list, trace: bytes) -> subprocess.CompletedProcess:
 
 
 def judge(program: str, trace: bytes) -> Judged:
-    """What the program says of a trace."""
+    """What the program says of a trace; NoProgram where that is nothing that domepeeler says."""
     done = run(program, ["verdict", "--json", "-"], trace)
     error = done.stderr.decode(errors="replace").rstrip("\n")
-    try:
-        report = json.loads(done.stdout) if done.returncode in (0, 1) else None
-    except ValueError as fault:
-        raise NoProgram(f"{program} ended with status {done.returncode} and without a report") from fault
+    report = report_in(done.returncode, done.stdout)
+    if report is None and is_another(done.returncode, error):
+        raise NoProgram(no_report(program, done.returncode, error))
     return Judged(done.returncode, report, error)
+
+
+def report_in(status: int, printed: bytes) -> dict | None:
+    """The report that a program printed which ended with this status, if it is one."""
+    try:
+        report = json.loads(printed) if status in (0, 1) else None
+    except ValueError:
+        return None
+    return report if isinstance(report, dict) and isinstance(report.get("verdict"), str) else None
+
+
+def is_another(status: int, error: str) -> bool:
+    """Whether a program that printed no report is not domepeeler: it ended by itself, and without a line of domepeeler's."""
+    return 0 <= status < 128 and not any(line.startswith("finder: ") for line in error.splitlines())
+
+
+def no_report(program: str, status: int, error: str) -> str:
+    """What is said of such a program."""
+    said = next(filter(None, error.splitlines()), "")
+    return f"{program} printed no report: is it domepeeler? It ended with status {status}" + (f": {said}" if said else "")
 
 
 def report_text(program: str, trace: bytes) -> str:
