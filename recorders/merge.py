@@ -5,7 +5,7 @@ Each log is the text of a recorder that was told which replica is its `only` one
 order; a receipt waits until the operation that it names stands before it. No clocks are needed. Any two merges of the
 same logs have the same report.
 
-Other programs may call `merge(texts)`."""
+It ends with status 0, 1 where the logs can't be merged, and 2 where one can't be read. Other programs may call `merge(texts)`."""
 import re
 import sys
 from pathlib import Path
@@ -18,30 +18,39 @@ class Unmerged(ValueError):
     """The logs are not those of one session."""
 
 
-def merge(texts: list) -> str:
-    """The trace of these logs, one for each replica that did or received anything."""
-    counts = {tuple(text.split("\n")[1:2]) for text in texts}
-    if len(counts) != 1:
-        raise Unmerged("the logs begin with different lines: they are of different sessions, or there is none")
-    waiting = [entries(number, text) for number, text in enumerate(texts, 1)]
-    authors = [line.split(" ")[0] for lines in waiting for line in lines[:1]]
-    for author in authors:
-        if authors.count(author) > 1:
-            raise Unmerged(f"two logs are of replica {author}")
-    head = [max(text.split("\n")[0] for text in texts), *counts.pop()]
+def merge(texts: list, names: list = None) -> str:
+    """The trace of these logs, one for each replica that did or received anything. Errors call the logs by these names, else by
+    their numbers from 1."""
+    names = names or [f"log {number}" for number in range(1, len(texts) + 1)]
+    if not texts:
+        raise Unmerged("there is no log")
+    waiting = [entries(name, text) for name, text in zip(names, texts)]
+    counts = [text.split("\n")[1] for text in texts]
+    for name, count in zip(names, counts):
+        if count != counts[0]:
+            raise Unmerged("the logs begin with different lines, so they are of different sessions: "
+                           f"line 2 of {names[0]} is `{counts[0]}`, of {name} `{count}`")
+    authors = {}
+    for name, lines in zip(names, waiting):
+        author = lines[0].split(" ")[0] if lines else None
+        if author in authors:
+            raise Unmerged(f"two logs are of replica {author}: {authors[author]} and {name}")
+        if lines:
+            authors[author] = name
+    head = [max(text.split("\n")[0] for text in texts), counts[0]]
     return "\n".join([*head, *merged([lines for lines in waiting if lines])]) + "\n"
 
 
-def entries(number: int, text: str) -> list:
+def entries(name: str, text: str) -> list:
     """The lines of a log after the first two; it is the log of one replica."""
     *lines, rest = text.split("\n")
     if rest or not lines[1:2] or lines[0] not in ENTRIES:
-        raise Unmerged(f"log {number} is no text of a recorder, or was cut off")
+        raise Unmerged(f"{name} is no text of a recorder, or was cut off")
     for place, line in enumerate(lines[2:], 3):
         if not ENTRIES[lines[0]].fullmatch(line):
-            raise Unmerged(f"line {place} of log {number} is no entry: {line}")
+            raise Unmerged(f"line {place} of {name} is no entry: {line}")
         if line.split(" ")[0] != lines[2].split(" ")[0]:
-            raise Unmerged(f"line {place} of log {number} is of another replica than line 3")
+            raise Unmerged(f"line {place} of {name} is of another replica than line 3")
     return lines[2:]
 
 
@@ -70,13 +79,29 @@ def has_arrived(line: str, counts: dict) -> bool:
     return words[1] != "recv" or counts.get(words[2], 0) >= int(words[3])
 
 
+def read(path: str) -> str:
+    """The text of a log; where there is none, the program ends."""
+    try:
+        return Path(path).read_text("ascii")
+    except OSError as why:
+        fail(2, f"cannot read {path}: {why.strerror}")
+    except UnicodeDecodeError:
+        fail(1, f"{path} is no text of a recorder: it is not ASCII")
+
+
+def fail(status: int, words: str) -> None:
+    print(f"merge.py: {words}", file=sys.stderr)
+    sys.exit(status)
+
+
 def main(words: list) -> None:
     if not words:
-        sys.exit("usage: merge.py LOG..")
+        print("usage: merge.py LOG..", file=sys.stderr)
+        sys.exit(2)
     try:
-        sys.stdout.write(merge([Path(word).read_text("ascii") for word in words]))
-    except (OSError, ValueError) as why:
-        sys.exit(f"merge.py: {why}")
+        sys.stdout.write(merge([read(word) for word in words], words))
+    except Unmerged as why:
+        fail(1, str(why))
 
 
 if __name__ == "__main__":

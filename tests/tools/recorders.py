@@ -271,8 +271,8 @@ MERGED = "0 ins x 0 : x|0 del x :|1 recv 0 1|1 ins a 0 : a x|2 recv 0 1|2 ins b 
 
 # Logs that don't merge, and how the reason begins.
 UNMERGED = [
-    ([], "the logs begin"),
-    (["0 read :", "0 read :"], "two logs are of replica 0"),
+    ([], "there is no log"),
+    (["0 read :", "0 read :"], "two logs are of replica 0: log 1 and log 2"),
     (["0 recv 1 1", "2 read :"], "these receipts name operations that no log has before them: 0 recv 1 1"),
     (["0 recv 1 1|0 read :", "1 recv 0 1|1 read :"], "these receipts name operations that no log has before them: "
      "0 recv 1 1, 1 recv 0 1"),
@@ -287,11 +287,26 @@ UNREADABLE = [
     ("trace 1\nreplicas 3", "log 2 is no text of a recorder, or was cut off"),
     ("trace 3\nreplicas 3\n", "log 2 is no text of a recorder, or was cut off"),
     ("trace 1\nreplicas 3\n0 view :\n", "line 3 of log 2 is no entry: 0 view :"),
-    ("trace 2\nreplicas 2\n", "the logs begin"),
-    ("", "the logs begin"),
+    ("trace 2\nreplicas 2\n", "the logs begin with different lines, so they are of different sessions: "
+     "line 2 of log 1 is `replicas 3`, of log 2 `replicas 2`"),
+    ("", "log 2 is no text of a recorder, or was cut off"),
     ("trace 1\nreplicas 3\n0 read :\n1 read :\n", "line 4 of log 2 is of another replica than line 3"),
     ("trace 1\nreplicas 3\n0 recv 1\n", "line 3 of log 2 is no entry: 0 recv 1"),
     ("trace 1\nreplicas 3\n\n", "line 3 of log 2 is no entry: "),
+]
+
+# A file beside those of the logs, the words of merge.py, its status, and its line.
+MERGE_FAULTS = [
+    ("two.log", b"trace 1\nreplicas 2\n1 read :\n", ["0.log", "two.log"], 1, "merge.py: the logs begin with different lines, so they "
+     "are of different sessions: line 2 of 0.log is `replicas 3`, of two.log `replicas 2`\n"),
+    ("again.log", b"trace 1\nreplicas 3\n0 read :\n", ["0.log", "1.log", "again.log"], 1,
+     "merge.py: two logs are of replica 0: 0.log and again.log\n"),
+    ("cut.log", b"trace 1\nreplicas 3\n2 rea", ["0.log", "cut.log"], 1, "merge.py: cut.log is no text of a recorder, or was cut off\n"),
+    ("letters.log", "trace 1\nreplicas 3\n2 read : \u00e9\n".encode(), ["0.log", "letters.log"], 1,
+     "merge.py: letters.log is no text of a recorder: it is not ASCII\n"),
+    ("missing.log", None, ["0.log", "missing.log"], 2, "merge.py: cannot read missing.log: No such file or directory\n"),
+    (".", None, ["."], 2, "merge.py: cannot read .: Is a directory\n"),
+    (".", None, [], 2, "usage: merge.py LOG..\n"),
 ]
 
 
@@ -329,6 +344,11 @@ def check_merge(tally: Tally, program: str, folder: Path) -> None:
     done = subprocess.run([*tool, files[0]], capture_output=True)
     tally.check("merge.py of one log of three", (done.returncode, done.stdout) == (1, b"") and
                 done.stderr.startswith(b"merge.py: these receipts name"), done)
+    for name, text, words, status, why in MERGE_FAULTS:
+        if text is not None:
+            Path(folder, name).write_bytes(text)
+        done = subprocess.run([*tool, *words], cwd=folder, capture_output=True, text=True)
+        tally.check(f"merge.py {words}", (done.returncode, done.stdout, done.stderr) == (status, "", why), done)
 
 
 def blocks(page: Path) -> list:
