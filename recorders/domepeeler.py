@@ -123,9 +123,7 @@ class Recording:
             raise Full(f"replica {replica} has {MOST_ENTRIES} entries, the most that a trace takes")
 
     def _operation(self, replica: int, words: str, response: list, inserts: int = 0) -> int:
-        if isinstance(response, (str, bytes)):
-            raise Refused("a response is a list of names")
-        names = list(response)
+        names = _listed(response)
         for name in names:
             _check_name(name)
         self._room(replica)
@@ -147,6 +145,16 @@ class Recording:
 
 def _whole(number, least: int, most: int) -> bool:
     return isinstance(number, int) and not isinstance(number, bool) and least <= number <= most
+
+
+def _listed(response) -> list:
+    try:
+        names = iter(response)
+    except TypeError:
+        names = None
+    if names is None or isinstance(response, (str, bytes)):
+        raise Refused("a response is a list of names")
+    return list(names)
 
 
 def _check_name(name) -> None:

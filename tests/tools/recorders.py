@@ -108,7 +108,7 @@ WRONG_COUNTS = [("0", "replicas are 1 to 16, not 0"), ("17", "replicas are 1 to 
 
 # Calls with values of other types, numbered in the drivers: what the answers begin with.
 OTHER_TYPES = ["replicas are 1 to 16, not ", "replicas are 1 to 16, not ", "no replica ", "no replica ", "position 0.5 is not",
-               "position 0 is not", "a name is a string, not 7", "a name is a string, not 7", "a response is a list of names"]
+               "position 0 is not", "a name is a string, not 7", "a name is a string, not 7", *["a response is a list of names"] * 3]
 
 ELEMENTS = [f"e{i}" for i in range(4097)]
 FULL = "the most that a trace takes"

@@ -12,7 +12,9 @@
    (lambda () (domepeeler-insert (domepeeler-new 2) 0 "a" "0" '("a")))
    (lambda () (domepeeler-insert (domepeeler-new 2) 0 7 0 nil))
    (lambda () (domepeeler-read (domepeeler-new 2) 0 '("a" 7)))
-   (lambda () (domepeeler-read (domepeeler-new 2) 0 "ab")))
+   (lambda () (domepeeler-read (domepeeler-new 2) 0 "ab"))
+   (lambda () (domepeeler-read (domepeeler-new 2) 0 t))
+   (lambda () (domepeeler-insert (domepeeler-new 2) 0 "a" 0 7)))
   "Calls that only a language without types can make, and that a trace can't say.")
 
 (defvar driver-recording nil)

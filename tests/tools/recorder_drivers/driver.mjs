@@ -13,6 +13,8 @@ const UNTYPED = [
   () => new Recording(2).insert(0, 7, 0, []),
   () => new Recording(2).read(0, ["a", 7]),
   () => new Recording(2).read(0, "ab"),
+  () => new Recording(2).read(0, null),
+  () => new Recording(2).insert(0, "a", 0, 7),
 ]
 
 let recording

@@ -17,6 +17,8 @@ UNTYPED = [
     lambda: Recording(2).insert(0, 7, 0, []),
     lambda: Recording(2).read(0, ["a", 7]),
     lambda: Recording(2).read(0, "ab"),
+    lambda: Recording(2).read(0, None),
+    lambda: Recording(2).insert(0, "a", 0, 7),
 ]
 
 
