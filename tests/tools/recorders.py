@@ -5,6 +5,7 @@ What is expected was written by hand from docs/formats.md. Needs node, rustc and
 Debian's emacs-nox, and fails if it can't."""
 import json
 import os
+import re
 import shutil
 import subprocess
 import sys
@@ -363,14 +364,23 @@ def blocks(page: Path) -> list:
     return found
 
 
-def check_guide(tally: Tally, program: str) -> None:
-    """The guide's editor and its window print what the guide says, and its traces have the reports beside them."""
+def check_guide(tally: Tally, program: str, folder: Path) -> None:
+    """The guide's editor and its window print what the guide says, in a folder that has what the guide's commands put there;
+    and its traces have the reports beside them."""
     shown = blocks(ROOT / "docs" / "recording.md")
     code = [block for block in shown if block.startswith("from ")]
-    surroundings = {**os.environ, "DOMEPEELER": program, "PYTHONDONTWRITEBYTECODE": "1",
-                    "PYTHONPATH": f"{ROOT / 'recorders'}:{ROOT / 'recorders' / 'engines'}"}
-    editor, window = (subprocess.run([sys.executable, "-c", "\n".join(part)], capture_output=True, env=surroundings)
-                      for part in (code[:2], code[2:]))
+    surroundings = {**os.environ, "DOMEPEELER": program, "PYTHONDONTWRITEBYTECODE": "1", "HOME": str(folder)}
+    copying = re.findall(r"^\$ (.*)$", "".join(block for block in shown if "$ cp recorders/" in block), re.MULTILINE)
+    done = subprocess.run(["sh", "-ec", "\n".join(copying)], cwd=ROOT, capture_output=True, env=surroundings)
+    tally.check("guide: what is copied", len(copying) == 3 and done.returncode == 0, done)
+    place = folder / "editor"
+    place.mkdir(exist_ok=True)
+
+    def ended(name: str, text: str) -> subprocess.CompletedProcess:
+        Path(place, name).write_text(text)
+        return subprocess.run([sys.executable, name], cwd=place, capture_output=True, env=surroundings)
+
+    editor, window = ended("editor.py", "\n".join(code[:2])), ended("window.py", "\n".join(code[2:]))
     traces = [block for block in shown if block.startswith("trace ")]
     printed = [block for block in traces if "\n\n" not in block]
     tally.check("guide: the editor", len(code) == 3 and [editor.stdout.decode()] == printed, editor)
@@ -378,8 +388,8 @@ def check_guide(tally: Tally, program: str) -> None:
     tally.check("guide: has traces with reports", len(judged) == 4, judged)
     tally.check("guide: the window", [trace + "\n" for trace, _ in judged if " view :" in trace] == [window.stdout.decode()], window)
     for trace, wanted in judged:
-        ended = run(program, ["verdict", "-"], trace.encode() + b"\n")
-        tally.check(f"guide: {trace}", ended.out == wanted.encode(), ended)
+        got = run(program, ["verdict", "-"], trace.encode() + b"\n")
+        tally.check(f"guide: {trace}", got.out == wanted.encode(), got)
 
 
 def main() -> None:
@@ -402,7 +412,7 @@ def main() -> None:
             check_judge(tally, recorder, folder)
         check_limits_are_the_programs(tally, program, texts["py"])
         check_merge(tally, program, folder)
-        check_guide(tally, program)
+        check_guide(tally, program, folder)
     tally.close()
 
 
