@@ -12,7 +12,7 @@
 ;;     (domepeeler-delete recording 1 "a" nil)                ; replica 1 deleted a; its list is now empty
 ;;     (domepeeler-read recording 0 '("a"))                   ; replica 0 read its list
 ;;     (domepeeler-view recording 0 '("a"))                   ; replica 0 showed this part of its list
-;;     (princ (domepeeler-text recording))                    ; the trace; tools/explain says what is wrong with it
+;;     (domepeeler-save recording "session.trace")            ; the trace as a file, for tools/explain
 ;;     (alist-get 'verdict (domepeeler-judge recording)))     ; asks the program
 ;;
 ;; Each call that a trace can't say signals `domepeeler-refused', or `domepeeler-full' at a limit, and leaves the
@@ -113,6 +113,11 @@ With it came all that AUTHOR had seen by then."
 (defun domepeeler-text (recording)
   "The trace of RECORDING; of one replica's log the text that merge.py takes."
   (concat (string-join (reverse (domepeeler-recording-lines recording)) "\n") "\n"))
+
+(defun domepeeler-save (recording file)
+  "Write the text of RECORDING into FILE."
+  (let ((coding-system-for-write 'no-conversion))
+    (write-region (domepeeler-text recording) nil file nil 'silent)))
 
 (defun domepeeler-judge (recording &optional program)
   "The report of PROGRAM on RECORDING, as an alist.

@@ -9,7 +9,7 @@
  *     domepeeler_delete(recording, 1, "a", NULL, 0);                 // replica 1 deleted a; its list is now empty
  *     domepeeler_read(recording, 0, list, 1);                        // replica 0 read its list
  *     domepeeler_view(recording, 0, list, 1);                        // replica 0 showed this part of its list
- *     fputs(domepeeler_text(recording), stdout);                     // the trace; tools/explain says what is wrong with it
+ *     domepeeler_save(recording, "session.trace");                   // the trace as a file, for tools/explain
  *     char *report = domepeeler_judge(recording, NULL);              // asks the program: its report as JSON, or NULL
  *     free(report);
  *     domepeeler_free(recording);
@@ -23,6 +23,7 @@
 #define _POSIX_C_SOURCE 200809L
 #endif
 
+#include <errno.h>
 #include <stdarg.h>
 #include <stdio.h>
 #include <stdlib.h>
@@ -113,6 +114,14 @@ static inline int domepeeler_full(const struct domepeeler *d) { return d->full; 
 
 /* The trace; of one replica's log the text that merge.py takes. It stays until the next call. */
 static inline const char *domepeeler_text(const struct domepeeler *d) { return d->text; }
+
+/* Writes the text into a file of this name. Answers 1. */
+static inline unsigned domepeeler_save(struct domepeeler *d, const char *path) {
+    FILE *file = fopen(path, "wb");
+    int is_written = file && fwrite(d->text, 1, d->length, file) == d->length;
+    if (file && fclose(file)) is_written = 0;
+    return is_written ? 1 : domepeeler_refuse(d, 0, "cannot write %s: %s", path, strerror(errno));
+}
 
 static inline unsigned domepeeler_known(struct domepeeler *d, int replica) {
     if (replica >= 0 && replica < d->replicas) return 1;

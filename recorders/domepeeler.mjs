@@ -1,6 +1,6 @@
 // Records what the replicas of a list editor do and answer, and has Domepeeler judge it.
 //
-// Copy this file into your project. It needs no module; judge() needs Node.js. docs/recording.md says where the calls go.
+// Copy this file into your project. It needs no module; save() and judge() need Node.js. docs/recording.md says where the calls go.
 //
 //     const recording = new Recording(2)
 //     const n = recording.insert(0, "a", 0, ["a"]) // replica 0 inserted a at position 0, and its list is now: a
@@ -8,7 +8,7 @@
 //     recording.delete(1, "a", [])                 // replica 1 deleted a, and its list is now empty
 //     recording.read(0, ["a"])                     // replica 0 read its list
 //     recording.view(0, ["a"])                     // replica 0 showed this part of its list
-//     console.log(recording.text())                // the trace; tools/explain says what is wrong with it
+//     await recording.save("session.trace")        // the trace as a file, for tools/explain
 //     console.log((await recording.judge()).verdict) // asks the program
 //
 // Each call that a trace can't say throws Refused, or Full at a limit, and leaves the recording as it was.
@@ -88,6 +88,12 @@ export class Recording {
   /** The trace; of one replica's log the text that merge.py takes. */
   text() {
     return this.#lines.join("\n") + "\n"
+  }
+
+  /** Writes the text into a file of this name; a promise of nothing. */
+  async save(path) {
+    const { writeFile } = await import("node:fs/promises")
+    await writeFile(path, this.text())
   }
 
   /** A promise of the program's report on this recording. The program is that of $DOMEPEELER, or `domepeeler`. */

@@ -8,7 +8,7 @@ Copy this file into your project; it needs Python 3 and nothing else. docs/recor
     recording.delete(1, "a", [])             # replica 1 deleted a, and its list is now empty
     recording.read(0, ["a"])                 # replica 0 read its list
     recording.view(0, ["a"])                 # replica 0 showed this part of its list
-    print(recording.text())                  # the trace; tools/explain says what is wrong with it
+    recording.save("session.trace")          # the trace as a file, for tools/explain
     print(recording.judge()["verdict"])      # asks the program
 
 Each call that a trace can't say raises `Refused`, or `Full` at a limit, and leaves the recording as it was."""
@@ -95,6 +95,11 @@ class Recording:
     def text(self) -> str:
         """The trace; of one replica's log the text that merge.py takes."""
         return "\n".join(self._lines) + "\n"
+
+    def save(self, path: str) -> None:
+        """Writes the text into a file of this name."""
+        with open(path, "wb") as file:  # as bytes: each line ends with LF alone on every system
+            file.write(self.text().encode())
 
     def judge(self, program: str = None) -> dict:
         """The program's report on this recording. The program is that of $DOMEPEELER, or `domepeeler`."""

@@ -10,7 +10,7 @@
 //! recording.delete(1, "a", &[] as &[&str])?;    // replica 1 deleted a, and its list is now empty
 //! recording.read(0, &["a"])?;                   // replica 0 read its list
 //! recording.view(0, &["a"])?;                   // replica 0 showed this part of its list
-//! print!("{}", recording.text());               // the trace; tools/explain says what is wrong with it
+//! recording.save("session.trace")?;             // the trace as a file, for tools/explain
 //! println!("{}", recording.judge().unwrap());   // asks the program: its report as JSON
 //! ```
 //!
@@ -18,7 +18,8 @@
 #![allow(dead_code)]
 
 use std::fmt::{self, Display, Write as _};
-use std::io::Write as _;
+use std::io::{self, Write as _};
+use std::path::Path;
 use std::process::{Command, Stdio};
 
 const MOST_REPLICAS: usize = 16;
@@ -176,6 +177,11 @@ impl Recording {
         &self.lines
     }
 
+    /// Writes the text into a file of this name.
+    pub fn save(&self, path: impl AsRef<Path>) -> io::Result<()> {
+        std::fs::write(path, &self.lines)
+    }
+
     /// The program's report on this recording, as JSON. The program is that of $DOMEPEELER, or `domepeeler`.
     pub fn judge(&self) -> Result<String, String> {
         let named = std::env::var("DOMEPEELER").unwrap_or_default();
@@ -188,7 +194,7 @@ impl Recording {
             return Err("one replica's log is no recording: merge the logs first".to_string());
         }
         let failed =
-            |why: std::io::Error| format!("{program} cannot be run ({why}): name the program's path in DOMEPEELER");
+            |why: io::Error| format!("{program} cannot be run ({why}): name the program's path in DOMEPEELER");
         let mut child = Command::new(program)
             .args(["verdict", "--json", "-"])
             .stdin(Stdio::piped())

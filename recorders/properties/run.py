@@ -37,7 +37,7 @@ TESTS = {
     "Hypothesis": (["python3-hypothesis", "python3-pytest"],
                    'cd "$OUT" && /usr/bin/python3 -m pytest -q -p no:cacheprovider "$HERE/with_hypothesis.py"',
                    ["1 failed, 1 passed", "'verdict': 'refused'", "0 ins e0 0 : e0"]),
-    "Node's test runner": (["nodejs", "node-yjs"], 'node --test --test-reporter=tap "$HERE/with_node_test.mjs"',
+    "Node's test runner": (["nodejs", "node-yjs"], 'cd "$OUT" && node --test --test-reporter=tap "$HERE/with_node_test.mjs"',
                            ["ok 1 - Yjs", "not ok 2 - a list by fractions", '"verdict":"position"']),
     "proptest": (["librust-proptest+std-dev", "librust-crdts-dev"], CARGO,
                  ["1 passed; 1 failed", '"verdict":"contents"', "minimal failing input"]),

@@ -5,7 +5,7 @@ Needs Debian's python3-hypothesis and python3-pytest, and the program's path in 
 
     DOMEPEELER=../../crates/finder_cli/out/finder_cli /usr/bin/python3 -m pytest -q with_hypothesis.py
 
-The second test fails, and is meant to: it shows what a failure looks like."""
+The second test fails, and is meant to: it shows what a failure looks like, and leaves the recording in failed.trace."""
 import sys
 from pathlib import Path
 
@@ -65,6 +65,8 @@ def take(group: Group, has: list, replica: int, other: int) -> None:
 def check(engine: type, steps: list) -> None:
     recording = session(engine, steps)
     report = recording.judge()
+    if report["verdict"] != "accepted":
+        recording.save("failed.trace")  # of the steps that fail the smallest are tried last
     assert report["verdict"] == "accepted", f"{report}\n{recording.text()}"
 
 

@@ -6,7 +6,7 @@
 //     export DOMEPEELER=../../crates/finder_cli/out/finder_cli NODE_PATH=/usr/share/nodejs
 //     node --test with_node_test.mjs
 //
-// The second test fails, and is meant to: it shows what a failure looks like.
+// The second test fails, and is meant to: it shows what a failure looks like, and leaves the recording in failed.trace.
 import assert from "node:assert"
 import { createRequire } from "node:module"
 import { test } from "node:test"
@@ -143,6 +143,7 @@ async function check(Engine) {
   const steps = await failing(Engine)
   if (steps === null) return
   const recording = session(Engine, steps)
+  await recording.save("failed.trace")
   assert.fail(`${JSON.stringify(await recording.judge())}\n${recording.text()}`)
 }
 

@@ -1,7 +1,7 @@
 //! A property-based test by proptest: whatever is done at three replicas of the list of the crate crdts, the recording is
 //! accepted. Needs Debian's librust-proptest+std-dev and librust-crdts-dev; run.py makes the package round it and runs it.
 //!
-//! The second test fails, and is meant to: it shows what a failure looks like. There an operation may arrive before what
+//! The second test fails, and is meant to: it shows what a failure looks like, and leaves failed.trace. There an operation may arrive before what
 //! its author had seen, which this list doesn't bear.
 #![cfg(test)]
 mod domepeeler;
@@ -98,7 +98,12 @@ fn session(steps: &[Step], causal: bool) -> Result<Recording, Refused> {
 fn check(steps: &[Step], causal: bool) -> Result<(), TestCaseError> {
     let recording = session(steps, causal).map_err(|why| TestCaseError::fail(why.to_string()))?;
     let report = recording.judge().map_err(TestCaseError::fail)?;
-    prop_assert!(report.contains("\"verdict\":\"accepted\""), "{report}{}", recording.text());
+    let accepted = report.contains("\"verdict\":\"accepted\"");
+    if !accepted {
+        // Of the steps that fail the smallest are the last that do.
+        recording.save("failed.trace").map_err(|why| TestCaseError::fail(why.to_string()))?;
+    }
+    prop_assert!(accepted, "{report}{}", recording.text());
     Ok(())
 }
 

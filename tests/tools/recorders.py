@@ -19,6 +19,7 @@ from shared.program import Tally, program_of, run  # noqa: E402
 
 DRIVERS = ROOT / "tests" / "tools" / "recorder_drivers"
 EXAMPLES = ROOT / "examples"
+EXPLAIN = str(ROOT / "tools" / "explain")
 LANGUAGES = ["py", "mjs", "rs", "c", "el"]
 TYPED = ["rs", "c"]  # languages in which some wrong calls can't be written
 sys.path.insert(0, str(ROOT / "recorders"))
@@ -241,6 +242,20 @@ def check_limits_are_the_programs(tally: Tally, program: str, texts: dict) -> No
         tally.check(f"the program refuses {name}", ended.err == f"finder: line {number}: {why}\n".encode(), ended.err)
 
 
+def check_save(tally: Tally, recorder: Recorder, folder: Path) -> None:
+    """Files have the bytes of a recording, of a shorter one in the place of a longer one, and of a log; and a file that can't be
+    written is told of."""
+    trace, log = folder / f"{recorder.language}.trace", folder / f"{recorder.language}.log"
+    calls = [fields(line.split(" -> ")[0]) for line in CYCLE.split("\n")[:-1]]
+    got = recorder.answers([*calls, f"save\t{log}", f"save\t{trace}", "new\t3\t1", "read\t1\ta", f"save\t{log}"])
+    cycle = (EXAMPLES / "libinfinity_three_way_cycle.trace").read_bytes()
+    tally.check(f"{recorder.language}: save", [got[-1], *got[-5:-3]] == ["ok"] * 3 and trace.exists() and trace.read_bytes() == cycle, got)
+    tally.check(f"{recorder.language}: save a log", log.exists() and log.read_bytes() == b"trace 1\nreplicas 3\n1 read : a\n", got)
+    got = recorder.answers(["new\t1", f"save\t{folder}/nowhere/a.trace", "text"])
+    tally.check(f"{recorder.language}: save nowhere", got[1:2] and got[1].startswith("failed ") and "o such file" in got[1]
+                and got[2:] == ["| trace 1", "| replicas 1", "ok"], got)
+
+
 def check_judge(tally: Tally, recorder: Recorder, folder: Path) -> None:
     """The report of the cycle, and what is said where there is no report."""
     calls = [fields(line.split(" -> ")[0]) for line in CYCLE.split("\n")[:-1]]
@@ -352,6 +367,14 @@ def check_merge(tally: Tally, program: str, folder: Path) -> None:
         tally.check(f"merge.py {words}", (done.returncode, done.stdout, done.stderr) == (status, "", why), done)
 
 
+# A recording whose read has lost an element.
+LOST = """from domepeeler import Recording
+recording = Recording(1)
+recording.insert(0, "a", 0, ["a"])
+recording.read(0, [])
+"""
+
+
 def blocks(page: Path) -> list:
     """The indented blocks of a page, each as one text."""
     found, lines = [], []
@@ -365,8 +388,8 @@ def blocks(page: Path) -> list:
 
 
 def check_guide(tally: Tally, program: str, folder: Path) -> None:
-    """The guide's editor and its window print what the guide says, in a folder that has what the guide's commands put there;
-    and its traces have the reports beside them."""
+    """The guide's editor and its window print what the guide says, in a folder that has what the guide's commands put there; its
+    test leaves a file that can be explained; and its traces have the reports beside them."""
     shown = blocks(ROOT / "docs" / "recording.md")
     code = [block for block in shown if block.startswith("from ")]
     surroundings = {**os.environ, "DOMEPEELER": program, "PYTHONDONTWRITEBYTECODE": "1", "HOME": str(folder)}
@@ -387,6 +410,11 @@ def check_guide(tally: Tally, program: str, folder: Path) -> None:
     judged = [block.split("\n\n") for block in traces if block not in printed]
     tally.check("guide: has traces with reports", len(judged) == 4, judged)
     tally.check("guide: the window", [trace + "\n" for trace, _ in judged if " view :" in trace] == [window.stdout.decode()], window)
+    test = [block for block in shown if block.startswith("report = recording.judge()")]
+    failed = ended("failed.py", "\n".join([LOST, *test]))
+    tally.check("guide: the test fails", len(test) == 1 and failed.returncode == 1 and b"AssertionError" in failed.stderr, failed)
+    explained = subprocess.run([EXPLAIN, "failed.trace"], cwd=place, capture_output=True, text=True, env=surroundings)
+    tally.check("guide: its file is explained", explained.returncode == 1 and explained.stdout.startswith("contents 0.2: "), explained)
     for trace, wanted in judged:
         got = run(program, ["verdict", "-"], trace.encode() + b"\n")
         tally.check(f"guide: {trace}", got.out == wanted.encode(), got)
@@ -409,6 +437,7 @@ def main() -> None:
                 check_other_types(tally, recorder)
             texts[language] = check_limits(tally, recorder)
             tally.check(f"{language}: texts at the limits", texts[language] == texts["py"])
+            check_save(tally, recorder, folder)
             check_judge(tally, recorder, folder)
         check_limits_are_the_programs(tally, program, texts["py"])
         check_merge(tally, program, folder)

@@ -33,6 +33,11 @@ static void judge(struct domepeeler *d) {
     free(report);
 }
 
+static void save(struct domepeeler *d) {
+    if (domepeeler_save(d, words[1])) puts("ok");
+    else printf("failed %s\n", domepeeler_why(d));
+}
+
 static void show(const char *text) {
     for (const char *line = text; *line; line = strchr(line, '\n') + 1)
         printf("| %.*s\n", (int)strcspn(line, "\n"), line);
@@ -61,6 +66,7 @@ int main(void) {
         if (is("read")) answer(d, domepeeler_read(d, replica, list + 2, count - 2), 1);
         if (is("view")) answer(d, domepeeler_view(d, replica, list + 2, count - 2), 1);
         if (is("received")) answer(d, domepeeler_received(d, replica, atoi(words[2]), atoll(words[3])), 0);
+        if (is("save")) save(d);
         if (is("judge")) judge(d);
         if (is("text")) show(domepeeler_text(d));
     }

@@ -31,6 +31,7 @@
       ("received" (domepeeler-received driver-recording number (string-to-number (nth 2 words))
                                        (string-to-number (nth 3 words)))
        "ok")
+      ("save" (domepeeler-save driver-recording (nth 1 words)) "ok")
       ("judge" (concat "report " (json-encode (domepeeler-judge driver-recording))))
       ("untyped" (funcall (nth number driver-untyped)))
       (_ (concat (replace-regexp-in-string "^\\(.\\)" "| \\1" (domepeeler-text driver-recording)) "ok")))))

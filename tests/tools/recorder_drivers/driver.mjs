@@ -36,6 +36,9 @@ async function call(words) {
     case "received":
       recording.received(number, Number(words[2]), Number(words[3]))
       return "ok"
+    case "save":
+      await recording.save(words[1])
+      return "ok"
     case "judge":
       return "report " + JSON.stringify(await recording.judge())
     case "untyped":

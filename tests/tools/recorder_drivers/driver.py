@@ -23,7 +23,7 @@ UNTYPED = [
 
 
 def call(recording: Recording, words: list) -> str:
-    kind, number = words[0], int(words[1]) if len(words) > 1 else 0
+    kind, number = words[0], int(words[1]) if words[1:] and words[0] != "save" else 0
     if kind == "insert":
         return f"ok {recording.insert(number, words[2], int(words[3]), words[4:])}"
     if kind == "delete":
@@ -34,6 +34,9 @@ def call(recording: Recording, words: list) -> str:
         return f"ok {recording.view(number, words[2:])}"
     if kind == "received":
         recording.received(number, int(words[2]), int(words[3]))
+        return "ok"
+    if kind == "save":
+        recording.save(words[1])
         return "ok"
     if kind == "judge":
         return "report " + json.dumps(recording.judge())

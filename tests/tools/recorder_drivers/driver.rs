@@ -29,6 +29,10 @@ fn call(recording: &mut Recording, words: &[&str]) -> Result<String, Refused> {
         "received" => {
             recording.received(number(words[1]), number(words[2]), number(words[3])).map(|()| "ok".to_string())
         }
+        "save" => Ok(match recording.save(words[1]) {
+            Ok(()) => "ok".to_string(),
+            Err(why) => format!("failed {why}"),
+        }),
         "judge" => Ok(match recording.judge() {
             Ok(report) => format!("report {}", report.trim()),
             Err(why) => format!("failed {why}"),
