@@ -35,7 +35,7 @@ cd "$OUT" && cargo test --quiet --offline 2>&1
 # Of each test: packages, the command, what it must say of the engine without a fault and of the other.
 TESTS = {
     "Hypothesis": (["python3-hypothesis", "python3-pytest"],
-                   'cd "$OUT" && /usr/bin/python3 -m pytest -q -p no:cacheprovider "$HERE/with_hypothesis.py"',
+                   'cd "$OUT" && /usr/bin/python3 -m pytest -q -p no:cacheprovider --hypothesis-seed=1 "$HERE/with_hypothesis.py"',
                    ["1 failed, 1 passed", "'verdict': 'refused'", "0 ins e0 0 : e0"]),
     "Node's test runner": (["nodejs", "node-yjs"], 'cd "$OUT" && node --test --test-reporter=tap "$HERE/with_node_test.mjs"',
                            ["ok 1 - Yjs", "not ok 2 - a list by fractions", '"verdict":"position"']),

@@ -70,13 +70,13 @@ def check(engine: type, steps: list) -> None:
     assert report["verdict"] == "accepted", f"{report}\n{recording.text()}"
 
 
-@settings(deadline=None, max_examples=200, derandomize=True)
+@settings(deadline=None, max_examples=200)
 @given(STEPS)
 def test_the_list_crdt(steps):
     check(ListCrdt, steps)
 
 
-@settings(deadline=None, max_examples=200, derandomize=True)
+@settings(deadline=None, max_examples=200)
 @given(STEPS)
 def test_the_list_crdt_with_a_fault(steps):
     check(Unsorted, steps)

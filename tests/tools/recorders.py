@@ -1,8 +1,8 @@
 #!/usr/bin/env python3
 """recorders.py PROGRAM: each recorder of recorders/ makes the calls of one table, and must answer each as it stands there.
 
-What is expected was written by hand from docs/formats.md. Needs node, rustc and gcc; where emacs is missing it installs
-Debian's emacs-nox, and fails if it can't."""
+What is expected was written by hand from docs/formats.md. Needs node, rustc and gcc; where emacs, or Hypothesis or pytest for
+Debian's Python, are missing it installs Debian's packages, and fails if it can't."""
 import json
 import os
 import re
@@ -20,6 +20,7 @@ from shared.program import Tally, program_of, run  # noqa: E402
 DRIVERS = ROOT / "tests" / "tools" / "recorder_drivers"
 EXAMPLES = ROOT / "examples"
 EXPLAIN = str(ROOT / "tools" / "explain")
+DEBIAN_PYTHON = "/usr/bin/python3"
 LANGUAGES = ["py", "mjs", "rs", "c", "el"]
 TYPED = ["rs", "c"]  # languages in which some wrong calls can't be written
 sys.path.insert(0, str(ROOT / "recorders"))
@@ -135,18 +136,27 @@ LIMITS = [
 
 def prepared(folder: Path) -> dict:
     """How each language's driver is run; what has to be compiled is, without a warning."""
-    if not shutil.which("emacs"):
+    packages = [] if shutil.which("emacs") else ["emacs-nox"]
+    packages += [] if has_hypothesis() else ["python3-hypothesis", "python3-pytest"]
+    if packages:
         subprocess.run(["apt-get", "update"], stdout=subprocess.DEVNULL)
-        subprocess.run(["apt-get", "install", "-y", "--no-install-recommends", "emacs-nox"], stdout=subprocess.DEVNULL,
+        subprocess.run(["apt-get", "install", "-y", "--no-install-recommends", *packages], stdout=subprocess.DEVNULL,
                        env={**os.environ, "DEBIAN_FRONTEND": "noninteractive"})
     for needed in ["node", "rustc", "gcc", "emacs"]:
         if not shutil.which(needed):
             sys.exit(f"recorders.py: there is no {needed}")
+    if not has_hypothesis():
+        sys.exit(f"recorders.py: {DEBIAN_PYTHON} has no hypothesis or no pytest")
     subprocess.run(["gcc", "-std=c99", "-Wall", "-Wextra", "-Werror", "-D_POSIX_C_SOURCE=200809L", "-o", folder / "c",
                     DRIVERS / "driver.c"], check=True)
     subprocess.run(["rustc", "--edition", "2021", "-D", "warnings", "-o", folder / "rs", DRIVERS / "driver.rs"], check=True)
     return {"py": [sys.executable, DRIVERS / "driver.py"], "mjs": ["node", DRIVERS / "driver.mjs"], "rs": [folder / "rs"],
             "c": [folder / "c"], "el": ["emacs", "-Q", "--batch", "-l", DRIVERS / "driver.el"]}
+
+
+def has_hypothesis() -> bool:
+    words = [DEBIAN_PYTHON, "-c", "import hypothesis, pytest"]
+    return os.access(DEBIAN_PYTHON, os.X_OK) and subprocess.run(words, capture_output=True).returncode == 0
 
 
 def fields(call: str) -> str:
@@ -420,6 +430,37 @@ def check_guide(tally: Tally, program: str, folder: Path) -> None:
         tally.check(f"guide: {trace}", got.out == wanted.encode(), got)
 
 
+def check_hypothesis(tally: Tally, program: str, folder: Path) -> None:
+    """The test by Hypothesis: of the list with a fault it leaves the recording that it shows, as a file that can be explained; and
+    each run tries other sessions."""
+    place = folder / "hypothesis"
+    place.mkdir()
+    accepting = place / "accepting"
+    accepting.write_text("#!/bin/sh\ncat >> \"$TRIED\"\necho '{\"verdict\": \"accepted\"}'\n")
+    accepting.chmod(0o755)
+
+    def tested(judge: str, name: str, *words: str) -> str:
+        surroundings = {**os.environ, "DOMEPEELER": judge, "TRIED": str(place / name), "PYTHONDONTWRITEBYTECODE": "1",
+                        "HYPOTHESIS_STORAGE_DIRECTORY": str(place / f"{name}.storage")}
+        words = [DEBIAN_PYTHON, "-m", "pytest", "-q", "-p", "no:cacheprovider", *words, ROOT / "recorders/properties/with_hypothesis.py"]
+        return subprocess.run(words, cwd=place, capture_output=True, text=True, env=surroundings).stdout
+
+    said = tested(program, "judged", "--hypothesis-seed=1")
+    tally.check("Hypothesis: one test fails, one passes", "1 failed, 1 passed" in said, said)
+    shown = "".join(line.removeprefix("E").strip() + "\n" for line in said.splitlines() if line.startswith("E "))
+    saved = place / "failed.trace"
+    text = saved.read_text() if saved.exists() else "none"
+    tally.check("Hypothesis: the file has the recording that is shown", text.startswith("trace 1\nreplicas 3\n") and text in shown, f"{text}{said}")
+    explained = subprocess.run([EXPLAIN, "--program", program, saved], capture_output=True, text=True)
+    tally.check("Hypothesis: the file is explained", explained.returncode == 1 and explained.stdout.startswith("refused 2: "), explained)
+    tried = []
+    for name in "one", "another":
+        said = tested(str(accepting), name, "-k", "not fault")
+        tried.append(Path(place, name).read_text().split("trace 1\n")[1:])
+        tally.check("Hypothesis: the test passes", "1 passed" in said and len(tried[-1]) == 200, said)
+    tally.check("Hypothesis: another run tries other sessions", set(tried[0]) != set(tried[1]))
+
+
 def main() -> None:
     program = program_of(sys.argv)
     tally = Tally()
@@ -442,6 +483,7 @@ def main() -> None:
         check_limits_are_the_programs(tally, program, texts["py"])
         check_merge(tally, program, folder)
         check_guide(tally, program, folder)
+        check_hypothesis(tally, program, folder)
     tally.close()
 
 
