@@ -1,6 +1,7 @@
 #!/usr/bin/env python3
 """install.py PROGRAM: what `tools/install` puts below a folder, and that it works from there, wherever the folder is moved."""
 import os
+import re
 import shutil
 import subprocess
 import sys
@@ -15,6 +16,8 @@ INSTALL = str(ROOT / "tools" / "install")
 EXAMPLE = str(ROOT / "examples" / "lost_element.trace")
 CERTIFICATE = str(ROOT / "examples" / "libinfinity_three_way_cycle.cert")
 REPORT = b"replicas 3 operations 3 inserts 2\ncontents 2.1\nstrong no\nweak no\n"
+RECORDERS = ["domepeeler.py", "domepeeler.mjs", "domepeeler.rs", "domepeeler.h", "domepeeler.el", "merge.py", "engines/list_crdt.py",
+             "properties/with_hypothesis.py"]
 TOOLS = ["domepeeler", "domepeeler-explain", "domepeeler-judge-many"]
 
 # What is completed in bash: the words of a line, the last of them begun, and what is offered for it.
@@ -45,7 +48,8 @@ def files(tally: Tally, program: str, folder: str) -> None:
     tally.check("install: ends well", done.returncode == 0 and not done.stderr, done)
     wanted = [*(f"bin/{tool}" for tool in TOOLS), *(f"share/man/man1/{tool}.1" for tool in TOOLS),
               *(f"share/bash-completion/completions/{tool}" for tool in TOOLS), "share/zsh/site-functions/_domepeeler",
-              *(f"share/doc/domepeeler/{name}" for name in ("LICENSE", "LICENSE-APACHE", "LICENSE-MIT"))]
+              *(f"share/doc/domepeeler/{name}" for name in ("LICENSE", "LICENSE-APACHE", "LICENSE-MIT")),
+              *(f"share/domepeeler/recorders/{name}" for name in RECORDERS)]
     for name in wanted:
         tally.check(f"install: {name}", Path(folder, name).is_file())
     for tool in TOOLS:
@@ -73,12 +77,34 @@ def runs(tally: Tally, folder: str) -> None:
     tally.check(f"runs in {folder}: judge_many", many.status == 1 and many.out.endswith(b"1 trace: 1 contents\n"), many)
 
 
+def recorders(tally: Tally, folder: str) -> None:
+    """An explanation names the installed guide, or in the repository its own, and what the guide names is there and works."""
+    guides = []
+    for tool in f"{folder}/bin/domepeeler-explain", str(ROOT / "tools" / "explain"):
+        said = run(tool, ["--program", f"{folder}/bin/domepeeler", EXAMPLE]).out.decode()
+        found = re.search(r"applies it to another element\. (.*) says where receipts go\.", said)
+        guides.append(Path(found[1]) if found else None)
+    share = Path(folder, "share/domepeeler")
+    wanted = [share / "docs/recording.md", ROOT / "docs/recording.md"]
+    tally.check(f"recorders in {folder}: the guides", all(guides) and [os.path.realpath(guide) for guide in guides] ==
+                [os.path.realpath(path) for path in wanted] and all(path.is_file() for path in wanted), guides)
+    page = wanted[0].read_text() if wanted[0].is_file() else ""
+    links = [wanted[0].parent / link for link in re.findall(r"\]\(([^)#]+)", page)]
+    named = [share / path for path in re.findall(r"`(recorders/[^` ]*)", page)]
+    tally.check(f"recorders in {folder}: what the guide names", len(links) >= 3 and len(named) >= 10 and
+                all(path.exists() for path in links + named), [path for path in links + named if not path.exists()])
+    code = "from domepeeler import Recording; log = Recording(2, only=1); log.read(1, []); log.save('1.log')"
+    subprocess.run([sys.executable, "-c", code], cwd=folder, env=os.environ | {"PYTHONPATH": str(share / "recorders")})
+    merged = subprocess.run(["share/domepeeler/recorders/merge.py", "1.log"], cwd=folder, capture_output=True) if page else None
+    tally.check(f"recorders in {folder}: merge.py", merged and merged.stdout == b"trace 1\nreplicas 2\n1 read :\n", merged)
+
+
 def manual(tally: Tally, folder: str) -> None:
     for words in ["-l", f"{folder}/share/man/man1/domepeeler.1"], *([tool] for tool in TOOLS):
         done = subprocess.run(["man", *words], capture_output=True, text=True, errors="replace",
                               env=os.environ | {"MANPATH": f"{folder}/share/man", "MANWIDTH": "80", "LC_ALL": "C"})
         heads = [line for line in done.stdout.splitlines() if line and not line.startswith(" ")]
-        tally.check(f"man {words[-1]}", {"NAME", "SYNOPSIS", "VERDICTS", "EXIT STATUS"} <= set(heads), (heads, done.stderr))
+        tally.check(f"man {words[-1]}", {"NAME", "SYNOPSIS", "VERDICTS", "EXIT STATUS", "FILES"} <= set(heads), (heads, done.stderr))
     done = subprocess.run(["man", "--warnings", "-l", f"{folder}/share/man/man1/domepeeler.1"], capture_output=True, text=True)
     tally.check("man: no warnings", not done.stderr, done.stderr)
 
@@ -124,11 +150,13 @@ def main() -> None:
         errors(tally, folder)
         files(tally, program, f"{folder}/a place")
         runs(tally, f"{folder}/a place")
+        recorders(tally, f"{folder}/a place")
         manual(tally, f"{folder}/a place")
         exit_statuses(tally, f"{folder}/a place")
         completions(tally, f"{folder}/a place")
         os.rename(f"{folder}/a place", f"{folder}/moved")
         runs(tally, f"{folder}/moved")
+        recorders(tally, f"{folder}/moved")
     tally.close()
 
 

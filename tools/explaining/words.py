@@ -4,6 +4,7 @@ A name in brackets is one of the names that the verdict is about; names themselv
 from typing import NamedTuple
 
 from .evidence import MOST_ARRIVED, Evidence
+from .programs import GUIDE
 from .recordings import Operation, Recording, place_asked
 
 MOST_NAMES = 24  # of a list that is shown whole
@@ -13,7 +14,7 @@ LOOK = {
     "contents": "At how operations reach a replica and are applied. Most often the recorder or the transport is at fault: a "
                 "receipt that is written before the change was applied, or is missing; operations that arrive before what their "
                 "author had seen; and then an editor that loses an operation, applies it twice, or applies it to another element. "
-                "docs/recording.md says where receipts go.",
+                f"{GUIDE} says where receipts go.",
     "position": "At the mapping between the positions that a user sees and the places of the editor's own list, where deleted "
                 "elements may still stand; and at whether the recorder writes the position that was asked for.",
     "doubled": "At the recorder, most often: each inserted element needs a name of its own, for ever. Equal letters are "
