@@ -100,7 +100,7 @@ FILES = {
     "gate of the repository, every check": ".ci/run tests/every_check",
     "handles, `Threads` and `Wait`": "HANDLES",
     "what each crate stands on, `may_wait`": "crates.txt",
-    "recorder of a language, with its calls `insert`, `delete`, `read`, `view`, `received` and `judge()`":
+    "recorder of a language, with its calls `insert`, `delete`, `read`, `view`, `received`, `save` and `judge()`":
         "recorders/domepeeler.py recorders/domepeeler.mjs recorders/domepeeler.rs recorders/domepeeler.h "
         "recorders/domepeeler.el",
     "logs of several machines": "recorders/merge.py",
