@@ -1,8 +1,8 @@
 //! A property-based test by proptest: whatever is done at three replicas of the list of the crate crdts, the recording is
 //! accepted. Needs Debian's librust-proptest+std-dev and librust-crdts-dev; run.py makes the package round it and runs it.
 //!
-//! The second test fails, and is meant to: it shows what a failure looks like, and leaves failed.trace. There an operation may arrive before what
-//! its author had seen, which this list doesn't bear.
+//! The second test fails, and is meant to: it shows what a failure looks like, and leaves the recording in failed.trace.
+//! There an operation may arrive before what its author had seen, which this list doesn't bear.
 #![cfg(test)]
 mod domepeeler;
 
