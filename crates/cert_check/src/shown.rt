@@ -56,7 +56,10 @@ fn stand_as_found(
     if stand_at(response, i, j, from, to) {
         return true;
     }
-    match (found.place(by, response, from), found.place(by, response, to)) {
+    match (
+        found.place(by, response, from),
+        found.place(by, response, to),
+    ) {
         (Some(i), Some(j)) => stand_at(response, i, j, from, to),
         _ => false,
     }

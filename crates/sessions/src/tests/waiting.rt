@@ -68,16 +68,18 @@ fn alone_with_memory<H: AllocGlobal + Wait>(
 ) -> Option<(Result<u32, ReplayFault>, Counts, u64)> {
     match alone(rt, tries) {
         None => alone(rt, tries),
-        Some((
-            Err(
-                ReplayFault::Refused {
-                    at: _,
-                    why: Refusal::Memory,
-                },
+        Some(
+            (
+                Err(
+                    ReplayFault::Refused {
+                        at: _,
+                        why: Refusal::Memory,
+                    },
+                ),
+                _,
+                _,
             ),
-            _,
-            _,
-        )) => alone(rt, tries),
+        ) => alone(rt, tries),
         answer => answer,
     }
 }

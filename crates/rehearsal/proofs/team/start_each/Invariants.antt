@@ -1,5 +1,6 @@
 use Rattle.std.proofs.Common.{◌≡◌, ◌++◌, map, vec_len, All}
-use Rattle.rehearsal.proofs.team.started.Given as goal
+use Rattle.sessions.specs.Replays.{operations_of}
+use Rattle.rehearsal.proofs.team.start_each.Given as goal
 
 -- those whose recorders are started, and those that are left
 abbrev pub invariant-starts : goal.invariant-starts
@@ -7,6 +8,7 @@ invariant-starts g l = record {
   passes : map (λ h. h.promise.pass.value) l.handles.items ++ l.passes.items ≡ l.initial.passes.items;
   recording : All (λ h. h.promise.recording.value ≡ l.recording) l.handles.items;
   session : All (λ p. p.session ≡ l.session) l.passes.items;
+  new : All (λ p. operations_of p ≡ 0) l.passes.items;
 }
 
 abbrev pub decreases-starts : goal.decreases-starts
