@@ -30,7 +30,7 @@ CALLS = """Response::push, Recording::new, Recording::record, Recording::copy, t
 Sight::of, first_fault, OrderGraph::of, OrderGraph::of_covering, Scratch::new, Bound::new, conflict_number, least_cycle,
 least_conflict, judge, report::text, report::json, OrderGraph::narrowed, taken, order, certify, write_certificate,
 judge_and_write, Certificate::write, push_row, Certificate::read, check, check_recording, Session::open, Session::record, snapshot,
-watch_snapshot, watch, replay, Registry::add, Registry::names, run, run_cert, run_verify, live, read_words"""
+watch_snapshot, watch, replay, replay_with, Registry::add, Registry::names, run, run_cert, run_verify, live, read_words"""
 
 # By call: the crate and its tests, or the program's command.
 TESTS = {
@@ -70,6 +70,7 @@ TESTS = {
     "watch_snapshot": ("sessions", "session_of_two"),
     "watch": ("sessions", "watched_three_way_cycle"),
     "replay": ("sessions", "stalled_and_resumed", "receipt_out_of_range"),
+    "replay_with": ("sessions", "waiter_says_how_often"),
     "Registry::add": ("sessions", "registry_of_64"),
     "Registry::names": ("sessions", "registry_of_64"),
     "run": ("finder_cli", "worked_recordings", "any_number_of_workers"),
