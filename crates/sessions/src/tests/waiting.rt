@@ -1,5 +1,5 @@
 //! What no clause says: whom a replay asks, how often and with what, and that it goes on at once.
-ghost use Rattle.std.specs.Prelude.{◌≡◌, IfSome};
+ghost use Rattle.std.specs.Prelude.{◌≡◌, [], IfSome};
 ghost use Rattle.sessions.specs.Shown.{mine};
 
 use super::{opened, recorded, three_way};
