@@ -2,8 +2,8 @@
 """refused_memory.py PROGRAM: each command on each vector, with one request for memory refused, for each request.
 
 The first request is refused, then the second, and so on, until several runs in turn make no such request. The program must
-answer what it answers with ample memory, or that it is out of memory; `live`, which is tried on a few vectors since its recorders
-may wait long for each other, also that a thread couldn't be started. It needs a C compiler (`cc`)."""
+answer what it answers with ample memory, or that it is out of memory; `live`, which is tried on a few vectors, also that a
+thread couldn't be started. It needs a C compiler (`cc`)."""
 import os
 import sys
 import tempfile

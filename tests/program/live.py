@@ -2,9 +2,10 @@
 """live.py PROGRAM: the command `live` against `verdict`, whatever the schedule of its threads.
 
 A hundred runs on each vector and each example: the bytes, the status and the line on standard error must be those of
-`verdict`. Then a long chain of receipts, in which each recorder waits for the one before it: thirty runs
-beside as many busy loops as there are processors, of which none may stall. Last a short one, with each request for memory
-refused in turn, while recorders wait: the report, or that a thread or memory is missing. It needs a C compiler (`cc`)."""
+`verdict`, and so they must in thirty runs on a long chain of receipts, in which each recorder waits for the one before it,
+beside as many busy loops as there are processors. Last comes a short chain in which each recorder waits for the one behind it,
+which is started later, with each request for memory refused in turn: the report, or that a thread or memory is missing. It
+needs a C compiler (`cc`)."""
 import os
 import subprocess
 import sys
@@ -39,6 +40,16 @@ def chain(replicas: int, entries: int) -> str:
     return "\n".join(lines) + "\n"
 
 
+def chain_back(replicas: int) -> str:
+    """A trace in which nothing is wrong: each replica, the last one first, begins with a receipt of the read of the one behind it."""
+    lines = ["trace 1", f"replicas {replicas}"]
+    for replica in reversed(range(replicas)):
+        if replica < replicas - 1:
+            lines.append(f"{replica} recv {replica + 1} 1")
+        lines.append(f"{replica} read :")
+    return "\n".join(lines) + "\n"
+
+
 def beside_busy_loops(tally: Tally, program: str, path: Path) -> None:
     """The long chain, on a machine that has other work."""
     wanted = run(program, ["verdict", str(path)])
@@ -66,10 +77,11 @@ def main() -> None:
         path = Path(folder, "chain.trace")
         path.write_text(chain(REPLICAS, MOST_ENTRIES))
         beside_busy_loops(tally, program, path)
-        path.write_text(chain(REPLICAS, 3))
+        path.write_text(chain_back(REPLICAS))
         seen = refuse_each(tally, shim(folder), folder, [program, "live", str(path)])
         print(f"{seen.runs} runs of the short chain with a request refused: {seen.memory} out of memory, "
               f"{seen.thread} without a thread")
+        tally.check("some thread of the short chain could not be started", seen.thread > 0)
     tally.close()
 
 

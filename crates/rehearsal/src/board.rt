@@ -22,9 +22,11 @@ const NOBODY: u64 = u64::MAX;
 struct Desk {
     /// How many operations it has recorded.
     made: AtomicU64,
-    /// The number of the first operation that somebody sleeps for, or `NOBODY`. It is changed under the lock alone.
+    /// At most the number of the first operation that somebody sleeps for, or `NOBODY`. It is changed under the lock alone.
     wanted: AtomicU64,
+    /// Whether it records no more; and the lock under which others go to sleep.
     has_ended: Mutex<bool>,
+    /// Where they sleep.
     told: Condvar,
 }
 
@@ -44,7 +46,9 @@ impl Desk {
 
     /// It has recorded so many operations. Who sleeps for one of them is woken.
     ///
-    /// Who goes to sleep writes `wanted` first, and looks at `made` then. So one of the two sees the other.
+    /// A sleeper writes `wanted`, and then looks at `made`; here `made` is written, and then `wanted` is looked at. So one of
+    /// the two sees the other. `wanted` is wiped under the lock and all are woken, since each that still lacks its operation
+    /// writes it again before it sleeps on.
     fn tell<R: Wait>(&self, rt: &R, made: u64) {
         self.made.store(made, Ordering::SeqCst);
         if self.wanted.load(Ordering::SeqCst) > made {
@@ -62,8 +66,8 @@ impl Desk {
         self.told.notify_all();
     }
 
-    /// Whether this operation is not there, once others know that somebody wants it.
-    fn lacks(&self, n: u64) -> bool {
+    /// Notes that somebody wants this operation, and then answers whether it is not there. It is called under the lock.
+    fn wants(&self, n: u64) -> bool {
         if self.wanted.load(Ordering::SeqCst) > n {
             self.wanted.store(n, Ordering::SeqCst);
         }
@@ -81,7 +85,7 @@ impl Desk {
         let has_ended = self.has_ended.lock(rt);
         let _has_ended = self
             .told
-            .wait_while(rt, has_ended, |has_ended| self.lacks(n) && !*has_ended);
+            .wait_while(rt, has_ended, |has_ended| self.wants(n) && !*has_ended);
         self.has(n)
     }
 }

@@ -40,9 +40,9 @@ struct Returns {
 ///
 /// For each replica a recorder thread replays its stream; where an operation that it receives is not there yet,
 /// it sleeps until that has been recorded. A watcher judges four snapshots, each with so many workers, 1 to 64.
-/// The gate's `before(r, 0)` and `after(r, 0)` are
-/// called round the replay of replica r, by its thread, and by no search. All threads have ended when it
-/// returns. The recording is held twice at the end, and once more while the watcher judges a snapshot.
+/// The gate's `before(r, 0)` and `after(r, 0)` are called round the replay of replica r, by its thread, and by
+/// no search. All threads have ended when it returns. The recording is held twice at the end, and once more
+/// while the watcher judges a snapshot.
 pub fn rehearse<H: Threads + Wait + Sync, G: Gate>(
     rt: &H,
     alloc: Global,

@@ -252,3 +252,74 @@ fn any_two_held_up(rt: HostRuntime) -> Result<(), Fail> {
     }
     Ok(())
 }
+
+/// Holds replica 0 up for `TURNS` turns, so that others sleep before it records.
+#[derive(Drop)]
+struct HoldFirst {
+    never: AtomicU64,
+}
+
+impl Gate for HoldFirst {
+    fn before(&self, replica: u32, _source: u32) {
+        if replica == 0 {
+            for _ in 0..TURNS {
+                if self.never.load(Ordering::SeqCst) == 1 {
+                    return;
+                }
+            }
+        }
+    }
+
+    fn after(&self, _replica: u32, _source: u32) {}
+}
+
+/// Records a receipt of an operation and then a read.
+fn receive_and_read(
+    alloc: Global,
+    recording: &mut Recording,
+    replica: u32,
+    from: u32,
+    n: u32,
+) -> Option<u32> {
+    let seen = OpName::new(from, n)?;
+    let body = Body::Recv { seen };
+    recording.record(Entry { replica, body }).ok()?;
+    let response = Response::new(alloc);
+    let body = Body::Read { response };
+    recording.record(Entry { replica, body }).ok()
+}
+
+/// A recording in which one replica waits for the first operation of replica 0, another for the second, and replica 0
+/// in between for the first of the one.
+fn two_wait(alloc: Global, one: u32, other: u32) -> Option<Recording> {
+    let mut recording = Recording::new(alloc, 3).ok()?;
+    let response = Response::new(alloc);
+    let body = Body::Read { response };
+    recording.record(Entry { replica: 0, body }).ok()?;
+    receive_and_read(alloc, &mut recording, one, 0, 1)?;
+    receive_and_read(alloc, &mut recording, 0, one, 1)?;
+    receive_and_read(alloc, &mut recording, other, 0, 2)?;
+    Some(recording)
+}
+
+/// The same, made again where it finds no memory.
+fn two_wait_for_one(alloc: Global, one: u32, other: u32) -> Option<Recording> {
+    match two_wait(alloc, one, other) {
+        None => two_wait(alloc, one, other),
+        made => made,
+    }
+}
+
+#[test]
+fn two_sleep_for_different_operations_of_one(rt: HostRuntime) -> Result<(), Fail> {
+    let alloc = rt.alloc();
+    let gate = HoldFirst {
+        never: AtomicU64::new(0),
+    };
+    for (one, other) in [(1, 2), (2, 1), (1, 2), (2, 1)] {
+        let recording = two_wait_for_one(alloc, one, other).expect(&rt, "a recording");
+        let closed = rehearsed(&rt, alloc, &recording, 1, &gate)?;
+        assert!(rt; have_alike(&recording, &closed));
+    }
+    Ok(())
+}

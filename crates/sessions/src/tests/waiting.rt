@@ -1,10 +1,11 @@
-//! What no clause says: whom a replay asks, how often and with what, and that it goes on at once.
+//! What no clause says: whom a replay asks, how often and with what.
 ghost use Rattle.std.specs.Prelude.{◌≡◌, [], IfSome};
 ghost use Rattle.sessions.specs.Shown.{mine};
 
-use super::{opened, recorded, three_way};
-use crate::{Pass, RefusedBody, ReplayFault, Session, Waiter};
-use events::{Body, OpName, Refusal};
+use super::{opened, three_way};
+use crate::waiting::Yields;
+use crate::{Pass, ReplayFault, Session, Waiter};
+use events::{OpName, Refusal};
 use std::alloc::Global;
 use std::sync::Wait;
 
@@ -96,5 +97,17 @@ fn waiter_says_how_often(rt: HostRuntime) {
             lacking: OpName::new(1, 1),
         };
         assert!(rt; counts == wanted);
+    }
+}
+
+#[test]
+fn yields_as_often_as_told(rt: HostRuntime) {
+    let lacking = OpName::new(1, 1).expect(&rt, "a name");
+    for tries in 1..5 {
+        let mut waiter = Yields { tries };
+        for tried in 1..tries {
+            assert!(rt; waiter.waits_for(&rt, lacking, tried));
+        }
+        assert!(rt; !waiter.waits_for(&rt, lacking, tries));
     }
 }
