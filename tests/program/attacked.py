@@ -5,7 +5,8 @@ Each command that reads is given, through a pipe: lines without end, lines of ea
 bytes, binary bytes; and `verify`, beside a small trace, certificates of a gigabyte in several shapes. Each run must end in under
 15 seconds with its one line, and with no more than 200 MB of memory, to which comes for `verify` the certificate's text. What the
 line says is written here from docs/formats.md, and the slow references must say it of a shorter text of the same shape. A run
-that has 4 GB of memory is stopped, and fails. It stands outside the gate: it takes some minutes on a quiet machine. A slow
+that has 4 GB of memory is stopped, and fails. Last, names that were chosen to collide must cost about what other names cost. It
+stands outside the gate: it takes some minutes on a quiet machine. A slow
 machine wants more --seconds; --megabytes makes the texts smaller, at least 128, and --only takes the shapes whose names have the
 word."""
 import argparse
@@ -21,6 +22,7 @@ ROOT = Path(__file__).resolve().parents[2]
 sys.path.insert(0, str(ROOT / "tests"))
 from reference.checker import answer_of  # noqa: E402
 from reference.traces import MOST_ENTRIES, MOST_INSERTS, MOST_NAMES, MOST_PLACES, line_fault  # noqa: E402
+from shared.colliding import chosen_names  # noqa: E402
 from shared.forger import line  # noqa: E402
 from shared.measured import measured  # noqa: E402
 from shared.program import Ended, Tally, fault, program_of  # noqa: E402
@@ -34,6 +36,7 @@ MOST_MEMORY = 200_000_000
 # So long is the text of the same shape that the references read.
 SHORT = 2 ** 21
 RECEIPTS = 10_000_000
+CHOSEN_NAMES = 20_000
 READERS = ["verdict", "-"], ["verdict", "--json", "-"], ["cert", "-"], ["live", "-"]
 
 FRONT = b"trace 1\nreplicas 16\n"
@@ -271,6 +274,8 @@ def main() -> None:
     with ProcessPoolExecutor(1) as asking, tempfile.TemporaryDirectory() as folder:
         attack_with_traces(tally, program, asking, given, folder)
         attack_with_certificates(tally, program, asking, given, folder)
+        if given.only in "names that collide":
+            chosen_names(tally, program, folder, CHOSEN_NAMES)
     tally.close()
 
 

@@ -16,6 +16,7 @@ ROOT = Path(__file__).resolve().parents[2]
 sys.path.insert(0, str(ROOT / "tests"))
 from reference.traces import spellings  # noqa: E402
 from reference.verdicts import first_fault, recording_of  # noqa: E402
+from shared.colliding import chosen_names  # noqa: E402
 from shared.forger import line  # noqa: E402
 from shared.forgeries import ANOTHERS, KINDS, Certified, certified, forgery, generated  # noqa: E402
 from shared.program import Ended, Tally, fault, is_short, processor_seconds, program_of, run  # noqa: E402
@@ -27,6 +28,8 @@ FORGERIES = 3000
 RECORDINGS = 200
 WALKS = 60
 STEPS = 40_000
+# So many names that a map with room for them has 2,048 groups.
+CHOSEN_NAMES = 18_000
 OTHERS = "z000001", "z200000"
 THREE_WAY = VECTORS / "all-three-way-cycle.trace"
 USAGE = [["cert"], ["cert", "t", "u"], ["cert", "--json", "t"], ["cert", "--workers", "2", "t"], ["verify"], ["verify", "t"], ["verify", "t", "u", "v"],
@@ -167,6 +170,7 @@ def main() -> None:
         forgeries(tally, program, folder, given.forgeries, given.seed)
         walks(tally, program, folder, random.Random(given.seed))
         shared_slots(tally, program, folder)
+        chosen_names(tally, program, folder, CHOSEN_NAMES)
         command_line(tally, program, folder)
     tally.close()
 

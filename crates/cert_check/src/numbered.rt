@@ -3,10 +3,9 @@
 use super::row_depths::RowDepths;
 use super::values::is_rising;
 use contents_check::Covering;
-use element_numbers::{Rows, inserted_names, numbers_of};
+use element_numbers::{NameNumbers, Rows, inserted_names, numbers_of};
 use events::{Memory, Name, OpName, Recording};
 use format_words::{name_of, next_word};
-use indexmap::IndexMap;
 use std::alloc::Global;
 
 /// Where the noting of a row's words stands: the layer of the next one, from 0, and the number that its name
@@ -25,7 +24,7 @@ struct Place {
 #[derive(Drop)]
 pub struct Numbered {
     pub names: Vec<Name>,
-    pub numbers: IndexMap<Name, u32>,
+    pub numbers: NameNumbers,
     pub operations: Vec<OpName>,
     pub places: Rows<u32>,
 }

@@ -1,6 +1,7 @@
--- Lemmas: on one item more of a list, on numbers of names, on the elements of a sound recording, on rows cut from a
+-- Lemmas: on one item more of a list, on what maps hash by, on numbers of names, on the elements of a sound recording, on rows cut from a
 -- list, on numbers that are copied.
 pub mod OneMore
+pub mod Keys
 pub mod NameNumbers
 pub mod Elements
 pub mod Cuts

@@ -4,12 +4,14 @@
 //! responses as lists of these numbers. It takes memory and time linear in the places of all responses.
 #![tactic(auto)]
 
+mod name_key;
 mod names;
 mod numbers;
 mod places;
 mod rows;
 
+pub use name_key::NameKey;
 pub use names::inserted_names;
-pub use numbers::{number_or_count, numbers_of};
+pub use numbers::{NameNumbers, number_or_count, numbers_of};
 pub use places::places_of;
 pub use rows::Rows;

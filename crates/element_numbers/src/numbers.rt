@@ -2,21 +2,27 @@
 
 ghost use Rattle.std.specs.Prelude.{◌≡◌, ◌≢◌, ◌<◌, ◌^◌, ◌==◌, AllPairs, IfOk, length, unwrap_or};
 ghost use Rattle.std.specs.Cmp.Lexicographic.{pointwise};
-ghost use Rattle.indexmap.specs.IndexMap.{get};
+ghost use Rattle.indexmap.specs.IndexMap.{get, hasher_of};
 ghost use Rattle.events.specs.Names.{NameBytes};
 ghost use Rattle.specification.specs.Elements.{number_in};
+ghost use Rattle.element_numbers.specs.Keys.{key_of};
 
+use super::name_key::NameKey;
 use events::{Memory, Name};
 use indexmap::IndexMap;
 use std::alloc::Global;
 
+/// A number for each name, in a map that hashes by the names that are in it.
+pub type NameNumbers = IndexMap<Name, u32, NameKey>;
+
 /// Each name with its number, its place among these names. It takes memory and time linear in the names.
-pub fn numbers_of(alloc: Global, names: &[Name]) -> Result<IndexMap<Name, u32>, Memory>
+pub fn numbers_of(alloc: Global, names: &[Name]) -> Result<NameNumbers, Memory>
     requires distinct { AllPairs (λ a b. a ≢ b) names.now }
     requires few { length names.now < 2 ^ 32 }
-    ensures { IfOk result (λ m. (a : NameBytes) → get (pointwise ◌==◌) m a ≡ number_in names.now a) }
+    ensures numbers { IfOk result (λ m. (a : NameBytes) → get (pointwise ◌==◌) m a ≡ number_in names.now a) }
+    ensures keyed { IfOk result (λ m. hasher_of m ≡ key_of names.now) }
 {
-    let mut numbers = IndexMap::with_capacity(alloc, names.len())?;
+    let mut numbers = IndexMap::with_capacity_and_hasher(alloc, names.len(), NameKey::of(names))?;
     for (i, name) in names.iter().enumerate() {
         numbers.insert(*name, i as u32)?;
     }
@@ -24,7 +30,7 @@ pub fn numbers_of(alloc: Global, names: &[Name]) -> Result<IndexMap<Name, u32>, 
 }
 
 /// The number of a name; for one that is not among these their count. It asks the map once.
-pub fn number_or_count(names: &[Name], numbers: &IndexMap<Name, u32>, name: &Name) -> u32
+pub fn number_or_count(names: &[Name], numbers: &NameNumbers, name: &Name) -> u32
     requires numbered { (a : NameBytes) → get (pointwise ◌==◌) numbers.now a ≡ number_in names.now a }
     requires few { length names.now < 2 ^ 32 }
     ensures { result ≡ unwrap_or (number_in names.now name.now) (length names.now) }

@@ -10,10 +10,9 @@ ghost use Rattle.specification.specs.Elements.{number_in, numbers_in};
 ghost use Rattle.element_numbers.specs.Cuts.{rows_of, IsCut};
 ghost use Rattle.element_numbers.specs.Runs.{response_if};
 
-use super::numbers::number_or_count;
+use super::numbers::{NameNumbers, number_or_count};
 use super::rows::Rows;
 use events::{Memory, Name, OpName, Recording, Response};
-use indexmap::IndexMap;
 use std::alloc::Global;
 
 /// How many places are looked at where two responses may go on alike again.
@@ -66,12 +65,7 @@ fn place_after(items: &[u32]) -> usize {
 }
 
 /// The number of the name with these bytes, where its entry stands at this place in the map.
-fn number_there(
-    names: &[Name],
-    numbers: &IndexMap<Name, u32>,
-    place: usize,
-    bytes: &[u8],
-) -> Option<u32>
+fn number_there(names: &[Name], numbers: &NameNumbers, place: usize, bytes: &[u8]) -> Option<u32>
     requires numbered { (a : NameBytes) → get (pointwise ◌==◌) numbers.now a ≡ number_in names.now a }
     ensures { IfSome result (λ number. number_in names.now bytes.now ≡ Some number) }
 {
@@ -90,7 +84,7 @@ fn number_there(
 /// there is the map asked for the name.
 fn number_at(
     names: &[Name],
-    numbers: &IndexMap<Name, u32>,
+    numbers: &NameNumbers,
     likely: usize,
     response: &Response,
     i: usize,
@@ -115,7 +109,7 @@ fn number_at(
 fn add_numbers(
     items: &mut Vec<u32>,
     names: &[Name],
-    numbers: &IndexMap<Name, u32>,
+    numbers: &NameNumbers,
     response: &Response,
     last: &Response,
     begin: usize,
@@ -154,7 +148,7 @@ fn add_list(
     recording: &Recording,
     operation: OpName,
     names: &[Name],
-    numbers: &IndexMap<Name, u32>,
+    numbers: &NameNumbers,
     last: &Response,
     begin: usize,
 ) -> Result<(), Memory>
@@ -183,7 +177,7 @@ pub fn places_of(
     recording: &Recording,
     operations: &[OpName],
     names: &[Name],
-    numbers: &IndexMap<Name, u32>,
+    numbers: &NameNumbers,
 ) -> Result<Rows<u32>, Memory>
     requires numbered { (a : NameBytes) → get (pointwise ◌==◌) numbers.now a ≡ number_in names.now a }
     requires few { length names.now < 2 ^ 32 }

@@ -11,9 +11,8 @@ ghost use Rattle.specification.specs.Elements.{number_in};
 ghost use Rattle.order_graph.specs.Kept.{names_at};
 ghost use Rattle.std.specs.List.{cons_option};
 
-use element_numbers::Rows;
+use element_numbers::{NameNumbers, Rows};
 use events::{Memory, Name};
-use indexmap::IndexMap;
 use std::alloc::Global;
 
 /// The names with these numbers.
@@ -34,7 +33,7 @@ pub fn new_numbers(
     alloc: Global,
     names: &[Name],
     kept: &[Name],
-    numbers: &IndexMap<Name, u32>,
+    numbers: &NameNumbers,
 ) -> Result<Vec<Option<u32>>, Memory>
     requires numbered { (a : NameBytes) → get (pointwise ◌==◌) numbers.now a ≡ number_in kept.now a }
     ensures { IfOk result (λ v. v.items ≡ map (number_in kept.now) names.now) }

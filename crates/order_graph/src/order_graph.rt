@@ -14,9 +14,8 @@ use super::pairs::first_list;
 use super::spot::Spot;
 use super::spots::{all_spots, spots_at};
 use contents_check::Covering;
-use element_numbers::{Rows, inserted_names, numbers_of, places_of};
+use element_numbers::{NameNumbers, Rows, inserted_names, numbers_of, places_of};
 use events::{Memory, Name, OpName, Recording};
-use indexmap::IndexMap;
 use std::alloc::Global;
 use std::marker::Model;
 
@@ -32,7 +31,7 @@ use std::marker::Model;
 #[derive(Drop)]
 pub struct OrderGraph {
     names: Vec<Name>,
-    numbers: IndexMap<Name, u32>,
+    numbers: NameNumbers,
     shown: Vec<OpName>,
     places: Rows<u32>,
     spots: Vec<Vec<Spot>>,
@@ -125,7 +124,7 @@ impl OrderGraph {
     fn with_spots(
         alloc: Global,
         names: Vec<Name>,
-        numbers: IndexMap<Name, u32>,
+        numbers: NameNumbers,
         shown: Vec<OpName>,
         places: Rows<u32>,
     ) -> Result<OrderGraph, Memory>

@@ -36,7 +36,7 @@ returns c =
       numbering = record {
         once = subst Once (sym is) (once-elements h legal c.requires.sound);
         few = few-names h legal c.requires.sound names is;
-        numbers = λ a. c.in_ok-numbers.ensures a ∙ ap (λ (l : List NameBytes). number_in l a) c.deref-2.ensures.value;
+        numbers = λ a. c.in_ok-numbers.ensures.numbers a ∙ ap (λ (l : List NameBytes). number_in l a) c.deref-2.ensures.value;
       };
       names = is;
       operations = covers.operations;

@@ -72,7 +72,7 @@ with_spots-requires c =
     record {
       proper = left.proper;
       few = left.few;
-      numbered = λ a. c.in_ok-numbers.ensures a ∙ ap (λ (l : List NameBytes). number_in l a) c.deref-2.ensures.value;
+      numbered = λ a. c.in_ok-numbers.ensures.numbers a ∙ ap (λ (l : List NameBytes). number_in l a) c.deref-2.ensures.value;
       places_cut = c.in_ok-places.ensures.cut;
       lists_are = left.lists_are;
       count = left.count;

@@ -50,7 +50,7 @@ with_spots-requires c =
     record {
       proper = kept-proper h legal sound names shown rows is part rows_is;
       few = kept-few h legal sound names shown rows is part rows_is;
-      numbered = λ a. c.in_ok-numbers.ensures a ∙ ap (λ (l : List NameBytes). number_in l a) c.deref-2.ensures.value;
+      numbered = λ a. c.in_ok-numbers.ensures.numbers a ∙ ap (λ (l : List NameBytes). number_in l a) c.deref-2.ensures.value;
       places_cut = c.requires.covering.rows.cut;
       lists_are = kept-lists h legal sound names shown rows is part rows_is;
       count = kept-count h legal sound names shown rows is part rows_is;
