@@ -16,7 +16,9 @@ pub use certificate_text::{CertCause, CertFault, Certificate, Layer, Layers, Row
 pub use certifying::certify;
 pub use judging::judge;
 pub use level_search::{Gate, NoGate, SearchFault};
-pub use specification::{conflict_numbers_fall, verdicts_follow};
+pub use specification::{
+    conflict_numbers_fall, conflicts_stay, doubled_names_stay, faults_stay, verdicts_follow,
+};
 pub use verdict::Verdict;
 pub use witnesses::{Order, Step, Steps};
 pub use writing::{Certified, judge_and_write, write_certificate};
