@@ -20,3 +20,4 @@ pub mod BallLemmas
 -- Lemmas on the workers.
 pub mod Teams
 pub mod LeastOffer
+pub mod LayerSizes

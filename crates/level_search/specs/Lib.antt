@@ -4,6 +4,7 @@ pub mod Distances
 pub mod Rings
 pub mod Progress
 pub mod Balls
+pub mod LayerSizes
 pub mod ScratchView
 pub mod Steps
 pub mod Cores

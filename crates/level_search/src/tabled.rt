@@ -1,30 +1,39 @@
 //! The search by levels over a table of what stands before each element.
 
-ghost use Rattle.std.specs.Prelude.{◌≡◌, ℕ, ◌<◌, ◌≤◌, ◌⊎◌, ◌↔◌, true, false, length};
+ghost use Rattle.std.specs.Prelude.{◌≡◌, ℕ, ◌+◌, ◌*◌, ◌<◌, ◌≤◌, ◌⊎◌, ◌↔◌, true, false, length};
 ghost use Rattle.order_graph.specs.Lists.{lists_of};
 ghost use Rattle.bit_tables.specs.Sets.{Has};
 ghost use Rattle.bit_tables.specs.Lists.{row_of};
 ghost use Rattle.shown_table.specs.Tables.{IsShownTable};
 ghost use Rattle.level_search.specs.Balls.{FitsSets, IsBall, IsInLayer};
+ghost use Rattle.level_search.specs.LayerSizes.{layer_size};
 ghost use Rattle.level_search.specs.Walks.{IsSearchAnswer};
 
 mod sets;
 
 use crate::searching::BoundSource;
-use order_graph::OrderGraph;
+use order_graph::{Looked, OrderGraph};
 pub use sets::Sets;
 use shown_table::ShownTable;
 
-/// Whether the element stands before one of the layer.
-fn closes(graph: &OrderGraph, table: &ShownTable, element: u32, sets: &Sets) -> bool
+/// Whether the element stands before one of the layer. It looks once at the row of each, up to the first.
+fn closes(
+    graph: &OrderGraph,
+    table: &ShownTable,
+    element: u32,
+    sets: &Sets,
+    looked: &mut Looked,
+) -> bool
     requires { IsShownTable (length graph.now.elements) (lists_of graph.now) table.now }
     ensures found { result ≡ true → (x : ℕ) × IsInLayer (length graph.now.elements) sets.now x
         × Has (row_of table.now x) element }
     ensures missed { result ≡ false → (x : ℕ) → IsInLayer (length graph.now.elements) sets.now x
         → ¬ Has (row_of table.now x) element }
+    ensures looked { looked.new ≤ looked.old + layer_size (length graph.now.elements) sets.now }
 {
     let mut from = 0;
     'layer: while let Some(x) = sets.next_in_layer(graph, from) {
+        looked.expand();
         if table.before(x).contains(element as usize) {
             return true;
         }
@@ -35,11 +44,16 @@ fn closes(graph: &OrderGraph, table: &ShownTable, element: u32, sets: &Sets) -> 
 
 /// Searches by levels for the shortest cycle through an element, below the bound last read. It goes from
 /// each element to those that stand before it.
+///
+/// A step of it is a look at the row that the table has for an element, of as many bits as there are elements. An
+/// element is in one layer at most, and its row is looked at once for a cycle that closes there and once for the next
+/// layer: so there are at most twice as many steps as elements. They are counted where they are made.
 pub fn search_by_table<B: BoundSource>(
     graph: &OrderGraph,
     table: &ShownTable,
     element: u32,
     sets: &mut Sets,
+    looked: &mut Looked,
     source: &mut B,
 ) -> Option<u32>
     requires element { element < length graph.now.elements }
@@ -49,6 +63,7 @@ pub fn search_by_table<B: BoundSource>(
     ensures bound { B.last source.new ≤ B.last source.old }
     ensures reads { B.reads source.old source.new }
     ensures fits { FitsSets (length graph.now.elements) sets.new }
+    ensures looked { looked.new ≤ looked.old + 2 * length graph.now.elements }
 {
     // Its contract has that the responses are proper.
     let _ = graph.elements();
@@ -58,10 +73,10 @@ pub fn search_by_table<B: BoundSource>(
         if bound <= level + 1 {
             return None;
         }
-        if closes(graph, table, element, sets) {
+        if closes(graph, table, element, sets, looked) {
             return Some(level + 1);
         }
-        if bound - 1 <= level + 1 || !sets.next_layer(graph, table) {
+        if bound - 1 <= level + 1 || !sets.next_layer(graph, table, looked) {
             return None;
         }
     }

@@ -8,4 +8,5 @@ mod plain;
 mod searches;
 mod sources;
 mod steps;
+mod tables;
 mod workers;

@@ -1,6 +1,6 @@
 //! The first in dictionary order of the shortest rings.
 
-ghost use Rattle.std.specs.Prelude.{◌≡◌, ℕ, ◌+◌, ◌-◌, ◌<◌, ◌≤◌, IfOk, length, slice_index};
+ghost use Rattle.std.specs.Prelude.{◌≡◌, ℕ, ◌+◌, ◌-◌, ◌*◌, ◌<◌, ◌≤◌, IfOk, length, slice_index};
 ghost use Rattle.specification.specs.Responses.{AreProper};
 ghost use Rattle.specification.specs.Search.{IsShortestLength};
 ghost use Rattle.order_graph.specs.Lists.{lists_of};
@@ -19,7 +19,13 @@ use shown_table::ShownTable;
 use std::alloc::Global;
 
 /// The least element through which a shortest cycle leads.
-fn first_source(graph: &OrderGraph, table: &ShownTable, k: u32, sets: &mut Sets) -> u32
+fn first_source(
+    graph: &OrderGraph,
+    table: &ShownTable,
+    k: u32,
+    sets: &mut Sets,
+    looked: &mut Looked,
+) -> u32
     requires table { IsShownTable (length graph.now.elements) (lists_of graph.now) table.now }
     requires fits { FitsSets (length graph.now.elements) sets.old }
     requires least { IsShortestLength graph.now k }
@@ -28,10 +34,11 @@ fn first_source(graph: &OrderGraph, table: &ShownTable, k: u32, sets: &mut Sets)
     ensures proper { AreProper graph.now }
     ensures lowest { (t : ℕ) → t < length graph.now.elements → HasCycle (lists_of graph.now) t k
         → result ≤ t }
+    ensures looked { looked.new ≤ looked.old + length graph.now.elements * (2 * length graph.now.elements) }
 {
     for element in 0..graph.elements() {
         let mut source = PlainBound { least: k + 1 };
-        if search_by_table(graph, table, element, sets, &mut source).is_some() {
+        if search_by_table(graph, table, element, sets, looked, &mut source).is_some() {
             return element;
         }
     }
@@ -82,7 +89,8 @@ pub fn least_ring(
     // Its contract has that the responses are proper.
     let _ = graph.elements();
     let mut sets = Sets::new(alloc, graph)?;
-    let element = first_source(graph, table, k, &mut sets);
+    let mut looked = Looked::new();
+    let element = first_source(graph, table, k, &mut sets, &mut looked);
     let ring = ring_from(alloc, graph, element, k)?;
     Ok(ring)
 }

@@ -1,15 +1,16 @@
 //! The sets of elements on which a search over a table writes.
 
-ghost use Rattle.std.specs.Prelude.{◌≡◌, ℕ, ◌*◌, ◌<◌, ◌≤◌, ◌⊎◌, ◌↔◌, IfNone, IfOk, IfSome, false, length};
+ghost use Rattle.std.specs.Prelude.{◌≡◌, ℕ, ◌+◌, ◌*◌, ◌<◌, ◌≤◌, ◌⊎◌, ◌↔◌, IfNone, IfOk, IfSome, false, length};
 ghost use Rattle.order_graph.specs.Lists.{lists_of};
 ghost use Rattle.bit_tables.specs.Sets.{Has};
 ghost use Rattle.bit_tables.specs.Lists.{row_of};
 ghost use Rattle.shown_table.specs.Tables.{IsShownTable};
 ghost use Rattle.level_search.specs.Balls.{FitsSets, IsInLayer};
+ghost use Rattle.level_search.specs.LayerSizes.{layer_size};
 
 use bit_tables::BitSet;
 use events::Memory;
-use order_graph::OrderGraph;
+use order_graph::{Looked, OrderGraph};
 use shown_table::ShownTable;
 use std::alloc::Global;
 
@@ -62,8 +63,8 @@ impl Sets {
         self.reached.insert(element as usize);
     }
 
-    /// Puts together what stands before an element of the layer.
-    fn gather(&mut self, graph: &OrderGraph, table: &ShownTable)
+    /// Puts together what stands before an element of the layer. It looks once at the row of each.
+    fn gather(&mut self, graph: &OrderGraph, table: &ShownTable, looked: &mut Looked)
         requires table { IsShownTable (length graph.now.elements) (lists_of graph.now) table.now }
         requires fits { FitsSets (length graph.now.elements) self.old }
         ensures fits { FitsSets (length graph.now.elements) self.new }
@@ -71,17 +72,24 @@ impl Sets {
         ensures reached { self.new.reached ≡ self.old.reached }
         ensures next { (y : ℕ) → Has self.new.next y ↔ ((x : ℕ)
             × IsInLayer (length graph.now.elements) self.old x × Has (row_of table.now x) y) }
+        ensures looked { looked.new ≤ looked.old + layer_size (length graph.now.elements) self.old }
     {
         self.next.clear();
         let mut from = 0;
         'layer: while let Some(x) = self.next_in_layer(graph, from) {
+            looked.expand();
             self.next.union_with(table.before(x));
             from = x + 1;
         }
     }
 
     /// Goes on to the next layer; whether there is one.
-    pub fn next_layer(&mut self, graph: &OrderGraph, table: &ShownTable) -> bool
+    pub fn next_layer(
+        &mut self,
+        graph: &OrderGraph,
+        table: &ShownTable,
+        looked: &mut Looked,
+    ) -> bool
         requires table { IsShownTable (length graph.now.elements) (lists_of graph.now) table.now }
         requires fits { FitsSets (length graph.now.elements) self.old }
         ensures fits { FitsSets (length graph.now.elements) self.new }
@@ -89,8 +97,9 @@ impl Sets {
         ensures reached { (y : ℕ) → Has self.new.reached y ↔ (Has self.old.reached y ⊎ ((x : ℕ)
             × IsInLayer (length graph.now.elements) self.old x × Has (row_of table.now x) y)) }
         ensures last { result ≡ false → (x : ℕ) → Has self.new.reached x → Has self.new.near x }
+        ensures looked { looked.new ≤ looked.old + layer_size (length graph.now.elements) self.old }
     {
-        self.gather(graph, table);
+        self.gather(graph, table, looked);
         self.near.union_with(&self.reached);
         self.reached.union_with(&self.next);
         !self.reached.is_subset(&self.near)

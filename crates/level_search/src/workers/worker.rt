@@ -1,6 +1,6 @@
 //! One worker: it claims sources, searches from them, and offers what it finds.
 
-ghost use Rattle.std.specs.Prelude.{◌≡◌, ℕ, List, ◌<◌, ◌≤◌, true, [], length, IfOk, All};
+ghost use Rattle.std.specs.Prelude.{◌≡◌, ℕ, ◌+◌, ◌*◌, List, ◌<◌, ◌≤◌, true, [], length, IfOk, All};
 ghost use Rattle.order_graph.specs.Lists.{lists_of};
 ghost use Rattle.shown_table.specs.Tables.{IsShownTable};
 ghost use Rattle.level_search.specs.Balls.{FitsSets};
@@ -11,18 +11,19 @@ use super::bound_seat::BoundSeat;
 use crate::gate::Gate;
 use crate::tabled::{Sets, search_by_table};
 use events::Memory;
-use order_graph::OrderGraph;
+use order_graph::{Looked, OrderGraph};
 use shared_bound::{Bound, NO_OFFER, Seat};
 use shown_table::ShownTable;
 use std::alloc::Global;
 
-/// One of those who search for the conflict number: its number, its seat at the shared bound, and what its
-/// searches write on.
+/// One of those who search for the conflict number: its number, its seat at the shared bound, what its searches write
+/// on, and how many steps they have taken.
 #[derive(Drop)]
 pub struct Worker<'a> {
     pub number: u32,
     pub seat: BoundSeat<'a>,
     pub sets: Sets,
+    pub looked: Looked,
 }
 
 impl<'a> Worker<'a> {
@@ -45,6 +46,7 @@ impl<'a> Worker<'a> {
             number,
             seat: BoundSeat::new(bound, seat),
             sets,
+            looked: Looked::new(),
         })
     }
 
@@ -56,6 +58,7 @@ impl<'a> Worker<'a> {
             number: _,
             seat,
             sets: _,
+            looked: _,
         } = self;
         seat.into_seat()
     }
@@ -83,6 +86,7 @@ fn search_from<G: Gate>(
     } }
     ensures offers { All (IsLength (lists_of graph.now)) worker.old.seat.offered
         → All (IsLength (lists_of graph.now)) worker.new.seat.offered }
+    ensures looked { worker.new.looked ≤ worker.old.looked + 2 * length graph.now.elements }
 {
     gate.before(worker.number, source);
     if let Some(length) = search_by_table(
@@ -90,6 +94,7 @@ fn search_from<G: Gate>(
         table,
         source,
         &mut worker.sets,
+        &mut worker.looked,
         &mut worker.seat,
     ) {
         worker.seat.offer(length);

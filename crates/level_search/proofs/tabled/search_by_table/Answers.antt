@@ -3,6 +3,7 @@ use Rattle.std.proofs.Common.{◌≡◌, ℕ, ◌+◌, ◌<◌, ◌≤◌, lengt
 use Rattle.order_graph.specs.Lists.{lists_of}
 use Rattle.level_search.proofs.BallLemmas.{cycle_closes, cycle_longer, level_next, no_cycle_left}
 use Rattle.level_search.proofs.Joining.{before-known}
+use Rattle.level_search.proofs.LayerSizes.{near-next, sizes-within}
 use Rattle.level_search.proofs.tabled.search_by_table.Goals as goal
 use Rattle.level_search.proofs.tabled.search_by_table.Goals.{then-bound-level-2-via-then-bound-level-2, then-bound-level-2-via-else-bound-level-2+then-not-next_layer}
 
@@ -51,5 +52,23 @@ loop-level-preserved g c =
       fits = next.fits;
       bound = omega (arith, falls, inv.bound);
       reads = g.met.B.BoundSource.reads_more _ _ _ inv.reads c.best-bound.ensures.reads;
+      looked = omega (arith, inv.looked, c.closes.ensures.looked, next.looked, near-next (length v.elements) c.loop-level.sets c.next_layer.new.self.near next.near);
       read = λ some. omega arith;
     }
+
+pub returns-then-bound-level-clause-looked : goal.returns-then-bound-level-clause-looked
+returns-then-bound-level-clause-looked g c = omega (arith, c.loop-level.invariant.looked, sizes-within (length c.args.graph.now.elements) c.loop-level.sets)
+
+pub returns-then-closes-clause-looked : goal.returns-then-closes-clause-looked
+returns-then-closes-clause-looked g c = omega (arith, c.loop-level.invariant.looked, c.closes.ensures.looked, sizes-within (length c.args.graph.now.elements) c.loop-level.sets)
+
+pub returns-then-bound-level-2-clause-looked : goal.returns-then-bound-level-2-clause-looked
+returns-then-bound-level-2-clause-looked g c = elim c.then-bound-level-2.branch [
+  | then-bound-level-2-via-then-bound-level-2 w ↦
+      omega (arith, w.looked-is, c.loop-level.invariant.looked, c.closes.ensures.looked, sizes-within (length c.args.graph.now.elements) c.loop-level.sets)
+  | then-bound-level-2-via-else-bound-level-2+then-not-next_layer w ↦
+      omega (arith, w.looked-is, c.loop-level.invariant.looked, c.closes.ensures.looked, w.next_layer.ensures.looked, sizes-within (length c.args.graph.now.elements) c.loop-level.sets)
+]
+
+pub returns-clause-looked : goal.returns-clause-looked
+returns-clause-looked g c = omega (arith, c.loop-level.invariant.looked, sizes-within (length c.args.graph.now.elements) c.loop-level.sets)

@@ -1,4 +1,4 @@
-use Rattle.std.proofs.Common.{ℕ, ◌<◌, length}
+use Rattle.std.proofs.Common.{ℕ, ◌+◌, ◌*◌, ◌<◌, ◌≤◌, length}
 use Rattle.order_graph.specs.Lists.{lists_of}
 use Rattle.level_search.specs.Balls.{FitsSets}
 use Rattle.level_search.specs.Walks.{HasCycle}
@@ -7,5 +7,6 @@ use Rattle.level_search.proofs.cycles.ring.first_source.Given as goal
 abbrev pub invariant-loop-element : goal.invariant-loop-element
 invariant-loop-element l = record {
   fits : FitsSets (length l.graph.elements) l.sets;
+  looked : l.looked ≤ l.fn.looked + l.element * (2 * length l.graph.elements);
   none : (t : ℕ) → t < l.element → ¬ HasCycle (lists_of l.graph) t l.k;
 }

@@ -1,10 +1,11 @@
 -- The next element of the layer, and after the last.
-use Rattle.std.proofs.Common.{◌≡◌, ℕ, ◌+◌, ◌<◌, ◌≤◌, ◌∙◌, inl, inr, List, sym, subst, arith}
+use Rattle.std.proofs.Common.{◌≡◌, ℕ, ◌+◌, ◌<◌, ◌≤◌, ◌∙◌, inl, inr, List, length, sym, subst, arith}
 use Rattle.std.proofs.lemmas.Bool.{cases_eq}
 use Rattle.bit_tables.specs.Sets.{Has}
 use Rattle.bit_tables.specs.Lists.{row_of}
 use Rattle.level_search.specs.Balls.{IsInLayer}
 use Rattle.level_search.proofs.BallLemmas.{layer_from, layer_to}
+use Rattle.level_search.proofs.LayerSizes.{layer-gap, layer-more, layer-up}
 use Rattle.level_search.proofs.tabled.sets.Sets.gather.Goals as goal
 
 pub layer-preserved : goal.layer-preserved
@@ -28,6 +29,7 @@ layer-preserved c =
     record {
       within = (let k = some.1.known in omega (arith, k));
       fits = record { near = inv.fits.near; reached = inv.fits.reached; next = joined.len ∙ inv.fits.next };
+      looked = omega (arith, inv.looked, c.expand.ensures.ticked, layer-more sets x here.reached here.not_near, layer-gap sets from x some.0 none);
       near = inv.near;
       reached = inv.reached;
       next = λ y. (
@@ -41,3 +43,6 @@ layer-preserved c =
         ]),
       );
     }
+
+pub returns-clause-looked : goal.returns-clause-looked
+returns-clause-looked c = omega (arith, c.layer.invariant.looked, layer-up c.args.self.now c.layer.from (length c.args.graph.now.elements) c.layer.invariant.within)
