@@ -1,12 +1,10 @@
 -- Replicas on the way: one more that begins, one that goes on, and what is found of one at its end.
-use Rattle.std.proofs.Common.{◌≡◌, ◌⊎◌, ◌≤◌, ◌<◌, ℕ, ◌+◌, ◌-◌, ◌∷◌, ◌++◌, [], List, None, Some, Option, length, map, get_or, refl, sym, ◌∙◌, ap, subst, arith, inl, inr, append-nil}
+use Rattle.std.proofs.Common.{◌≡◌, ◌≤◌, ◌<◌, ℕ, ◌+◌, ◌-◌, ◌∷◌, ◌++◌, [], List, None, Some, Option, length, get_or, refl, sym, ◌∙◌, ap, subst, arith, inl, inr, append-nil}
 use Rattle.std.specs.Option.{is_some}
-use Rattle.std.specs.Prelude.{All, set, false}
+use Rattle.std.specs.Prelude.{set, false}
 use Rattle.std.proofs.lemmas.List.Elements.{All-get_or, All-set}
 use Rattle.std.proofs.lemmas.List.{get_or-map, length-map, map-append}
 use Rattle.std.proofs.Math.Seq.{map-set_same}
-use Rattle.events.specs.Names.{NameBytes}
-use Rattle.events.specs.Operation.{Operation}
 use Rattle.events.specs.History.{History}
 use Rattle.events.specs.Operations.{count}
 use Rattle.specification.specs.Visibility.{SightTable}
@@ -16,10 +14,10 @@ use Rattle.contents_check.specs.declared.fault.Fault.{Fault}
 use Rattle.contents_check.specs.declared.turns.OnTheWay.{OnTheWay}
 use Rattle.contents_check.specs.declared.walk.Walk.{Walk}
 use Rattle.contents_check.specs.declared.walk.Walked.TheVariants.{Right}
-use Rattle.contents_check.specs.Covering.{first_operations, AreCovering, AreKeptOf, IsFaultAt, IsFirstFaultAmong, IsWalked}
+use Rattle.contents_check.specs.Covering.{first_operations, AreCovering, AreKeptOf, IsWalked}
 use Rattle.contents_check.specs.Known.{element_names}
-use Rattle.contents_check.specs.Replicas.{AreRightTo, IsRightReplica}
-use Rattle.contents_check.specs.Turns.{AreOnTheWay, IsAtTheEnd, IsJudgedTo, IsOnTheWay}
+use Rattle.contents_check.specs.Replicas.{IsRightReplica}
+use Rattle.contents_check.specs.Turns.{AreOnTheWay, IsJudgedTo, IsOnTheWay}
 use Rattle.contents_check.specs.Walk.{IsJudged}
 use Rattle.contents_check.proofs.CoverSteps.{kept_cover}
 use Rattle.contents_check.proofs.Firsts.{right_all, right_next, first_wrong_in}

@@ -1,6 +1,5 @@
 -- One of the replicas goes on, or none does.
-use Rattle.std.proofs.Common.{◌≡◌, ◌<◌, ◌≤◌, ℕ, ◌+◌, List, length, sym, ◌∙◌, ap, subst, arith}
-use Rattle.std.specs.Prelude.{set}
+use Rattle.std.proofs.Common.{◌<◌, ◌≤◌, ℕ, length, sym, ◌∙◌, ap, subst, arith}
 use Rattle.std.proofs.lemmas.List.{length-set}
 use Rattle.contents_check.specs.declared.turns.OnTheWay.{OnTheWay}
 use Rattle.contents_check.specs.Turns.{AreOnTheWay, IsOnTheWay}

@@ -1,5 +1,5 @@
 -- The operations of one replica, all of which are judged, after those of the replicas before it.
-use Rattle.std.proofs.Common.{◌≡◌, ◌<◌, ◌≤◌, ℕ, ◌+◌, ◌∷◌, [], List, None, Some, Option, length, take, drop, get_or, sym, ◌∙◌, ap, subst, arith}
+use Rattle.std.proofs.Common.{◌≡◌, ◌<◌, ◌≤◌, ℕ, ◌+◌, ◌∷◌, [], List, Option, length, take, drop, get_or, sym, ◌∙◌, ap, subst, arith}
 use Rattle.std.proofs.lemmas.List.{take_all, take_more}
 use Rattle.events.specs.Names.{NameBytes}
 use Rattle.contents_check.specs.declared.fault.Fault.{Fault}

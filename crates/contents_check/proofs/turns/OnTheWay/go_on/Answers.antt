@@ -1,9 +1,7 @@
 -- The next operation is judged, where there is one and no fault.
-use Rattle.std.proofs.Common.{◌≡◌, ◌<◌, ◌∙◌, None, sym, subst, arith}
+use Rattle.std.proofs.Common.{◌≡◌, ◌∙◌, sym, arith}
 use Rattle.std.specs.Option.{is_some}
 use Rattle.std.specs.Prelude.{false}
-use Rattle.contents_check.specs.Turns.{IsJudgedTo}
-use Rattle.contents_check.proofs.Firsts.{operation_there}
 use Rattle.contents_check.proofs.InTurns.{judged_next, no_fault}
 use Rattle.contents_check.proofs.turns.OnTheWay.go_on.Goals as goal
 
