@@ -1,7 +1,11 @@
 -- Replays of a recording by the passes of a session.
-use Rattle.std.specs.Prelude.{◌≡◌, ℕ, List, [], ◌∷◌, ◌++◌, IfOk}
+use Rattle.std.specs.Prelude.{◌≡◌, ℕ, List, [], ◌∷◌, ◌++◌, Some, IfOk, IfErr}
+use Rattle.std.specs.List.{AllZip}
 use Rattle.events.specs.History.{History, stream}
+use Rattle.sessions.specs.Replays.{Stops}
 use Rattle.sessions.specs.Shown.{Which, PassShown, mine}
+use Rattle.rehearsal.specs.Faults.{replay_fault}
+use Rattle.rehearsal.specs.declared.fault.RehearsalFault.TheVariants as fault
 use Rattle.rehearsal.specs.declared.recorder.Told.{Told}
 use Rattle.rehearsal.specs.declared.rehearsing.Returns.{Returns}
 
@@ -10,10 +14,23 @@ pub record IsReplayed (h : History) (old new : PassShown) : Type 0 where
   pub same : new ≡ record old { seen = new.seen }
   pub recorded : mine new ≡ mine old ++ stream h old.replica
 
--- the pass comes back, and where the replay came to its end, it has replayed the stream of its replica
+-- the pass comes back; where the replay came to its end, it has replayed the stream of its replica, and where it stopped,
+-- its first entries, and the next was refused
 pub record HasReplayed (h : History) (old : PassShown) (told : Told) : Type 0 where
   pub same : told.pass ≡ record old { seen = told.pass.seen }
   pub recorded : IfOk told.answer (λ count. mine told.pass ≡ mine old ++ stream h old.replica)
+  pub stopped : IfErr told.answer (λ fault. Stops (stream h old.replica) old fault told.pass)
+
+-- what these recorders told, one after the other
+abbrev pub HaveTold : History → List PassShown → List Told → Type 0
+HaveTold h passes tolds = AllZip (HasReplayed h) passes tolds
+
+-- the replay of some recorder stopped at an entry that was refused, and not for want of memory
+pub record HasStalled (h : History) : Type 0 where
+  pub old : PassShown
+  pub told : Told
+  pub replayed : HasReplayed h old told
+  pub is_stalled : replay_fault told.answer ≡ Some fault.Stalled
 
 -- each pass has replayed, list against list
 abbrev pub AreReplayed : History → List PassShown → List PassShown → Type 0

@@ -1,5 +1,7 @@
 //! Why a rehearsal ended without a recording.
-ghost use Rattle.std.specs.Prelude.{◌≡◌, ◌⊎◌, ◌↔◌, None, Some, IsOk};
+ghost use Rattle.std.specs.Prelude.{◌≡◌};
+ghost use Rattle.rehearsal.specs.Faults.{replay_fault, watch_fault};
+ghost use Rattle.rehearsal.specs.Foremost.{foremost_of};
 ghost use Rattle.rehearsal.specs.declared.fault.RehearsalFault.TheVariants as fault;
 
 use events::{Memory, Refusal};
@@ -34,8 +36,7 @@ impl From<Memory> for RehearsalFault {
 
 /// What a replay that stopped ends the rehearsal with.
 pub fn of_replay(answer: &Result<u32, ReplayFault>) -> Option<RehearsalFault>
-    ensures none { result ≡ None ↔ IsOk answer.now }
-    ensures workers { result ≡ Some fault.Workers → ⊥ }
+    ensures { result ≡ replay_fault answer.now }
 {
     match answer {
         Ok(_) => None,
@@ -52,8 +53,7 @@ pub fn of_replay(answer: &Result<u32, ReplayFault>) -> Option<RehearsalFault>
 
 /// What a watch that failed ends the rehearsal with.
 pub fn of_watch(answer: &Result<(), SearchFault>) -> Option<RehearsalFault>
-    ensures none { result ≡ None ↔ IsOk answer.now }
-    ensures workers { result ≡ Some fault.Workers → ⊥ }
+    ensures { result ≡ watch_fault answer.now }
 {
     match answer {
         Ok(()) => None,
@@ -66,11 +66,7 @@ pub fn foremost(
     one: Option<RehearsalFault>,
     other: Option<RehearsalFault>,
 ) -> Option<RehearsalFault>
-    ensures none { result ≡ None → (one ≡ None) × (other ≡ None) }
-    ensures either { (result ≡ one) ⊎ (result ≡ other) }
-    ensures memory { (one ≡ Some fault.Memory) ⊎ (other ≡ Some fault.Memory) → result ≡ Some fault.Memory }
-    ensures stalled { result ≡ Some fault.Stalled → (one ≡ Some fault.Thread → ⊥)
-        × (other ≡ Some fault.Thread → ⊥) }
+    ensures { result ≡ foremost_of one other }
 {
     match (one, other) {
         (None, fault) => fault,

@@ -3,8 +3,10 @@ ghost use Rattle.std.specs.Prelude.{◌≡◌, ◌≤◌, ◌<◌, ◌⊎◌, �
 ghost use Rattle.events.specs.History.{SameStreams, IsLegal};
 ghost use Rattle.sessions.specs.Replays.{operations_of};
 ghost use Rattle.sessions.specs.Shown.{PassShown};
+ghost use Rattle.rehearsal.specs.Faults.{start_fault, watch_fault};
+ghost use Rattle.rehearsal.specs.Foremost.{foremost_of};
 ghost use Rattle.rehearsal.specs.Opened.{AreOpened};
-ghost use Rattle.rehearsal.specs.Replays.{AreReplayed, HaveActed};
+ghost use Rattle.rehearsal.specs.Replays.{AreReplayed, HasStalled, HaveActed};
 
 use super::board::Board;
 use super::fault::{RehearsalFault, foremost, of_watch};
@@ -12,7 +14,7 @@ use super::team::{Back, Team, joined, started};
 use super::watcher::{Returned, Watched, watch_turns};
 use events::{MOST_REPLICAS, Memory, Recording};
 use level_search::{Gate, MOST_WORKERS};
-use sessions::{Observer, Pass, Session};
+use sessions::{Observer, Pass, SearchFault, Session};
 use std::alloc::Global;
 use std::snapshot::Snapshot;
 use std::sync::Wait;
@@ -52,6 +54,7 @@ pub fn rehearse<H: Threads + Wait + Sync, G: Gate>(
 ) -> Result<Recording, RehearsalFault>
     ensures streams { IfOk result (λ closed. SameStreams recording.now closed) }
     ensures workers { IsErrOf result RehearsalFault.Workers ↔ ((workers < 1) ⊎ (MOST_WORKERS < workers)) }
+    ensures stalled { IsErrOf result RehearsalFault.Stalled → HasStalled recording.now }
 {
     if workers == 0 || workers > MOST_WORKERS {
         return Err(RehearsalFault::Workers);
@@ -104,6 +107,7 @@ fn act<H: Threads + Wait + Sync, G: Gate>(
     requires observer { observer.session ≡ session.now }
     ensures acted { IfOk result (HaveActed recording.now session.now passes.items) }
     ensures workers { ¬ IsErrOf result RehearsalFault.Workers }
+    ensures stalled { IsErrOf result RehearsalFault.Stalled → HasStalled recording.now }
 {
     thread::scope(
         thread::scope_env(),
@@ -114,6 +118,7 @@ fn act<H: Threads + Wait + Sync, G: Gate>(
             requires observer { observer.session ≡ session.now }
             ensures acted { IfOk result (HaveActed recording.entry.now session.entry.now passes.items) }
             ensures workers { ¬ IsErrOf result RehearsalFault.Workers }
+            ensures stalled { IsErrOf result RehearsalFault.Stalled → HasStalled recording.entry.now }
         {
             act_in(
                 rt, alloc, scope, session, recording, passes, observer, workers, gate, board,
@@ -140,6 +145,7 @@ fn act_in<'s, E, H: Threads + Wait + Sync, G: Gate>(
     requires observer { observer.session ≡ session.now }
     ensures acted { IfOk result (HaveActed recording.now session.now passes.items) }
     ensures workers { ¬ IsErrOf result RehearsalFault.Workers }
+    ensures stalled { IsErrOf result RehearsalFault.Stalled → HasStalled recording.now }
 {
     let room = Vec::with_capacity(alloc, passes.len()).map_err(|_| RehearsalFault::Memory)?;
     let promise = Returned {
@@ -157,17 +163,32 @@ fn act_in<'s, E, H: Threads + Wait + Sync, G: Gate>(
     let Team { handles, is_whole } = started(
         rt, alloc, scope, session, recording, gate, board, passes,
     )?;
-    let Back { passes, fault } = joined(rt, recording, handles, room);
+    let back = joined(rt, recording, handles, room);
     let Watched { observer, answer } = watcher.join(rt);
+    match fault_at_end(&back, &answer, is_whole) {
+        None => Ok(Returns {
+            passes: back.passes,
+            observer,
+        }),
+        Some(fault) => Err(fault),
+    }
+}
+
+/// What is answered where all threads have ended: the foremost of the recorders' faults, the watcher's, and that not all
+/// recorders could be started.
+fn fault_at_end(
+    back: &Back,
+    answer: &Result<(), SearchFault>,
+    is_whole: bool,
+) -> Option<RehearsalFault>
+    ensures { result ≡ foremost_of (foremost_of back.now.fault (watch_fault answer.now)) (start_fault is_whole) }
+{
     let unstarted = if is_whole {
         None
     } else {
         Some(RehearsalFault::Thread)
     };
-    match foremost(foremost(fault, of_watch(&answer)), unstarted) {
-        None => Ok(Returns { passes, observer }),
-        Some(fault) => Err(fault),
-    }
+    foremost(foremost(back.fault, of_watch(answer)), unstarted)
 }
 
 /// Ends the observer at pass 0 and closes the session, all of whose passes have replayed the recording.

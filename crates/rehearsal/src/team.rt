@@ -1,8 +1,11 @@
 //! The recorders' threads: started one after the other, and joined.
-ghost use Rattle.std.specs.Prelude.{◌≡◌, ◌++◌, ◌∷◌, [], true, All, IfOk, IsOk, None, Some, map};
+ghost use Rattle.std.specs.Prelude.{◌≡◌, ◌<◌, ◌≤◌, ◌++◌, ◌∷◌, [], true, All, IfOk, map, vec_len};
+ghost use Rattle.std.specs.Vec.{vec_capacity};
 ghost use Rattle.sessions.specs.Replays.{operations_of};
-ghost use Rattle.rehearsal.specs.Replays.{AreReplayed, HasReplayed};
-ghost use Rattle.rehearsal.specs.declared.fault.RehearsalFault.TheVariants as fault;
+ghost use Rattle.rehearsal.specs.Faults.{replay_fault};
+ghost use Rattle.rehearsal.specs.Foremost.{foremost_of};
+ghost use Rattle.rehearsal.specs.Joined.{HasJoined};
+ghost use Rattle.rehearsal.specs.Replays.{HasReplayed};
 
 use super::board::Board;
 use super::fault::{RehearsalFault, foremost, of_replay};
@@ -46,6 +49,7 @@ fn start_each<'s, E, R: Wait + Sync, G: Gate>(
         → map (λ h. h.promise.pass.value) team.handles.items ≡ passes.items) }
     ensures recording { IfOk result (λ team. All
         (λ h. h.promise.recording.value ≡ recording.now) team.handles.items) }
+    ensures count { IfOk result (λ team. vec_len team.handles ≤ vec_len passes) }
 {
     let mut handles = Vec::with_capacity(alloc, passes.len())?;
     'starts: while !passes.is_empty() {
@@ -95,6 +99,7 @@ pub fn started<'s, E, R: Wait + Sync, G: Gate>(
         → map (λ h. h.promise.pass.value) team.handles.items ≡ passes.items) }
     ensures recording { IfOk result (λ team. All
         (λ h. h.promise.recording.value ≡ recording.now) team.handles.items) }
+    ensures count { IfOk result (λ team. vec_len team.handles ≤ vec_len passes) }
 {
     let team = start_each(rt, alloc, scope, session, recording, gate, board, passes);
     match &team {
@@ -105,32 +110,30 @@ pub fn started<'s, E, R: Wait + Sync, G: Gate>(
     team
 }
 
-/// Puts a pass that came back at the end, and notes the fault if its replay stopped.
+/// Puts a pass that came back at the end, and notes the fault if its replay stopped. There is room for the pass.
 fn take_back(back: &mut Back, told: Told)
-    ensures none { back.new.fault ≡ None → (back.old.fault ≡ None) × IsOk told.answer
-        × (back.new.passes.items ≡ back.old.passes.items ++ told.pass ∷ []) }
-    ensures workers { (back.old.fault ≡ Some fault.Workers → ⊥) → back.new.fault ≡ Some fault.Workers → ⊥ }
+    requires room { vec_len back.old.passes < vec_capacity back.old.passes }
+    ensures passes { back.new.passes.items ≡ back.old.passes.items ++ told.pass ∷ [] }
+    ensures room { vec_capacity back.new.passes ≡ vec_capacity back.old.passes }
+    ensures fault { back.new.fault ≡ foremost_of back.old.fault (replay_fault told.answer) }
 {
     let Told { pass, answer } = told;
-    let fault = foremost(back.fault, of_replay(&answer));
-    match back.passes.push(pass) {
-        Ok(()) => back.fault = fault,
-        Err(_) => back.fault = Some(RehearsalFault::Memory),
-    }
+    back.fault = foremost(back.fault, of_replay(&answer));
+    back.passes.push_reserved(pass);
 }
 
-/// Joins all recorders, and puts their passes into the empty list, which has room for them.
+/// Joins all recorders, and puts their passes into the empty list, which has room for them. The fault is the foremost of
+/// their replays'.
 pub fn joined<R: Threads>(
     rt: &R,
     recording: &Recording,
     mut handles: Vec<PromisedHandle<Told, Replayed>>,
     room: Vec<Pass>,
 ) -> Back
-    requires room { room.items ≡ [] }
+    requires empty { room.items ≡ [] }
+    requires room { vec_len handles ≤ vec_capacity room }
     requires recording { All (λ h. h.promise.recording.value ≡ recording.now) handles.items }
-    ensures replayed { result.fault ≡ None
-        → AreReplayed recording.now (map (λ h. h.promise.pass.value) handles.items) result.passes.items }
-    ensures workers { result.fault ≡ Some fault.Workers → ⊥ }
+    ensures told { HasJoined recording.now (map (λ h. h.promise.pass.value) handles.items) result }
 {
     let mut back = Back {
         passes: room,
