@@ -16,8 +16,11 @@ pub use conflict::{Conflict, conflict_number, least_conflict};
 pub use cycles::least_cycle;
 pub use gate::{Gate, NoGate};
 pub use laws::{least_offer_is_shortest, most_workers_is_the_number};
+pub use order_graph::Looked;
 pub use search_fault::SearchFault;
 pub use searching::{BoundSource, PlainBound, Scratch, distances, search};
+pub use shown_table::ShownTable;
+pub use tabled::{Sets, search_by_table};
 pub use witnesses::{Step, Steps};
 
 /// How many workers may search side by side: each has a seat at the shared bound.

@@ -14,7 +14,7 @@ use order_graph::{Looked, OrderGraph};
 use shown_table::ShownTable;
 use std::alloc::Global;
 
-/// Where a search over a table is: `reached` has the elements from which no more steps than the level lead
+/// Where a search over a table is, so that it takes no memory itself: `reached` has the elements from which no more steps than the level lead
 /// to the source, and `near` those from which fewer do. The layer is what `near` lacks. `next` is for the
 /// layer after it.
 #[derive(Drop)]

@@ -1,5 +1,10 @@
 //! Searches by a table: at how many rows they look, and that they read their bound again.
 
+ghost use Rattle.std.specs.Prelude.{IfOk, length};
+ghost use Rattle.order_graph.specs.Lists.{lists_of};
+ghost use Rattle.shown_table.specs.Tables.{IsShownTable};
+ghost use Rattle.level_search.specs.Balls.{FitsSets};
+
 use super::graphs::ask_of;
 use super::sources::FallingBound;
 use crate::tabled::{Sets, search_by_table};
@@ -12,7 +17,9 @@ use std::alloc::Global;
 use std::test::Fail;
 
 /// A table of the graph. A call that finds no memory is made again.
-fn table(alloc: Global, graph: &OrderGraph) -> Result<ShownTable, Fail> {
+fn table(alloc: Global, graph: &OrderGraph) -> Result<ShownTable, Fail>
+    ensures { IfOk result (λ t. IsShownTable (length graph.now.elements) (lists_of graph.now) t) }
+{
     match ShownTable::of(alloc, graph) {
         Ok(made) => Ok(made),
         Err(Memory) => Ok(ShownTable::of(alloc, graph)?),
@@ -20,7 +27,9 @@ fn table(alloc: Global, graph: &OrderGraph) -> Result<ShownTable, Fail> {
 }
 
 /// Sets for searches of the graph, in the same way.
-fn sets(alloc: Global, graph: &OrderGraph) -> Result<Sets, Fail> {
+fn sets(alloc: Global, graph: &OrderGraph) -> Result<Sets, Fail>
+    ensures { IfOk result (FitsSets (length graph.now.elements)) }
+{
     match Sets::new(alloc, graph) {
         Ok(made) => Ok(made),
         Err(Memory) => Ok(Sets::new(alloc, graph)?),
