@@ -1,11 +1,13 @@
 #!/usr/bin/env python3
-"""judge_many.py PROGRAM: the table of `tools/judge_many`, its order, counts and statuses, and its JSON lines."""
+"""judge_many.py PROGRAM: the table of `tools/judge_many`, its order, counts and statuses, its JSON lines, and its file in JUnit's form,
+and the script of `examples/ci` with the jobs that run it."""
 import json
 import os
 import re
 import subprocess
 import sys
 import tempfile
+import xml.etree.ElementTree as xml
 from pathlib import Path
 
 ROOT = Path(__file__).resolve().parents[2]
@@ -28,6 +30,11 @@ FAILING = {
 ROWS = [("lost.trace", "contents", "-", "4"), ("-moved {#}.trace", "position", "-", "5"), ("twice.trace", "doubled", "-", "6"),
         ("long.trace", "refused", "2", "8"), ("with 'blanks' and $signs.trace", "refused", "3", "11"),
         ("b.trace", "accepted", "-", "3"), ("deep/er/a.trace", "accepted", "-", "4")]
+
+# What JUnit's file says of each: nothing, or a failure with the verdict's word and the beginning of its message.
+MESSAGES = {"lost.trace": ("contents", "contents 0.2: "), "-moved {#}.trace": ("position", "position 0.2: "),
+            "twice.trace": ("doubled", "doubled: 0.1 and 1.1 insert the same name, a."), "long.trace": ("refused", "refused 2: "),
+            "with 'blanks' and $signs.trace": ("refused", "refused 3: ")}
 
 # What another program does, as a shell says it, and what is said of the program and that.
 OTHERS = [("echo hello", "{} printed no report: is it domepeeler? It ended with status 0"),
@@ -103,6 +110,60 @@ def statuses(tally: Tally, program: str, folder: str, other: str) -> None:
     tally.check("a program that answers nothing: its line", got.err == fault.encode(), got.err)
 
 
+def failing(tally: Tally, program: str, folder: str) -> None:
+    """The same, but for the rows of those that are accepted."""
+    got = judge(program, ["--failing", folder])
+    lines = got.out.decode().splitlines()
+    wanted = [("file", "verdict", "k", "lines"), *((f"{folder}/{name}", *rest) for name, *rest in ROWS[:5])]
+    tally.check("failing: the rows", [cells(line)[:4] for line in lines[:-1]] == wanted, lines)
+    tally.check("failing: the counts are of all", lines[-1] == "7 traces: 2 accepted, 2 refused, 1 contents, 1 position, 1 doubled", lines)
+    tally.check("failing: status 1", got.status == 1 and not got.err, got)
+    got = judge(program, ["--json", "--failing", folder])
+    told = [json.loads(line)["file"] for line in got.out.decode().splitlines()]
+    tally.check("failing: JSON", told == [f"{folder}/{name}" for name, *_ in ROWS[:5]] and got.status == 1, got)
+    good = [f"{folder}/{name}" for name in ACCEPTED]
+    tally.same("failing: nothing to list", judge(program, ["--failing", *good]), Ended(0, b"2 traces: 2 accepted\n", b""))
+    tally.same("failing: nothing to list as JSON", judge(program, ["--failing", "--json", *good]), Ended(0, b"", b""))
+
+
+def junit(tally: Tally, program: str, folder: str, other: str) -> None:
+    """All traces, listed or not, whatever bytes their names have; what does not read is an error and no failure."""
+    path = f"{other}/judged.xml"
+    got = judge(program, ["--failing", "--junit", path, folder])
+    tally.check("JUnit: the table is printed too", got.out.startswith(b"file ") and got.out.count(b"\n") == 7 and got.status == 1, got)
+    whole = xml.parse(path).getroot()
+    suites = whole.findall("testsuite")
+    tally.check("JUnit: its form", whole.tag == "testsuites" and [suite.get("name") for suite in suites] == ["domepeeler"], suites)
+    for element in whole, suites[0]:
+        counts = {key: element.get(key) for key in ("tests", "failures", "errors", "skipped")}
+        tally.check(f"JUnit: counts of {element.tag}", counts == {"tests": "7", "failures": "5", "errors": "0", "skipped": "0"}, counts)
+    cases = suites[0].findall("testcase")
+    tally.check("JUnit: the traces", [case.get("file") for case in cases] == [f"{folder}/{name}" for name, *_ in ROWS], cases)
+    for case, (name, *_) in zip(cases, ROWS):
+        tally.check(f"JUnit: {name}: its names", f"{case.get('classname')}/{case.get('name')}" == case.get("file"), case.attrib)
+        tally.check(f"JUnit: {name}: seconds", re.fullmatch(r"\d+\.\d{3}", case.get("time")), case.attrib)
+        faults = [(fault.tag, fault.get("type"), fault.get("message")) for fault in case]
+        kind, begins = MESSAGES.get(name, ("", ""))
+        tally.check(f"JUnit: {name}: its verdict", [fault[:2] for fault in faults] == ([("failure", kind)] if kind else []) and
+                    all(fault[2].startswith(begins) for fault in faults), faults)
+        said = run(str(ROOT / "tools" / "explain"), ["--program", program, case.get("file")]).out.decode()
+        tally.check(f"JUnit: {name}: its explanation", all(fault.text == said for fault in case), [fault.text for fault in case])
+    odd = Path(os.fsdecode(os.fsencode(other) + b"/odd/a\x01 <&\xff\xc3\xa9.trace"))
+    odd.parent.mkdir()
+    odd.write_text("trace 1\nreplicas 1\n0 reads :\n")
+    got = judge(program, ["--junit", path, str(odd.parent)])
+    suite = xml.parse(path).getroot().find("testsuite")
+    case = suite.find("testcase")
+    counts = [suite.get(key) for key in ("tests", "failures", "errors")]
+    tally.check("JUnit: an error", got.status == 2 and counts == ["1", "0", "1"] and case[0].tag == "error" and
+                case[0].get("type") == "unread" and case[0].get("message").endswith(": line 3: shape"), (got, counts))
+    tally.check("JUnit: a name that XML can't hold", case.get("name") == "a\ufffd <&\ufffd\u00e9.trace", case.attrib)
+    got = judge(program, ["--junit", f"{other}/missing/judged.xml", folder])
+    told = f"judge_many: cannot write {other}/missing/judged.xml: No such file or directory\n"
+    tally.check("JUnit: it can't be written, and the table is printed", got.status == 2 and got.err == told.encode() and
+                got.out.endswith(b"1 position, 1 doubled\n"), got)
+
+
 def others(tally: Tally, folder: str, other: str) -> None:
     """Another program, named by the variable: each trace failed, none is unread, and it is asked whether it is domepeeler."""
     path = Path(other, "other")
@@ -153,6 +214,8 @@ def main() -> None:
         table(tally, program, folder)
         json_lines(tally, program, folder)
         statuses(tally, program, folder, other)
+        failing(tally, program, folder)
+        junit(tally, program, folder, third)
         others(tally, folder, other)
         errors(tally, program, third)
         closed_output(tally, program, folder)
