@@ -18,6 +18,7 @@ CERTIFICATE = str(ROOT / "examples" / "libinfinity_three_way_cycle.cert")
 REPORT = b"replicas 3 operations 3 inserts 2\ncontents 2.1\nstrong no\nweak no\n"
 RECORDERS = ["domepeeler.py", "domepeeler.mjs", "domepeeler.rs", "domepeeler.h", "domepeeler.el", "merge.py", "engines/list_crdt.py",
              "properties/with_hypothesis.py"]
+CI = ["judge_recordings.py", "github_workflow.yml", "gitlab_jobs.yml"]
 TOOLS = ["domepeeler", "domepeeler-explain", "domepeeler-judge-many"]
 
 # What is completed in bash and in fish: the words of a line, the last of them begun, and what is offered for it.
@@ -53,7 +54,8 @@ def files(tally: Tally, program: str, folder: str) -> None:
               *(f"share/bash-completion/completions/{tool}" for tool in TOOLS), "share/zsh/site-functions/_domepeeler",
               *(f"share/fish/vendor_completions.d/{tool}.fish" for tool in TOOLS),
               *(f"share/doc/domepeeler/{name}" for name in ("LICENSE", "LICENSE-APACHE", "LICENSE-MIT")),
-              *(f"share/domepeeler/recorders/{name}" for name in RECORDERS)]
+              *(f"share/domepeeler/recorders/{name}" for name in RECORDERS),
+              *(f"share/domepeeler/examples/ci/{name}" for name in CI)]
     for name in wanted:
         tally.check(f"install: {name}", Path(folder, name).is_file())
     for tool in TOOLS:

@@ -4,6 +4,7 @@ and the script of `examples/ci` with the jobs that run it."""
 import json
 import os
 import re
+import shutil
 import subprocess
 import sys
 import tempfile
@@ -15,6 +16,7 @@ sys.path.insert(0, str(ROOT / "tests"))
 from shared.program import Ended, Tally, need, program_of, run  # noqa: E402
 
 TOOL = str(ROOT / "tools" / "judge_many")
+JOBS = ["github_workflow.yml", "gitlab_jobs.yml"]  # of examples/ci
 
 # Traces by file, and for each the verdict, k and the lines.
 ACCEPTED = {"b.trace": "0 ins a 0 : a", "deep/er/a.trace": "0 ins a 0 : a|0 del a :"}
@@ -164,6 +166,84 @@ def junit(tally: Tally, program: str, folder: str, other: str) -> None:
                 got.out.endswith(b"1 position, 1 doubled\n"), got)
 
 
+def steps_of(job: str) -> list:
+    """The commands of a job of CI, without their comments."""
+    text = (ROOT / "examples" / "ci" / job).read_text()
+    return [step.split("  #")[0].rstrip() for step in re.findall(r"^ +(?:run:|- (?!\w+[:/])) *([\w-]+ .*)$", text, re.MULTILINE)]
+
+
+def project_of(folder: str, traces: dict) -> str:
+    """A repository of an editor that has the script and recordings."""
+    project = tempfile.mkdtemp(dir=folder)
+    write(f"{project}/recordings", traces)
+    os.mkdir(f"{project}/ci")
+    shutil.copy(ROOT / "examples" / "ci" / "judge_recordings.py", f"{project}/ci")
+    return project
+
+
+def in_ci(project: str, path: str, step: str, variables: dict) -> subprocess.CompletedProcess:
+    """A step of a job, where nothing is set but what CI sets, and no program is found but what was installed."""
+    return subprocess.run(["sh", "-c", step], cwd=project, env={"PATH": path, "LC_ALL": "C.UTF-8"} | variables,
+                          stdin=subprocess.DEVNULL, capture_output=True, text=True)
+
+
+def jobs_of_ci(tally: Tally, program: str, folder: str) -> None:
+    """The jobs install the package by the name that it has, and their last step judges, annotates and keeps the pages."""
+    version = run(program, ["--version"]).out.decode().split()[1]
+    subprocess.run([ROOT / "tools" / "install", f"{folder}/installed"], check=True, stdout=subprocess.DEVNULL,
+                   env=os.environ | {"DOMEPEELER": program})
+    path = os.pathsep.join([f"{folder}/installed/bin", *{os.path.dirname(shutil.which(tool)) for tool in ("python3", "parallel", "sh", "perl")}])
+    wanted = [f"apt-get update && apt-get install -y ./ci/domepeeler_{version}_amd64.deb", "make test",
+              "python3 ci/judge_recordings.py recordings"]
+    for job in JOBS:
+        steps = [step.replace("sudo ", "") for step in steps_of(job)]
+        tally.check(f"CI: {job}: its steps", sorted(steps) == sorted(wanted), steps)
+    step = wanted[-1]
+    in_github(tally, project_of(folder, ACCEPTED | FAILING), path, step)
+    in_gitlab(tally, project_of(folder, {"b/unread.trace": "0 reads :"} | ACCEPTED | FAILING), path, step)
+    done = in_ci(project_of(folder, ACCEPTED), path, step, {"GITHUB_ACTIONS": "true"})
+    tally.check("CI: all accepted", (done.returncode, done.stdout, done.stderr) == (0, "", ""), done)
+    done = in_ci(project_of(folder, {}), path, step, {"GITHUB_ACTIONS": "true"})
+    tally.check("CI: no recording", done.returncode == 2 and done.stderr.startswith("judge_many: "), done)
+    done = in_ci(project_of(folder, ACCEPTED), path.partition(os.pathsep)[2], step, {})
+    told = "judge_recordings: domepeeler-judge-many can't be run: No such file or directory. Is Domepeeler installed?\n"
+    tally.check("CI: nothing installed", (done.returncode, done.stdout, done.stderr) == (2, "", told), done)
+    done = in_ci(project_of(folder, ACCEPTED), path, "python3 ci/judge_recordings.py", {})
+    tally.check("CI: no folder named", done.returncode == 2 and done.stderr == "usage: judge_recordings.py FOLDER\n", done)
+
+
+def in_github(tally: Tally, project: str, path: str, step: str) -> None:
+    done = in_ci(project, path, step, {"GITHUB_ACTIONS": "true"})
+    tally.check("CI: GitHub: status 1", done.returncode == 1 and not done.stderr, done)
+    lines = [line for line in done.stdout.splitlines() if line.startswith("::error ")]
+    for line, (name, *_) in zip(lines, ROWS):
+        kind, begins = MESSAGES[name]
+        file = f"recordings/{name}"
+        tally.check(f"CI: GitHub: {name}", line.startswith(f"::error file={file},title={file}%3A {kind}::{begins}"), line)
+        tally.check(f"CI: GitHub: {name} is explained", f"\n{file}: {begins}" in f"\n{done.stdout}", done.stdout)
+    kept = {name for number in range(1, 6) for name in (f"{number}.html", f"{number}.trace")} | {"junit.xml"}
+    tally.check("CI: GitHub: five failures, and what is kept", len(lines) == 5 and set(os.listdir(f"{project}/judged")) == kept,
+                (lines, os.listdir(f"{project}/judged")))
+    tally.check("CI: GitHub: the first page is of the smallest", "recordings/lost.trace" in Path(project, "judged/1.html").read_text())
+
+
+def in_gitlab(tally: Tally, project: str, path: str, step: str) -> None:
+    """One of the recordings does not read: it has no page, and the link leads to the job."""
+    done = in_ci(project, path, step, {"CI_JOB_URL": "https://gitlab.example/jobs/7"})
+    tally.check("CI: GitLab: status 2, and no annotation of GitHub's", done.returncode == 2 and "::error" not in done.stdout, done)
+    links = [link["external_link"] for link in json.loads(Path(project, "judged/annotations.json").read_text())["recordings that are not accepted"]]
+    kinds = {name: kind for name, (kind, _) in MESSAGES.items()} | {"b/unread.trace": "unread"}
+    order = ["b/unread.trace", *(name for name, *_ in ROWS[:5])]
+    tally.check("CI: GitLab: its labels", [link["label"] for link in links] == [f"recordings/{name}: {kinds[name]}" for name in order], links)
+    urls = ["https://gitlab.example/jobs/7" + (f"/artifacts/file/judged/{number}.html" if number > 1 else "") for number in range(1, 7)]
+    tally.check("CI: GitLab: its links", [link["url"] for link in links] == urls, links)
+    pages = [Path(project, f"judged/{number}.html").is_file() for number in range(1, 7)]
+    tally.check("CI: GitLab: the pages of the links", pages == [False] + [True] * 5, pages)
+    suite = xml.parse(f"{project}/judged/junit.xml").getroot().find("testsuite")
+    counts = {key: suite.get(key) for key in ("tests", "failures", "errors")}
+    tally.check("CI: GitLab: the counts of JUnit's file", counts == {"tests": "8", "failures": "5", "errors": "1"}, counts)
+
+
 def others(tally: Tally, folder: str, other: str) -> None:
     """Another program, named by the variable: each trace failed, none is unread, and it is asked whether it is domepeeler."""
     path = Path(other, "other")
@@ -209,13 +289,15 @@ def main() -> None:
     program = program_of(sys.argv)
     need("parallel", "parallel")
     tally = Tally()
-    with tempfile.TemporaryDirectory() as folder, tempfile.TemporaryDirectory() as other, tempfile.TemporaryDirectory() as third:
+    with tempfile.TemporaryDirectory() as folder, tempfile.TemporaryDirectory() as other, tempfile.TemporaryDirectory() as third, \
+            tempfile.TemporaryDirectory() as fourth:
         write(folder, ACCEPTED | FAILING)
         table(tally, program, folder)
         json_lines(tally, program, folder)
         statuses(tally, program, folder, other)
         failing(tally, program, folder)
         junit(tally, program, folder, third)
+        jobs_of_ci(tally, program, fourth)
         others(tally, folder, other)
         errors(tally, program, third)
         closed_output(tally, program, folder)
