@@ -25,6 +25,12 @@ PAGES = {"README.md": 13, "docs/many.md": 7, "docs/recording.md": 5}
 NOT_RUN = {
     "(cd crates/finder_cli && rt run -- verdict ../../examples/libinfinity_three_way_cycle.trace)":
         "it proves and builds the program, which the gate does by itself",
+    "sudo apt-get install ./domepeeler_0.2.0_amd64.deb":
+        "tests/tools/package.py installs the package into a system of its own",
+    "mkdir -p ~/.local && tar -xzf domepeeler-0.2.0-x86_64-linux.tar.gz -C ~/.local --strip-components=1":
+        "tests/tools/package.py runs it",
+    'tools/package crates/finder_cli/out/finder_cli ~/packages "$(rt version)"':
+        "it asks the toolchain for its own line; tests/tools/package.py makes the packages with another one",
     "tests/every_check": "it is the gate, which runs this script",
 }
 
