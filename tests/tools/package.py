@@ -224,6 +224,10 @@ def installed(tally: Tally, program: str, folder: str, trace: str, needed: set) 
     tally.check("installed: as the sums say", done.returncode == 0 and not done.stdout, done)
     works(tally, "installed", f"{root}/usr", trace)
     works_alone(tally, "installed", root, "/usr/bin/domepeeler", program)
+    for command in COMMANDS:
+        done = subprocess.run(["man", command], capture_output=True, text=True,
+                              env=os.environ | {"MANPATH": f"{root}/usr/share/man", "LC_ALL": "C"})
+        tally.check(f"installed: man {command}", "domepeeler - judge recordings" in done.stdout and not done.stderr, done)
     done = dpkg(root, "--purge", "domepeeler")
     left = [path for path in Path(root).rglob("*domepeeler*") if "var/lib/dpkg" not in str(path)]
     tally.check("installed: nothing is left of it", done.returncode == 0 and not left and "not empty" not in done.stderr, (done, left))
@@ -248,6 +252,7 @@ def main() -> None:
     program = program_of(sys.argv)
     need("/usr/bin/python3", "python3")
     need("parallel", "parallel")
+    need("man", "man-db")
     need("dpkg-shlibdeps", "dpkg-dev")
     tally = Tally()
     with tempfile.TemporaryDirectory() as folder, tempfile.TemporaryDirectory() as other, tempfile.TemporaryDirectory() as empty:
