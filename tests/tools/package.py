@@ -243,6 +243,9 @@ def faults(tally: Tally, program: str, folder: str) -> None:
               ([program, f"{folder}/file", KIT], f"cannot write {folder}/file: File exists")]
     for words, told in wanted:
         tally.same(f"fault: {told}", package(words), Ended(2, b"", f"package: {told}\n".encode()))
+    done = subprocess.run([sys.executable, PACKAGE, program, folder, KIT], capture_output=True, env={"PATH": folder})
+    tally.same("fault: no git", Ended(done.returncode, done.stdout, done.stderr),
+               Ended(2, b"", b"package: git is needed: on Debian, apt-get install git\n"))
     got = package([program, folder])
     tally.check("fault: a word lacks", got.status == 2 and got.err.startswith(b"usage: ") and b"KIT" in got.err, got)
     tally.check("fault: nothing is made", os.listdir(folder) == ["file"], os.listdir(folder))
