@@ -150,16 +150,19 @@ def junit(tally: Tally, program: str, folder: str, other: str) -> None:
                     all(fault[2].startswith(begins) for fault in faults), faults)
         said = run(str(ROOT / "tools" / "explain"), ["--program", program, case.get("file")]).out.decode()
         tally.check(f"JUnit: {name}: its explanation", all(fault.text == said for fault in case), [fault.text for fault in case])
-    odd = Path(os.fsdecode(os.fsencode(other) + b"/odd/a\x01 <&\xff\xc3\xa9.trace"))
-    odd.parent.mkdir()
-    odd.write_text("trace 1\nreplicas 1\n0 reads :\n")
-    got = judge(program, ["--junit", path, str(odd.parent)])
+    odd = Path(other, "odd")
+    odd.mkdir()
+    for name in b"a\x01 <&\xc3\xa9.trace", b"b\xff.trace":
+        Path(odd, os.fsdecode(name)).write_text("trace 1\nreplicas 1\n0 reads :\n")
+    got = judge(program, ["--junit", path, str(odd)])
     suite = xml.parse(path).getroot().find("testsuite")
-    case = suite.find("testcase")
+    first, second = suite.findall("testcase")
     counts = [suite.get(key) for key in ("tests", "failures", "errors")]
-    tally.check("JUnit: an error", got.status == 2 and counts == ["1", "0", "1"] and case[0].tag == "error" and
-                case[0].get("type") == "unread" and case[0].get("message").endswith(": line 3: shape"), (got, counts))
-    tally.check("JUnit: a name that XML can't hold", case.get("name") == "a\ufffd <&\ufffd\u00e9.trace", case.attrib)
+    tally.check("JUnit: errors", got.status == 2 and counts == ["2", "0", "2"] and
+                [(case[0].tag, case[0].get("type")) for case in (first, second)] == [("error", "unread")] * 2, (got, counts))
+    tally.check("JUnit: the line of an error", first[0].get("message").endswith(": line 3: shape"), first[0].attrib)
+    names = [case.get("name") for case in (first, second)]
+    tally.check("JUnit: names that XML can't hold", names == ["a\ufffd <&\u00e9.trace", "b\ufffd.trace"], names)
     got = judge(program, ["--junit", f"{other}/missing/judged.xml", folder])
     told = f"judge_many: cannot write {other}/missing/judged.xml: No such file or directory\n"
     tally.check("JUnit: it can't be written, and the table is printed", got.status == 2 and got.err == told.encode() and
