@@ -206,11 +206,13 @@ def unpacked(tally: Tally, program: str, folder: str, trace: str) -> None:
     command = re.search(rf"^    ((?:mkdir.*)?tar -xzf {re.escape(name)} .*)$", (ROOT / "README.md").read_text(), re.MULTILINE)
     tally.check(f"README has a command for {name}", command is not None)
     home = f"{folder}/alone/home"
-    os.makedirs(home)
+    os.makedirs(f"{home}/.local/share")
+    os.chmod(f"{home}/.local/share", 0o700)
     shutil.copy(f"{folder}/made/{name}", home)
     done = subprocess.run(["sh", "-c", command[1] if command else ""], cwd=home, env={"HOME": home, "PATH": os.environ["PATH"]},
                           capture_output=True)
     tally.check(f"unpacked: {command and command[1]}", done.returncode == 0 and not done.stderr, done)
+    tally.check("unpacked: a folder that was there keeps its mode", os.stat(f"{home}/.local/share").st_mode & 0o777 == 0o700)
     works(tally, "unpacked", f"{home}/.local", trace)
     works_alone(tally, "unpacked", f"{folder}/alone", "/home/.local/bin/domepeeler", program)
 
