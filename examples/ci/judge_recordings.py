@@ -11,7 +11,6 @@ import sys
 from pathlib import Path
 
 JUDGED = Path("judged")
-MOST = 20  # failures that are explained, the smallest first
 IN_MESSAGES, IN_PROPERTIES = "%\r\n", "%\r\n:,"  # marks that GitHub wants escaped
 
 
@@ -56,14 +55,20 @@ def main() -> None:
     JUDGED.mkdir(exist_ok=True)
     done = ended("domepeeler-judge-many", "--failing", "--json", "--junit", JUDGED / "junit.xml", sys.argv[1])
     rows = [json.loads(line) for line in done.stdout.splitlines()]
-    links = [explain(number, row) for number, row in enumerate(rows[:MOST], 1)]
+    links = [explain(number, row) for number, row in enumerate(rows, 1)]
     print(done.stderr, end="", file=sys.stderr)
     if os.environ.get("CI_JOB_URL"):
         (JUDGED / "annotations.json").write_text(json.dumps({"recordings that are not accepted": links}))
+    if done.returncode == 0:
+        print(f"all recordings below {sys.argv[1]} are accepted")
     if rows:
         print(f"{len(rows)} not accepted: {JUDGED}/junit.xml has them all, and {JUDGED}/1.html is the page of the smallest")
     sys.exit(done.returncode)
 
 
 if __name__ == "__main__":
-    main()
+    try:
+        main()
+    except OSError as error:
+        print(f"judge_recordings: cannot write {error.filename}: {error.strerror}", file=sys.stderr)
+        sys.exit(2)

@@ -195,7 +195,8 @@ def jobs_of_ci(tally: Tally, program: str, folder: str) -> None:
     version = run(program, ["--version"]).out.decode().split()[1]
     subprocess.run([ROOT / "tools" / "install", f"{folder}/installed"], check=True, stdout=subprocess.DEVNULL,
                    env=os.environ | {"DOMEPEELER": program})
-    path = os.pathsep.join([f"{folder}/installed/bin", *{os.path.dirname(shutil.which(tool)) for tool in ("python3", "parallel", "sh", "perl")}])
+    own = {os.path.dirname(shutil.which(tool)) for tool in ("python3", "parallel", "sh", "perl")}
+    path = os.pathsep.join([f"{folder}/installed/bin", *own])
     wanted = [f"apt-get update && apt-get install -y ./ci/domepeeler_{version}_amd64.deb", "make test",
               "python3 ci/judge_recordings.py recordings"]
     for job in JOBS:
@@ -203,9 +204,15 @@ def jobs_of_ci(tally: Tally, program: str, folder: str) -> None:
         tally.check(f"CI: {job}: its steps", sorted(steps) == sorted(wanted), steps)
     step = wanted[-1]
     in_github(tally, project_of(folder, ACCEPTED | FAILING), path, step)
-    in_gitlab(tally, project_of(folder, {"b/unread.trace": "0 reads :"} | ACCEPTED | FAILING), path, step)
+    in_gitlab(tally, project_of(folder, {"b/unread.trace": "0 reads :", "lost.trace": FAILING["lost.trace"]} | ACCEPTED), path, step)
     done = in_ci(project_of(folder, ACCEPTED), path, step, {"GITHUB_ACTIONS": "true"})
-    tally.check("CI: all accepted", (done.returncode, done.stdout, done.stderr) == (0, "", ""), done)
+    told = "all recordings below recordings are accepted\n"
+    tally.check("CI: all accepted", (done.returncode, done.stdout, done.stderr) == (0, told, ""), done)
+    project = project_of(folder, ACCEPTED)
+    Path(project, "judged").write_text("a file\n")
+    done = in_ci(project, path, step, {})
+    told = "judge_recordings: cannot write judged: File exists\n"
+    tally.check("CI: it can't write", (done.returncode, done.stdout, done.stderr) == (2, "", told), done)
     done = in_ci(project_of(folder, {}), path, step, {"GITHUB_ACTIONS": "true"})
     tally.check("CI: no recording", done.returncode == 2 and done.stderr.startswith("judge_many: "), done)
     done = in_ci(project_of(folder, ACCEPTED), path.partition(os.pathsep)[2], step, {})
@@ -234,17 +241,16 @@ def in_gitlab(tally: Tally, project: str, path: str, step: str) -> None:
     """One of the recordings does not read: it has no page, and the link leads to the job."""
     done = in_ci(project, path, step, {"CI_JOB_URL": "https://gitlab.example/jobs/7"})
     tally.check("CI: GitLab: status 2, and no annotation of GitHub's", done.returncode == 2 and "::error" not in done.stdout, done)
-    links = [link["external_link"] for link in json.loads(Path(project, "judged/annotations.json").read_text())["recordings that are not accepted"]]
-    kinds = {name: kind for name, (kind, _) in MESSAGES.items()} | {"b/unread.trace": "unread"}
-    order = ["b/unread.trace", *(name for name, *_ in ROWS[:5])]
-    tally.check("CI: GitLab: its labels", [link["label"] for link in links] == [f"recordings/{name}: {kinds[name]}" for name in order], links)
-    urls = ["https://gitlab.example/jobs/7" + (f"/artifacts/file/judged/{number}.html" if number > 1 else "") for number in range(1, 7)]
-    tally.check("CI: GitLab: its links", [link["url"] for link in links] == urls, links)
-    pages = [Path(project, f"judged/{number}.html").is_file() for number in range(1, 7)]
-    tally.check("CI: GitLab: the pages of the links", pages == [False] + [True] * 5, pages)
+    told = json.loads(Path(project, "judged/annotations.json").read_text())
+    links = [link["external_link"] for link in told["recordings that are not accepted"]]
+    wanted = [("recordings/b/unread.trace: unread", "https://gitlab.example/jobs/7"),
+              ("recordings/lost.trace: contents", "https://gitlab.example/jobs/7/artifacts/file/judged/2.html")]
+    tally.check("CI: GitLab: its links", [(link["label"], link["url"]) for link in links] == wanted, links)
+    kept = {"2.html", "2.trace", "junit.xml", "annotations.json"}
+    tally.check("CI: GitLab: what is kept", set(os.listdir(f"{project}/judged")) == kept, os.listdir(f"{project}/judged"))
     suite = xml.parse(f"{project}/judged/junit.xml").getroot().find("testsuite")
     counts = {key: suite.get(key) for key in ("tests", "failures", "errors")}
-    tally.check("CI: GitLab: the counts of JUnit's file", counts == {"tests": "8", "failures": "5", "errors": "1"}, counts)
+    tally.check("CI: GitLab: the counts of JUnit's file", counts == {"tests": "4", "failures": "1", "errors": "1"}, counts)
 
 
 def others(tally: Tally, folder: str, other: str) -> None:
