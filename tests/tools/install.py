@@ -18,17 +18,21 @@ CERTIFICATE = str(ROOT / "examples" / "libinfinity_three_way_cycle.cert")
 REPORT = b"replicas 3 operations 3 inserts 2\ncontents 2.1\nstrong no\nweak no\n"
 RECORDERS = ["domepeeler.py", "domepeeler.mjs", "domepeeler.rs", "domepeeler.h", "domepeeler.el", "merge.py", "engines/list_crdt.py",
              "properties/with_hypothesis.py"]
+CI = ["judge_recordings.py", "github_workflow.yml", "gitlab_jobs.yml"]
 TOOLS = ["domepeeler", "domepeeler-explain", "domepeeler-judge-many"]
 
-# What is completed in bash: the words of a line, the last of them begun, and what is offered for it.
+# What is completed in bash and in fish: the words of a line, the last of them begun, and what is offered for it.
 COMPLETED = [
     (["domepeeler", ""], {"verdict", "cert", "verify", "live", "--help", "--version"}),
     (["domepeeler", "ver"], {"verdict", "verify"}),
     (["domepeeler", "verdict", "--"], {"--workers", "--json", "--help"}),
     (["domepeeler", "cert", "--"], {"--help"}),
     (["domepeeler", "verdict", "--workers", "1"], {"1", "16"}),
+    (["domepeeler", "live", "--"], {"--workers", "--help"}),
     (["domepeeler-explain", "--s"], {"--small", "--svg"}),
-    (["domepeeler-judge-many", "--j"], {"--json", "--jobs"}),
+    (["domepeeler-explain", "--"], {"--html", "--small", "--svg", "--program", "--version", "--help"}),
+    (["domepeeler-judge-many", "--j"], {"--json", "--junit", "--jobs"}),
+    (["domepeeler-judge-many", "--"], {"--json", "--failing", "--junit", "--jobs", "--sshlogin", "--program", "--version", "--help"}),
 ]
 
 # Words, how the program ends by docs/formats.md, and what the man page says of that under its status alone.
@@ -48,8 +52,10 @@ def files(tally: Tally, program: str, folder: str) -> None:
     tally.check("install: ends well", done.returncode == 0 and not done.stderr, done)
     wanted = [*(f"bin/{tool}" for tool in TOOLS), *(f"share/man/man1/{tool}.1" for tool in TOOLS),
               *(f"share/bash-completion/completions/{tool}" for tool in TOOLS), "share/zsh/site-functions/_domepeeler",
+              *(f"share/fish/vendor_completions.d/{tool}.fish" for tool in TOOLS),
               *(f"share/doc/domepeeler/{name}" for name in ("LICENSE", "LICENSE-APACHE", "LICENSE-MIT")),
-              *(f"share/domepeeler/recorders/{name}" for name in RECORDERS)]
+              *(f"share/domepeeler/recorders/{name}" for name in RECORDERS),
+              *(f"share/domepeeler/examples/ci/{name}" for name in CI)]
     for name in wanted:
         tally.check(f"install: {name}", Path(folder, name).is_file())
     for tool in TOOLS:
@@ -75,6 +81,25 @@ def runs(tally: Tally, folder: str) -> None:
     tally.same(f"runs in {folder}: the program", verdict, Ended(1, REPORT, b""))
     tally.check(f"runs in {folder}: explain", explained.status == 1 and explained.out.startswith(b"contents 2.1: "), explained)
     tally.check(f"runs in {folder}: judge_many", many.status == 1 and many.out.endswith(b"1 trace: 1 contents\n"), many)
+
+
+def versions(tally: Tally, folder: str) -> None:
+    """The tools and the man page have the program's version, and each tool its name."""
+    version = run(f"{folder}/bin/domepeeler", ["--version"]).out.decode().split()[1]
+    for tool in TOOLS:
+        tally.same(f"version of {tool}", run(f"{folder}/bin/{tool}", ["--version"]), Ended(0, f"{tool} {version}\n".encode(), b""))
+    head = Path(folder, "share/man/man1/domepeeler.1").read_text().splitlines()[0]
+    tally.check("version of the man page", f'"Domepeeler {version}"' in head, head)
+
+
+def options(tally: Tally, folder: str) -> None:
+    """What the help of each tool lists stands in the man page and is completed: no option is forgotten."""
+    page = Path(folder, "share/man/man1/domepeeler.1").read_text().replace("\\-", "-")
+    offered = {words[0]: options for words, options in COMPLETED if words[1:] == ["--"]}
+    for tool in TOOLS[1:]:
+        listed = set(re.findall(r"^  (?:-h, )?(--[a-z]+)", run(f"{folder}/bin/{tool}", ["--help"]).out.decode(), re.MULTILINE))
+        tally.check(f"options of {tool}", listed == offered[tool], (listed, offered[tool]))
+        tally.check(f"options of {tool} in the man page", all(option in page for option in listed), listed)
 
 
 def recorders(tally: Tally, folder: str) -> None:
@@ -133,6 +158,7 @@ def completions(tally: Tally, folder: str) -> None:
     script = f"source '{path}'; complete -p {' '.join(TOOLS)}"
     done = subprocess.run(["bash", "-c", script], capture_output=True, text=True)
     tally.check("bash: of each command", done.stdout.count("-F _domepeeler") == 3, done)
+    completions_of_fish(tally, folder)
     if shutil.which("zsh") is None:
         print("zsh is not there: its completions are not tried")
         return
@@ -141,15 +167,33 @@ def completions(tally: Tally, folder: str) -> None:
     tally.check("zsh: found and read", done.stdout == "_domepeeler\n" and done.returncode == 0 and not done.stderr, done)
 
 
+def completions_of_fish(tally: Tally, folder: str) -> None:
+    """The same as in bash. Fish finds them where the folder's `share` is among the data folders, and there by the command's name."""
+    with tempfile.TemporaryDirectory() as home:
+        Path(home, "empty").mkdir()
+        here = {"HOME": home, "PATH": f"{folder}/bin:{os.environ['PATH']}", "XDG_DATA_DIRS": f"{folder}/share"}
+        script = "".join(f"complete -C '{' '.join(words)}'; echo ==; " for words, _ in COMPLETED)
+        done = subprocess.run(["fish", "-c", script], cwd=f"{home}/empty", env=here, capture_output=True, text=True)
+    parts = done.stdout.split("==\n")[:-1]
+    tally.check("fish: ends well", done.returncode == 0 and not done.stderr and len(parts) == len(COMPLETED), done)
+    for (words, offered), part in zip(COMPLETED, parts):
+        got = {line.split("\t")[0] for line in part.splitlines()}
+        begun = "--" if words[-1] == "" else "nothing"  # bash offers the two options beside the commands, fish where one is begun
+        tally.check(f"fish: {words}", got == {option for option in offered if not option.startswith(begun)}, part)
+
+
 def main() -> None:
     program = program_of(sys.argv)
     need("parallel", "parallel")
     need("man", "man-db")
+    need("fish", "fish")
     tally = Tally()
     with tempfile.TemporaryDirectory() as folder:
         errors(tally, folder)
         files(tally, program, f"{folder}/a place")
         runs(tally, f"{folder}/a place")
+        versions(tally, f"{folder}/a place")
+        options(tally, f"{folder}/a place")
         recorders(tally, f"{folder}/a place")
         manual(tally, f"{folder}/a place")
         exit_statuses(tally, f"{folder}/a place")

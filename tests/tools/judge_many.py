@@ -1,11 +1,14 @@
 #!/usr/bin/env python3
-"""judge_many.py PROGRAM: the table of `tools/judge_many`, its order, counts and statuses, and its JSON lines."""
+"""judge_many.py PROGRAM: the table of `tools/judge_many`, its order, counts and statuses, its JSON lines, and its file in JUnit's form,
+and the script of `examples/ci` with the jobs that run it."""
 import json
 import os
 import re
+import shutil
 import subprocess
 import sys
 import tempfile
+import xml.etree.ElementTree as xml
 from pathlib import Path
 
 ROOT = Path(__file__).resolve().parents[2]
@@ -13,6 +16,7 @@ sys.path.insert(0, str(ROOT / "tests"))
 from shared.program import Ended, Tally, need, program_of, run  # noqa: E402
 
 TOOL = str(ROOT / "tools" / "judge_many")
+JOBS = ["github_workflow.yml", "gitlab_jobs.yml"]  # of examples/ci
 
 # Traces by file, and for each the verdict, k and the lines.
 ACCEPTED = {"b.trace": "0 ins a 0 : a", "deep/er/a.trace": "0 ins a 0 : a|0 del a :"}
@@ -28,6 +32,11 @@ FAILING = {
 ROWS = [("lost.trace", "contents", "-", "4"), ("-moved {#}.trace", "position", "-", "5"), ("twice.trace", "doubled", "-", "6"),
         ("long.trace", "refused", "2", "8"), ("with 'blanks' and $signs.trace", "refused", "3", "11"),
         ("b.trace", "accepted", "-", "3"), ("deep/er/a.trace", "accepted", "-", "4")]
+
+# What JUnit's file says of each: nothing, or a failure with the verdict's word and the beginning of its message.
+MESSAGES = {"lost.trace": ("contents", "contents 0.2: "), "-moved {#}.trace": ("position", "position 0.2: "),
+            "twice.trace": ("doubled", "doubled: 0.1 and 1.1 insert the same name, a."), "long.trace": ("refused", "refused 2: "),
+            "with 'blanks' and $signs.trace": ("refused", "refused 3: ")}
 
 # What another program does, as a shell says it, and what is said of the program and that.
 OTHERS = [("echo hello", "{} printed no report: is it domepeeler? It ended with status 0"),
@@ -103,6 +112,147 @@ def statuses(tally: Tally, program: str, folder: str, other: str) -> None:
     tally.check("a program that answers nothing: its line", got.err == fault.encode(), got.err)
 
 
+def failing(tally: Tally, program: str, folder: str) -> None:
+    """The same, but for the rows of those that are accepted."""
+    got = judge(program, ["--failing", folder])
+    lines = got.out.decode().splitlines()
+    wanted = [("file", "verdict", "k", "lines"), *((f"{folder}/{name}", *rest) for name, *rest in ROWS[:5])]
+    tally.check("failing: the rows", [cells(line)[:4] for line in lines[:-1]] == wanted, lines)
+    tally.check("failing: the counts are of all", lines[-1] == "7 traces: 2 accepted, 2 refused, 1 contents, 1 position, 1 doubled", lines)
+    tally.check("failing: status 1", got.status == 1 and not got.err, got)
+    got = judge(program, ["--json", "--failing", folder])
+    told = [json.loads(line)["file"] for line in got.out.decode().splitlines()]
+    tally.check("failing: JSON", told == [f"{folder}/{name}" for name, *_ in ROWS[:5]] and got.status == 1, got)
+    good = [f"{folder}/{name}" for name in ACCEPTED]
+    tally.same("failing: nothing to list", judge(program, ["--failing", *good]), Ended(0, b"2 traces: 2 accepted\n", b""))
+    tally.same("failing: nothing to list as JSON", judge(program, ["--failing", "--json", *good]), Ended(0, b"", b""))
+
+
+def junit(tally: Tally, program: str, folder: str, other: str) -> None:
+    """All traces, listed or not, whatever bytes their names have; what does not read is an error and no failure."""
+    path = f"{other}/judged.xml"
+    got = judge(program, ["--failing", "--junit", path, folder])
+    tally.check("JUnit: the table is printed too", got.out.startswith(b"file ") and got.out.count(b"\n") == 7 and got.status == 1, got)
+    whole = xml.parse(path).getroot()
+    suites = whole.findall("testsuite")
+    tally.check("JUnit: its form", whole.tag == "testsuites" and [suite.get("name") for suite in suites] == ["domepeeler"], suites)
+    for element in whole, suites[0]:
+        counts = {key: element.get(key) for key in ("tests", "failures", "errors", "skipped")}
+        tally.check(f"JUnit: counts of {element.tag}", counts == {"tests": "7", "failures": "5", "errors": "0", "skipped": "0"}, counts)
+    cases = suites[0].findall("testcase")
+    tally.check("JUnit: the traces", [case.get("file") for case in cases] == [f"{folder}/{name}" for name, *_ in ROWS], cases)
+    for case, (name, *_) in zip(cases, ROWS):
+        tally.check(f"JUnit: {name}: its names", f"{case.get('classname')}/{case.get('name')}" == case.get("file"), case.attrib)
+        tally.check(f"JUnit: {name}: seconds", re.fullmatch(r"\d+\.\d{3}", case.get("time")), case.attrib)
+        faults = [(fault.tag, fault.get("type"), fault.get("message")) for fault in case]
+        kind, begins = MESSAGES.get(name, ("", ""))
+        tally.check(f"JUnit: {name}: its verdict", [fault[:2] for fault in faults] == ([("failure", kind)] if kind else []) and
+                    all(fault[2].startswith(begins) for fault in faults), faults)
+        said = run(str(ROOT / "tools" / "explain"), ["--program", program, case.get("file")]).out.decode()
+        tally.check(f"JUnit: {name}: its explanation", all(fault.text == said for fault in case), [fault.text for fault in case])
+    odd = Path(other, "odd")
+    odd.mkdir()
+    for name in b"a\x01 <&\xc3\xa9.trace", b"b\xff.trace":
+        Path(odd, os.fsdecode(name)).write_text("trace 1\nreplicas 1\n0 reads :\n")
+    got = judge(program, ["--junit", path, str(odd)])
+    suite = xml.parse(path).getroot().find("testsuite")
+    first, second = suite.findall("testcase")
+    counts = [suite.get(key) for key in ("tests", "failures", "errors")]
+    tally.check("JUnit: errors", got.status == 2 and counts == ["2", "0", "2"] and
+                [(case[0].tag, case[0].get("type")) for case in (first, second)] == [("error", "unread")] * 2, (got, counts))
+    tally.check("JUnit: the line of an error", first[0].get("message").endswith(": line 3: shape"), first[0].attrib)
+    names = [case.get("name") for case in (first, second)]
+    tally.check("JUnit: names that XML can't hold", names == ["a\ufffd <&\u00e9.trace", "b\ufffd.trace"], names)
+    got = judge(program, ["--junit", f"{other}/missing/judged.xml", folder])
+    told = f"judge_many: cannot write {other}/missing/judged.xml: No such file or directory\n"
+    tally.check("JUnit: it can't be written, and the table is printed", got.status == 2 and got.err == told.encode() and
+                got.out.endswith(b"1 position, 1 doubled\n"), got)
+
+
+def steps_of(job: str) -> list:
+    """The commands of a job of CI, without their comments."""
+    text = (ROOT / "examples" / "ci" / job).read_text()
+    return [step.split("  #")[0].rstrip() for step in re.findall(r"^ +(?:run:|- (?!\w+[:/])) *([\w-]+ .*)$", text, re.MULTILINE)]
+
+
+def project_of(folder: str, traces: dict) -> str:
+    """A repository of an editor that has the script and recordings."""
+    project = tempfile.mkdtemp(dir=folder)
+    write(f"{project}/recordings", traces)
+    os.mkdir(f"{project}/ci")
+    shutil.copy(ROOT / "examples" / "ci" / "judge_recordings.py", f"{project}/ci")
+    return project
+
+
+def in_ci(project: str, path: str, step: str, variables: dict) -> subprocess.CompletedProcess:
+    """A step of a job, where nothing is set but what CI sets, and no program is found but what was installed."""
+    return subprocess.run(["sh", "-c", step], cwd=project, env={"PATH": path, "LC_ALL": "C.UTF-8"} | variables,
+                          stdin=subprocess.DEVNULL, capture_output=True, text=True)
+
+
+def jobs_of_ci(tally: Tally, program: str, folder: str) -> None:
+    """The jobs install the package by the name that it has, and their last step judges, annotates and keeps the pages."""
+    version = run(program, ["--version"]).out.decode().split()[1]
+    subprocess.run([ROOT / "tools" / "install", f"{folder}/installed"], check=True, stdout=subprocess.DEVNULL,
+                   env=os.environ | {"DOMEPEELER": program})
+    own = {os.path.dirname(shutil.which(tool)) for tool in ("python3", "parallel", "sh", "perl")}
+    path = os.pathsep.join([f"{folder}/installed/bin", *own])
+    wanted = [f"apt-get update && apt-get install -y ./ci/domepeeler_{version}_amd64.deb", "make test",
+              "python3 ci/judge_recordings.py recordings"]
+    for job in JOBS:
+        steps = [step.replace("sudo ", "") for step in steps_of(job)]
+        tally.check(f"CI: {job}: its steps", sorted(steps) == sorted(wanted), steps)
+    step = wanted[-1]
+    in_github(tally, project_of(folder, ACCEPTED | FAILING), path, step)
+    in_gitlab(tally, project_of(folder, {"b/unread.trace": "0 reads :", "lost.trace": FAILING["lost.trace"]} | ACCEPTED), path, step)
+    done = in_ci(project_of(folder, ACCEPTED), path, step, {"GITHUB_ACTIONS": "true"})
+    told = "all recordings below recordings are accepted\n"
+    tally.check("CI: all accepted", (done.returncode, done.stdout, done.stderr) == (0, told, ""), done)
+    project = project_of(folder, ACCEPTED)
+    Path(project, "judged").write_text("a file\n")
+    done = in_ci(project, path, step, {})
+    told = "judge_recordings: cannot write judged: File exists\n"
+    tally.check("CI: it can't write", (done.returncode, done.stdout, done.stderr) == (2, "", told), done)
+    done = in_ci(project_of(folder, {}), path, step, {"GITHUB_ACTIONS": "true"})
+    tally.check("CI: no recording", done.returncode == 2 and done.stderr.startswith("judge_many: "), done)
+    done = in_ci(project_of(folder, ACCEPTED), path.partition(os.pathsep)[2], step, {})
+    told = "judge_recordings: domepeeler-judge-many can't be run: No such file or directory. Is Domepeeler installed?\n"
+    tally.check("CI: nothing installed", (done.returncode, done.stdout, done.stderr) == (2, "", told), done)
+    done = in_ci(project_of(folder, ACCEPTED), path, "python3 ci/judge_recordings.py", {})
+    tally.check("CI: no folder named", done.returncode == 2 and done.stderr == "usage: judge_recordings.py FOLDER\n", done)
+
+
+def in_github(tally: Tally, project: str, path: str, step: str) -> None:
+    done = in_ci(project, path, step, {"GITHUB_ACTIONS": "true"})
+    tally.check("CI: GitHub: status 1", done.returncode == 1 and not done.stderr, done)
+    lines = [line for line in done.stdout.splitlines() if line.startswith("::error ")]
+    for line, (name, *_) in zip(lines, ROWS):
+        kind, begins = MESSAGES[name]
+        file = f"recordings/{name}"
+        tally.check(f"CI: GitHub: {name}", line.startswith(f"::error file={file},title={file}%3A {kind}::{begins}"), line)
+        tally.check(f"CI: GitHub: {name} is explained", f"\n{file}: {begins}" in f"\n{done.stdout}", done.stdout)
+    kept = {name for number in range(1, 6) for name in (f"{number}.html", f"{number}.trace")} | {"junit.xml"}
+    tally.check("CI: GitHub: five failures, and what is kept", len(lines) == 5 and set(os.listdir(f"{project}/judged")) == kept,
+                (lines, os.listdir(f"{project}/judged")))
+    tally.check("CI: GitHub: the first page is of the smallest", "recordings/lost.trace" in Path(project, "judged/1.html").read_text())
+
+
+def in_gitlab(tally: Tally, project: str, path: str, step: str) -> None:
+    """One of the recordings does not read: it has no page, and the link leads to the job."""
+    done = in_ci(project, path, step, {"CI_JOB_URL": "https://gitlab.example/jobs/7"})
+    tally.check("CI: GitLab: status 2, and no annotation of GitHub's", done.returncode == 2 and "::error" not in done.stdout, done)
+    told = json.loads(Path(project, "judged/annotations.json").read_text())
+    links = [link["external_link"] for link in told["recordings that are not accepted"]]
+    wanted = [("recordings/b/unread.trace: unread", "https://gitlab.example/jobs/7"),
+              ("recordings/lost.trace: contents", "https://gitlab.example/jobs/7/artifacts/file/judged/2.html")]
+    tally.check("CI: GitLab: its links", [(link["label"], link["url"]) for link in links] == wanted, links)
+    kept = {"2.html", "2.trace", "junit.xml", "annotations.json"}
+    tally.check("CI: GitLab: what is kept", set(os.listdir(f"{project}/judged")) == kept, os.listdir(f"{project}/judged"))
+    suite = xml.parse(f"{project}/judged/junit.xml").getroot().find("testsuite")
+    counts = {key: suite.get(key) for key in ("tests", "failures", "errors")}
+    tally.check("CI: GitLab: the counts of JUnit's file", counts == {"tests": "4", "failures": "1", "errors": "1"}, counts)
+
+
 def others(tally: Tally, folder: str, other: str) -> None:
     """Another program, named by the variable: each trace failed, none is unread, and it is asked whether it is domepeeler."""
     path = Path(other, "other")
@@ -148,11 +298,15 @@ def main() -> None:
     program = program_of(sys.argv)
     need("parallel", "parallel")
     tally = Tally()
-    with tempfile.TemporaryDirectory() as folder, tempfile.TemporaryDirectory() as other, tempfile.TemporaryDirectory() as third:
+    with tempfile.TemporaryDirectory() as folder, tempfile.TemporaryDirectory() as other, tempfile.TemporaryDirectory() as third, \
+            tempfile.TemporaryDirectory() as fourth:
         write(folder, ACCEPTED | FAILING)
         table(tally, program, folder)
         json_lines(tally, program, folder)
         statuses(tally, program, folder, other)
+        failing(tally, program, folder)
+        junit(tally, program, folder, third)
+        jobs_of_ci(tally, program, fourth)
         others(tally, folder, other)
         errors(tally, program, third)
         closed_output(tally, program, folder)

@@ -6,7 +6,6 @@ only the status is looked at. PROGRAM must be the repository's own, since the pa
 the gallery."""
 import os
 import re
-import shutil
 import subprocess
 import sys
 import tempfile
@@ -20,13 +19,18 @@ from shared.program import Tally, need, program_of  # noqa: E402
 BUILT = ROOT / "crates" / "finder_cli" / "out" / "finder_cli"
 
 # The pages, and how many commands each must show at least.
-PAGES = {"README.md": 13, "docs/many.md": 4, "docs/recording.md": 5}
-STEPS = "docs/many.md"  # the page with the steps of a job of CI
+PAGES = {"README.md": 13, "docs/many.md": 7, "docs/recording.md": 5}
 
 # Indented lines of the pages that are commands and are not run here, each with the reason.
 NOT_RUN = {
     "(cd crates/finder_cli && rt run -- verdict ../../examples/libinfinity_three_way_cycle.trace)":
         "it proves and builds the program, which the gate does by itself",
+    "sudo apt-get install ./domepeeler_0.2.0_amd64.deb":
+        "tests/tools/package.py installs the package into a system of its own",
+    "mkdir -p ~/.local && tar -xzf domepeeler-0.2.0-x86_64-linux.tar.gz -C ~/.local --strip-components=1":
+        "tests/tools/package.py runs it",
+    'tools/package crates/finder_cli/out/finder_cli ~/packages "$(rt version)"':
+        "it asks the toolchain for its own line; tests/tools/package.py makes the packages with another one",
     "tests/every_check": "it is the gate, which runs this script",
 }
 
@@ -85,39 +89,6 @@ def check_page(tally: Tally, page: str, least: int) -> None:
             tally.check(f"{page}: `{command}` prints what is shown", got == wanted, f"\ngot\n{got}\nwanted\n{wanted}")
 
 
-def steps_of(page: str) -> list:
-    """The commands of the steps of a job of CI on the page, without their comments."""
-    return [step.split("  #")[0].rstrip() for step in re.findall(r"^    - run: (.*)$", page, re.MULTILINE)]
-
-
-def check_steps(tally: Tally) -> None:
-    """The steps of a job of CI, in an empty folder with recordings, the script and the archive of the page; but for those that
-    install packages or make the recordings. They find no program but that of the archive."""
-    page = (ROOT / STEPS).read_text()
-    script = next(shown.command for block in blocks(page) for shown in commands(block) if "judge_all.sh <<" in shown.command)
-    steps = [step for step in steps_of(page) if not step.startswith(("sudo ", "npm "))]
-    tally.check(f"{STEPS}: has its steps", len(steps) == 3, steps)
-    archive = re.search(r"^    (tools/install .*)$", page, re.MULTILINE)[1]
-    path = {os.path.dirname(shutil.which(tool)) for tool in ("python3", "parallel", "sh", "perl", "tar")}
-    with tempfile.TemporaryDirectory() as home, tempfile.TemporaryDirectory() as project:
-        Path(project, "ci").mkdir()
-        subprocess.run(["sh", "-c", archive], cwd=ROOT, env=os.environ | {"HOME": home}, check=True, stdout=subprocess.DEVNULL)
-        shutil.rmtree(f"{home}/domepeeler")
-        shutil.move(f"{home}/domepeeler.tar.gz", f"{project}/ci")
-        subprocess.run(["sh", "-c", script], cwd=f"{project}/ci", check=True)
-        shutil.copytree(ROOT / "examples", f"{project}/recordings")
-        surroundings = {"HOME": home, "GITHUB_PATH": f"{home}/path", "PATH": os.pathsep.join(path), "LC_ALL": "C.UTF-8"}
-        statuses = []
-        for step in steps:
-            added = Path(home, "path").read_text().split() if Path(home, "path").exists() else []
-            words = surroundings | {"PATH": os.pathsep.join([*added, surroundings["PATH"]])}
-            done = subprocess.run(["sh", "-c", step], cwd=project, env=words, stdin=subprocess.DEVNULL, capture_output=True, text=True)
-            statuses.append(done.returncode)
-        tally.check(f"{STEPS}: the steps end, the last one since a session failed", statuses == [0, 0, 1], (statuses, done))
-        kept = [Path(project, name).is_file() for name in ("judged.jsonl", "fault.html", "fault.trace")]
-        tally.check(f"{STEPS}: what the steps keep", all(kept), kept)
-
-
 def main() -> None:
     program = program_of(sys.argv)
     need("parallel", "parallel")
@@ -125,7 +96,6 @@ def main() -> None:
     tally.check("the program is the one of the pages", BUILT.exists() and os.path.samefile(program, BUILT), f"{program}, {BUILT}")
     for page, least in PAGES.items():
         check_page(tally, page, least)
-    check_steps(tally)
     front = (ROOT / "README.md").read_text()
     for line, reason in NOT_RUN.items():
         tally.check(f"README.md shows `{line}`, not run since {reason}", f"\n    {line}\n" in front)

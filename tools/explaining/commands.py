@@ -1,7 +1,15 @@
-"""What the commands have in common: how they end where nobody reads on."""
+"""What the commands have in common: their version, and how they end where nobody reads on."""
 import os
 import sys
+from argparse import ArgumentParser
 from collections.abc import Callable
+
+VERSION = "0.2.0"  # the program's own
+
+
+def add_version(parser: ArgumentParser, command: str) -> None:
+    """The option that prints the name with which the command is installed, and the version."""
+    parser.add_argument("--version", action="version", version=f"{command} {VERSION}", help="show the version and exit")
 
 
 def run_command(main: Callable) -> None:

@@ -5,11 +5,11 @@ _domepeeler() {
     case $before in
         --workers) COMPREPLY=($(compgen -W "1 2 4 8 16 32 64" -- "$word")); return ;;
         --jobs | --sshlogin) return ;;
-        --program | --html | --small | --svg) compopt -o filenames; COMPREPLY=($(compgen -f -- "$word")); return ;;
+        --program | --html | --small | --svg | --junit) compopt -o filenames; COMPREPLY=($(compgen -f -- "$word")); return ;;
     esac
     case ${COMP_WORDS[0]##*/} in
-        domepeeler-explain) options="--html --small --svg --program --help" ;;
-        domepeeler-judge-many) options="--json --jobs --sshlogin --program --help" ;;
+        domepeeler-explain) options="--html --small --svg --program --version --help" ;;
+        domepeeler-judge-many) options="--json --failing --junit --jobs --sshlogin --program --version --help" ;;
         *)
             if ((COMP_CWORD == 1)); then
                 COMPREPLY=($(compgen -W "verdict cert verify live --help --version" -- "$word"))

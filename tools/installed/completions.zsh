@@ -8,12 +8,13 @@ _domepeeler() {
                 '--small[write the small trace that shows the same]:file:_files' \
                 '--svg[write the picture of the cycle]:file:_files' \
                 '--program[the program that judges]:program:_files' \
-                '--help[show the help]' '1:trace:_files'
+                '--version[show the version]' '--help[show the help]' '1:trace:_files'
             return ;;
         domepeeler-judge-many)
-            _arguments '--json[one JSON object a trace]' '--jobs[how many at a time]:number:' \
+            _arguments '--json[one JSON object a trace]' '--failing[list only the traces that are not accepted]' \
+                '--junit[write the verdicts as JUnit XML]:file:_files' '--jobs[how many at a time]:number:' \
                 '--sshlogin[machines to judge on]:hosts:_hosts' '--program[the program that judges]:program:_files' \
-                '--help[show the help]' '*:folder:_files'
+                '--version[show the version]' '--help[show the help]' '*:folder:_files'
             return ;;
     esac
     if ((CURRENT == 2)); then

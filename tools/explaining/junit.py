@@ -1,0 +1,53 @@
+"""The verdicts of many traces in JUnit's XML form, which CI systems read: each trace is a test case."""
+import os
+import re
+import xml.etree.ElementTree as xml
+from pathlib import Path
+
+from .evidence import Evidence, Unexplained
+from .recordings import Recording
+from .words import explanation, text_of
+
+NOT_IN_XML = re.compile("[^\t\n\r\x20-\ud7ff\ue000-\ufffd\U00010000-\U0010ffff]")  # XML 1.0 has no way to write these
+
+
+def junit_of(rows: list) -> bytes:
+    """A test suite of the rows of `judge_many`: a verdict other than accepted is a failure, and a missing verdict an error."""
+    suite = xml.Element("testsuite", name="domepeeler")
+    for row in rows:
+        folder, name = os.path.split(row.file)
+        case = xml.SubElement(suite, "testcase", classname=written(folder or "."), name=written(name), file=written(row.file),
+                              time=f"{row.seconds:.3f}")
+        if row.report is None:
+            add_fault(case, "error", row.verdict, row.error)
+        elif row.verdict != "accepted":
+            add_fault(case, "failure", row.verdict, explained(row))
+    counts = {"tests": len(rows), "failures": len(suite.findall("testcase/failure")), "errors": len(suite.findall("testcase/error")),
+              "skipped": 0}
+    whole = xml.Element("testsuites")
+    for element in whole, suite:
+        element.attrib |= {key: str(count) for key, count in counts.items()}
+        element.set("time", f"{sum(row.seconds for row in rows):.3f}")
+    whole.append(suite)
+    xml.indent(whole)
+    return xml.tostring(whole, encoding="utf-8", xml_declaration=True) + b"\n"
+
+
+def add_fault(case: xml.Element, kind: str, verdict: str, told: str) -> None:
+    """The first line is what a list of failures shows, and all of them stand below it."""
+    told = written(told)
+    xml.SubElement(case, kind, type=verdict, message=told.split("\n")[0]).text = told
+
+
+def explained(row: object) -> str:
+    """What `explain` says of the trace, or its verdict alone, where the file is no longer what was judged."""
+    try:
+        return text_of(explanation(Evidence(Recording(Path(row.file).read_text(encoding="utf-8")), row.report)))
+    except (Unexplained, OSError, ValueError, LookupError):
+        return row.verdict
+
+
+def written(text: str) -> str:
+    """The text, with the replacement character in place of what XML can't hold: some control characters, and bytes of a file's
+    name that are no UTF-8."""
+    return NOT_IN_XML.sub("\ufffd", text)
