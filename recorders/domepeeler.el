@@ -31,6 +31,7 @@
 (defconst domepeeler--names 4096)
 (defconst domepeeler--places 262144)
 (defconst domepeeler--position 4294967295)
+(defconst domepeeler--bytes 32)
 
 (define-error 'domepeeler-refused "No trace can say this")
 (define-error 'domepeeler-full "A limit of traces is reached" 'domepeeler-refused)
@@ -41,7 +42,10 @@
 (cl-defstruct (domepeeler-recording (:constructor domepeeler--make) (:copier nil))
   lines     ; the last one first
   replicas  ; a vector
-  only)
+  only
+  (ids (make-hash-table :test #'equal))    ; by name: the id that has it, where another might come to the same name
+  (short (make-hash-table :test #'equal))  ; by id: its name, where that is a shorter one
+  known)    ; the names among the ids, the last one first
 
 (defun domepeeler--refuse (format &rest words)
   (signal 'domepeeler-refused (list (apply #'format format words))))
@@ -68,29 +72,21 @@ With ONLY, the log that this replica keeps on its own machine."
 (defun domepeeler-insert (recording replica name position response)
   "REPLICA inserted NAME at POSITION and then had the list RESPONSE.
 Answers the operation's number."
-  (domepeeler--acts recording replica)
-  (domepeeler--check-name name)
-  (unless (domepeeler--whole position 0 domepeeler--position)
-    (domepeeler--refuse "position %s is not a whole number from 0 to %d" position domepeeler--position))
-  (domepeeler--operation recording replica (format "ins %s %d" name position) response 1))
+  (domepeeler--operation recording replica "ins" response name position))
 
 (defun domepeeler-delete (recording replica name response)
   "REPLICA deleted NAME and then had the list RESPONSE.
 Answers the operation's number."
-  (domepeeler--acts recording replica)
-  (domepeeler--check-name name)
-  (domepeeler--operation recording replica (format "del %s" name) response 0))
+  (domepeeler--operation recording replica "del" response name))
 
 (defun domepeeler-read (recording replica response)
   "REPLICA read its list, RESPONSE.  Answers the operation's number."
-  (domepeeler--acts recording replica)
-  (domepeeler--operation recording replica "read" response 0))
+  (domepeeler--operation recording replica "read" response))
 
 (defun domepeeler-view (recording replica part)
   "REPLICA showed PART of its list, the window of an editor say.
 Answers the operation's number."
-  (domepeeler--acts recording replica)
-  (prog1 (domepeeler--operation recording replica "view" part 0)
+  (prog1 (domepeeler--operation recording replica "view" part)
     (setcar (last (domepeeler-recording-lines recording)) "trace 2")))
 
 (defun domepeeler-received (recording replica author n)
@@ -109,6 +105,12 @@ With it came all that AUTHOR had seen by then."
   (cl-incf (domepeeler--replica-entries (domepeeler--of recording replica)))
   (push (format "%d recv %d %d" replica author n) (domepeeler-recording-lines recording))
   nil)
+
+(defun domepeeler-ids (recording)
+  "An alist of RECORDING's short names, each with the id of more than 32 bytes."
+  (let (pairs)
+    (maphash (lambda (id name) (push (cons name id) pairs)) (domepeeler-recording-short recording))
+    (nreverse pairs)))
 
 (defun domepeeler-text (recording)
   "The trace of RECORDING; of one replica's log the text that merge.py takes."
@@ -156,37 +158,97 @@ PROGRAM is by default that of the environment's DOMEPEELER, or \"domepeeler\"."
     (unless (memql only (list nil replica))
       (domepeeler--refuse "this log is of replica %d alone, not of %d" only replica))))
 
-(defun domepeeler--check-name (name)
-  (unless (stringp name)
-    (domepeeler--refuse "a name is a string, not %S" name))
-  (let ((case-fold-search nil))
-    (unless (string-match-p "\\`[A-Za-z0-9_.-]\\{1,32\\}\\'" name)
-      (domepeeler--refuse "name \"%s\" is not 1 to 32 of A-Z a-z 0-9 _ - ." name))))
+(defun domepeeler--name (recording given)
+  "The name of GIVEN in the trace.
+What has more than 32 bytes gets a short name that no other id has."
+  (unless (stringp given)
+    (domepeeler--refuse "a name is a string, not %S" given))
+  (let ((case-fold-search nil)
+        (ids (domepeeler-recording-ids recording)))
+    (cond
+     ((gethash given (domepeeler-recording-short recording)))
+     ((string-match-p "\\`[A-Za-z0-9_.-]\\{1,32\\}\\'" given)
+      (when (or (= (length given) domepeeler--bytes) (string-prefix-p "long" given)) ; others are never short for an id
+        (let ((had (gethash given ids)))
+          (when (and had (not (string= had given)))
+            (domepeeler--refuse "name \"%s\" is short for the id \"%s\" already" given had))
+          (unless had (domepeeler--keep recording given given))))
+      given)
+     ((<= (string-bytes given) domepeeler--bytes)
+      (domepeeler--refuse "name \"%s\" is not 1 to 32 of A-Z a-z 0-9 _ - ." given))
+     (t
+      (let ((name (and (string-match-p "\\`[0-9A-Fa-f]\\{8\\}\\(-[0-9A-Fa-f]\\{4\\}\\)\\{3\\}-[0-9A-Fa-f]\\{12\\}\\'" given)
+                       (replace-regexp-in-string "-" "" given))))
+        (when (or (not name) (gethash name ids))
+          (setq name (domepeeler--numbered recording given)))
+        (domepeeler--keep recording name given)
+        (puthash given name (domepeeler-recording-short recording)))))))
+
+(defun domepeeler--numbered (recording given)
+  "The next name that stands for an id, GIVEN."
+  (when (domepeeler-recording-only recording)
+    (domepeeler--refuse "one replica's log can't number the id \"%s\", since the other machines would number on their own" given))
+  (let ((number (1+ (hash-table-count (domepeeler-recording-short recording)))))
+    (while (gethash (format "long%d" number) (domepeeler-recording-ids recording))
+      (setq number (1+ number)))
+    (format "long%d" number)))
+
+(defun domepeeler--keep (recording name id)
+  "From now on NAME is that of ID."
+  (puthash name id (domepeeler-recording-ids recording))
+  (push name (domepeeler-recording-known recording)))
+
+(defun domepeeler--forget (recording known)
+  "Forget all names but the KNOWN ones, which are the first of the list."
+  (while (not (eq (domepeeler-recording-known recording) known))
+    (let* ((name (pop (domepeeler-recording-known recording)))
+           (id (gethash name (domepeeler-recording-ids recording))))
+      (remhash name (domepeeler-recording-ids recording))
+      (remhash id (domepeeler-recording-short recording)))))
 
 (defun domepeeler--room (recording replica)
   (when (= (domepeeler--replica-entries (domepeeler--of recording replica)) domepeeler--entries)
     (domepeeler--full "replica %d has %d entries, the most that a trace takes" replica domepeeler--entries)))
 
-(defun domepeeler--operation (recording replica words response inserts)
-  (unless (listp response)
-    (domepeeler--refuse "a response is a list of names"))
-  (mapc #'domepeeler--check-name response)
-  (domepeeler--room recording replica)
-  (let* ((own (domepeeler--of recording replica))
-         (names (length response))
-         (places (+ names (domepeeler--replica-places own))))
-    (when (> (+ inserts (domepeeler--replica-inserts own)) domepeeler--inserts)
-      (domepeeler--full "replica %d has %d inserts, the most that a trace takes" replica domepeeler--inserts))
-    (when (> names domepeeler--names)
-      (domepeeler--full "a response of %d names, the most that a trace takes is %d" names domepeeler--names))
-    (when (> places domepeeler--places)
-      (domepeeler--full "%d names over the responses of replica %d, the most that a trace takes is %d"
-                        places replica domepeeler--places))
-    (cl-incf (domepeeler--replica-entries own))
-    (cl-incf (domepeeler--replica-inserts own) inserts)
-    (setf (domepeeler--replica-places own) places)
-    (push (string-join (cons (format "%d %s :" replica words) response) " ") (domepeeler-recording-lines recording))
-    (cl-incf (domepeeler--replica-operations own))))
+(defun domepeeler--operation (recording replica kind response &optional name position)
+  "Record it, or leave all as it was, the names of ids among it."
+  (let ((known (domepeeler-recording-known recording)))
+    (condition-case why
+        (domepeeler--said recording replica kind response name position)
+      (domepeeler-refused
+       (domepeeler--forget recording known)
+       (signal (car why) (cdr why))))))
+
+(defun domepeeler--said (recording replica kind response name position)
+  (domepeeler--acts recording replica)
+  (let* ((is-insert (string= kind "ins"))
+         (inserts (if is-insert 1 0))
+         (words (list kind (number-to-string replica))))
+    (when (member kind '("ins" "del"))
+      (push (domepeeler--name recording name) words))
+    (when is-insert
+      (unless (domepeeler--whole position 0 domepeeler--position)
+        (domepeeler--refuse "position %s is not a whole number from 0 to %d" position domepeeler--position))
+      (push (number-to-string position) words))
+    (unless (listp response)
+      (domepeeler--refuse "a response is a list of names"))
+    (let* ((shown (mapcar (lambda (one) (domepeeler--name recording one)) response))
+           (own (domepeeler--of recording replica))
+           (names (length shown))
+           (places (+ names (domepeeler--replica-places own))))
+      (domepeeler--room recording replica)
+      (when (> (+ inserts (domepeeler--replica-inserts own)) domepeeler--inserts)
+        (domepeeler--full "replica %d has %d inserts, the most that a trace takes" replica domepeeler--inserts))
+      (when (> names domepeeler--names)
+        (domepeeler--full "a response of %d names, the most that a trace takes is %d" names domepeeler--names))
+      (when (> places domepeeler--places)
+        (domepeeler--full "%d names over the responses of replica %d, the most that a trace takes is %d"
+                          places replica domepeeler--places))
+      (cl-incf (domepeeler--replica-entries own))
+      (cl-incf (domepeeler--replica-inserts own) inserts)
+      (setf (domepeeler--replica-places own) places)
+      (push (string-join (append (reverse words) (cons ":" shown)) " ") (domepeeler-recording-lines recording))
+      (cl-incf (domepeeler--replica-operations own)))))
 
 (provide 'domepeeler)
 ;;; domepeeler.el ends here

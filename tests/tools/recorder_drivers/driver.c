@@ -66,6 +66,7 @@ int main(void) {
         if (is("read")) answer(d, domepeeler_read(d, replica, list + 2, count - 2), 1);
         if (is("view")) answer(d, domepeeler_view(d, replica, list + 2, count - 2), 1);
         if (is("received")) answer(d, domepeeler_received(d, replica, atoi(words[2]), atoll(words[3])), 0);
+        if (is("id_of")) printf(domepeeler_id_of(d, words[1]) ? "ok %s\n" : "none\n", domepeeler_id_of(d, words[1]));
         if (is("save")) save(d);
         if (is("judge")) judge(d);
         if (is("text")) show(domepeeler_text(d));

@@ -31,6 +31,7 @@
       ("received" (domepeeler-received driver-recording number (string-to-number (nth 2 words))
                                        (string-to-number (nth 3 words)))
        "ok")
+      ("id_of" (let ((pair (assoc (nth 1 words) (domepeeler-ids driver-recording)))) (if pair (concat "ok " (cdr pair)) "none")))
       ("save" (domepeeler-save driver-recording (nth 1 words)) "ok")
       ("judge" (concat "report " (json-encode (domepeeler-judge driver-recording))))
       ("untyped" (funcall (nth number driver-untyped)))
