@@ -113,7 +113,8 @@ CLOCKS = [
      "received_clock 0 1 1 0 1 1 -> ok\n", ["2 ins a 0 : a", "1 recv 2 1", "1 ins b 1 : a b", "0 recv 2 1", "0 recv 1 1"]),
     ("by the clock alone, as no receipt tells of it", "new 3 -> ok\ninsert 2 a 0 a -> ok 1\ninsert 1 b 1 a b -> ok 1\n"
      f"received_clock 0 1 1 0 1 1 -> {UNCAUSAL.format('1.1', 0, '2.1', 1)}\n", ["2 ins a 0 : a", "1 ins b 1 : a b"]),
-    ("by receipts alone, as the clock doesn't tell of it", "new 3 -> ok\ninsert 2 a 0 a -> ok 1\nreceived 1 2 1 -> ok\ninsert 1 b 1 a b -> ok 1\n"
+    ("by receipts alone, as the clock doesn't tell of it",
+     "new 3 -> ok\ninsert 2 a 0 a -> ok 1\nreceived 1 2 1 -> ok\ninsert 1 b 1 a b -> ok 1\n"
      f"received_clock 0 1 1 0 1 0 -> {UNCAUSAL.format('1.1', 0, '2.1', 1)}\n", ["2 ins a 0 : a", "1 recv 2 1", "1 ins b 1 : a b"]),
     ("an author's changes out of their order", "new 2 -> ok\ninsert 0 a 0 a -> ok 1\nread 0 a -> ok 2\ninsert 0 b 1 a b -> ok 3\n"
      f"received_clock 1 0 1 2 0 -> {UNCAUSAL.format('0.3', 1, '0.1', 0)}\nreceived_clock 1 0 2 2 0 -> ok\n",
@@ -316,7 +317,8 @@ def check_ids(tally: Tally, recorder: Recorder) -> str:
     lines = [line.split(" ") for line in got if line.startswith("| 0 ins ")]
     short = {answer.split('"')[1]: answer.split('"')[3] for answer in got if answer.startswith("refused ")}
     names = {(one, line[3]) for one, line in zip(said, lines)}
-    tally.check(f"{recorder.language}: ids are recorded or refused", len(lines) == len(said) > 200 and all(line[3] == line[6] for line in lines), got)
+    tally.check(f"{recorder.language}: ids are recorded or refused", len(lines) == len(said) > 200 and
+                all(line[3] == line[6] for line in lines), got)
     tally.check(f"{recorder.language}: each id has one name, and no other id has it",
                 len({one for one, _ in names}) == len({name for _, name in names}) == len(names), names)
     tally.check(f"{recorder.language}: a name is refused where another id has it alone",
@@ -524,10 +526,10 @@ def check_guide(tally: Tally, program: str, folder: Path) -> None:
     test leaves a file that can be explained; and its traces have the reports beside them."""
     shown = blocks(ROOT / "docs" / "recording.md")
     code = [block for block in shown if block.startswith("from ")]
-    surroundings = {**os.environ, "DOMEPEELER": program, "PYTHONDONTWRITEBYTECODE": "1", "HOME": str(folder)}
+    surroundings = {**os.environ, "DOMEPEELER": program, "DOMEPEELER_EXPLAIN": EXPLAIN, "PYTHONDONTWRITEBYTECODE": "1", "HOME": str(folder)}
     copying = re.findall(r"^\$ (.*)$", "".join(block for block in shown if "$ cp recorders/" in block), re.MULTILINE)
     done = subprocess.run(["sh", "-ec", "\n".join(copying)], cwd=ROOT, capture_output=True, env=surroundings)
-    tally.check("guide: what is copied", len(copying) == 3 and done.returncode == 0, done)
+    tally.check("guide: what is copied", len(copying) == 4 and done.returncode == 0, done)
     place = folder / "editor"
     place.mkdir(exist_ok=True)
 
@@ -535,16 +537,19 @@ def check_guide(tally: Tally, program: str, folder: Path) -> None:
         Path(place, name).write_text(text)
         return subprocess.run([sys.executable, name], cwd=place, capture_output=True, env=surroundings)
 
-    editor, window = ended("editor.py", "\n".join(code[:2])), ended("window.py", "\n".join(code[2:]))
+    editor, clocks, window = ended("editor.py", "\n".join(code[:2])), ended("clocks.py", code[2]), ended("window.py", "\n".join(code[3:]))
     traces = [block for block in shown if block.startswith("trace ")]
     printed = [block for block in traces if "\n\n" not in block]
-    tally.check("guide: the editor", len(code) == 3 and [editor.stdout.decode()] == printed, editor)
+    tally.check("guide: the editor", len(code) == 4 and [editor.stdout.decode()] == printed, editor)
+    refused = [block for block in shown if block.startswith("not causal: ")]
+    tally.check("guide: the clocks", [clocks.stdout.decode()] == refused, clocks)
     judged = [block.split("\n\n") for block in traces if block not in printed]
     tally.check("guide: has traces with reports", len(judged) == 4, judged)
     tally.check("guide: the window", [trace + "\n" for trace, _ in judged if " view :" in trace] == [window.stdout.decode()], window)
     test = [block for block in shown if block.startswith("report = recording.judge()")]
     failed = ended("failed.py", "\n".join([LOST, *test]))
-    tally.check("guide: the test fails", len(test) == 1 and failed.returncode == 1 and b"AssertionError" in failed.stderr, failed)
+    tally.check("guide: the test fails", len(test) == 1 and failed.returncode == 1 and
+                b"AssertionError: contents 0.2: " in failed.stderr, failed)
     explained = subprocess.run([EXPLAIN, "failed.trace"], cwd=place, capture_output=True, text=True, env=surroundings)
     tally.check("guide: its file is explained", explained.returncode == 1 and explained.stdout.startswith("contents 0.2: "), explained)
     for trace, wanted in judged:
