@@ -123,7 +123,7 @@ export class Recording {
       if (!this.#changes.has(changeId)) throw new Refused(`no change with the id ${JSON.stringify(changeId)} has been recorded`)
       carried.push(...this.#changes.get(changeId))
     }
-    this.#take(replica, carried.filter(([author]) => author !== replica), null)
+    this.#take(replica, carried, null)
   }
 
   /** How many inserts and deletes of each replica this one has: the vector clock of an update that it makes now. */
@@ -348,7 +348,7 @@ export class Recording {
           `which replica ${author} had seen; ${other}.${lacking} has to arrive first, or in the same update`)
       })
     }
-    if (ends.size) this.#room(replica, ends.size)
+    this.#room(replica, ends.size)
     for (const [author, n] of ends) this.#receipt(replica, author, n)
   }
 

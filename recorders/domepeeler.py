@@ -136,7 +136,7 @@ class Recording:
             if change_id not in self._changes:
                 raise Refused(f"no change with the id {_quoted(change_id)} has been recorded")
             carried.update(self._changes[change_id])
-        self._take(replica, {one for one in carried if one[0] != replica}, [])
+        self._take(replica, carried, [])
 
     def clock(self, replica: int) -> List[int]:
         """How many inserts and deletes of each replica this one has: the vector clock of an update that it makes now."""
@@ -175,7 +175,8 @@ class Recording:
         told = [f"  {name}: {given}\n" for name, given in self.ids().items() if not UUID.fullmatch(given) and name in said]
         return said + ("\nIds that were too long for a name\n" + "".join(told) if told else "")
 
-    def _ask(self, given: Optional[Words], variable: str, command: str, whose: str, more: List[str]) -> Tuple[str, Any]:
+    def _ask(self, given: Optional[Words], variable: str, command: str, whose: str,
+             more: List[str]) -> Tuple[str, subprocess.CompletedProcess[bytes]]:
         """How a program ended that had the text on its standard input, and its name."""
         if self._only is not None:
             raise Refused(ONE_LOG)
@@ -326,10 +327,10 @@ class Recording:
                 continue
             past = list(self._replicas[author].pasts[n - 1])
             past[author] = n - 1
-            for other, last in enumerate(map(max, past, seen or past)):
-                self._check_has(replica, (author, n), other, has[other], last, carried)
+            for other, pair in enumerate(zip(past, seen or past)):
+                self._check_has(replica, (author, n), other, has[other], max(pair), carried)
         ends = {author: n for author, n in sorted(carried) if n > has[author]}
-        self._room(replica, max(1, len(ends)) if ends else 0)
+        self._room(replica, len(ends))
         for author, n in ends.items():
             self._receipt(replica, author, n)
 
@@ -347,7 +348,7 @@ class Recording:
         own = self._replicas[replica]
         own.entries += 1
         if self._only is None:
-            others = list(map(max, own.others, self._replicas[author].pasts[n - 1]))
+            others = [max(pair) for pair in zip(own.others, self._replicas[author].pasts[n - 1])]
             others[author] = max(others[author], n)
             if tuple(others) != own.others:
                 own.others = tuple(others)
@@ -379,5 +380,5 @@ def _quoted(change_id: Hashable) -> str:
     return f'"{change_id}"' if isinstance(change_id, str) else repr(change_id)
 
 
-def _ended(name: str, done: Any) -> NoReturn:
+def _ended(name: str, done: subprocess.CompletedProcess[bytes]) -> NoReturn:
     raise RuntimeError(f"{name} ended with status {done.returncode}: {done.stderr.decode(errors='replace').strip()}")
