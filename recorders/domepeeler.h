@@ -15,7 +15,9 @@
  *     domepeeler_free(recording);
  *
  * Each call that a trace can't say answers 0 and leaves the recording as it was; domepeeler_why() then says why, and
- * domepeeler_full() whether it is that a limit of traces is reached: then end this session, and begin another. */
+ * domepeeler_full() whether it is that a limit of traces is reached: then end this session, and begin another.
+ *
+ * Where updates have vector clocks, domepeeler_received_clock() writes the receipts, and refuses what is not causal. */
 #ifndef DOMEPEELER_H
 #define DOMEPEELER_H
 
@@ -42,8 +44,11 @@ enum {
 };
 #define DOMEPEELER_POSITION 4294967295LL
 
+/* What one replica has recorded: its counts; which of its operations insert or delete; how many operations of each other replica
+ * it has received, now and at each operation of its own. */
 struct domepeeler_replica {
-    unsigned entries, operations, inserts, places;
+    unsigned entries, operations, inserts, places, changed, room;
+    unsigned others[DOMEPEELER_REPLICAS], *changes, (*pasts)[DOMEPEELER_REPLICAS];
 };
 
 /* An id, and its name in the trace: of an id with more bytes than a name has, or of one that looks like such a name. */
@@ -153,6 +158,10 @@ static inline void domepeeler_forget(struct domepeeler *d, size_t known) {
 static inline void domepeeler_free(struct domepeeler *d) {
     if (!d) return;
     for (size_t i = 0; i < d->known; i++) free(d->ids[i]);
+    for (int i = 0; i < d->replicas; i++) {
+        free(d->of[i].changes);
+        free(d->of[i].pasts);
+    }
     free(d->ids);
     free(d->places);
     free(d->text);
@@ -284,13 +293,27 @@ static inline unsigned domepeeler_fits(struct domepeeler *d, int replica, unsign
     return 1;
 }
 
+/* Room for what is kept of one more operation. */
+static inline int domepeeler_one_more(struct domepeeler_replica *own) {
+    if (own->operations < own->room) return 1;
+    unsigned room = own->room ? 2 * own->room : 16;
+    unsigned *changes = (unsigned *)realloc(own->changes, room * sizeof *changes);
+    if (changes) own->changes = changes;
+    void *pasts = changes ? realloc(own->pasts, room * sizeof *own->pasts) : NULL;
+    if (!pasts) return 0;
+    own->pasts = (unsigned(*)[DOMEPEELER_REPLICAS])pasts;
+    own->room = room;
+    return 1;
+}
+
 static inline unsigned domepeeler_line(struct domepeeler *d, int replica, const char *words, unsigned inserts,
                                        const char *const *response, size_t names) {
     for (size_t i = 0; i < names; i++)
         if (!domepeeler_name(d, response[i])) return 0;
     if (!domepeeler_fits(d, replica, inserts, names)) return 0;
-    if (!domepeeler_grow(d, 16 + strlen(words) + names * (1 + DOMEPEELER_BYTES))) return domepeeler_refuse(d, 0, "no memory");
     struct domepeeler_replica *own = &d->of[replica];
+    if (!domepeeler_one_more(own) || !domepeeler_grow(d, 16 + strlen(words) + names * (1 + DOMEPEELER_BYTES)))
+        return domepeeler_refuse(d, 0, "no memory");
     own->entries += 1;
     own->inserts += inserts;
     own->places += (unsigned)names;
@@ -304,7 +327,9 @@ static inline unsigned domepeeler_line(struct domepeeler *d, int replica, const 
         domepeeler_put(d, domepeeler_name(d, response[i]));
     }
     domepeeler_put(d, "\n");
-    return ++own->operations;
+    memcpy(own->pasts[own->operations++], own->others, sizeof own->others);
+    if (words[0] == 'i' || words[0] == 'd') own->changes[own->changed++] = own->operations; /* ins, del */
+    return own->operations;
 }
 
 /* Records an operation, or leaves all as it was, what is known of ids among it. */
@@ -352,6 +377,22 @@ static inline unsigned domepeeler_view(struct domepeeler *d, int replica, const 
     return n;
 }
 
+/* Writes a receipt that may be written. */
+static inline unsigned domepeeler_receipt(struct domepeeler *d, int replica, int author, long long n) {
+    if (!domepeeler_room(d, replica)) return 0;
+    struct domepeeler_replica *own = &d->of[replica];
+    char line[64];
+    snprintf(line, sizeof line, "%d recv %d %lld\n", replica, author, n);
+    if (!domepeeler_grow(d, strlen(line))) return domepeeler_refuse(d, 0, "no memory");
+    domepeeler_put(d, line);
+    own->entries += 1;
+    for (int other = 0; other < d->replicas && d->only < 0; other++) {
+        unsigned seen = other == author ? (unsigned)n : d->of[author].pasts[n - 1][other];
+        if (seen > own->others[other]) own->others[other] = seen;
+    }
+    return 1;
+}
+
 /* The author's operation n, and with it all that the author had seen by then, was applied at the replica. Answers 1. */
 static inline unsigned domepeeler_received(struct domepeeler *d, int replica, int author, long long n) {
     if (!domepeeler_acts(d, replica) || !domepeeler_known(d, author)) return 0;
@@ -363,13 +404,82 @@ static inline unsigned domepeeler_received(struct domepeeler *d, int replica, in
     if (n > have && d->only < 0)
         return domepeeler_refuse(d, 0, "%d.%lld cannot have arrived: replica %d has %u operations so far", author, n,
                                  author, have);
-    if (!domepeeler_room(d, replica)) return 0;
-    char line[64];
-    snprintf(line, sizeof line, "%d recv %d %lld\n", replica, author, n);
-    if (!domepeeler_grow(d, strlen(line))) return domepeeler_refuse(d, 0, "no memory");
-    domepeeler_put(d, line);
-    d->of[replica].entries += 1;
+    return domepeeler_receipt(d, replica, author, n);
+}
+
+/* How many of the replica's inserts and deletes are among its first operations, so many of them. */
+static inline unsigned domepeeler_up_to(const struct domepeeler_replica *of, unsigned operations) {
+    unsigned low = 0, high = of->changed;
+    while (low < high) {
+        unsigned middle = low + (high - low) / 2;
+        if (of->changes[middle] <= operations) low = middle + 1;
+        else high = middle;
+    }
+    return low;
+}
+
+/* How many operations of another replica, or of itself, the replica has. */
+static inline unsigned domepeeler_has(const struct domepeeler *d, int replica, int other) {
+    return other == replica ? d->of[replica].operations : d->of[replica].others[other];
+}
+
+static inline unsigned domepeeler_in_one_recording(struct domepeeler *d) {
+    if (d->only < 0) return 1;
+    return domepeeler_refuse(d, 0, "one replica's log does not know the changes of the others: send each operation's number, "
+                                   "and call received");
+}
+
+/* How many inserts and deletes of each replica this one has, one count for each: the vector clock of an update that it makes now.
+ * Answers 1. */
+static inline unsigned domepeeler_clock(struct domepeeler *d, int replica, unsigned *clock) {
+    if (!domepeeler_acts(d, replica) || !domepeeler_in_one_recording(d)) return 0;
+    for (int other = 0; other < d->replicas; other++)
+        clock[other] = domepeeler_up_to(&d->of[other], domepeeler_has(d, replica, other));
     return 1;
+}
+
+static inline unsigned domepeeler_check_clock(struct domepeeler *d, const unsigned *clock, size_t counts) {
+    if (!domepeeler_in_one_recording(d)) return 0;
+    if (counts != (size_t)d->replicas) return domepeeler_refuse(d, 0, "a clock has a count for each of %d replicas", d->replicas);
+    for (int other = 0; other < d->replicas; other++)
+        if (clock[other] > d->of[other].changed)
+            return domepeeler_refuse(d, 0, "the clock counts %u changes of replica %d, which has recorded %u", clock[other], other,
+                                     d->of[other].changed);
+    return 1;
+}
+
+/* The replica has, or gets with the carried changes, which are the author's from the first one on, all that the author had seen at
+ * its operation n. */
+static inline unsigned domepeeler_check_causal(struct domepeeler *d, int replica, int author, unsigned n, const unsigned *clock,
+                                               unsigned first) {
+    for (int other = 0; other < d->replicas; other++) {
+        const struct domepeeler_replica *of = &d->of[other];
+        unsigned seen = domepeeler_up_to(of, other == author ? n - 1 : d->of[author].pasts[n - 1][other]);
+        unsigned lacking = domepeeler_up_to(of, domepeeler_has(d, replica, other));
+        if (clock[other] > seen) seen = clock[other];
+        if (lacking < seen && (other != author || of->changes[lacking] < first))
+            return domepeeler_refuse(d, 0, "not causal: %d.%u was applied at replica %d before %d.%u, which replica %d had seen; "
+                                           "%d.%u has to arrive first, or in the same update", author, n, replica, other,
+                                     of->changes[lacking], author, other, of->changes[lacking]);
+    }
+    return 1;
+}
+
+/* The author's update with this vector clock was applied at the replica: it carries the last of the author's changes that the clock
+ * counts, or so many of the last. The clock has for each replica how many of its inserts and deletes the author had seen, its own
+ * with the carried ones among them. Writes the receipt, unless the replica has it already. Answers 1. */
+static inline unsigned domepeeler_received_clock(struct domepeeler *d, int replica, int author, const unsigned *clock,
+                                                 size_t counts, unsigned changes) {
+    if (!domepeeler_acts(d, replica) || !domepeeler_known(d, author)) return 0;
+    if (author == replica) return domepeeler_refuse(d, 0, "replica %d receives no operation of its own", replica);
+    if (!domepeeler_check_clock(d, clock, counts)) return 0;
+    unsigned most = clock[author], *own = d->of[author].changes, have = domepeeler_has(d, replica, author);
+    if (!most) return domepeeler_refuse(d, 0, "the clock counts no change of replica %d, whose update it is", author);
+    if (changes < 1 || changes > most)
+        return domepeeler_refuse(d, 0, "an update carries 1 to %u of the changes that its clock counts, not %u", most, changes);
+    for (unsigned i = most - changes; i < most; i++)
+        if (own[i] > have && !domepeeler_check_causal(d, replica, author, own[i], clock, own[most - changes])) return 0;
+    return own[most - 1] > have ? domepeeler_receipt(d, replica, author, own[most - 1]) : 1;
 }
 
 /* All that stands in the file, for free(); NULL where it can't be read. */

@@ -98,7 +98,7 @@ SAID = [
 ]
 
 # Receipts by vector clocks, which count the inserts and deletes of each replica. Behind the author stands how many changes are carried.
-CLOCKED = ["py", "mjs", "rs"]
+CLOCKED = ["py", "mjs", "rs", "c", "el"]
 UNCAUSAL = ("uncausal not causal: {0} was applied at replica {1} before {2}, which replica {3} had seen; "
             "{2} has to arrive first, or in the same update")
 CLOCKS = [
@@ -119,6 +119,8 @@ CLOCKS = [
     ("an author's changes out of their order", "new 2 -> ok\ninsert 0 a 0 a -> ok 1\nread 0 a -> ok 2\ninsert 0 b 1 a b -> ok 3\n"
      f"received_clock 1 0 1 2 0 -> {UNCAUSAL.format('0.3', 1, '0.1', 0)}\nreceived_clock 1 0 2 2 0 -> ok\n",
      ["0 ins a 0 : a", "0 read : a", "0 ins b 1 : a b", "1 recv 0 3"]),
+    ("what an author has seen since need not arrive", "new 3 -> ok\ninsert 1 b 0 b -> ok 1\ninsert 2 a 0 a -> ok 1\nreceived 1 2 1 -> ok\n"
+     "received_clock 0 1 1 0 1 0 -> ok\nclock 0 -> ok 0 1 0\n", ["1 ins b 0 : b", "2 ins a 0 : a", "1 recv 2 1", "0 recv 1 1"]),
     ("what an author reads need not arrive", "new 2 -> ok\nread 0 -> ok 1\ninsert 0 a 0 a -> ok 2\nview 0 a -> ok 3\n"
      "received_clock 1 0 1 1 0 -> ok\n", ["0 read :", "0 ins a 0 : a", "0 view : a", "1 recv 0 2"]),
     ("a clock of a change that is not there", "new 3 -> ok\ninsert 0 a 0 a -> ok 1\nread 0 a -> ok 2\n"
@@ -134,6 +136,8 @@ CLOCKS = [
     ("the same update twice, and an older one", "new 2 -> ok\ninsert 0 a 0 a -> ok 1\ndelete 0 a -> ok 2\nreceived_clock 1 0 1 1 0 -> ok\n"
      "received_clock 1 0 1 1 0 -> ok\nreceived_clock 1 0 2 2 0 -> ok\nreceived_clock 1 0 1 1 0 -> ok\nread 1 -> ok 1\n",
      ["0 ins a 0 : a", "0 del a :", "1 recv 0 1", "1 recv 0 2", "1 read :"]),
+    ("a clock is not asked of what has arrived", "new 3 -> ok\ninsert 2 a 0 a -> ok 1\ninsert 1 b 0 b -> ok 1\nreceived 0 1 1 -> ok\n"
+     "received_clock 0 1 1 0 1 1 -> ok\n", ["2 ins a 0 : a", "1 ins b 0 : b", "0 recv 1 1"]),
     ("what came by another", "new 3 -> ok\ninsert 2 a 0 a -> ok 1\nreceived 1 2 1 -> ok\ndelete 1 a -> ok 1\nreceived 0 1 1 -> ok\n"
      "clock 0 -> ok 0 1 1\nreceived_clock 0 2 1 0 0 1 -> ok\n", ["2 ins a 0 : a", "1 recv 2 1", "1 del a :", "0 recv 1 1"]),
     ("one replica's log", "new 2 1 -> ok\nread 1 -> ok 1\nreceived_clock 1 0 1 1 0 -> refused {0}\nclock 1 -> refused {0}\n".format(
@@ -364,6 +368,23 @@ def check_limits(tally: Tally, recorder: Recorder) -> dict:
         texts[name] = "".join(line[2:] + "\n" for line in got[ends + 2:-1])
         tally.check(f"{recorder.language}: {name}, lines", len(got) == 2 * ends + 5, len(got))
     return texts
+
+
+def check_full_updates(tally: Tally, recorder: Recorder) -> None:
+    """Receipts that an update needs are written as long as there is room for all of them, and else none is."""
+    calls = ["new 3", *["read 0"] * 16382, "insert 1 a 0", "received_clock 0 1 1 0 1 0", "insert 1 b 0", "received_clock 0 1 1 0 2 0",
+             "insert 1 c 0", "received_clock 0 1 1 0 3 0", "received_clock 0 1 1 0 2 0", "text"]
+    got = recorder.answers([fields(call) for call in calls])
+    full = f"full replica 0 has 16384 entries, {FULL}"
+    tally.check(f"{recorder.language}: clocks at the limit", got[16383:16390] == ["ok 1", "ok", "ok 2", "ok", "ok 3", full, "ok"] and
+                got[-6:-1] == ["| 1 ins a 0 :", "| 0 recv 1 1", "| 1 ins b 0 :", "| 0 recv 1 2", "| 1 ins c 0 :"],
+                got[16383:16390] + got[-6:])
+    if recorder.language not in WITH_IDS:
+        return
+    calls = ["new 3", *["read 0"] * 16383, "as a insert 1 a 0", "as b insert 2 b 0", "received_changes 0 a b", "text"]
+    got = recorder.answers([fields(call) for call in calls])
+    tally.check(f"{recorder.language}: ids at the limit", got[16386] == f"full replica 0 has 16383 entries, {FULL} is 16384" and
+                got[-3:] == ["| 1 ins a 0 :", "| 2 ins b 0 :", "ok"], got[16384:16387] + got[-3:])
 
 
 def check_limits_are_the_programs(tally: Tally, program: str, texts: dict) -> None:
@@ -607,6 +628,8 @@ def main() -> None:
             tally.check(f"{language}: names of ids", ids[language] == ids["py"], ids)
             texts[language] = check_limits(tally, recorder)
             tally.check(f"{language}: texts at the limits", texts[language] == texts["py"])
+            if language in CLOCKED:
+                check_full_updates(tally, recorder)
             check_save(tally, recorder, folder)
             check_judge(tally, recorder, folder)
         check_limits_are_the_programs(tally, program, texts["py"])
