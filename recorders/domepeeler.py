@@ -1,6 +1,6 @@
 """Records what the replicas of a list editor do and answer, and has Domepeeler judge it.
 
-Copy this file into your project, or install the package in recorders/python, which is made of it. It needs Python 3.8 and nothing
+Copy this file into your project, or install the package in recorders/python, which is made of it. It needs Python 3 and nothing
 else. docs/recording.md says where the calls go.
 
     recording = Recording(2)
