@@ -162,7 +162,8 @@ export class Recording {
   async explain(explainer = null) {
     const { name, done } = await this.#ask(explainer, "DOMEPEELER_EXPLAIN", "domepeeler-explain", "the tool's", ["-"])
     if ((done.status !== 0 && done.status !== 1) || !done.stdout) throw ended(name, done)
-    const told = [...this.ids()].filter(([short, given]) => !UUID.test(given) && done.stdout.includes(short))
+    const words = new Set(done.stdout.match(/[A-Za-z0-9]+/g))
+    const told = [...this.ids()].filter(([short]) => words.has(short) && short.startsWith("long"))
     const lines = told.map(([short, given]) => `  ${short}: ${given}\n`)
     return done.stdout + (lines.length ? `\nIds that were too long for a name\n${lines.join("")}` : "")
   }

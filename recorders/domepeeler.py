@@ -172,7 +172,8 @@ class Recording:
         if done.returncode not in (0, 1) or not done.stdout:
             _ended(name, done)
         said = done.stdout.decode(errors="replace")
-        told = [f"  {name}: {given}\n" for name, given in self.ids().items() if not UUID.fullmatch(given) and name in said]
+        words = set(re.findall("[A-Za-z0-9]+", said))
+        told = [f"  {name}: {given}\n" for name, given in self.ids().items() if name in words and name.startswith("long")]
         return said + ("\nIds that were too long for a name\n" + "".join(told) if told else "")
 
     def _ask(self, given: Optional[Words], variable: str, command: str, whose: str,

@@ -20,7 +20,7 @@
 //! Each call that a trace can't say is `Refused`, and leaves the recording as it was.
 #![allow(dead_code)]
 
-use std::collections::HashMap;
+use std::collections::{HashMap, HashSet};
 use std::fmt::{self, Display, Write as _};
 use std::io::{self, Write as _};
 use std::path::Path;
@@ -306,7 +306,8 @@ impl Recording {
             return Err(ended(explainer, &done));
         }
         let mut said = printed(explainer, done)?;
-        let ids = self.ids().into_iter().filter(|(name, id)| !is_uuid(id) && said.contains(name));
+        let words: HashSet<&str> = said.split(|letter: char| !letter.is_ascii_alphanumeric()).collect();
+        let ids = self.ids().into_iter().filter(|(name, _)| words.contains(name) && name.starts_with("long"));
         let told: String = ids.map(|(name, id)| format!("  {name}: {id}\n")).collect();
         if !told.is_empty() {
             said += &format!("\nIds that were too long for a name\n{told}");

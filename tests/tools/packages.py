@@ -130,15 +130,18 @@ fn lost() {
 }
 '''
 
-# A recording with a long id in each language, what is printed of it, and what must be printed. The first word that a script gets is
-# a tool that is no explainer.
+# A recording with twelve long ids in each language, of which the last one alone is in the list, but is not answered; what is
+# printed of it, and what must be printed. The word that a script gets is a tool that is no explainer.
 LONG_ID = "4@abcdefghijklmnopqrstuvwxyz_-.0123456789"
 USES = {
     "python": f'''
 import sys
 from domepeeler import Recording
 recording = Recording(1)
-recording.insert(0, "{LONG_ID}", 0, [])
+for name in [f"{LONG_ID}/{{n}}" for n in range(1, 12)]:
+    recording.insert(0, name, 0, [name])
+    recording.delete(0, name, [])
+recording.insert(0, "{LONG_ID}/12", 0, [])
 print(recording.judge()["verdict"], recording.judge(["env", "domepeeler"])["verdict"])
 print(recording.explain(["env", "domepeeler-explain"]))
 print(Recording(1).explain())
@@ -151,7 +154,11 @@ for words in [sys.argv[1]], ["nowhere"], ["false"]:
     "javascript": f'''
 import {{ Recording }} from "domepeeler"
 const recording = new Recording(1)
-recording.insert(0, "{LONG_ID}", 0, [])
+for (let n = 1; n < 12; n++) {{
+  recording.insert(0, `{LONG_ID}/${{n}}`, 0, [`{LONG_ID}/${{n}}`])
+  recording.delete(0, `{LONG_ID}/${{n}}`, [])
+}}
+recording.insert(0, "{LONG_ID}/12", 0, [])
 console.log((await recording.judge()).verdict, (await recording.judge(["env", "domepeeler"])).verdict)
 console.log(await recording.explain(["env", "domepeeler-explain"]))
 console.log(await new Recording(1).explain())
@@ -163,7 +170,12 @@ for (const words of [[process.argv[2]], ["nowhere"], ["false"]]) {{
 use domepeeler::Recording;
 fn main() {{
     let mut recording = Recording::new(1).unwrap();
-    recording.insert(0, "{LONG_ID}", 0, &[] as &[&str]).unwrap();
+    let none = &[] as &[&str];
+    for name in (1..12).map(|n| format!("{LONG_ID}/{{n}}")) {{
+        recording.insert(0, &name, 0, &[&name]).unwrap();
+        recording.delete(0, &name, none).unwrap();
+    }}
+    recording.insert(0, "{LONG_ID}/12", 0, none).unwrap();
     let verdict = |report: String| report.split("\\"verdict\\":\\"").nth(1).unwrap().split('"').next().unwrap().to_string();
     println!("{{}} {{}}", verdict(recording.judge().unwrap()), verdict(recording.judge_by("domepeeler").unwrap()));
     println!("{{}}", recording.explain().unwrap());
@@ -174,7 +186,7 @@ fn main() {{
 }}
 ''',
 }
-USED = ["contents contents\ncontents 0.1: ", f"Ids that were too long for a name\n  long1: {LONG_ID}\n", "accepted: ",
+USED = ["contents contents\ncontents 0.23: ", f"Ids that were too long for a name\n  long12: {LONG_ID}/12\n\n", "accepted: ",
         "no_explainer ended with status 2: not today", "nowhere cannot be run (", "in DOMEPEELER_EXPLAIN", "false ended with status 1: "]
 
 
