@@ -247,6 +247,13 @@ def check_installed(tally: Tally, place: Place) -> None:
         tally.check(f"installed: {package}", len(wanted) > 2 and same == wanted, set(wanted) - set(same))
 
 
+def example(package: str, begin: str) -> str:
+    """The block of a package's README that begins so, as a test of its own."""
+    found = re.findall(r"(?:^(?: {4}.*)?\n)+", (RECORDERS / package / "README.md").read_text(), re.MULTILINE)
+    blocks = [re.sub(r"^ {4}", "", block, flags=re.MULTILINE).strip("\n") + "\n" for block in found]
+    return next((block for block in blocks if block.startswith(begin)), f"the README of {package} has no block that begins with {begin}")
+
+
 def check_told(tally: Tally, name: str, said: str) -> None:
     """An explanation, and neither a dictionary nor a trace of calls."""
     tally.check(f"{name}: is explained", all(words in said for words in TOLD), said)
@@ -289,17 +296,17 @@ def check_python(tally: Tally, place: Place) -> None:
     tally.check("Python: the one file", own.is_file() and not own.is_symlink() and
                 own.read_bytes() == (RECORDERS / "domepeeler.py").read_bytes())
     tally.check("Python: typed", (package / "py.typed").is_file())
-    place.make("python/test_editor.py", PYTEST)
+    place.make("python/test_editor.py", PYTEST + "\n\n" + example("python", "def test_two_users"))
     command = [python, "-m", "pytest", "-q", "-p", "no:cacheprovider", "test_editor.py"]
     done = place.run(command, "python")
-    tally.check("pytest: counts", done.returncode == 1 and "5 failed, 2 passed, 1 xfailed" in done.stdout and
+    tally.check("pytest: counts", done.returncode == 1 and "5 failed, 3 passed, 1 xfailed" in done.stdout and
                 "error" not in done.stdout, done.stdout)
     said = sections(done.stdout)
     for name in ["test_lost", "test_second[a/b]", "test_second[a:b]", "test_fails_by_itself"]:
         check_told(tally, f"pytest: {name}", said.get(name, ""))
-    tally.check("pytest: the test's own fault comes first", said["test_fails_by_itself"].find("assert 1 == 2") in
-                range(said["test_fails_by_itself"].find(LOST)), said["test_fails_by_itself"])
-    alone = said["test_fails_by_itself_alone"]
+    own = said.get("test_fails_by_itself", "")
+    tally.check("pytest: the test's own fault comes first", own.find("assert 1 == 2") in range(own.find(LOST)), own)
+    alone = said.get("test_fails_by_itself_alone", "")
     tally.check("pytest: nothing is told of an accepted recording", "assert 3 == 4" in alone and "The trace is saved" not in alone, alone)
     check_saved(tally, "pytest", "".join(said.values()), place.folder / "python" / "failed_traces")
     kept = sorted(path.name for path in (place.folder / "python" / "failed_traces").iterdir())
@@ -344,9 +351,10 @@ def check_javascript(tally: Tally, place: Place) -> None:
     untyped = [name for name in named if not re.search(rf"(class {name}\b|^  {name}\()", types, re.MULTILINE)]
     tally.check("JavaScript: each name has a type", len(named) >= 16 and not untyped, untyped)
     place.make("packed/editor.test.mjs", NODE_TEST)
-    done = place.run(["node", "--test", "--test-reporter=tap", "editor.test.mjs"], "packed")
-    tally.check("node --test: counts", done.returncode == 1 and "# pass 2" in done.stdout and "# fail 2" in done.stdout and
-                "ok 1 - right" in done.stdout and "ok 4 - awaited" in done.stdout, done.stdout)
+    place.make("packed/readme.test.mjs", example("javascript", "import { test }"))
+    done = place.run(["node", "--test", "--test-reporter=tap", "editor.test.mjs", "readme.test.mjs"], "packed")
+    tally.check("node --test: counts", done.returncode == 1 and "# pass 3" in done.stdout and "# fail 2" in done.stdout and
+                "ok 1 - right" in done.stdout and "ok 4 - awaited" in done.stdout and "ok 5 - two users" in done.stdout, done.stdout)
     lost, own = done.stdout.split("not ok 2 - lost")[-1].split("not ok 3 - fails by itself")
     for name, said in ("lost", lost), ("fails by itself", own.split("ok 4")[0]):
         check_told(tally, f"node --test: {name}", said)
@@ -373,8 +381,10 @@ def check_rust(tally: Tally, place: Place) -> None:
                f'domepeeler = {{ path = "{packed}" }}\n[profile.dev]\ndebug = 0\n')
     place.make("rust/src/main.rs", USES["rust"])
     place.make("rust/tests/editor.rs", RUST_TEST)
-    done = place.run(["cargo", "test", "--offline", "--quiet", "--test", "editor"], "rust")
-    tally.check("cargo test: counts", done.returncode != 0 and "1 passed; 1 failed" in done.stdout, done.stdout)
+    place.make("rust/tests/readme.rs", example("rust", "use domepeeler::Recording;"))
+    done = place.run(["cargo", "test", "--offline", "--quiet", "--no-fail-fast", "--test", "editor", "--test", "readme"], "rust")
+    tally.check("cargo test: counts", done.returncode != 0 and "1 passed; 1 failed" in done.stdout and
+                "1 passed; 0 failed" in done.stdout, done.stdout)
     tally.check("cargo test: is explained", all(words in done.stdout for words in TOLD), done.stdout)
     saved = place.folder / "rust/failed.trace"
     tally.check("cargo test: saves", saved.is_file() and saved.read_text() == LOST_TRACE, done.stdout)
