@@ -336,7 +336,9 @@ def check_javascript(tally: Tally, place: Place) -> None:
     link = place.folder / "recorders/javascript/domepeeler.mjs"
     packed = place.run(["npm", "pack", "--offline", "--silent", "--pack-destination", place.folder], "recorders/javascript")
     tally.check("npm pack", packed.returncode == 0 and link.is_symlink() and link.resolve().is_file(), packed.stdout)
-    archive = next(iter(place.folder.glob("*.tgz")), "none.tgz")
+    archive = next(iter(place.folder.glob("*.tgz")), None)
+    if archive is None:
+        return
     installed = place.folder / "prefix/share/domepeeler/recorders/javascript"
     for name, source in ("packed", archive), ("folder", place.folder / "recorders/javascript"), ("installed", installed):
         place.make(f"{name}/package.json", '{"name": "own", "version": "1.0.0", "type": "module"}\n')
@@ -374,6 +376,8 @@ def check_rust(tally: Tally, place: Place) -> None:
     done = place.run(["cargo", "package", "--offline", "--quiet", "--allow-dirty", "--no-verify"], "recorders/rust")
     archive = next(iter(place.folder.glob("recorders/rust/target/package/*.crate")), None)
     tally.check("cargo package", done.returncode == 0 and archive, done.stdout)
+    if archive is None:
+        return
     shutil.unpack_archive(archive, place.folder / "crate", "gztar")
     packed = next((place.folder / "crate").iterdir())
     tally.check("cargo package: the one file", (packed / "src/lib.rs").read_bytes() == (RECORDERS / "domepeeler.rs").read_bytes())
