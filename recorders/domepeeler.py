@@ -29,6 +29,7 @@ MOST_REPLICAS, MOST_ENTRIES, MOST_INSERTS = 16, 16384, 4096
 MOST_NAMES, MOST_PLACES, MOST_POSITION, MOST_BYTES = 4096, 262144, 4294967295, 32
 NAME = re.compile(r"[A-Za-z0-9_.-]{1,32}", re.ASCII)
 UUID = re.compile(r"[0-9A-Fa-f]{8}(-[0-9A-Fa-f]{4}){3}-[0-9A-Fa-f]{12}", re.ASCII)
+__tracebackhide__ = True  # pytest shows a refused call where the test makes it
 ONE_LOG = "one replica's log is no recording: merge the logs first"
 
 Clock = Union[Sequence[int], Mapping[int, int]]

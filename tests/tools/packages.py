@@ -68,12 +68,21 @@ def test_without():
     pass
 
 
+def test_not_causal(domepeeler):
+    recording = domepeeler(3)
+    recording.insert(2, "a", 0, ["a"])
+    recording.received_clock(1, 2, {2: 1})
+    recording.insert(1, "b", 1, ["a", "b"])
+    recording.received_clock(0, 1, recording.clock(1))
+
+
 @pytest.mark.xfail(strict=True)
 def test_meant_to_fail(domepeeler):
     lose(domepeeler(2))
 '''
 
 NODE_TEST = '''
+import assert from "node:assert"
 import { test } from "node:test"
 import { NotCausal, Recording } from "domepeeler"
 import { NotAccepted, accepted, recorded } from "domepeeler/node_test"
@@ -100,7 +109,14 @@ test("awaited", async () => {
   const why = await accepted(recording, "own/awaited.trace").catch((why) => why)
   if (!(why instanceof NotAccepted) || !why.message.startsWith("contents 1.1: ")) throw new Error(`not so: ${why}`)
   await accepted(new Recording(1), "own/right.trace")
-  if (typeof NotCausal !== "function") throw new Error("no NotCausal")
+  const clocked = new Recording(3)
+  clocked.insert(2, "a", 0, ["a"])
+  clocked.receivedClock(1, 2, new Map([[2, 1]]))
+  clocked.insert(1, "b", 1, ["a", "b"])
+  assert.throws(() => clocked.receivedClock(0, 1, { 1: 1, 2: 1 }), NotCausal)
+  clocked.receivedClock(0, 2, { 2: 1 })
+  assert.throws(() => clocked.receivedClock(0, 2, { 3: 1 }), /no replica 3 among 0 to 2/)
+  assert.strictEqual(clocked.text(), "trace 1\\nreplicas 3\\n2 ins a 0 : a\\n1 recv 2 1\\n1 ins b 1 : a b\\n0 recv 2 1\\n")
 })
 '''
 
@@ -299,13 +315,16 @@ def check_python(tally: Tally, place: Place) -> None:
     place.make("python/test_editor.py", PYTEST + "\n\n" + example("python", "def test_two_users"))
     command = [python, "-m", "pytest", "-q", "-p", "no:cacheprovider", "test_editor.py"]
     done = place.run(command, "python")
-    tally.check("pytest: counts", done.returncode == 1 and "5 failed, 3 passed, 1 xfailed" in done.stdout and
+    tally.check("pytest: counts", done.returncode == 1 and "6 failed, 3 passed, 1 xfailed" in done.stdout and
                 "error" not in done.stdout, done.stdout)
     said = sections(done.stdout)
     for name in ["test_lost", "test_second[a/b]", "test_second[a:b]", "test_fails_by_itself"]:
         check_told(tally, f"pytest: {name}", said.get(name, ""))
     own = said.get("test_fails_by_itself", "")
     tally.check("pytest: the test's own fault comes first", own.find("assert 1 == 2") in range(own.find(LOST)), own)
+    refused = said.get("test_not_causal", "")
+    tally.check("pytest: a refused call is shown where the test makes it", "test_editor.py:" in refused and "__init__.py" not in refused
+                and "NotCausal: not causal: 1.1 was applied at replica 0 before 2.1, which replica 1 had seen" in refused, refused)
     alone = said.get("test_fails_by_itself_alone", "")
     tally.check("pytest: nothing is told of an accepted recording", "assert 3 == 4" in alone and "The trace is saved" not in alone, alone)
     check_saved(tally, "pytest", "".join(said.values()), place.folder / "python" / "failed_traces")
