@@ -15,7 +15,9 @@
  *     domepeeler_free(recording);
  *
  * Each call that a trace can't say answers 0 and leaves the recording as it was; domepeeler_why() then says why, and
- * domepeeler_full() whether it is that a limit of traces is reached: then end this session, and begin another. */
+ * domepeeler_full() whether it is that a limit of traces is reached: then end this session, and begin another.
+ *
+ * Where updates have vector clocks, domepeeler_received_clock() writes the receipts, and refuses what is not causal. */
 #ifndef DOMEPEELER_H
 #define DOMEPEELER_H
 
@@ -36,12 +38,22 @@ enum {
     DOMEPEELER_ENTRIES = 16384,
     DOMEPEELER_INSERTS = 4096,
     DOMEPEELER_NAMES = 4096,
-    DOMEPEELER_PLACES = 262144
+    DOMEPEELER_PLACES = 262144,
+    DOMEPEELER_BYTES = 32, /* of a name */
+    DOMEPEELER_UUID = 36   /* bytes */
 };
 #define DOMEPEELER_POSITION 4294967295LL
 
+/* What one replica has recorded: its counts; which of its operations insert or delete; how many operations of each other replica
+ * it has received, now and at each operation of its own. */
 struct domepeeler_replica {
-    unsigned entries, operations, inserts, places;
+    unsigned entries, operations, inserts, places, changed, room;
+    unsigned others[DOMEPEELER_REPLICAS], *changes, (*pasts)[DOMEPEELER_REPLICAS];
+};
+
+/* An id, and its name in the trace: of an id with more bytes than a name has, or of one that looks like such a name. */
+struct domepeeler_id {
+    char *id, name[DOMEPEELER_BYTES + 1];
 };
 
 struct domepeeler {
@@ -49,6 +61,9 @@ struct domepeeler {
     size_t length, room;
     int replicas, only; /* only is -1 where all replicas are recorded */
     struct domepeeler_replica of[DOMEPEELER_REPLICAS];
+    struct domepeeler_id **ids;       /* in the order in which they came */
+    size_t known, shortened, *places; /* places: by id, and behind these by name, where each stands in ids, counted from 1 */
+    size_t slots;                     /* half of the places; a power of two, or 0 */
     int full;
     char why[256];
 };
@@ -81,8 +96,75 @@ static inline void domepeeler_put(struct domepeeler *d, const char *words) {
     d->length += length;
 }
 
+/* The place of a key among the ids, or among the names; one that is 0 is free. There is a free one. */
+static inline size_t *domepeeler_place(const struct domepeeler *d, const char *key, int by_name) {
+    size_t hash = 5381, *half = d->places + (by_name ? d->slots : 0);
+    for (const char *letter = key; *letter; letter++) hash = hash * 33 + (unsigned char)*letter;
+    for (size_t slot = (hash ^ hash >> 15) & (d->slots - 1);; slot = (slot + 1) & (d->slots - 1)) {
+        const struct domepeeler_id *one = half[slot] ? d->ids[half[slot] - 1] : NULL;
+        if (!one || strcmp(by_name ? one->name : one->id, key) == 0) return half + slot;
+    }
+}
+
+/* What is known of the key, or NULL. */
+static inline const struct domepeeler_id *domepeeler_find(const struct domepeeler *d, const char *key, int by_name) {
+    size_t place = d->slots ? *domepeeler_place(d, key, by_name) : 0;
+    return place ? d->ids[place - 1] : NULL;
+}
+
+/* Puts the first so many ids into their places, after all places were made free. */
+static inline void domepeeler_arrange(struct domepeeler *d, size_t known) {
+    memset(d->places, 0, 2 * d->slots * sizeof *d->places);
+    for (d->known = 0; d->known < known; d->known++) {
+        *domepeeler_place(d, d->ids[d->known]->id, 0) = d->known + 1;
+        *domepeeler_place(d, d->ids[d->known]->name, 1) = d->known + 1;
+    }
+}
+
+/* From now on the name is that of this id. Answers 1, or 0 without memory. */
+static inline int domepeeler_keep(struct domepeeler *d, const char *id, const char *name) {
+    if (2 * (d->known + 1) > d->slots) {
+        size_t slots = d->slots ? 2 * d->slots : 64;
+        struct domepeeler_id **ids = (struct domepeeler_id **)realloc(d->ids, slots * sizeof *ids);
+        if (ids) d->ids = ids;
+        size_t *places = ids ? (size_t *)realloc(d->places, 2 * slots * sizeof *places) : NULL;
+        if (!places) return 0;
+        d->places = places;
+        d->slots = slots;
+        domepeeler_arrange(d, d->known);
+    }
+    struct domepeeler_id *one = (struct domepeeler_id *)malloc(sizeof *one + strlen(id) + 1);
+    if (!one) return 0;
+    one->id = (char *)(one + 1);
+    strcpy(one->id, id);
+    strcpy(one->name, name);
+    d->ids[d->known] = one;
+    *domepeeler_place(d, one->id, 0) = *domepeeler_place(d, one->name, 1) = d->known + 1;
+    d->known += 1;
+    d->shortened += strcmp(id, name) != 0;
+    return 1;
+}
+
+/* Forgets all ids but the first so many. */
+static inline void domepeeler_forget(struct domepeeler *d, size_t known) {
+    if (d->known == known) return;
+    for (size_t i = known; i < d->known; i++) {
+        d->shortened -= strcmp(d->ids[i]->id, d->ids[i]->name) != 0;
+        free(d->ids[i]);
+    }
+    domepeeler_arrange(d, known);
+}
+
 static inline void domepeeler_free(struct domepeeler *d) {
-    if (d) free(d->text);
+    if (!d) return;
+    for (size_t i = 0; i < d->known; i++) free(d->ids[i]);
+    for (int i = 0; i < d->replicas; i++) {
+        free(d->of[i].changes);
+        free(d->of[i].pasts);
+    }
+    free(d->ids);
+    free(d->places);
+    free(d->text);
     free(d);
 }
 
@@ -115,6 +197,12 @@ static inline int domepeeler_full(const struct domepeeler *d) { return d->full; 
 /* The trace; of one replica's log the text that merge.py takes. It stays until the next call. */
 static inline const char *domepeeler_text(const struct domepeeler *d) { return d->text; }
 
+/* The id of more than 32 bytes of which this name in the trace is short; NULL where the name is no short one. */
+static inline const char *domepeeler_id_of(const struct domepeeler *d, const char *name) {
+    const struct domepeeler_id *one = domepeeler_find(d, name, 1);
+    return one && strcmp(one->id, name) ? one->id : NULL;
+}
+
 /* Writes the text into a file of this name. Answers 1. */
 static inline unsigned domepeeler_save(struct domepeeler *d, const char *path) {
     FILE *file = fopen(path, "wb");
@@ -134,12 +222,53 @@ static inline unsigned domepeeler_acts(struct domepeeler *d, int replica) {
     return domepeeler_refuse(d, 0, "this log is of replica %d alone, not of %d", d->only, replica);
 }
 
-static inline unsigned domepeeler_name(struct domepeeler *d, const char *name) {
+/* Whether an id has the form of a UUID: 8, 4, 4, 4 and 12 hexadecimal digits between dashes. */
+static inline int domepeeler_is_uuid(const char *id) {
+    for (size_t i = 0; i < DOMEPEELER_UUID; i++) {
+        int is_dash = i == 8 || i == 13 || i == 18 || i == 23;
+        if (!id[i] || (is_dash ? id[i] != '-' : !strchr("0123456789ABCDEFabcdef", id[i]))) return 0;
+    }
+    return !id[DOMEPEELER_UUID];
+}
+
+/* Makes a short name for an id, which no other id has. */
+static inline const char *domepeeler_shorten(struct domepeeler *d, const char *id) {
+    char name[DOMEPEELER_BYTES + 1] = "";
+    if (domepeeler_is_uuid(id))
+        for (size_t i = 0, digits = 0; digits < DOMEPEELER_BYTES; i++)
+            if (id[i] != '-') name[digits++] = id[i];
+    for (size_t number = 1 + d->shortened; !*name || domepeeler_find(d, name, 1); number++) {
+        if (d->only >= 0) {
+            domepeeler_refuse(d, 0, "one replica's log can't number the id \"%s\", since the other machines would number on their own", id);
+            return NULL;
+        }
+        snprintf(name, sizeof name, "long%zu", number);
+    }
+    if (domepeeler_keep(d, id, name)) return d->ids[d->known - 1]->name;
+    domepeeler_refuse(d, 0, "no memory");
+    return NULL;
+}
+
+/* The name in the trace: what is given, or if that has more than 32 bytes, a short name that no other id has. NULL if refused. */
+static inline const char *domepeeler_name(struct domepeeler *d, const char *given) {
     static const char *allowed = "ABCDEFGHIJKLMNOPQRSTUVWXYZabcdefghijklmnopqrstuvwxyz0123456789_-.";
-    if (!name) return domepeeler_refuse(d, 0, "a name is a string, not NULL");
-    size_t length = strlen(name);
-    if (length >= 1 && length <= 32 && strspn(name, allowed) == length) return 1;
-    return domepeeler_refuse(d, 0, "name \"%s\" is not 1 to 32 of A-Z a-z 0-9 _ - .", name);
+    size_t length = given ? strlen(given) : 0;
+    if (!given) {
+        domepeeler_refuse(d, 0, "a name is a string, not NULL");
+    } else if (length > DOMEPEELER_BYTES) {
+        const struct domepeeler_id *one = domepeeler_find(d, given, 0);
+        return one ? one->name : domepeeler_shorten(d, given);
+    } else if (!length || strspn(given, allowed) != length) {
+        domepeeler_refuse(d, 0, "name \"%s\" is not 1 to 32 of A-Z a-z 0-9 _ - .", given);
+    } else if (length == DOMEPEELER_BYTES || strncmp(given, "long", 4) == 0) { /* other names are never short for an id */
+        const struct domepeeler_id *one = domepeeler_find(d, given, 1);
+        if (one ? strcmp(one->id, given) == 0 : domepeeler_keep(d, given, given)) return given;
+        if (one) domepeeler_refuse(d, 0, "name \"%s\" is short for the id \"%s\" already", given, one->id);
+        else domepeeler_refuse(d, 0, "no memory");
+    } else {
+        return given;
+    }
+    return NULL;
 }
 
 static inline unsigned domepeeler_room(struct domepeeler *d, int replica) {
@@ -164,16 +293,27 @@ static inline unsigned domepeeler_fits(struct domepeeler *d, int replica, unsign
     return 1;
 }
 
-static inline unsigned domepeeler_operation(struct domepeeler *d, int replica, const char *words, unsigned inserts,
-                                            const char *const *response, size_t names) {
-    size_t bytes = 16 + strlen(words);
-    for (size_t i = 0; i < names; i++) {
+/* Room for what is kept of one more operation. */
+static inline int domepeeler_one_more(struct domepeeler_replica *own) {
+    if (own->operations < own->room) return 1;
+    unsigned room = own->room ? 2 * own->room : 16;
+    unsigned *changes = (unsigned *)realloc(own->changes, room * sizeof *changes);
+    if (changes) own->changes = changes;
+    void *pasts = changes ? realloc(own->pasts, room * sizeof *own->pasts) : NULL;
+    if (!pasts) return 0;
+    own->pasts = (unsigned(*)[DOMEPEELER_REPLICAS])pasts;
+    own->room = room;
+    return 1;
+}
+
+static inline unsigned domepeeler_line(struct domepeeler *d, int replica, const char *words, unsigned inserts,
+                                       const char *const *response, size_t names) {
+    for (size_t i = 0; i < names; i++)
         if (!domepeeler_name(d, response[i])) return 0;
-        bytes += 1 + strlen(response[i]);
-    }
     if (!domepeeler_fits(d, replica, inserts, names)) return 0;
-    if (!domepeeler_grow(d, bytes)) return domepeeler_refuse(d, 0, "no memory");
     struct domepeeler_replica *own = &d->of[replica];
+    if (!domepeeler_one_more(own) || !domepeeler_grow(d, 16 + strlen(words) + names * (1 + DOMEPEELER_BYTES)))
+        return domepeeler_refuse(d, 0, "no memory");
     own->entries += 1;
     own->inserts += inserts;
     own->places += (unsigned)names;
@@ -184,45 +324,73 @@ static inline unsigned domepeeler_operation(struct domepeeler *d, int replica, c
     domepeeler_put(d, " :");
     for (size_t i = 0; i < names; i++) {
         domepeeler_put(d, " ");
-        domepeeler_put(d, response[i]);
+        domepeeler_put(d, domepeeler_name(d, response[i]));
     }
     domepeeler_put(d, "\n");
-    return ++own->operations;
+    memcpy(own->pasts[own->operations++], own->others, sizeof own->others);
+    if (words[0] == 'i' || words[0] == 'd') own->changes[own->changed++] = own->operations; /* ins, del */
+    return own->operations;
+}
+
+/* Records an operation, or leaves all as it was, what is known of ids among it. */
+static inline unsigned domepeeler_operation(struct domepeeler *d, int replica, const char *words, unsigned inserts,
+                                            const char *const *response, size_t names, size_t known) {
+    unsigned n = words ? domepeeler_line(d, replica, words, inserts, response, names) : 0;
+    if (!n) domepeeler_forget(d, known);
+    return n;
 }
 
 /* The replica inserted the name at the position and then had this list. Answers the operation's number. */
 static inline unsigned domepeeler_insert(struct domepeeler *d, int replica, const char *name, long long position,
                                          const char *const *response, size_t names) {
     char words[80];
-    if (!domepeeler_acts(d, replica) || !domepeeler_name(d, name)) return 0;
-    if (position < 0 || position > DOMEPEELER_POSITION)
-        return domepeeler_refuse(d, 0, "position %lld is not a whole number from 0 to %lld", position,
-                                 DOMEPEELER_POSITION);
+    size_t known = d->known;
+    if (!domepeeler_acts(d, replica) || !(name = domepeeler_name(d, name))) return 0;
+    int is_right = position >= 0 && position <= DOMEPEELER_POSITION;
+    if (!is_right)
+        domepeeler_refuse(d, 0, "position %lld is not a whole number from 0 to %lld", position, DOMEPEELER_POSITION);
     snprintf(words, sizeof words, "ins %s %lld", name, position);
-    return domepeeler_operation(d, replica, words, 1, response, names);
+    return domepeeler_operation(d, replica, is_right ? words : NULL, 1, response, names, known);
 }
 
 /* The replica deleted the name and then had this list. Answers the operation's number. */
 static inline unsigned domepeeler_delete(struct domepeeler *d, int replica, const char *name,
                                          const char *const *response, size_t names) {
     char words[80];
-    if (!domepeeler_acts(d, replica) || !domepeeler_name(d, name)) return 0;
+    size_t known = d->known;
+    if (!domepeeler_acts(d, replica) || !(name = domepeeler_name(d, name))) return 0;
     snprintf(words, sizeof words, "del %s", name);
-    return domepeeler_operation(d, replica, words, 0, response, names);
+    return domepeeler_operation(d, replica, words, 0, response, names, known);
 }
 
 /* The replica read its list. Answers the operation's number. */
 static inline unsigned domepeeler_read(struct domepeeler *d, int replica, const char *const *response, size_t names) {
     if (!domepeeler_acts(d, replica)) return 0;
-    return domepeeler_operation(d, replica, "read", 0, response, names);
+    return domepeeler_operation(d, replica, "read", 0, response, names, d->known);
 }
 
 /* The replica showed this part of its list, the window of an editor say. Answers the operation's number. */
 static inline unsigned domepeeler_view(struct domepeeler *d, int replica, const char *const *part, size_t names) {
     if (!domepeeler_acts(d, replica)) return 0;
-    unsigned n = domepeeler_operation(d, replica, "view", 0, part, names);
+    unsigned n = domepeeler_operation(d, replica, "view", 0, part, names, d->known);
     if (n) d->text[strlen("trace ")] = '2';
     return n;
+}
+
+/* Writes a receipt that may be written. */
+static inline unsigned domepeeler_receipt(struct domepeeler *d, int replica, int author, long long n) {
+    if (!domepeeler_room(d, replica)) return 0;
+    struct domepeeler_replica *own = &d->of[replica];
+    char line[64];
+    snprintf(line, sizeof line, "%d recv %d %lld\n", replica, author, n);
+    if (!domepeeler_grow(d, strlen(line))) return domepeeler_refuse(d, 0, "no memory");
+    domepeeler_put(d, line);
+    own->entries += 1;
+    for (int other = 0; other < d->replicas && d->only < 0; other++) {
+        unsigned seen = other == author ? (unsigned)n : d->of[author].pasts[n - 1][other];
+        if (seen > own->others[other]) own->others[other] = seen;
+    }
+    return 1;
 }
 
 /* The author's operation n, and with it all that the author had seen by then, was applied at the replica. Answers 1. */
@@ -236,13 +404,82 @@ static inline unsigned domepeeler_received(struct domepeeler *d, int replica, in
     if (n > have && d->only < 0)
         return domepeeler_refuse(d, 0, "%d.%lld cannot have arrived: replica %d has %u operations so far", author, n,
                                  author, have);
-    if (!domepeeler_room(d, replica)) return 0;
-    char line[64];
-    snprintf(line, sizeof line, "%d recv %d %lld\n", replica, author, n);
-    if (!domepeeler_grow(d, strlen(line))) return domepeeler_refuse(d, 0, "no memory");
-    domepeeler_put(d, line);
-    d->of[replica].entries += 1;
+    return domepeeler_receipt(d, replica, author, n);
+}
+
+/* How many of the replica's inserts and deletes are among its first operations, so many of them. */
+static inline unsigned domepeeler_up_to(const struct domepeeler_replica *of, unsigned operations) {
+    unsigned low = 0, high = of->changed;
+    while (low < high) {
+        unsigned middle = low + (high - low) / 2;
+        if (of->changes[middle] <= operations) low = middle + 1;
+        else high = middle;
+    }
+    return low;
+}
+
+/* How many operations of another replica, or of itself, the replica has. */
+static inline unsigned domepeeler_has(const struct domepeeler *d, int replica, int other) {
+    return other == replica ? d->of[replica].operations : d->of[replica].others[other];
+}
+
+static inline unsigned domepeeler_in_one_recording(struct domepeeler *d) {
+    if (d->only < 0) return 1;
+    return domepeeler_refuse(d, 0, "one replica's log does not know the changes of the others: send each operation's number, "
+                                   "and call received");
+}
+
+/* How many inserts and deletes of each replica this one has, one count for each: the vector clock of an update that it makes now.
+ * Answers 1. */
+static inline unsigned domepeeler_clock(struct domepeeler *d, int replica, unsigned *clock) {
+    if (!domepeeler_acts(d, replica) || !domepeeler_in_one_recording(d)) return 0;
+    for (int other = 0; other < d->replicas; other++)
+        clock[other] = domepeeler_up_to(&d->of[other], domepeeler_has(d, replica, other));
     return 1;
+}
+
+static inline unsigned domepeeler_check_clock(struct domepeeler *d, const unsigned *clock, size_t counts) {
+    if (!domepeeler_in_one_recording(d)) return 0;
+    if (counts != (size_t)d->replicas) return domepeeler_refuse(d, 0, "a clock has a count for each of %d replicas", d->replicas);
+    for (int other = 0; other < d->replicas; other++)
+        if (clock[other] > d->of[other].changed)
+            return domepeeler_refuse(d, 0, "the clock counts %u changes of replica %d, which has recorded %u", clock[other], other,
+                                     d->of[other].changed);
+    return 1;
+}
+
+/* The replica has, or gets with the carried changes, which are the author's from the first one on, all that the author had seen at
+ * its operation n. */
+static inline unsigned domepeeler_check_causal(struct domepeeler *d, int replica, int author, unsigned n, const unsigned *clock,
+                                               unsigned first) {
+    for (int other = 0; other < d->replicas; other++) {
+        const struct domepeeler_replica *of = &d->of[other];
+        unsigned seen = domepeeler_up_to(of, other == author ? n - 1 : d->of[author].pasts[n - 1][other]);
+        unsigned lacking = domepeeler_up_to(of, domepeeler_has(d, replica, other));
+        if (clock[other] > seen) seen = clock[other];
+        if (lacking < seen && (other != author || of->changes[lacking] < first))
+            return domepeeler_refuse(d, 0, "not causal: %d.%u was applied at replica %d before %d.%u, which replica %d had seen; "
+                                           "%d.%u has to arrive first, or in the same update", author, n, replica, other,
+                                     of->changes[lacking], author, other, of->changes[lacking]);
+    }
+    return 1;
+}
+
+/* The author's update with this vector clock was applied at the replica: it carries the last of the author's changes that the clock
+ * counts, or so many of the last. The clock has for each replica how many of its inserts and deletes the author had seen, its own
+ * with the carried ones among them. Writes the receipt, unless the replica has it already. Answers 1. */
+static inline unsigned domepeeler_received_clock(struct domepeeler *d, int replica, int author, const unsigned *clock,
+                                                 size_t counts, unsigned changes) {
+    if (!domepeeler_acts(d, replica) || !domepeeler_known(d, author)) return 0;
+    if (author == replica) return domepeeler_refuse(d, 0, "replica %d receives no operation of its own", replica);
+    if (!domepeeler_check_clock(d, clock, counts)) return 0;
+    unsigned most = clock[author], *own = d->of[author].changes, have = domepeeler_has(d, replica, author);
+    if (!most) return domepeeler_refuse(d, 0, "the clock counts no change of replica %d, whose update it is", author);
+    if (changes < 1 || changes > most)
+        return domepeeler_refuse(d, 0, "an update carries 1 to %u of the changes that its clock counts, not %u", most, changes);
+    for (unsigned i = most - changes; i < most; i++)
+        if (own[i] > have && !domepeeler_check_causal(d, replica, author, own[i], clock, own[most - changes])) return 0;
+    return own[most - 1] > have ? domepeeler_receipt(d, replica, author, own[most - 1]) : 1;
 }
 
 /* All that stands in the file, for free(); NULL where it can't be read. */

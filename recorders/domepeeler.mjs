@@ -1,6 +1,7 @@
 // Records what the replicas of a list editor do and answer, and has Domepeeler judge it.
 //
-// Copy this file into your project. It needs no module; save() and judge() need Node.js. docs/recording.md says where the calls go.
+// Copy this file into your project, or install the package in recorders/javascript, which is made of it. It needs no module; save(),
+// judge() and explain() need Node.js. docs/recording.md says where the calls go.
 //
 //     const recording = new Recording(2)
 //     const n = recording.insert(0, "a", 0, ["a"]) // replica 0 inserted a at position 0, and its list is now: a
@@ -10,12 +11,18 @@
 //     recording.view(0, ["a"])                     // replica 0 showed this part of its list
 //     await recording.save("session.trace")        // the trace as a file, for tools/explain
 //     console.log((await recording.judge()).verdict) // asks the program
+//     console.log(await recording.explain())         // what that means, in words
+//
+// Where updates have vector clocks, or ids, `receivedClock` and `receivedChanges` write the receipts, and refuse what is not causal.
 //
 // Each call that a trace can't say throws Refused, or Full at a limit, and leaves the recording as it was.
 
 const MOST_REPLICAS = 16, MOST_ENTRIES = 16384, MOST_INSERTS = 4096
 const MOST_NAMES = 4096, MOST_PLACES = 262144, MOST_POSITION = 4294967295
+const MOST_BYTES = 32
 const NAME = /^[A-Za-z0-9_.-]{1,32}$/
+const UUID = /^[0-9A-Fa-f]{8}(-[0-9A-Fa-f]{4}){3}-[0-9A-Fa-f]{12}$/
+const MOST_PRINTED = 1 << 28 // bytes: no report is as long
 
 /** No trace can say this. */
 export class Refused extends Error {}
@@ -23,47 +30,49 @@ export class Refused extends Error {}
 /** The replica has reached a limit of traces: end this session, and begin another. */
 export class Full extends Refused {}
 
+/** An update was applied at a replica that lacks a change which the update's author had seen. */
+export class NotCausal extends Refused {}
+
 /** A session of so many replicas; with `only`, the log that this one replica keeps on its own machine. */
 export class Recording {
   #lines
   #replicas
   #only
+  #ids = new Map() // by name: the id that has this name, where another id might come to the same name
+  #short = new Map() // by id: its name, where that is a shorter one
+  #changes = new Map() // by the id of a change: its operations, of one author
 
   constructor(replicas, only = null) {
     if (!whole(replicas, 1, MOST_REPLICAS)) throw new Refused(`replicas are 1 to ${MOST_REPLICAS}, not ${replicas}`)
     this.#lines = ["trace 1", `replicas ${replicas}`]
-    this.#replicas = Array.from({ length: replicas }, () => ({ entries: 0, operations: 0, inserts: 0, places: 0 }))
+    // changes: its operations that insert or delete; others: how many operations of each it has received; pasts: the same at each
+    // operation of its own
+    const replica = () => ({ entries: 0, operations: 0, inserts: 0, places: 0, changes: [], others: Array(replicas).fill(0), pasts: [] })
+    this.#replicas = Array.from({ length: replicas }, replica)
     if (only !== null) this.#known(only)
     this.#only = only
   }
 
-  /** The replica inserted the name at the position and then had this list. Answers the operation's number. */
-  insert(replica, name, position, response) {
-    this.#acts(replica)
-    checkName(name)
-    if (!whole(position, 0, MOST_POSITION)) {
-      throw new Refused(`position ${position} is not a whole number from 0 to ${MOST_POSITION}`)
-    }
-    return this.#operation(replica, `ins ${name} ${position}`, response, 1)
+  /** The replica inserted the name at the position and then had this list. Answers the operation's number. The change's id is for
+   * receivedChanges(). */
+  insert(replica, name, position, response, changeId = null) {
+    return this.#operation(replica, "ins", response, name, position, changeId)
   }
 
-  /** The replica deleted the name and then had this list. Answers the operation's number. */
-  delete(replica, name, response) {
-    this.#acts(replica)
-    checkName(name)
-    return this.#operation(replica, `del ${name}`, response, 0)
+  /** The replica deleted the name and then had this list. Answers the operation's number. The change's id is for
+   * receivedChanges(). */
+  delete(replica, name, response, changeId = null) {
+    return this.#operation(replica, "del", response, name, null, changeId)
   }
 
   /** The replica read its list. Answers the operation's number. */
   read(replica, response) {
-    this.#acts(replica)
-    return this.#operation(replica, "read", response, 0)
+    return this.#operation(replica, "read", response)
   }
 
   /** The replica showed this part of its list, the window of an editor say. Answers the operation's number. */
   view(replica, part) {
-    this.#acts(replica)
-    const n = this.#operation(replica, "view", part, 0)
+    const n = this.#operation(replica, "view", part)
     this.#lines[0] = "trace 2"
     return n
   }
@@ -75,14 +84,58 @@ export class Recording {
     if (!whole(n, 1, MOST_POSITION)) {
       throw new Refused(`operation number ${n} is not a whole number from 1 to ${MOST_POSITION}`)
     }
-    if (author === replica) throw new Refused(`replica ${replica} receives no operation of its own`)
+    this.#ofAnother(replica, author)
     const have = this.#replicas[author].operations
     if (n > have && this.#only === null) {
       throw new Refused(`${author}.${n} cannot have arrived: replica ${author} has ${have} operations so far`)
     }
     this.#room(replica)
-    this.#replicas[replica].entries += 1
-    this.#lines.push(`${replica} recv ${author} ${n}`)
+    this.#receipt(replica, author, n)
+  }
+
+  /** The author's update with this vector clock was applied at the replica: it carries the last of the author's changes that the clock
+   * counts, or so many of the last. The clock has for each replica how many of its inserts and deletes the author had seen, its own
+   * with the carried ones among them: a list, a Map by replica, or an object. Writes the receipt, unless the replica has it already. */
+  receivedClock(replica, author, clock, changes = 1) {
+    this.#acts(replica)
+    this.#known(author)
+    this.#ofAnother(replica, author)
+    const counts = this.#counts(clock)
+    if (!counts[author]) throw new Refused(`the clock counts no change of replica ${author}, whose update it is`)
+    if (!whole(changes, 1, counts[author])) {
+      throw new Refused(`an update carries 1 to ${counts[author]} of the changes that its clock counts, not ${changes}`)
+    }
+    const carried = this.#replicas[author].changes.slice(counts[author] - changes, counts[author]).map((n) => [author, n])
+    this.#take(replica, carried, counts.map((count, other) => (count ? this.#replicas[other].changes[count - 1] : 0)))
+  }
+
+  /** An update that carries the changes with these ids, and no others, was applied at the replica. Writes a receipt for each author of
+   * them, unless the replica has it already. */
+  receivedChanges(replica, changeIds) {
+    this.#acts(replica)
+    this.#inOneRecording()
+    if (typeof changeIds === "string" || typeof changeIds?.[Symbol.iterator] !== "function") {
+      throw new Refused("an update carries a list or a set of ids")
+    }
+    const carried = []
+    for (const changeId of changeIds) {
+      checkId(changeId)
+      if (!this.#changes.has(changeId)) throw new Refused(`no change with the id ${JSON.stringify(changeId)} has been recorded`)
+      carried.push(...this.#changes.get(changeId))
+    }
+    this.#take(replica, carried, null)
+  }
+
+  /** How many inserts and deletes of each replica this one has: the vector clock of an update that it makes now. */
+  clock(replica) {
+    this.#acts(replica)
+    this.#inOneRecording()
+    return this.#has(replica).map((have, other) => upTo(this.#replicas[other].changes, have))
+  }
+
+  /** By name in the trace the id of which it is short, for each id of more than 32 bytes; a Map. */
+  ids() {
+    return new Map([...this.#short].map(([given, name]) => [name, given]))
   }
 
   /** The trace; of one replica's log the text that merge.py takes. */
@@ -96,19 +149,36 @@ export class Recording {
     await writeFile(path, this.text())
   }
 
-  /** A promise of the program's report on this recording. The program is that of $DOMEPEELER, or `domepeeler`. */
-  async judge(program = process.env.DOMEPEELER || "domepeeler") {
-    if (this.#only !== null) throw new Refused("one replica's log is no recording: merge the logs first")
-    const { spawnSync } = await import("node:child_process")
-    const most = 1 << 28 // bytes: no report is as long
-    const done = spawnSync(program, ["verdict", "--json", "-"], { input: this.text(), maxBuffer: most, encoding: "utf8" })
-    if (done.error && done.status === null) {
-      throw new Error(`${program} cannot be run (${done.error.code}): name the program's path in DOMEPEELER`)
-    }
-    if ((done.status !== 0 && done.status !== 1) || !done.stdout.startsWith("{")) {
-      throw new Error(`${program} ended with status ${done.status}: ${done.stderr.trim()}`)
-    }
+  /** A promise of the program's report on this recording. The program is the words that are given, that of $DOMEPEELER, or
+   * `domepeeler`. */
+  async judge(program = null) {
+    const { name, done } = await this.#ask(program, "DOMEPEELER", "domepeeler", "the program's", ["verdict", "--json", "-"])
+    if ((done.status !== 0 && done.status !== 1) || !done.stdout.startsWith("{")) throw ended(name, done)
     return JSON.parse(done.stdout)
+  }
+
+  /** A promise of what the report means, in words, and at the end the ids of the numbered names. The tool is the words that are given,
+   * that of $DOMEPEELER_EXPLAIN, or `domepeeler-explain`. */
+  async explain(explainer = null) {
+    const { name, done } = await this.#ask(explainer, "DOMEPEELER_EXPLAIN", "domepeeler-explain", "the tool's", ["-"])
+    if ((done.status !== 0 && done.status !== 1) || !done.stdout) throw ended(name, done)
+    const words = new Set(done.stdout.match(/[A-Za-z0-9]+/g))
+    const told = [...this.ids()].filter(([short]) => words.has(short) && short.startsWith("long"))
+    const lines = told.map(([short, given]) => `  ${short}: ${given}\n`)
+    return done.stdout + (lines.length ? `\nIds that were too long for a name\n${lines.join("")}` : "")
+  }
+
+  // How a program ended that had the text on its standard input, and its name.
+  async #ask(given, variable, command, whose, more) {
+    if (this.#only !== null) throw new Refused("one replica's log is no recording: merge the logs first")
+    const asked = given || process.env[variable] || command
+    const [name, ...words] = Array.isArray(asked) ? asked : [asked]
+    const { spawnSync } = await import("node:child_process")
+    const done = spawnSync(name, [...words, ...more], { input: this.text(), maxBuffer: MOST_PRINTED, encoding: "utf8" })
+    if (done.error && done.status === null) {
+      throw new Error(`${name} cannot be run (${done.error.code}): name ${whose} path in ${variable}`)
+    }
+    return { name, done }
   }
 
   #known(replica) {
@@ -123,42 +193,200 @@ export class Recording {
     }
   }
 
-  #room(replica) {
-    if (this.#replicas[replica].entries === MOST_ENTRIES) {
-      throw new Full(`replica ${replica} has ${MOST_ENTRIES} entries, the most that a trace takes`)
+  #ofAnother(replica, author) {
+    if (author === replica) throw new Refused(`replica ${replica} receives no operation of its own`)
+  }
+
+  #inOneRecording() {
+    if (this.#only !== null) {
+      throw new Refused("one replica's log does not know the changes of the others: send each operation's number, and call received")
     }
   }
 
-  #operation(replica, words, response, inserts) {
+  #room(replica, entries = 1) {
+    const have = this.#replicas[replica].entries
+    if (have + entries > MOST_ENTRIES) {
+      throw new Full(`replica ${replica} has ${have} entries, the most that a trace takes${entries > 1 ? ` is ${MOST_ENTRIES}` : ""}`)
+    }
+  }
+
+  // Records it, or throws and leaves all as it was, the names of ids among it.
+  #operation(replica, kind, response, name, position, changeId = null) {
+    const before = this.#ids.size
+    try {
+      return this.#said(replica, kind, response, name, position, changeId)
+    } catch (why) {
+      for (const [short, given] of [...this.#ids].slice(before)) {
+        this.#ids.delete(short)
+        this.#short.delete(given)
+      }
+      throw why
+    }
+  }
+
+  #said(replica, kind, response, name, position, changeId) {
+    this.#acts(replica)
+    const words = [replica, kind]
+    const isInsert = kind === "ins", isChange = isInsert || kind === "del"
+    if (isChange) words.push(this.#name(name))
+    if (isInsert) {
+      if (!whole(position, 0, MOST_POSITION)) {
+        throw new Refused(`position ${position} is not a whole number from 0 to ${MOST_POSITION}`)
+      }
+      words.push(position)
+    }
     if (!Array.isArray(response)) throw new Refused("a response is a list of names")
-    for (const name of response) checkName(name)
+    const names = response.map((one) => this.#name(one))
+    if (changeId !== null) this.#checkChange(replica, changeId)
+    this.#fits(replica, isInsert ? 1 : 0, names.length)
+    const own = this.#replicas[replica]
+    own.entries += 1
+    own.operations += 1
+    own.inserts += isInsert ? 1 : 0
+    own.places += names.length
+    own.pasts.push(own.others)
+    if (isChange) own.changes.push(own.operations)
+    if (changeId !== null) {
+      this.#changes.set(changeId, [...(this.#changes.get(changeId) ?? []), [replica, own.operations]])
+    }
+    this.#lines.push([...words, ":", ...names].join(" "))
+    return own.operations
+  }
+
+  // The limits, in the order in which the program tests them.
+  #fits(replica, inserts, names) {
     this.#room(replica)
     const own = this.#replicas[replica]
     if (own.inserts + inserts > MOST_INSERTS) {
       throw new Full(`replica ${replica} has ${MOST_INSERTS} inserts, the most that a trace takes`)
     }
-    if (response.length > MOST_NAMES) {
-      throw new Full(`a response of ${response.length} names, the most that a trace takes is ${MOST_NAMES}`)
+    if (names > MOST_NAMES) {
+      throw new Full(`a response of ${names} names, the most that a trace takes is ${MOST_NAMES}`)
     }
-    const places = own.places + response.length
-    if (places > MOST_PLACES) {
-      throw new Full(`${places} names over the responses of replica ${replica}, ` +
+    if (own.places + names > MOST_PLACES) {
+      throw new Full(`${own.places + names} names over the responses of replica ${replica}, ` +
         `the most that a trace takes is ${MOST_PLACES}`)
     }
-    own.entries += 1
-    own.operations += 1
-    own.inserts += inserts
-    own.places = places
-    this.#lines.push([`${replica} ${words} :`, ...response].join(" "))
-    return own.operations
   }
+
+  // The name in the trace: what is given, or if that has more than 32 bytes, a short name that no other id has.
+  #name(given) {
+    if (typeof given !== "string") throw new Refused(`a name is a string, not ${given}`)
+    if (this.#short.has(given)) return this.#short.get(given)
+    if (NAME.test(given)) {
+      if (given.length === MOST_BYTES || given.startsWith("long")) { // others are never short for an id
+        const had = this.#ids.get(given) ?? given
+        if (had !== given) throw new Refused(`name "${given}" is short for the id "${had}" already`)
+        this.#ids.set(given, given)
+      }
+      return given
+    }
+    if (new TextEncoder().encode(given).length <= MOST_BYTES) {
+      throw new Refused(`name "${given}" is not 1 to 32 of A-Z a-z 0-9 _ - .`)
+    }
+    let name = UUID.test(given) ? given.replaceAll("-", "") : ""
+    if (!name || this.#ids.has(name)) name = this.#numbered(given)
+    this.#ids.set(name, given)
+    this.#short.set(given, name)
+    return name
+  }
+
+  // The next name that stands for an id.
+  #numbered(given) {
+    if (this.#only !== null) {
+      throw new Refused(`one replica's log can't number the id "${given}", since the other machines would number on their own`)
+    }
+    let number = 1 + this.#short.size
+    while (this.#ids.has(`long${number}`)) number += 1
+    return `long${number}`
+  }
+
+  #checkChange(replica, changeId) {
+    checkId(changeId)
+    const [had] = this.#changes.get(changeId) ?? []
+    if (had && had[0] !== replica) throw new Refused(`the id ${JSON.stringify(changeId)} is that of ${had[0]}.${had[1]} already`)
+  }
+
+  // How many operations of each replica this one has.
+  #has(replica) {
+    return this.#replicas[replica].others.map((have, other) => (other === replica ? this.#replicas[replica].operations : have))
+  }
+
+  // The clock as a list.
+  #counts(clock) {
+    this.#inOneRecording()
+    let counts = clock
+    if (!Array.isArray(clock)) {
+      const pairs = clock instanceof Map ? [...clock] : clock && typeof clock === "object" ? Object.entries(clock) : []
+      counts = pairs.length ? this.#replicas.map(() => 0) : []
+      for (const [key, count] of pairs) {
+        const replica = typeof key === "string" && /^[0-9]+$/.test(key) ? Number(key) : key
+        this.#known(replica)
+        counts[replica] = count
+      }
+    }
+    if (counts.length !== this.#replicas.length) throw new Refused(`a clock has a count for each of ${this.#replicas.length} replicas`)
+    counts.forEach((count, replica) => {
+      if (!whole(count, 0, MOST_POSITION)) throw new Refused(`count ${count} of a clock is not a whole number from 0 to ${MOST_POSITION}`)
+      const have = this.#replicas[replica].changes.length
+      if (count > have) throw new Refused(`the clock counts ${count} changes of replica ${replica}, which has recorded ${have}`)
+    })
+    return counts
+  }
+
+  // Writes the receipts of what an update carries, if the replica has or gets with it all that the authors had seen.
+  #take(replica, carried, seen) {
+    const has = this.#has(replica), isCarried = new Set(carried.map((one) => one.join(".")))
+    const missing = carried.filter(([author, n]) => n > has[author]).sort((a, b) => a[0] - b[0] || a[1] - b[1])
+    const ends = new Map(missing)
+    for (const [author, n] of missing) {
+      this.#replicas[author].pasts[n - 1].forEach((past, other) => {
+        const last = Math.max(other === author ? n - 1 : past, seen ? seen[other] : 0)
+        const changes = this.#replicas[other].changes
+        const lacking = changes.slice(upTo(changes, has[other]), upTo(changes, last)).find((one) => !isCarried.has(`${other}.${one}`))
+        if (lacking === undefined) return
+        throw new NotCausal(`not causal: ${author}.${n} was applied at replica ${replica} before ${other}.${lacking}, ` +
+          `which replica ${author} had seen; ${other}.${lacking} has to arrive first, or in the same update`)
+      })
+    }
+    this.#room(replica, ends.size)
+    for (const [author, n] of ends) this.#receipt(replica, author, n)
+  }
+
+  // Writes a receipt that may be written.
+  #receipt(replica, author, n) {
+    const own = this.#replicas[replica]
+    own.entries += 1
+    if (this.#only === null) {
+      const past = this.#replicas[author].pasts[n - 1]
+      const others = own.others.map((have, other) => Math.max(have, past[other], other === author ? n : 0))
+      if (others.some((have, other) => have > own.others[other])) own.others = others
+    }
+    this.#lines.push(`${replica} recv ${author} ${n}`)
+  }
+}
+
+// How many of the rising numbers are at most this one.
+function upTo(numbers, most) {
+  let low = 0, high = numbers.length
+  while (low < high) {
+    const middle = (low + high) >> 1
+    if (numbers[middle] <= most) low = middle + 1
+    else high = middle
+  }
+  return low
 }
 
 function whole(number, least, most) {
   return Number.isInteger(number) && least <= number && number <= most
 }
 
-function checkName(name) {
-  if (typeof name !== "string") throw new Refused(`a name is a string, not ${name}`)
-  if (!NAME.test(name)) throw new Refused(`name "${name}" is not 1 to 32 of A-Z a-z 0-9 _ - .`)
+function checkId(changeId) {
+  if (typeof changeId !== "string" && typeof changeId !== "number") {
+    throw new Refused(`an id of a change is a string or a number, not ${JSON.stringify(changeId) ?? changeId}`)
+  }
+}
+
+function ended(name, done) {
+  return new Error(`${name} ended with status ${done.status}: ${done.stderr.trim()}`)
 }

@@ -1,6 +1,7 @@
 """Records what the replicas of a list editor do and answer, and has Domepeeler judge it.
 
-Copy this file into your project; it needs Python 3 and nothing else. docs/recording.md says where the calls go.
+Copy this file into your project, or install the package in recorders/python, which is made of it. It needs Python 3 and nothing
+else. docs/recording.md says where the calls go.
 
     recording = Recording(2)
     n = recording.insert(0, "a", 0, ["a"])   # replica 0 inserted a at position 0, and its list is now: a
@@ -10,17 +11,29 @@ Copy this file into your project; it needs Python 3 and nothing else. docs/recor
     recording.view(0, ["a"])                 # replica 0 showed this part of its list
     recording.save("session.trace")          # the trace as a file, for tools/explain
     print(recording.judge()["verdict"])      # asks the program
+    print(recording.explain())               # what that means, in words
+
+Where updates have vector clocks, or ids, `received_clock` and `received_changes` write the receipts, and refuse what is not causal.
 
 Each call that a trace can't say raises `Refused`, or `Full` at a limit, and leaves the recording as it was."""
+from __future__ import annotations
+
 import json
 import os
 import re
 import subprocess
+from bisect import bisect_right
+from typing import Any, Dict, Hashable, Iterable, List, Mapping, NoReturn, Optional, Sequence, Set, Tuple, Union
 
 MOST_REPLICAS, MOST_ENTRIES, MOST_INSERTS = 16, 16384, 4096
-MOST_NAMES, MOST_PLACES, MOST_POSITION = 4096, 262144, 4294967295
-PATH = "name the program's path in DOMEPEELER"
+MOST_NAMES, MOST_PLACES, MOST_POSITION, MOST_BYTES = 4096, 262144, 4294967295, 32
 NAME = re.compile(r"[A-Za-z0-9_.-]{1,32}", re.ASCII)
+UUID = re.compile(r"[0-9A-Fa-f]{8}(-[0-9A-Fa-f]{4}){3}-[0-9A-Fa-f]{12}", re.ASCII)
+__tracebackhide__ = True  # pytest shows a refused call where the test makes it
+ONE_LOG = "one replica's log is no recording: merge the logs first"
+
+Clock = Union[Sequence[int], Mapping[int, int]]
+Words = Union[str, Sequence[str]]
 
 
 class Refused(ValueError):
@@ -31,48 +44,53 @@ class Full(Refused):
     """The replica has reached a limit of traces: end this session, and begin another."""
 
 
-class _Replica:
-    """What one replica has recorded: how many entries, operations, inserts and names in responses."""
+class NotCausal(Refused):
+    """An update was applied at a replica that lacks a change which the update's author had seen."""
 
-    def __init__(self):
+
+class _Replica:
+    """What one replica has recorded: how many entries, operations, inserts and names in responses; which of its operations are
+    changes; how many operations of each other replica it has received, now and at each operation of its own."""
+
+    def __init__(self, replicas: int) -> None:
         self.entries = self.operations = self.inserts = self.places = 0
+        self.changes: List[int] = []
+        self.others: Tuple[int, ...] = (0,) * replicas
+        self.pasts: List[Tuple[int, ...]] = []
 
 
 class Recording:
     """A session of so many replicas; with `only`, the log that this one replica keeps on its own machine."""
 
-    def __init__(self, replicas: int, only: int = None):
+    def __init__(self, replicas: int, only: Optional[int] = None) -> None:
         if not _whole(replicas, 1, MOST_REPLICAS):
             raise Refused(f"replicas are 1 to {MOST_REPLICAS}, not {replicas}")
         self._lines = ["trace 1", f"replicas {replicas}"]
-        self._replicas = [_Replica() for _ in range(replicas)]
-        self._only = None
+        self._replicas = [_Replica(replicas) for _ in range(replicas)]
+        self._only: Optional[int] = None
+        self._ids: Dict[str, str] = {}  # by name: the id that has this name, where another id might come to the same name
+        self._short: Dict[str, str] = {}  # by id: its name, where that is a shorter one
+        self._changes: Dict[Hashable, List[Tuple[int, int]]] = {}  # by the id of a change: its operations
         if only is not None:
             self._known(only)
             self._only = only
 
-    def insert(self, replica: int, name: str, position: int, response: list) -> int:
-        """The replica inserted the name at the position and then had this list. Answers the operation's number."""
-        self._acts(replica)
-        _check_name(name)
-        if not _whole(position, 0, MOST_POSITION):
-            raise Refused(f"position {position} is not a whole number from 0 to {MOST_POSITION}")
-        return self._operation(replica, f"ins {name} {position}", response, inserts=1)
+    def insert(self, replica: int, name: str, position: int, response: Iterable[str], change_id: Optional[Hashable] = None) -> int:
+        """The replica inserted the name at the position and then had this list. Answers the operation's number. The change's id is for
+        `received_changes`."""
+        return self._operation(replica, "ins", response, name, position, change_id)
 
-    def delete(self, replica: int, name: str, response: list) -> int:
-        """The replica deleted the name and then had this list. Answers the operation's number."""
-        self._acts(replica)
-        _check_name(name)
-        return self._operation(replica, f"del {name}", response)
+    def delete(self, replica: int, name: str, response: Iterable[str], change_id: Optional[Hashable] = None) -> int:
+        """The replica deleted the name and then had this list. Answers the operation's number. The change's id is for
+        `received_changes`."""
+        return self._operation(replica, "del", response, name, None, change_id)
 
-    def read(self, replica: int, response: list) -> int:
+    def read(self, replica: int, response: Iterable[str]) -> int:
         """The replica read its list. Answers the operation's number."""
-        self._acts(replica)
         return self._operation(replica, "read", response)
 
-    def view(self, replica: int, part: list) -> int:
+    def view(self, replica: int, part: Iterable[str]) -> int:
         """The replica showed this part of its list, the window of an editor say. Answers the operation's number."""
-        self._acts(replica)
         n = self._operation(replica, "view", part)
         self._lines[0] = "trace 2"
         return n
@@ -83,36 +101,93 @@ class Recording:
         self._known(author)
         if not _whole(n, 1, MOST_POSITION):
             raise Refused(f"operation number {n} is not a whole number from 1 to {MOST_POSITION}")
-        if author == replica:
-            raise Refused(f"replica {replica} receives no operation of its own")
+        self._of_another(replica, author)
         have = self._replicas[author].operations
         if n > have and self._only is None:
             raise Refused(f"{author}.{n} cannot have arrived: replica {author} has {have} operations so far")
         self._room(replica)
-        self._replicas[replica].entries += 1
-        self._lines.append(f"{replica} recv {author} {n}")
+        self._receipt(replica, author, n)
+
+    def received_clock(self, replica: int, author: int, clock: Clock, changes: int = 1) -> None:
+        """The author's update with this vector clock was applied at the replica: it carries the last of the author's changes that the
+        clock counts, or so many of the last. The clock has for each replica how many of its inserts and deletes the author had seen,
+        its own with the carried ones among them; as a list, or by replica. Writes the receipt, unless the replica has it already."""
+        self._acts(replica)
+        self._known(author)
+        self._of_another(replica, author)
+        counts = self._counts(clock)
+        if not counts[author]:
+            raise Refused(f"the clock counts no change of replica {author}, whose update it is")
+        if not _whole(changes, 1, counts[author]):
+            raise Refused(f"an update carries 1 to {counts[author]} of the changes that its clock counts, not {changes}")
+        own = self._replicas[author].changes
+        carried = {(author, n) for n in own[counts[author] - changes:counts[author]]}
+        self._take(replica, carried, [of.changes[count - 1] if count else 0 for of, count in zip(self._replicas, counts)])
+
+    def received_changes(self, replica: int, change_ids: Iterable[Hashable]) -> None:
+        """An update that carries the changes with these ids, and no others, was applied at the replica. Writes a receipt for each
+        author of them, unless the replica has it already."""
+        self._acts(replica)
+        self._in_one_recording()
+        if isinstance(change_ids, (str, bytes)) or not isinstance(change_ids, Iterable):
+            raise Refused("an update carries a list or a set of ids")
+        carried: Set[Tuple[int, int]] = set()
+        for change_id in change_ids:
+            _check_id(change_id)
+            if change_id not in self._changes:
+                raise Refused(f"no change with the id {_quoted(change_id)} has been recorded")
+            carried.update(self._changes[change_id])
+        self._take(replica, carried, [])
+
+    def clock(self, replica: int) -> List[int]:
+        """How many inserts and deletes of each replica this one has: the vector clock of an update that it makes now."""
+        self._acts(replica)
+        self._in_one_recording()
+        return [bisect_right(of.changes, have) for of, have in zip(self._replicas, self._has(replica))]
+
+    def ids(self) -> Dict[str, str]:
+        """By name in the trace the id of which it is short, for each id of more than 32 bytes."""
+        return {name: given for given, name in self._short.items()}
 
     def text(self) -> str:
         """The trace; of one replica's log the text that merge.py takes."""
         return "\n".join(self._lines) + "\n"
 
-    def save(self, path: str) -> None:
+    def save(self, path: Union[str, "os.PathLike[str]"]) -> None:
         """Writes the text into a file of this name."""
         with open(path, "wb") as file:  # as bytes: each line ends with LF alone on every system
             file.write(self.text().encode())
 
-    def judge(self, program: str = None) -> dict:
-        """The program's report on this recording. The program is that of $DOMEPEELER, or `domepeeler`."""
-        if self._only is not None:
-            raise Refused("one replica's log is no recording: merge the logs first")
-        program = program or os.environ.get("DOMEPEELER") or "domepeeler"
-        try:
-            done = subprocess.run([program, "verdict", "--json", "-"], input=self.text().encode(), capture_output=True)
-        except OSError as why:
-            raise RuntimeError(f"{program} cannot be run ({why.strerror}): {PATH}") from why
+    def judge(self, program: Optional[Words] = None) -> Dict[str, Any]:
+        """The program's report on this recording. The program is the words that are given, that of $DOMEPEELER, or `domepeeler`."""
+        name, done = self._ask(program, "DOMEPEELER", "domepeeler", "the program's", ["verdict", "--json", "-"])
         if done.returncode not in (0, 1) or not done.stdout.startswith(b"{"):
-            raise RuntimeError(f"{program} ended with status {done.returncode}: {done.stderr.decode().strip()}")
-        return json.loads(done.stdout)
+            _ended(name, done)
+        report: Dict[str, Any] = json.loads(done.stdout)
+        return report
+
+    def explain(self, explainer: Optional[Words] = None) -> str:
+        """What the report means, in words, and at the end the ids of the numbered names. The tool is the words that are given, that of
+        $DOMEPEELER_EXPLAIN, or `domepeeler-explain`."""
+        name, done = self._ask(explainer, "DOMEPEELER_EXPLAIN", "domepeeler-explain", "the tool's", ["-"])
+        if done.returncode not in (0, 1) or not done.stdout:
+            _ended(name, done)
+        said = done.stdout.decode(errors="replace")
+        words = set(re.findall("[A-Za-z0-9]+", said))
+        told = [f"  {name}: {given}\n" for name, given in self.ids().items() if name in words and name.startswith("long")]
+        return said + ("\nIds that were too long for a name\n" + "".join(told) if told else "")
+
+    def _ask(self, given: Optional[Words], variable: str, command: str, whose: str,
+             more: List[str]) -> Tuple[str, subprocess.CompletedProcess[bytes]]:
+        """How a program ended that had the text on its standard input, and its name."""
+        if self._only is not None:
+            raise Refused(ONE_LOG)
+        asked = given or os.environ.get(variable) or command
+        words = [asked] if isinstance(asked, str) else list(asked)
+        try:
+            return words[0], subprocess.run([*words, *more], input=self.text().encode(), capture_output=True)
+        except OSError as why:
+            raise RuntimeError(f"{words[0]} cannot be run ({why.strerror}): name {whose} path in {variable}") from why
 
     def _known(self, replica: int) -> None:
         if not _whole(replica, 0, len(self._replicas) - 1):
@@ -123,47 +198,189 @@ class Recording:
         if self._only not in (None, replica):
             raise Refused(f"this log is of replica {self._only} alone, not of {replica}")
 
-    def _room(self, replica: int) -> None:
-        if self._replicas[replica].entries == MOST_ENTRIES:
-            raise Full(f"replica {replica} has {MOST_ENTRIES} entries, the most that a trace takes")
+    def _of_another(self, replica: int, author: int) -> None:
+        if author == replica:
+            raise Refused(f"replica {replica} receives no operation of its own")
 
-    def _operation(self, replica: int, words: str, response: list, inserts: int = 0) -> int:
-        names = _listed(response)
-        for name in names:
-            _check_name(name)
+    def _in_one_recording(self) -> None:
+        if self._only is not None:
+            raise Refused("one replica's log does not know the changes of the others: send each operation's number, and call received")
+
+    def _room(self, replica: int, entries: int = 1) -> None:
+        if self._replicas[replica].entries + entries > MOST_ENTRIES:
+            raise Full(f"replica {replica} has {self._replicas[replica].entries} entries, the most that a trace takes"
+                       + (f" is {MOST_ENTRIES}" if entries > 1 else ""))
+
+    def _operation(self, replica: int, kind: str, response: Iterable[str], name: Optional[str] = None, position: Optional[int] = None,
+                   change_id: Optional[Hashable] = None) -> int:
+        """Records it, or raises and leaves all as it was, the names of ids among it."""
+        before = len(self._ids)
+        try:
+            return self._said(replica, kind, response, name, position, change_id)
+        except Refused:
+            while len(self._ids) > before:
+                self._short.pop(self._ids.popitem()[1], None)
+            raise
+
+    def _said(self, replica: int, kind: str, response: Iterable[str], name: Optional[str], position: Optional[int],
+              change_id: Optional[Hashable]) -> int:
+        self._acts(replica)
+        words = [str(replica), kind]
+        if kind in ("ins", "del"):
+            words.append(self._name(name))
+        if kind == "ins":
+            if not _whole(position, 0, MOST_POSITION):
+                raise Refused(f"position {position} is not a whole number from 0 to {MOST_POSITION}")
+            words.append(str(position))
+        names = [self._name(one) for one in _listed(response)]
+        if change_id is not None:
+            self._check_change(replica, change_id)
+        self._fits(replica, int(kind == "ins"), len(names))
+        own = self._replicas[replica]
+        own.entries += 1
+        own.operations += 1
+        own.inserts += kind == "ins"
+        own.places += len(names)
+        own.pasts.append(own.others)
+        if kind in ("ins", "del"):
+            own.changes.append(own.operations)
+        if change_id is not None:
+            self._changes.setdefault(change_id, []).append((replica, own.operations))
+        self._lines.append(" ".join([*words, ":", *names]))
+        return own.operations
+
+    def _fits(self, replica: int, inserts: int, names: int) -> None:
+        """The limits, in the order in which the program tests them."""
         self._room(replica)
         own = self._replicas[replica]
         if own.inserts + inserts > MOST_INSERTS:
             raise Full(f"replica {replica} has {MOST_INSERTS} inserts, the most that a trace takes")
-        if len(names) > MOST_NAMES:
-            raise Full(f"a response of {len(names)} names, the most that a trace takes is {MOST_NAMES}")
-        if own.places + len(names) > MOST_PLACES:
-            raise Full(f"{own.places + len(names)} names over the responses of replica {replica}, "
+        if names > MOST_NAMES:
+            raise Full(f"a response of {names} names, the most that a trace takes is {MOST_NAMES}")
+        if own.places + names > MOST_PLACES:
+            raise Full(f"{own.places + names} names over the responses of replica {replica}, "
                        f"the most that a trace takes is {MOST_PLACES}")
+
+    def _name(self, given: Any) -> str:
+        """The name in the trace: what is given, or if that has more than 32 bytes, a short name that no other id has."""
+        if not isinstance(given, str):
+            raise Refused(f"a name is a string, not {given!r}")
+        if given in self._short:
+            return self._short[given]
+        if NAME.fullmatch(given):
+            if len(given) == MOST_BYTES or given.startswith("long"):  # others are never short for an id
+                if self._ids.setdefault(given, given) != given:
+                    raise Refused(f'name "{given}" is short for the id "{self._ids[given]}" already')
+            return given
+        if len(given.encode(errors="surrogatepass")) <= MOST_BYTES:
+            raise Refused(f'name "{given}" is not 1 to 32 of A-Z a-z 0-9 _ - .')
+        name = given.replace("-", "") if UUID.fullmatch(given) else ""
+        if not name or name in self._ids:
+            name = self._numbered(given)
+        self._ids[name] = given
+        self._short[given] = name
+        return name
+
+    def _numbered(self, given: str) -> str:
+        """The next name that stands for an id."""
+        if self._only is not None:
+            raise Refused(f'one replica\'s log can\'t number the id "{given}", since the other machines would number on their own')
+        number = 1 + len(self._short)
+        while f"long{number}" in self._ids:
+            number += 1
+        return f"long{number}"
+
+    def _check_change(self, replica: int, change_id: Hashable) -> None:
+        _check_id(change_id)
+        for author, n in self._changes.get(change_id, [])[:1]:
+            if author != replica:
+                raise Refused(f"the id {_quoted(change_id)} is that of {author}.{n} already")
+
+    def _has(self, replica: int) -> List[int]:
+        """How many operations of each replica this one has."""
+        has = list(self._replicas[replica].others)
+        has[replica] = self._replicas[replica].operations
+        return has
+
+    def _counts(self, clock: Clock) -> List[int]:
+        """The clock as a list."""
+        self._in_one_recording()
+        if isinstance(clock, Mapping):
+            for replica in clock:
+                self._known(replica)
+            counts = [clock.get(replica, 0) for replica in range(len(self._replicas))]
+        else:
+            counts = [] if isinstance(clock, (str, bytes)) or not isinstance(clock, Iterable) else list(clock)
+        if len(counts) != len(self._replicas):
+            raise Refused(f"a clock has a count for each of {len(self._replicas)} replicas")
+        for replica, count in enumerate(counts):
+            if not _whole(count, 0, MOST_POSITION):
+                raise Refused(f"count {count} of a clock is not a whole number from 0 to {MOST_POSITION}")
+            have = len(self._replicas[replica].changes)
+            if count > have:
+                raise Refused(f"the clock counts {count} changes of replica {replica}, which has recorded {have}")
+        return counts
+
+    def _take(self, replica: int, carried: Set[Tuple[int, int]], seen: List[int]) -> None:
+        """Writes the receipts of what an update carries, if the replica has or gets with it all that the authors had seen."""
+        has = self._has(replica)
+        for author, n in sorted(carried):
+            if n <= has[author]:
+                continue
+            past = list(self._replicas[author].pasts[n - 1])
+            past[author] = n - 1
+            for other, pair in enumerate(zip(past, seen or past)):
+                self._check_has(replica, (author, n), other, has[other], max(pair), carried)
+        ends = {author: n for author, n in sorted(carried) if n > has[author]}
+        self._room(replica, len(ends))
+        for author, n in ends.items():
+            self._receipt(replica, author, n)
+
+    def _check_has(self, replica: int, change: Tuple[int, int], other: int, have: int, last: int, carried: Set[Tuple[int, int]]) -> None:
+        """Each change of the other replica up to the last one is at the replica, or carried."""
+        changes = self._replicas[other].changes
+        for n in changes[bisect_right(changes, have):bisect_right(changes, last)]:
+            if (other, n) not in carried:
+                author, number = change
+                raise NotCausal(f"not causal: {author}.{number} was applied at replica {replica} before {other}.{n}, "
+                                f"which replica {author} had seen; {other}.{n} has to arrive first, or in the same update")
+
+    def _receipt(self, replica: int, author: int, n: int) -> None:
+        """Writes a receipt that may be written."""
+        own = self._replicas[replica]
         own.entries += 1
-        own.operations += 1
-        own.inserts += inserts
-        own.places += len(names)
-        self._lines.append(" ".join([f"{replica} {words} :", *names]))
-        return own.operations
+        if self._only is None:
+            others = [max(pair) for pair in zip(own.others, self._replicas[author].pasts[n - 1])]
+            others[author] = max(others[author], n)
+            if tuple(others) != own.others:
+                own.others = tuple(others)
+        self._lines.append(f"{replica} recv {author} {n}")
 
 
-def _whole(number, least: int, most: int) -> bool:
+def _whole(number: Any, least: int, most: int) -> bool:
     return isinstance(number, int) and not isinstance(number, bool) and least <= number <= most
 
 
-def _listed(response) -> list:
+def _listed(response: Any) -> List[Any]:
     try:
-        names = iter(response)
+        names = None if isinstance(response, (str, bytes)) else iter(response)
     except TypeError:
         names = None
-    if names is None or isinstance(response, (str, bytes)):
+    if names is None:
         raise Refused("a response is a list of names")
     return list(names)
 
 
-def _check_name(name) -> None:
-    if not isinstance(name, str):
-        raise Refused(f"a name is a string, not {name!r}")
-    if not NAME.fullmatch(name):
-        raise Refused(f'name "{name}" is not 1 to 32 of A-Z a-z 0-9 _ - .')
+def _check_id(change_id: Any) -> None:
+    try:
+        hash(change_id)
+    except TypeError:
+        raise Refused(f"an id of a change is a string, a number or a tuple of these, not {change_id!r}") from None
+
+
+def _quoted(change_id: Hashable) -> str:
+    return f'"{change_id}"' if isinstance(change_id, str) else repr(change_id)
+
+
+def _ended(name: str, done: subprocess.CompletedProcess[bytes]) -> NoReturn:
+    raise RuntimeError(f"{name} ended with status {done.returncode}: {done.stderr.decode(errors='replace').strip()}")

@@ -1,7 +1,7 @@
 //! Records what the replicas of a list editor do and answer, and has Domepeeler judge it.
 //!
-//! Copy this file into your project and write `mod domepeeler;`; it needs the standard library alone.
-//! docs/recording.md says where the calls go.
+//! Copy this file into your project and write `mod domepeeler;`, or depend on the crate in recorders/rust, which is made of it.
+//! It needs the standard library alone. docs/recording.md says where the calls go.
 //!
 //! ```ignore
 //! let mut recording = Recording::new(2)?;
@@ -12,21 +12,28 @@
 //! recording.view(0, &["a"])?;                   // replica 0 showed this part of its list
 //! recording.save("session.trace")?;             // the trace as a file, for tools/explain
 //! println!("{}", recording.judge().unwrap());   // asks the program: its report as JSON
+//! println!("{}", recording.explain().unwrap()); // what that means, in words
 //! ```
+//!
+//! Where updates have vector clocks, `received_clock` writes the receipts, and refuses what is not causal.
 //!
 //! Each call that a trace can't say is `Refused`, and leaves the recording as it was.
 #![allow(dead_code)]
 
+use std::collections::{HashMap, HashSet};
 use std::fmt::{self, Display, Write as _};
 use std::io::{self, Write as _};
 use std::path::Path;
-use std::process::{Command, Stdio};
+use std::process::{Command, Output, Stdio};
+use std::sync::Arc;
 
 const MOST_REPLICAS: usize = 16;
 const MOST_ENTRIES: usize = 16384;
 const MOST_INSERTS: usize = 4096;
 const MOST_NAMES: usize = 4096;
 const MOST_PLACES: usize = 262_144;
+const MOST_BYTES: usize = 32;
+const UUID_BYTES: usize = 36;
 
 /// Why a call was refused: no trace can say it, or a limit of traces is reached.
 #[derive(Clone, Debug, PartialEq, Eq)]
@@ -35,9 +42,17 @@ pub enum Refused {
     NoReplica { replica: usize, last: usize },
     NotOfThisLog { replica: usize, only: usize },
     Name { name: String },
+    ShortFor { name: String, id: String },
+    NoNumber { id: String },
     OperationZero,
     OwnReceipt { replica: usize },
     NotYet { author: usize, n: u32, have: u32 },
+    Unknown,
+    LongClock { replicas: usize },
+    UnknownChange { replica: usize, count: u32, have: usize },
+    NoChange { author: usize },
+    Carried { changes: u32, most: u32 },
+    NotCausal { replica: usize, change: (usize, u32), lacking: (usize, u32) },
     EntriesFull { replica: usize },
     InsertsFull { replica: usize },
     LongResponse { names: usize },
@@ -61,10 +76,33 @@ impl Display for Refused {
                 write!(f, "this log is of replica {only} alone, not of {replica}")
             }
             Refused::Name { name } => write!(f, "name \"{name}\" is not 1 to 32 of A-Z a-z 0-9 _ - ."),
+            Refused::ShortFor { name, id } => write!(f, "name \"{name}\" is short for the id \"{id}\" already"),
+            Refused::NoNumber { id } => {
+                write!(f, "one replica's log can't number the id \"{id}\", ")?;
+                write!(f, "since the other machines would number on their own")
+            }
             Refused::OperationZero => write!(f, "operation number 0 is not a whole number from 1 to {}", u32::MAX),
             Refused::OwnReceipt { replica } => write!(f, "replica {replica} receives no operation of its own"),
             Refused::NotYet { author, n, have } => {
                 write!(f, "{author}.{n} cannot have arrived: replica {author} has {have} operations so far")
+            }
+            Refused::Unknown => {
+                write!(f, "one replica's log does not know the changes of the others: ")?;
+                write!(f, "send each operation's number, and call received")
+            }
+            Refused::LongClock { replicas } => write!(f, "a clock has a count for each of {replicas} replicas"),
+            Refused::UnknownChange { replica, count, have } => {
+                write!(f, "the clock counts {count} changes of replica {replica}, which has recorded {have}")
+            }
+            Refused::NoChange { author } => {
+                write!(f, "the clock counts no change of replica {author}, whose update it is")
+            }
+            Refused::Carried { changes, most } => {
+                write!(f, "an update carries 1 to {most} of the changes that its clock counts, not {changes}")
+            }
+            Refused::NotCausal { replica, change: (author, n), lacking: (other, lacking) } => {
+                write!(f, "not causal: {author}.{n} was applied at replica {replica} before {other}.{lacking}, ")?;
+                write!(f, "which replica {author} had seen; {other}.{lacking} has to arrive first, or in the same update")
             }
             Refused::EntriesFull { replica } => {
                 write!(f, "replica {replica} has {MOST_ENTRIES} entries, the most that a trace takes")
@@ -85,12 +123,26 @@ impl Display for Refused {
 
 impl std::error::Error for Refused {}
 
-#[derive(Clone, Default)]
+#[derive(Clone)]
 struct Replica {
     entries: usize,
     operations: u32,
     inserts: usize,
     places: usize,
+    /// Its operations that insert or delete.
+    changes: Vec<u32>,
+    /// How many operations of each other replica it has received, now and at each operation of its own.
+    others: Arc<[u32]>,
+    pasts: Vec<Arc<[u32]>>,
+}
+
+/// What became of ids that might come to the same name: those of more than 32 bytes, and names that look like a short one.
+#[derive(Clone, Default)]
+struct Names {
+    ids: HashMap<String, String>,
+    short: HashMap<String, String>,
+    /// The names among `ids`, in the order in which they came.
+    order: Vec<String>,
 }
 
 /// A session of so many replicas, or the log that one of them keeps on its own machine.
@@ -99,6 +151,7 @@ pub struct Recording {
     lines: String,
     replicas: Vec<Replica>,
     only: Option<usize>,
+    names: Names,
 }
 
 impl Recording {
@@ -107,7 +160,9 @@ impl Recording {
             return Err(Refused::Replicas { replicas });
         }
         let lines = format!("trace 1\nreplicas {replicas}\n");
-        Ok(Recording { lines, replicas: vec![Replica::default(); replicas], only: None })
+        let others: Arc<[u32]> = vec![0; replicas].into();
+        let new = Replica { entries: 0, operations: 0, inserts: 0, places: 0, changes: vec![], others, pasts: vec![] };
+        Ok(Recording { lines, replicas: vec![new; replicas], only: None, names: Names::default() })
     }
 
     /// The log of one replica of so many, on its own machine.
@@ -126,28 +181,22 @@ impl Recording {
         position: u32,
         response: &[N],
     ) -> Result<u32, Refused> {
-        self.acts(replica)?;
-        check_name(name)?;
-        self.operation(replica, &format!("ins {name} {position}"), response, 1)
+        self.operation(replica, "ins", Some((name, Some(position))), response)
     }
 
     /// The replica deleted the name and then had this list. Answers the operation's number.
     pub fn delete<N: AsRef<str>>(&mut self, replica: usize, name: &str, response: &[N]) -> Result<u32, Refused> {
-        self.acts(replica)?;
-        check_name(name)?;
-        self.operation(replica, &format!("del {name}"), response, 0)
+        self.operation(replica, "del", Some((name, None)), response)
     }
 
     /// The replica read its list. Answers the operation's number.
     pub fn read<N: AsRef<str>>(&mut self, replica: usize, response: &[N]) -> Result<u32, Refused> {
-        self.acts(replica)?;
-        self.operation(replica, "read", response, 0)
+        self.operation(replica, "read", None, response)
     }
 
     /// The replica showed this part of its list, the window of an editor say. Answers the operation's number.
     pub fn view<N: AsRef<str>>(&mut self, replica: usize, part: &[N]) -> Result<u32, Refused> {
-        self.acts(replica)?;
-        let n = self.operation(replica, "view", part, 0)?;
+        let n = self.operation(replica, "view", None, part)?;
         self.lines.replace_range(.."trace 1".len(), "trace 2");
         Ok(n)
     }
@@ -167,9 +216,60 @@ impl Recording {
             return Err(Refused::NotYet { author, n, have });
         }
         self.room(replica)?;
-        self.replicas[replica].entries += 1;
-        self.line(format_args!("{replica} recv {author} {n}"));
+        self.receipt(replica, author, n);
         Ok(())
+    }
+
+    /// The author's update with this vector clock was applied at the replica: it carries the last of the author's changes that the
+    /// clock counts, or so many of the last. The clock has for each replica how many of its inserts and deletes the author had
+    /// seen, its own with the carried ones among them. Writes the receipt, unless the replica has it already.
+    pub fn received_clock(
+        &mut self,
+        replica: usize,
+        author: usize,
+        clock: &[u32],
+        changes: u32,
+    ) -> Result<(), Refused> {
+        self.acts(replica)?;
+        self.known(author)?;
+        if author == replica {
+            return Err(Refused::OwnReceipt { replica });
+        }
+        self.check_clock(clock)?;
+        let most = clock[author];
+        if most == 0 {
+            return Err(Refused::NoChange { author });
+        }
+        if !(1..=most).contains(&changes) {
+            return Err(Refused::Carried { changes, most });
+        }
+        let carried = &self.replicas[author].changes[(most - changes) as usize..most as usize];
+        let has = self.has(replica);
+        let last = carried[carried.len() - 1];
+        for &n in carried.iter().filter(|&&n| n > has[author]) {
+            self.check_causal(replica, author, n, clock, carried)?;
+        }
+        if last > has[author] {
+            self.room(replica)?;
+            self.receipt(replica, author, last);
+        }
+        Ok(())
+    }
+
+    /// How many inserts and deletes of each replica this one has: the vector clock of an update that it makes now.
+    pub fn clock(&self, replica: usize) -> Result<Vec<u32>, Refused> {
+        self.acts(replica)?;
+        if self.only.is_some() {
+            return Err(Refused::Unknown);
+        }
+        let pairs = self.replicas.iter().zip(self.has(replica));
+        Ok(pairs.map(|(of, have)| of.changes.partition_point(|&n| n <= have) as u32).collect())
+    }
+
+    /// Each id of more than 32 bytes: its name in the trace, and the id.
+    pub fn ids(&self) -> Vec<(&str, &str)> {
+        let pairs = self.names.order.iter().map(|name| (name.as_str(), self.names.ids[name].as_str()));
+        pairs.filter(|(name, id)| name != id).collect()
     }
 
     /// The trace; of one replica's log the text that merge.py takes.
@@ -184,19 +284,45 @@ impl Recording {
 
     /// The program's report on this recording, as JSON. The program is that of $DOMEPEELER, or `domepeeler`.
     pub fn judge(&self) -> Result<String, String> {
-        let named = std::env::var("DOMEPEELER").unwrap_or_default();
-        self.judge_by(if named.is_empty() { "domepeeler" } else { &named })
+        self.judge_by(&named("DOMEPEELER", "domepeeler"))
     }
 
     /// The report of the program at this path.
     pub fn judge_by(&self, program: &str) -> Result<String, String> {
+        let done = self.ask(program, &["verdict", "--json", "-"], "the program's path in DOMEPEELER")?;
+        if done.stdout.starts_with(b"{") { printed(program, done) } else { Err(ended(program, &done)) }
+    }
+
+    /// What the report means, in words, and at the end the ids of the numbered names. The tool is that of $DOMEPEELER_EXPLAIN, or
+    /// `domepeeler-explain`.
+    pub fn explain(&self) -> Result<String, String> {
+        self.explain_by(&named("DOMEPEELER_EXPLAIN", "domepeeler-explain"))
+    }
+
+    /// The words of the tool at this path.
+    pub fn explain_by(&self, explainer: &str) -> Result<String, String> {
+        let done = self.ask(explainer, &["-"], "the tool's path in DOMEPEELER_EXPLAIN")?;
+        if done.stdout.is_empty() {
+            return Err(ended(explainer, &done));
+        }
+        let mut said = printed(explainer, done)?;
+        let words: HashSet<&str> = said.split(|letter: char| !letter.is_ascii_alphanumeric()).collect();
+        let ids = self.ids().into_iter().filter(|(name, _)| words.contains(name) && name.starts_with("long"));
+        let told: String = ids.map(|(name, id)| format!("  {name}: {id}\n")).collect();
+        if !told.is_empty() {
+            said += &format!("\nIds that were too long for a name\n{told}");
+        }
+        Ok(said)
+    }
+
+    /// How a program ended, by itself and with a status that says that it has answered.
+    fn ask(&self, program: &str, words: &[&str], named: &str) -> Result<Output, String> {
         if self.only.is_some() {
             return Err("one replica's log is no recording: merge the logs first".to_string());
         }
-        let failed =
-            |why: io::Error| format!("{program} cannot be run ({why}): name the program's path in DOMEPEELER");
+        let failed = |why: io::Error| format!("{program} cannot be run ({why}): name {named}");
         let mut child = Command::new(program)
-            .args(["verdict", "--json", "-"])
+            .args(words)
             .stdin(Stdio::piped())
             .stdout(Stdio::piped())
             .stderr(Stdio::piped())
@@ -206,13 +332,8 @@ impl Recording {
         let written = child.stdin.take().map(|mut input| input.write_all(self.lines.as_bytes()));
         let done = child.wait_with_output().map_err(failed)?;
         match (done.status.code(), written) {
-            (Some(0 | 1), Some(Ok(()))) if done.stdout.starts_with(b"{") => {
-                String::from_utf8(done.stdout).map_err(|why| why.to_string())
-            }
-            (status, _) => {
-                let why = String::from_utf8_lossy(&done.stderr);
-                Err(format!("{program} ended with status {}: {}", status.unwrap_or(-1), why.trim()))
-            }
+            (Some(0 | 1), Some(Ok(()))) => Ok(done),
+            _ => Err(ended(program, &done)),
         }
     }
 
@@ -237,43 +358,218 @@ impl Recording {
         writeln!(self.lines, "{words}").expect("a String takes each line");
     }
 
+    /// Records it, or leaves all as it was, the names of ids among it.
     fn operation<N: AsRef<str>>(
         &mut self,
         replica: usize,
-        words: &str,
+        kind: &str,
+        subject: Option<(&str, Option<u32>)>,
         response: &[N],
-        inserts: usize,
     ) -> Result<u32, Refused> {
-        response.iter().try_for_each(|name| check_name(name.as_ref()))?;
-        self.room(replica)?;
-        let own = &self.replicas[replica];
-        let places = own.places + response.len();
-        if own.inserts + inserts > MOST_INSERTS {
-            return Err(Refused::InsertsFull { replica });
+        let before = self.names.order.len();
+        let done = self.said(replica, kind, subject, response);
+        if done.is_err() {
+            self.names.forget(before);
         }
-        if response.len() > MOST_NAMES {
-            return Err(Refused::LongResponse { names: response.len() });
+        done
+    }
+
+    fn said<N: AsRef<str>>(
+        &mut self,
+        replica: usize,
+        kind: &str,
+        subject: Option<(&str, Option<u32>)>,
+        response: &[N],
+    ) -> Result<u32, Refused> {
+        self.acts(replica)?;
+        let is_log = self.only.is_some();
+        let mut line = format!("{replica} {kind}");
+        if let Some((name, position)) = subject {
+            line += &format!(" {}", self.names.name(name, is_log)?);
+            line += &position.map(|place| format!(" {place}")).unwrap_or_default();
         }
-        if places > MOST_PLACES {
-            return Err(Refused::PlacesFull { replica, places });
+        line += " :";
+        for name in response {
+            line.push(' ');
+            line += &self.names.name(name.as_ref(), is_log)?;
         }
+        let inserts = usize::from(kind == "ins");
+        self.fits(replica, inserts, response.len())?;
         let own = &mut self.replicas[replica];
         own.entries += 1;
         own.operations += 1;
         own.inserts += inserts;
-        own.places = places;
+        own.places += response.len();
+        own.pasts.push(Arc::clone(&own.others));
+        if subject.is_some() {
+            own.changes.push(own.operations);
+        }
         let n = own.operations;
-        let names: String = response.iter().flat_map(|name| [" ", name.as_ref()]).collect();
-        self.line(format_args!("{replica} {words} :{names}"));
+        self.line(format_args!("{line}"));
         Ok(n)
+    }
+
+    /// The limits, in the order in which the program tests them.
+    fn fits(&self, replica: usize, inserts: usize, names: usize) -> Result<(), Refused> {
+        self.room(replica)?;
+        let own = &self.replicas[replica];
+        let places = own.places + names;
+        if own.inserts + inserts > MOST_INSERTS {
+            return Err(Refused::InsertsFull { replica });
+        }
+        if names > MOST_NAMES {
+            return Err(Refused::LongResponse { names });
+        }
+        if places > MOST_PLACES {
+            return Err(Refused::PlacesFull { replica, places });
+        }
+        Ok(())
+    }
+
+    /// How many operations of each replica this one has.
+    fn has(&self, replica: usize) -> Vec<u32> {
+        let mut has = self.replicas[replica].others.to_vec();
+        has[replica] = self.replicas[replica].operations;
+        has
+    }
+
+    fn check_clock(&self, clock: &[u32]) -> Result<(), Refused> {
+        if self.only.is_some() {
+            return Err(Refused::Unknown);
+        }
+        if clock.len() != self.replicas.len() {
+            return Err(Refused::LongClock { replicas: self.replicas.len() });
+        }
+        for (replica, &count) in clock.iter().enumerate() {
+            let have = self.replicas[replica].changes.len();
+            if count as usize > have {
+                return Err(Refused::UnknownChange { replica, count, have });
+            }
+        }
+        Ok(())
+    }
+
+    /// The replica has, or gets with the carried changes, all that the author had seen at its operation n.
+    fn check_causal(
+        &self,
+        replica: usize,
+        author: usize,
+        n: u32,
+        clock: &[u32],
+        carried: &[u32],
+    ) -> Result<(), Refused> {
+        let has = self.has(replica);
+        let past = &self.replicas[author].pasts[n as usize - 1];
+        for (other, of) in self.replicas.iter().enumerate() {
+            let by_receipts = if other == author { n - 1 } else { past[other] };
+            let by_clock = clock[other].checked_sub(1).map_or(0, |place| of.changes[place as usize]);
+            let last = by_receipts.max(by_clock);
+            let from = of.changes.partition_point(|&one| one <= has[other]);
+            let news = &of.changes[from..of.changes.partition_point(|&one| one <= last).max(from)];
+            if let Some(&lacking) = news.iter().find(|one| other != author || !carried.contains(one)) {
+                return Err(Refused::NotCausal { replica, change: (author, n), lacking: (other, lacking) });
+            }
+        }
+        Ok(())
+    }
+
+    /// Writes a receipt that may be written.
+    fn receipt(&mut self, replica: usize, author: usize, n: u32) {
+        self.replicas[replica].entries += 1;
+        if self.only.is_none() {
+            let past = Arc::clone(&self.replicas[author].pasts[n as usize - 1]);
+            let others = &mut self.replicas[replica].others;
+            let mut new: Vec<u32> = others.iter().zip(past.iter()).map(|(&one, &two)| one.max(two)).collect();
+            new[author] = new[author].max(n);
+            if new[..] != others[..] {
+                *others = new.into();
+            }
+        }
+        self.line(format_args!("{replica} recv {author} {n}"));
     }
 }
 
-fn check_name(name: &str) -> Result<(), Refused> {
-    let allowed = |byte: u8| byte.is_ascii_alphanumeric() || b"_-.".contains(&byte);
-    if (1..=32).contains(&name.len()) && name.bytes().all(allowed) {
-        Ok(())
-    } else {
-        Err(Refused::Name { name: name.to_string() })
+impl Names {
+    /// The name in the trace: what is given, or if that has more than 32 bytes, a short name that no other id has.
+    fn name(&mut self, given: &str, is_log: bool) -> Result<String, Refused> {
+        if let Some(name) = self.short.get(given) {
+            return Ok(name.clone());
+        }
+        if is_name(given) {
+            if given.len() == MOST_BYTES || given.starts_with("long") {
+                self.keep(given, given)?; // other names are never short for an id
+            }
+            return Ok(given.to_string());
+        }
+        if given.len() <= MOST_BYTES {
+            return Err(Refused::Name { name: given.to_string() });
+        }
+        let mut name = if is_uuid(given) { given.replace('-', "") } else { String::new() };
+        if name.is_empty() || self.ids.contains_key(&name) {
+            name = self.numbered(given, is_log)?;
+        }
+        self.keep(&name, given)?;
+        self.short.insert(given.to_string(), name.clone());
+        Ok(name)
     }
+
+    /// The next name that stands for an id.
+    fn numbered(&self, given: &str, is_log: bool) -> Result<String, Refused> {
+        if is_log {
+            return Err(Refused::NoNumber { id: given.to_string() });
+        }
+        let mut number = 1 + self.short.len();
+        while self.ids.contains_key(&format!("long{number}")) {
+            number += 1;
+        }
+        Ok(format!("long{number}"))
+    }
+
+    /// From now on the name is that of this id.
+    fn keep(&mut self, name: &str, id: &str) -> Result<(), Refused> {
+        match self.ids.get(name) {
+            Some(had) if had != id => Err(Refused::ShortFor { name: name.to_string(), id: had.clone() }),
+            Some(_) => Ok(()),
+            None => {
+                self.ids.insert(name.to_string(), id.to_string());
+                self.order.push(name.to_string());
+                Ok(())
+            }
+        }
+    }
+
+    /// Forgets all names but so many.
+    fn forget(&mut self, before: usize) {
+        for name in self.order.split_off(before) {
+            if let Some(id) = self.ids.remove(&name) {
+                self.short.remove(&id);
+            }
+        }
+    }
+}
+
+fn is_name(given: &str) -> bool {
+    let allowed = |byte: u8| byte.is_ascii_alphanumeric() || b"_-.".contains(&byte);
+    (1..=MOST_BYTES).contains(&given.len()) && given.bytes().all(allowed)
+}
+
+/// Whether an id has the form of a UUID: 8, 4, 4, 4 and 12 hexadecimal digits between dashes.
+fn is_uuid(given: &str) -> bool {
+    let is_dash = |place: usize| [8, 13, 18, 23].contains(&place);
+    let fits = |(place, byte): (usize, u8)| if is_dash(place) { byte == b'-' } else { byte.is_ascii_hexdigit() };
+    given.len() == UUID_BYTES && given.bytes().enumerate().all(fits)
+}
+
+/// What the variable names, or the command.
+fn named(variable: &str, command: &str) -> String {
+    std::env::var(variable).ok().filter(|named| !named.is_empty()).unwrap_or_else(|| command.to_string())
+}
+
+fn ended(program: &str, done: &Output) -> String {
+    let why = String::from_utf8_lossy(&done.stderr);
+    format!("{program} ended with status {}: {}", done.status.code().unwrap_or(-1), why.trim())
+}
+
+fn printed(program: &str, done: Output) -> Result<String, String> {
+    String::from_utf8(done.stdout).map_err(|why| format!("{program} printed no UTF-8: {why}"))
 }

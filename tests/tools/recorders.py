@@ -11,6 +11,7 @@ import subprocess
 import sys
 import tempfile
 from pathlib import Path
+from random import Random
 from urllib.parse import unquote
 
 ROOT = Path(__file__).resolve().parents[2]
@@ -44,6 +45,9 @@ CYCLE_REPORT = {
 
 NAME = "is not 1 to 32 of A-Z a-z 0-9 _ - ."
 LETTERS32 = "abcdefghijklmnopqrstuvwxyz_-.019"
+UUID, UUID_DIGITS = "123e4567-e89b-12d3-a456-426614174000", "123e4567e89b12d3a456426614174000"
+ALMOST_UUIDS = ["123e4567-e89b-12d3-a456-42661417400g", "123e4567e-89b-12d3-a456-426614174000", "123e4567_e89b_12d3_a456_426614174000"]
+ONE_NUMBER = "one replica's log can't number the id \"{}\", since the other machines would number on their own"
 
 # Calls, each with its answer, and the lines of the trace behind the first two. `%` and two digits stand for a byte.
 SAID = [
@@ -65,6 +69,104 @@ SAID = [
     ("one replica's log with a view", "new 3 1 -> ok\nview 1 a -> ok 1\n", ["1 view : a"]),
     ("one replica's log", "new 3 1 -> ok\nreceived 1 0 9 -> ok\nread 1 a -> ok 1\nreceived 1 2 4 -> ok\n",
      ["1 recv 0 9", "1 read : a", "1 recv 2 4"]),
+    ("a UUID", f"new 2 -> ok\ninsert 0 {UUID} 0 {UUID} -> ok 1\nview 0 {UUID} -> ok 2\ndelete 0 {UUID} -> ok 3\n"
+     f"id_of {UUID_DIGITS} -> ok {UUID}\nid_of {UUID} -> none\n",
+     [f"0 ins {UUID_DIGITS} 0 : {UUID_DIGITS}", f"0 view : {UUID_DIGITS}", f"0 del {UUID_DIGITS} :"]),
+    ("a UUID in large letters is another id", f"new 1 -> ok\ninsert 0 {UUID} 0 -> ok 1\ninsert 0 {UUID.upper()} 0 -> ok 2\n",
+     [f"0 ins {UUID_DIGITS} 0 :", f"0 ins {UUID_DIGITS.upper()} 0 :"]),
+    ("a UUID whose digits are another's name", f"new 1 -> ok\ninsert 0 {UUID_DIGITS} 0 -> ok 1\ninsert 0 {UUID} 0 {UUID_DIGITS} -> ok 2\n"
+     f"read 0 {UUID} {UUID_DIGITS} -> ok 3\nid_of {UUID_DIGITS} -> none\nid_of long1 -> ok {UUID}\n",
+     [f"0 ins {UUID_DIGITS} 0 :", f"0 ins long1 0 : {UUID_DIGITS}", f"0 read : long1 {UUID_DIGITS}"]),
+    ("a name that a UUID has", f"new 1 -> ok\ninsert 0 {UUID} 0 -> ok 1\n"
+     f"read 0 {UUID_DIGITS} -> refused name \"{UUID_DIGITS}\" is short for the id \"{UUID}\" already\nread 0 {UUID} -> ok 2\n",
+     [f"0 ins {UUID_DIGITS} 0 :", f"0 read : {UUID_DIGITS}"]),
+    ("long ids", f"new 2 -> ok\ninsert 0 {LETTERS32}x 0 {LETTERS32}x -> ok 1\ninsert 1 4@{LETTERS32} 0 {LETTERS32}x 4@{LETTERS32} -> ok 1\n"
+     f"delete 1 {LETTERS32}x 4@{LETTERS32} -> ok 2\nread 0 {'%C3%A4' * 17} -> ok 2\nid_of long1 -> ok {LETTERS32}x\n"
+     f"id_of long2 -> ok 4@{LETTERS32}\nid_of long4 -> none\n",
+     ["0 ins long1 0 : long1", "1 ins long2 0 : long1 long2", "1 del long1 : long2", "0 read : long3"]),
+    ("ids that are almost UUIDs", "new 1 -> ok\n" + "".join(f"read 0 {one} -> ok {n}\n" for n, one in enumerate(ALMOST_UUIDS, 1)),
+     ["0 read : long1", "0 read : long2", "0 read : long3"]),
+    ("numbers that names have", f"new 1 -> ok\ninsert 0 long1 0 -> ok 1\nread 0 {LETTERS32}x -> ok 2\n"
+     f"read 0 long2 -> refused name \"long2\" is short for the id \"{LETTERS32}x\" already\nread 0 longer -> ok 3\n",
+     ["0 ins long1 0 :", "0 read : long2", "0 read : longer"]),
+    ("a refused call keeps no number", f"new 1 -> ok\nread 0 {LETTERS32}x a,b -> refused name \"a,b\" {NAME}\nid_of long1 -> none\n"
+     f"read 0 long1 {LETTERS32}y a,b -> refused name \"a,b\" {NAME}\nread 0 {LETTERS32}z {UUID} -> ok 1\n"
+     f"id_of long1 -> ok {LETTERS32}z\n", [f"0 read : long1 {UUID_DIGITS}"]),
+    ("one replica's log numbers no ids", f"new 3 1 -> ok\nread 1 {UUID} -> ok 1\n"
+     f"read 1 {LETTERS32}x -> refused {ONE_NUMBER.format(LETTERS32 + 'x')}\nread 1 {UUID.upper()} -> ok 2\n",
+     [f"1 read : {UUID_DIGITS}", f"1 read : {UUID_DIGITS.upper()}"]),
+]
+
+# Receipts by vector clocks, which count the inserts and deletes of each replica. Behind the author stands how many changes are carried.
+CLOCKED = ["py", "mjs", "rs", "c", "el"]
+UNCAUSAL = ("uncausal not causal: {0} was applied at replica {1} before {2}, which replica {3} had seen; "
+            "{2} has to arrive first, or in the same update")
+CLOCKS = [
+    ("a right session", "new 3 -> ok\nclock 0 -> ok 0 0 0\nread 2 -> ok 1\ninsert 2 a 0 a -> ok 2\nclock 2 -> ok 0 0 1\n"
+     "received_clock 1 2 1 0 0 1 -> ok\nread 1 a -> ok 1\ninsert 1 b 1 a b -> ok 2\ndelete 1 a b -> ok 3\nclock 1 -> ok 0 2 1\n"
+     "received_clock 0 2 1 0 0 1 -> ok\nreceived_clock 0 1 1 0 1 1 -> ok\nclock 0 -> ok 0 1 1\nreceived_clock 0 1 1 0 2 1 -> ok\n"
+     "received_clock 2 1 2 0 2 1 -> ok\nclock 2 -> ok 0 2 1\n",
+     ["2 read :", "2 ins a 0 : a", "1 recv 2 2", "1 read : a", "1 ins b 1 : a b", "1 del a : b", "0 recv 2 2", "0 recv 1 2", "0 recv 1 3",
+      "2 recv 1 3"]),
+    ("delivery that is not causal", "new 3 -> ok\ninsert 2 a 0 a -> ok 1\nreceived_clock 1 2 1 0 0 1 -> ok\ninsert 1 b 1 a b -> ok 1\n"
+     f"received_clock 0 1 1 0 1 1 -> {UNCAUSAL.format('1.1', 0, '2.1', 1)}\nclock 0 -> ok 0 0 0\nreceived_clock 0 2 1 0 0 1 -> ok\n"
+     "received_clock 0 1 1 0 1 1 -> ok\n", ["2 ins a 0 : a", "1 recv 2 1", "1 ins b 1 : a b", "0 recv 2 1", "0 recv 1 1"]),
+    ("by the clock alone, as no receipt tells of it", "new 3 -> ok\ninsert 2 a 0 a -> ok 1\ninsert 1 b 1 a b -> ok 1\n"
+     f"received_clock 0 1 1 0 1 1 -> {UNCAUSAL.format('1.1', 0, '2.1', 1)}\n", ["2 ins a 0 : a", "1 ins b 1 : a b"]),
+    ("by receipts alone, as the clock doesn't tell of it",
+     "new 3 -> ok\ninsert 2 a 0 a -> ok 1\nreceived 1 2 1 -> ok\ninsert 1 b 1 a b -> ok 1\n"
+     f"received_clock 0 1 1 0 1 0 -> {UNCAUSAL.format('1.1', 0, '2.1', 1)}\n", ["2 ins a 0 : a", "1 recv 2 1", "1 ins b 1 : a b"]),
+    ("an author's changes out of their order", "new 2 -> ok\ninsert 0 a 0 a -> ok 1\nread 0 a -> ok 2\ninsert 0 b 1 a b -> ok 3\n"
+     f"received_clock 1 0 1 2 0 -> {UNCAUSAL.format('0.3', 1, '0.1', 0)}\nreceived_clock 1 0 2 2 0 -> ok\n",
+     ["0 ins a 0 : a", "0 read : a", "0 ins b 1 : a b", "1 recv 0 3"]),
+    ("what an author has seen since need not arrive", "new 3 -> ok\ninsert 1 b 0 b -> ok 1\ninsert 2 a 0 a -> ok 1\nreceived 1 2 1 -> ok\n"
+     "received_clock 0 1 1 0 1 0 -> ok\nclock 0 -> ok 0 1 0\n", ["1 ins b 0 : b", "2 ins a 0 : a", "1 recv 2 1", "0 recv 1 1"]),
+    ("what an author reads need not arrive", "new 2 -> ok\nread 0 -> ok 1\ninsert 0 a 0 a -> ok 2\nview 0 a -> ok 3\n"
+     "received_clock 1 0 1 1 0 -> ok\n", ["0 read :", "0 ins a 0 : a", "0 view : a", "1 recv 0 2"]),
+    ("a clock of a change that is not there", "new 3 -> ok\ninsert 0 a 0 a -> ok 1\nread 0 a -> ok 2\n"
+     "received_clock 1 0 1 2 0 0 -> refused the clock counts 2 changes of replica 0, which has recorded 1\n"
+     "received_clock 1 0 1 1 0 1 -> refused the clock counts 1 changes of replica 2, which has recorded 0\n"
+     "received_clock 1 2 1 1 0 0 -> refused the clock counts no change of replica 2, whose update it is\n"
+     "received_clock 1 0 2 1 0 0 -> refused an update carries 1 to 1 of the changes that its clock counts, not 2\n"
+     "received_clock 1 0 0 1 0 0 -> refused an update carries 1 to 1 of the changes that its clock counts, not 0\n"
+     "received_clock 1 0 1 1 0 -> refused a clock has a count for each of 3 replicas\n"
+     "received_clock 1 1 1 1 0 0 -> refused replica 1 receives no operation of its own\n"
+     "received_clock 1 3 1 1 0 0 -> refused no replica 3 among 0 to 2\nreceived_clock 1 0 1 1 0 0 -> ok\n",
+     ["0 ins a 0 : a", "0 read : a", "1 recv 0 1"]),
+    ("the same update twice, and an older one", "new 2 -> ok\ninsert 0 a 0 a -> ok 1\ndelete 0 a -> ok 2\nreceived_clock 1 0 1 1 0 -> ok\n"
+     "received_clock 1 0 1 1 0 -> ok\nreceived_clock 1 0 2 2 0 -> ok\nreceived_clock 1 0 1 1 0 -> ok\nread 1 -> ok 1\n",
+     ["0 ins a 0 : a", "0 del a :", "1 recv 0 1", "1 recv 0 2", "1 read :"]),
+    ("a clock is not asked of what has arrived", "new 3 -> ok\ninsert 2 a 0 a -> ok 1\ninsert 1 b 0 b -> ok 1\nreceived 0 1 1 -> ok\n"
+     "received_clock 0 1 1 0 1 1 -> ok\n", ["2 ins a 0 : a", "1 ins b 0 : b", "0 recv 1 1"]),
+    ("what came by another", "new 3 -> ok\ninsert 2 a 0 a -> ok 1\nreceived 1 2 1 -> ok\ndelete 1 a -> ok 1\nreceived 0 1 1 -> ok\n"
+     "clock 0 -> ok 0 1 1\nreceived_clock 0 2 1 0 0 1 -> ok\n", ["2 ins a 0 : a", "1 recv 2 1", "1 del a :", "0 recv 1 1"]),
+    ("one replica's log", "new 2 1 -> ok\nread 1 -> ok 1\nreceived_clock 1 0 1 1 0 -> refused {0}\nclock 1 -> refused {0}\n".format(
+        "one replica's log does not know the changes of the others: send each operation's number, and call received"), ["1 read :"]),
+]
+
+# Receipts by the ids of the changes that an update carries.
+WITH_IDS = ["py", "mjs"]
+CHANGES = [
+    ("a right session", "new 3 -> ok\nas x insert 2 a 0 a -> ok 1\nreceived_changes 1 x -> ok\nas y insert 1 b 1 a b -> ok 1\n"
+     "as z delete 2 a -> ok 2\nreceived_changes 0 z y x -> ok\nread 0 b -> ok 1\n",
+     ["2 ins a 0 : a", "1 recv 2 1", "1 ins b 1 : a b", "2 del a :", "0 recv 1 1", "0 recv 2 2", "0 read : b"]),
+    ("delivery that is not causal", "new 3 -> ok\nas x insert 2 a 0 a -> ok 1\nreceived_changes 1 x -> ok\nas y insert 1 b 1 a b -> ok 1\n"
+     f"received_changes 0 y -> {UNCAUSAL.format('1.1', 0, '2.1', 1)}\nreceived_changes 0 x -> ok\nreceived_changes 0 y -> ok\n",
+     ["2 ins a 0 : a", "1 recv 2 1", "1 ins b 1 : a b", "0 recv 2 1", "0 recv 1 1"]),
+    ("a change without an id is lacking too", "new 2 -> ok\ninsert 0 a 0 a -> ok 1\nas y delete 0 a -> ok 2\n"
+     f"received_changes 1 y -> {UNCAUSAL.format('0.2', 1, '0.1', 0)}\n", ["0 ins a 0 : a", "0 del a :"]),
+    ("an id that no change has", "new 2 -> ok\nas x insert 0 a 0 a -> ok 1\n"
+     'received_changes 1 x y -> refused no change with the id "y" has been recorded\nreceived_changes 1 x -> ok\n',
+     ["0 ins a 0 : a", "1 recv 0 1"]),
+    ("the same update twice, an own change, and nothing", "new 2 -> ok\nas x insert 0 a 0 a -> ok 1\nreceived_changes 1 x -> ok\n"
+     "received_changes 1 x -> ok\nreceived_changes 0 x -> ok\nreceived_changes 1 -> ok\n", ["0 ins a 0 : a", "1 recv 0 1"]),
+    ("a paste, whose inserts have one id", "new 2 -> ok\nas p insert 0 a 0 a -> ok 1\nas p insert 0 b 1 a b -> ok 2\n"
+     'as p insert 1 c 0 c -> refused the id "p" is that of 0.1 already\nreceived_changes 1 p -> ok\n',
+     ["0 ins a 0 : a", "0 ins b 1 : a b", "1 recv 0 2"]),
+    ("a refused call gives no id", 'new 2 -> ok\nas x insert 0 a 0 a,b -> refused name "a,b" ' + NAME + "\n"
+     'received_changes 1 x -> refused no change with the id "x" has been recorded\nas x insert 1 a 0 a -> ok 1\n', ["1 ins a 0 : a"]),
+    ("one replica's log", "new 2 1 -> ok\nas x insert 1 a 0 a -> ok 1\nreceived_changes 1 x -> refused "
+     "one replica's log does not know the changes of the others: send each operation's number, and call received\n", ["1 ins a 0 : a"]),
 ]
 
 # Calls that are refused, behind calls that are not; the recording stays what it was.
@@ -94,7 +196,7 @@ REFUSED = [
     (f"the name {word!r}", f'new 1 -> ok\ninsert 0 {word} 0 b -> refused name "{unquote(shown)}" {NAME}\n'
      f'delete 0 {word} -> refused name "{unquote(shown)}" {NAME}\nread 0 b {word} -> refused name "{unquote(shown)}" {NAME}\n')
     for word, shown in [("(empty)", ""), ("a,b", "a,b"), ("a@1", "a@1"), ("a%20b", "a b"), ("a:1", "a:1"), ("%C3%A4", "ä"),
-                        (LETTERS32 + "x", LETTERS32 + "x"), ("a%0D", "a\r")]
+                        ("a%0D", "a\r"), (LETTERS32[:31] + "@", LETTERS32[:31] + "@")]
 ]
 
 # The same, where a typed language can't say the call.
@@ -112,6 +214,8 @@ WRONG_COUNTS = [("0", "replicas are 1 to 16, not 0"), ("17", "replicas are 1 to 
 # Calls with values of other types, numbered in the drivers: what the answers begin with.
 OTHER_TYPES = ["replicas are 1 to 16, not ", "replicas are 1 to 16, not ", "no replica ", "no replica ", "position 0.5 is not",
                "position 0 is not", "a name is a string, not 7", "a name is a string, not 7", *["a response is a list of names"] * 3]
+OTHER_UPDATES = [*["a clock has a count for each of 2 replicas"] * 2, "count 1 of a clock is not a whole number",
+                 *["an update carries a list or a set of ids"] * 2, *["an id of a change is a string"] * 2]
 
 ELEMENTS = [f"e{i}" for i in range(4097)]
 FULL = "the most that a trace takes"
@@ -183,6 +287,8 @@ class Recorder:
 def check_table(tally: Tally, recorder: Recorder) -> None:
     """Each call of the tables, and then the whole text."""
     cases = [(name, script, lines) for name, script, lines in SAID]
+    cases += [(f"clocks, {name}", *rest) for name, *rest in CLOCKS if recorder.language in CLOCKED]
+    cases += [(f"ids of changes, {name}", *rest) for name, *rest in CHANGES if recorder.language in WITH_IDS]
     cases += [(name, script, None) for name, script in REFUSED]
     if recorder.language not in TYPED:
         cases += [(name, script, None) for name, script in REFUSED_UNTYPED]
@@ -203,6 +309,27 @@ def check_table(tally: Tally, recorder: Recorder) -> None:
         tally.check(f"{recorder.language}: {name}", shown == lines, f"got {shown}, wanted {lines}")
 
 
+def check_ids(tally: Tally, recorder: Recorder) -> str:
+    """Of ids that come near one another, in any order, no two have the same name, and each has one alone. Answers the text."""
+    random = Random(1)
+    letters = "ab" * 9
+    pool = [UUID, UUID.upper(), UUID_DIGITS, UUID_DIGITS.upper(), *ALMOST_UUIDS, *(f"long{number}" for number in range(1, 31)), "long", "a",
+            *(f"{letters}{number:016x}" for number in range(20)), f"{UUID}0", f"0{UUID_DIGITS}", UUID[1:], LETTERS32]
+    ids = [random.choice(pool) for _ in range(400)]
+    got = recorder.answers(["new\t1", *(f"insert\t0\t{one}\t0\t{one}" for one in ids), "text"])
+    said = [one for one, answer in zip(ids, got[1:]) if answer.startswith("ok ")]
+    lines = [line.split(" ") for line in got if line.startswith("| 0 ins ")]
+    short = {answer.split('"')[1]: answer.split('"')[3] for answer in got if answer.startswith("refused ")}
+    names = {(one, line[3]) for one, line in zip(said, lines)}
+    tally.check(f"{recorder.language}: ids are recorded or refused", len(lines) == len(said) > 200 and
+                all(line[3] == line[6] for line in lines), got)
+    tally.check(f"{recorder.language}: each id has one name, and no other id has it",
+                len({one for one, _ in names}) == len({name for _, name in names}) == len(names), names)
+    tally.check(f"{recorder.language}: a name is refused where another id has it alone",
+                short and all((one, name) in names and name not in said for name, one in short.items()), short)
+    return "".join(line[2:] + "\n" for line in got if line.startswith("| "))
+
+
 def line_of(call: str, reply: str) -> list:
     """The line of a call before a refused one: in those tables these are empty reads and receipts."""
     words = call.split(" ")
@@ -213,9 +340,10 @@ def line_of(call: str, reply: str) -> list:
 
 def check_other_types(tally: Tally, recorder: Recorder) -> None:
     """Calls that can't be written in a typed language."""
-    got = recorder.answers([f"untyped\t{number}" for number in range(len(OTHER_TYPES))])
-    tally.check(f"{recorder.language}: calls with other types", len(got) == len(OTHER_TYPES), got)
-    for answer, begin in zip(got, OTHER_TYPES):
+    wanted = OTHER_TYPES + (OTHER_UPDATES if recorder.language in WITH_IDS else [])
+    got = recorder.answers([f"untyped\t{number}" for number in range(len(wanted))])
+    tally.check(f"{recorder.language}: calls with other types", len(got) == len(wanted), got)
+    for answer, begin in zip(got, wanted):
         tally.check(f"{recorder.language}: {begin}", answer.startswith(f"refused {begin}"), answer)
 
 
@@ -240,6 +368,23 @@ def check_limits(tally: Tally, recorder: Recorder) -> dict:
         texts[name] = "".join(line[2:] + "\n" for line in got[ends + 2:-1])
         tally.check(f"{recorder.language}: {name}, lines", len(got) == 2 * ends + 5, len(got))
     return texts
+
+
+def check_full_updates(tally: Tally, recorder: Recorder) -> None:
+    """Receipts that an update needs are written as long as there is room for all of them, and else none is."""
+    calls = ["new 3", *["read 0"] * 16382, "insert 1 a 0", "received_clock 0 1 1 0 1 0", "insert 1 b 0", "received_clock 0 1 1 0 2 0",
+             "insert 1 c 0", "received_clock 0 1 1 0 3 0", "received_clock 0 1 1 0 2 0", "text"]
+    got = recorder.answers([fields(call) for call in calls])
+    full = f"full replica 0 has 16384 entries, {FULL}"
+    tally.check(f"{recorder.language}: clocks at the limit", got[16383:16390] == ["ok 1", "ok", "ok 2", "ok", "ok 3", full, "ok"] and
+                got[-6:-1] == ["| 1 ins a 0 :", "| 0 recv 1 1", "| 1 ins b 0 :", "| 0 recv 1 2", "| 1 ins c 0 :"],
+                got[16383:16390] + got[-6:])
+    if recorder.language not in WITH_IDS:
+        return
+    calls = ["new 3", *["read 0"] * 16383, "as a insert 1 a 0", "as b insert 2 b 0", "received_changes 0 a b", "text"]
+    got = recorder.answers([fields(call) for call in calls])
+    tally.check(f"{recorder.language}: ids at the limit", got[16386] == f"full replica 0 has 16383 entries, {FULL} is 16384" and
+                got[-3:] == ["| 1 ins a 0 :", "| 2 ins b 0 :", "ok"], got[16384:16387] + got[-3:])
 
 
 def check_limits_are_the_programs(tally: Tally, program: str, texts: dict) -> None:
@@ -402,10 +547,10 @@ def check_guide(tally: Tally, program: str, folder: Path) -> None:
     test leaves a file that can be explained; and its traces have the reports beside them."""
     shown = blocks(ROOT / "docs" / "recording.md")
     code = [block for block in shown if block.startswith("from ")]
-    surroundings = {**os.environ, "DOMEPEELER": program, "PYTHONDONTWRITEBYTECODE": "1", "HOME": str(folder)}
+    surroundings = {**os.environ, "DOMEPEELER": program, "DOMEPEELER_EXPLAIN": EXPLAIN, "PYTHONDONTWRITEBYTECODE": "1", "HOME": str(folder)}
     copying = re.findall(r"^\$ (.*)$", "".join(block for block in shown if "$ cp recorders/" in block), re.MULTILINE)
     done = subprocess.run(["sh", "-ec", "\n".join(copying)], cwd=ROOT, capture_output=True, env=surroundings)
-    tally.check("guide: what is copied", len(copying) == 3 and done.returncode == 0, done)
+    tally.check("guide: what is copied", len(copying) == 4 and done.returncode == 0, done)
     place = folder / "editor"
     place.mkdir(exist_ok=True)
 
@@ -413,16 +558,19 @@ def check_guide(tally: Tally, program: str, folder: Path) -> None:
         Path(place, name).write_text(text)
         return subprocess.run([sys.executable, name], cwd=place, capture_output=True, env=surroundings)
 
-    editor, window = ended("editor.py", "\n".join(code[:2])), ended("window.py", "\n".join(code[2:]))
+    editor, clocks, window = ended("editor.py", "\n".join(code[:2])), ended("clocks.py", code[2]), ended("window.py", "\n".join(code[3:]))
     traces = [block for block in shown if block.startswith("trace ")]
     printed = [block for block in traces if "\n\n" not in block]
-    tally.check("guide: the editor", len(code) == 3 and [editor.stdout.decode()] == printed, editor)
+    tally.check("guide: the editor", len(code) == 4 and [editor.stdout.decode()] == printed, editor)
+    refused = [block for block in shown if block.startswith("not causal: ")]
+    tally.check("guide: the clocks", [clocks.stdout.decode()] == refused, clocks)
     judged = [block.split("\n\n") for block in traces if block not in printed]
     tally.check("guide: has traces with reports", len(judged) == 4, judged)
     tally.check("guide: the window", [trace + "\n" for trace, _ in judged if " view :" in trace] == [window.stdout.decode()], window)
     test = [block for block in shown if block.startswith("report = recording.judge()")]
     failed = ended("failed.py", "\n".join([LOST, *test]))
-    tally.check("guide: the test fails", len(test) == 1 and failed.returncode == 1 and b"AssertionError" in failed.stderr, failed)
+    tally.check("guide: the test fails", len(test) == 1 and failed.returncode == 1 and
+                b"AssertionError: contents 0.2: " in failed.stderr, failed)
     explained = subprocess.run([EXPLAIN, "failed.trace"], cwd=place, capture_output=True, text=True, env=surroundings)
     tally.check("guide: its file is explained", explained.returncode == 1 and explained.stdout.startswith("contents 0.2: "), explained)
     for trace, wanted in judged:
@@ -469,15 +617,19 @@ def main() -> None:
         drivers = prepared(folder)
         (folder / "path").mkdir()
         (folder / "path" / "domepeeler").symlink_to(Path(program).resolve())
-        texts = {}
+        texts, ids = {}, {}
         for language in LANGUAGES:
             recorder = Recorder(language, drivers[language], program)
             check_table(tally, recorder)
             check_counts(tally, recorder)
             if language not in TYPED:
                 check_other_types(tally, recorder)
+            ids[language] = check_ids(tally, recorder)
+            tally.check(f"{language}: names of ids", ids[language] == ids["py"], ids)
             texts[language] = check_limits(tally, recorder)
             tally.check(f"{language}: texts at the limits", texts[language] == texts["py"])
+            if language in CLOCKED:
+                check_full_updates(tally, recorder)
             check_save(tally, recorder, folder)
             check_judge(tally, recorder, folder)
         check_limits_are_the_programs(tally, program, texts["py"])

@@ -23,7 +23,8 @@ static int is(const char *word) { return strcmp(words[0], word) == 0; }
 static void answer(struct domepeeler *d, unsigned n, int numbered) {
     if (n && numbered) printf("ok %u\n", n);
     if (n && !numbered) printf("ok\n");
-    if (!n) printf("%s %s\n", domepeeler_full(d) ? "full" : "refused", domepeeler_why(d));
+    int is_uncausal = strncmp(domepeeler_why(d), "not causal: ", 12) == 0;
+    if (!n) printf("%s %s\n", domepeeler_full(d) ? "full" : is_uncausal ? "uncausal" : "refused", domepeeler_why(d));
 }
 
 static void judge(struct domepeeler *d) {
@@ -31,6 +32,20 @@ static void judge(struct domepeeler *d) {
     if (report) printf("report %s", report);
     else printf("failed %s\n", domepeeler_why(d));
     free(report);
+}
+
+static void received_clock(struct domepeeler *d, int replica) {
+    unsigned clock[MOST_WORDS];
+    for (size_t i = 4; i < count; i++) clock[i - 4] = (unsigned)atoi(words[i]);
+    answer(d, domepeeler_received_clock(d, replica, atoi(words[2]), clock, count - 4, (unsigned)atoi(words[3])), 0);
+}
+
+static void clock_of(struct domepeeler *d, int replica) {
+    unsigned clock[DOMEPEELER_REPLICAS], is_told = domepeeler_clock(d, replica, clock);
+    if (!is_told) return answer(d, 0, 0);
+    printf("ok");
+    for (int i = 0; i < d->replicas; i++) printf(" %u", clock[i]);
+    puts("");
 }
 
 static void save(struct domepeeler *d) {
@@ -66,6 +81,9 @@ int main(void) {
         if (is("read")) answer(d, domepeeler_read(d, replica, list + 2, count - 2), 1);
         if (is("view")) answer(d, domepeeler_view(d, replica, list + 2, count - 2), 1);
         if (is("received")) answer(d, domepeeler_received(d, replica, atoi(words[2]), atoll(words[3])), 0);
+        if (is("received_clock")) received_clock(d, replica);
+        if (is("clock")) clock_of(d, replica);
+        if (is("id_of")) printf(domepeeler_id_of(d, words[1]) ? "ok %s\n" : "none\n", domepeeler_id_of(d, words[1]));
         if (is("save")) save(d);
         if (is("judge")) judge(d);
         if (is("text")) show(domepeeler_text(d));

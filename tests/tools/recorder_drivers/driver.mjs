@@ -1,6 +1,6 @@
 // Makes the calls that stand on standard input, in fields between tabs, of the JavaScript recorder: see tests/tools/recorders.py.
 import { readFileSync } from "node:fs"
-import { Full, Recording, Refused } from "../../../recorders/domepeeler.mjs"
+import { Full, NotCausal, Recording, Refused } from "../../../recorders/domepeeler.mjs"
 
 // Calls that only a language without types can make, and that a trace can't say.
 const UNTYPED = [
@@ -15,20 +15,29 @@ const UNTYPED = [
   () => new Recording(2).read(0, "ab"),
   () => new Recording(2).read(0, null),
   () => new Recording(2).insert(0, "a", 0, 7),
+  () => new Recording(2).receivedClock(0, 1, "01"),
+  () => new Recording(2).receivedClock(0, 1, null),
+  () => new Recording(2).receivedClock(0, 1, [0, "1"]),
+  () => new Recording(2).receivedChanges(0, "ab"),
+  () => new Recording(2).receivedChanges(0, 7),
+  () => new Recording(2).receivedChanges(0, [["ab"]]),
+  () => new Recording(2).delete(0, "a", [], {}),
 ]
 
 let recording
 
-async function call(words) {
+async function call(words, changeId = null) {
   const number = Number(words[1])
   switch (words[0]) {
     case "new":
       recording = new Recording(...words.slice(1).map(Number))
       return "ok"
+    case "as":
+      return call(words.slice(2), words[1])
     case "insert":
-      return `ok ${recording.insert(number, words[2], Number(words[3]), words.slice(4))}`
+      return `ok ${recording.insert(number, words[2], Number(words[3]), words.slice(4), changeId)}`
     case "delete":
-      return `ok ${recording.delete(number, words[2], words.slice(3))}`
+      return `ok ${recording.delete(number, words[2], words.slice(3), changeId)}`
     case "read":
       return `ok ${recording.read(number, words.slice(2))}`
     case "view":
@@ -36,6 +45,16 @@ async function call(words) {
     case "received":
       recording.received(number, Number(words[2]), Number(words[3]))
       return "ok"
+    case "received_clock":
+      recording.receivedClock(number, Number(words[2]), words.slice(4).map(Number), Number(words[3]))
+      return "ok"
+    case "received_changes":
+      recording.receivedChanges(number, words.slice(2))
+      return "ok"
+    case "clock":
+      return `ok ${recording.clock(number).join(" ")}`
+    case "id_of":
+      return recording.ids().has(words[1]) ? `ok ${recording.ids().get(words[1])}` : "none"
     case "save":
       await recording.save(words[1])
       return "ok"
@@ -52,7 +71,7 @@ for (const line of readFileSync(0, "utf8").split("\n").slice(0, -1)) {
   try {
     console.log(await call(line.split("\t")))
   } catch (why) {
-    const kind = why instanceof Full ? "full" : why instanceof Refused ? "refused" : "failed"
+    const kind = why instanceof Full ? "full" : why instanceof NotCausal ? "uncausal" : why instanceof Refused ? "refused" : "failed"
     console.log(`${kind} ${why.message}`)
   }
 }

@@ -4,7 +4,7 @@ import sys
 from pathlib import Path
 
 sys.path.insert(0, str(Path(__file__).parents[3] / "recorders"))
-from domepeeler import Full, Recording, Refused
+from domepeeler import Full, NotCausal, Recording, Refused
 
 # Calls that only a language without types can make, and that a trace can't say.
 UNTYPED = [
@@ -19,15 +19,24 @@ UNTYPED = [
     lambda: Recording(2).read(0, "ab"),
     lambda: Recording(2).read(0, None),
     lambda: Recording(2).insert(0, "a", 0, 7),
+    lambda: Recording(2).received_clock(0, 1, "01"),
+    lambda: Recording(2).received_clock(0, 1, None),
+    lambda: Recording(2).received_clock(0, 1, [0, "1"]),
+    lambda: Recording(2).received_changes(0, "ab"),
+    lambda: Recording(2).received_changes(0, 7),
+    lambda: Recording(2).received_changes(0, [["ab"]]),
+    lambda: Recording(2).delete(0, "a", [], {}),
 ]
 
 
-def call(recording: Recording, words: list) -> str:
-    kind, number = words[0], int(words[1]) if words[1:] and words[0] != "save" else 0
+def call(recording: Recording, words: list, change_id: str = None) -> str:
+    if words[0] == "as":
+        return call(recording, words[2:], words[1])
+    kind, number = words[0], int(words[1]) if words[1:] and words[0] not in ("save", "id_of") else 0
     if kind == "insert":
-        return f"ok {recording.insert(number, words[2], int(words[3]), words[4:])}"
+        return f"ok {recording.insert(number, words[2], int(words[3]), words[4:], change_id)}"
     if kind == "delete":
-        return f"ok {recording.delete(number, words[2], words[3:])}"
+        return f"ok {recording.delete(number, words[2], words[3:], change_id)}"
     if kind == "read":
         return f"ok {recording.read(number, words[2:])}"
     if kind == "view":
@@ -35,6 +44,16 @@ def call(recording: Recording, words: list) -> str:
     if kind == "received":
         recording.received(number, int(words[2]), int(words[3]))
         return "ok"
+    if kind == "received_clock":
+        recording.received_clock(number, int(words[2]), list(map(int, words[4:])), int(words[3]))
+        return "ok"
+    if kind == "received_changes":
+        recording.received_changes(number, words[2:])
+        return "ok"
+    if kind == "clock":
+        return "ok " + " ".join(map(str, recording.clock(number)))
+    if kind == "id_of":
+        return f"ok {recording.ids()[words[1]]}" if words[1] in recording.ids() else "none"
     if kind == "save":
         recording.save(words[1])
         return "ok"
@@ -48,6 +67,8 @@ def answer(act) -> str:
         return act()
     except Full as why:
         return f"full {why}"
+    except NotCausal as why:
+        return f"uncausal {why}"
     except Refused as why:
         return f"refused {why}"
     except (OSError, RuntimeError) as why:

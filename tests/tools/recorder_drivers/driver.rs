@@ -29,6 +29,19 @@ fn call(recording: &mut Recording, words: &[&str]) -> Result<String, Refused> {
         "received" => {
             recording.received(number(words[1]), number(words[2]), number(words[3])).map(|()| "ok".to_string())
         }
+        "received_clock" => {
+            let clock: Vec<u32> = words[4..].iter().map(|word| number(word)).collect();
+            let done = recording.received_clock(number(words[1]), number(words[2]), &clock, number(words[3]));
+            done.map(|()| "ok".to_string())
+        }
+        "clock" => recording.clock(number(words[1])).map(|clock| {
+            let counts: Vec<String> = clock.iter().map(u32::to_string).collect();
+            format!("ok {}", counts.join(" "))
+        }),
+        "id_of" => Ok(match recording.ids().into_iter().find(|(name, _)| *name == words[1]) {
+            Some((_, id)) => format!("ok {id}"),
+            None => "none".to_string(),
+        }),
         "save" => Ok(match recording.save(words[1]) {
             Ok(()) => "ok".to_string(),
             Err(why) => format!("failed {why}"),
@@ -42,7 +55,12 @@ fn call(recording: &mut Recording, words: &[&str]) -> Result<String, Refused> {
 }
 
 fn answer(done: Result<String, Refused>) -> String {
-    done.unwrap_or_else(|why| format!("{} {why}", if why.is_full() { "full" } else { "refused" }))
+    let kind = |why: &Refused| match why {
+        Refused::NotCausal { .. } => "uncausal",
+        _ if why.is_full() => "full",
+        _ => "refused",
+    };
+    done.unwrap_or_else(|why| format!("{} {why}", kind(&why)))
 }
 
 fn main() {

@@ -1,0 +1,66 @@
+/** No trace can say this. */
+export class Refused extends Error {}
+
+/** The replica has reached a limit of traces: end this session, and begin another. */
+export class Full extends Refused {}
+
+/** An update was applied at a replica that lacks a change which the update's author had seen. */
+export class NotCausal extends Refused {}
+
+/** The program's report, as docs/formats.md has it. Which fields there are is up to the verdict. */
+export interface Report {
+  verdict: "accepted" | "contents" | "position" | "refused" | "doubled"
+  replicas: number
+  operations: number
+  inserts: number
+  strong?: boolean
+  weak?: boolean
+  [field: string]: unknown
+}
+
+/** For each replica how many of its inserts and deletes an author had seen. */
+export type Clock = readonly number[] | ReadonlyMap<number, number> | Readonly<Record<number, number>>
+
+/** A session of so many replicas; with `only`, the log that this one replica keeps on its own machine. */
+export class Recording {
+  constructor(replicas: number, only?: number | null)
+
+  /** The replica inserted the name at the position and then had this list. Answers the operation's number. */
+  insert(replica: number, name: string, position: number, response: readonly string[], changeId?: string | number | null): number
+
+  /** The replica deleted the name and then had this list. Answers the operation's number. */
+  delete(replica: number, name: string, response: readonly string[], changeId?: string | number | null): number
+
+  /** The replica read its list. Answers the operation's number. */
+  read(replica: number, response: readonly string[]): number
+
+  /** The replica showed this part of its list, the window of an editor say. Answers the operation's number. */
+  view(replica: number, part: readonly string[]): number
+
+  /** The author's operation n, and with it all that the author had seen by then, was applied at the replica. */
+  received(replica: number, author: number, n: number): void
+
+  /** The author's update with this vector clock, which carries so many of the author's changes, 1 by default, was applied at the replica. */
+  receivedClock(replica: number, author: number, clock: Clock, changes?: number): void
+
+  /** An update that carries the changes with these ids, and no others, was applied at the replica. */
+  receivedChanges(replica: number, changeIds: Iterable<string | number>): void
+
+  /** How many inserts and deletes of each replica this one has: the vector clock of an update that it makes now. */
+  clock(replica: number): number[]
+
+  /** By name in the trace the id of which it is short, for each id of more than 32 bytes. */
+  ids(): Map<string, string>
+
+  /** The trace; of one replica's log the text that merge.py takes. */
+  text(): string
+
+  /** Writes the text into a file of this name. */
+  save(path: string | URL): Promise<void>
+
+  /** The program's report on this recording. The program is the words that are given, that of $DOMEPEELER, or `domepeeler`. */
+  judge(program?: string | readonly string[] | null): Promise<Report>
+
+  /** What the report means, in words. The tool is the words that are given, that of $DOMEPEELER_EXPLAIN, or `domepeeler-explain`. */
+  explain(explainer?: string | readonly string[] | null): Promise<string>
+}

@@ -1,0 +1,84 @@
+// For Node's own test runner: a test whose recording is judged at its end.
+//
+//     import { test } from "node:test"
+//     import { recorded } from "domepeeler/node_test"
+//
+//     test("two users", recorded(2, (recording) => {
+//       const n = recording.insert(0, "a", 0, ["a"])
+//       ...
+//     }))
+//
+// Where the recording is not accepted the test fails, and its error has the explanation and the path of the saved trace. For a
+// property of fast-check or another library, let the property end with: await accepted(recording, "failed.trace")
+import { createHash } from "node:crypto"
+import { mkdir } from "node:fs/promises"
+import { basename, dirname, resolve } from "node:path"
+import { Recording } from "./domepeeler.mjs"
+
+const FOLDER = "failed_traces", MOST_LETTERS = 150
+const named = new Map() // by name of a file: how many tests of this process have had it
+
+/** The recording is not accepted, or was not judged. */
+export class NotAccepted extends Error {
+  constructor(told) {
+    super(told)
+    this.name = "NotAccepted"
+    this.stack = told // which lines of this helper threw it helps nobody
+  }
+}
+
+/** A function for test(): it begins a recording of so many replicas, hands it to the body, and has it judged when that has ended. */
+export function recorded(replicas, body, { folder = FOLDER } = {}) {
+  return async (context) => {
+    const recording = new Recording(replicas)
+    const path = resolve(folder, fileName(context.name))
+    try {
+      await body(recording, context)
+    } catch (why) {
+      const told = await fault(recording, path)
+      if (told) context.diagnostic(told)
+      throw why
+    }
+    await accepted(recording, path)
+  }
+}
+
+/** A promise that is kept where the recording is accepted; else it is saved, and the error says what is wrong with it. */
+export async function accepted(recording, path) {
+  const told = await fault(recording, path)
+  if (told) throw new NotAccepted(told)
+}
+
+// What is wrong with a recording, which is then saved; nothing where it is accepted.
+async function fault(recording, path) {
+  let told
+  try {
+    const { verdict } = await recording.judge()
+    if (verdict === "accepted") return ""
+    told = await recording.explain().catch((why) => `The recording is not accepted: ${verdict}. There is no explanation: ${why.message}`)
+  } catch (why) {
+    told = `The recording was not judged: ${why.message}`
+  }
+  return `${told.trimEnd()}\n\n${await saved(recording, resolve(path))}`
+}
+
+async function saved(recording, path) {
+  try {
+    await mkdir(dirname(path), { recursive: true })
+    await recording.save(path)
+  } catch (why) {
+    return `The trace can't be saved in ${path}: ${why.code}. It is:\n${recording.text()}`
+  }
+  return `The trace is saved: ${path}`
+}
+
+// The name of a file that no other test has.
+function fileName(test) {
+  const whole = `${basename(process.argv[1] ?? "")}--${test}`
+  const isPlain = /^[A-Za-z0-9_.]+--[A-Za-z0-9_.]+$/.test(whole) && whole.length <= MOST_LETTERS
+  const letters = whole.replace(/[^A-Za-z0-9_.]+/g, "-").slice(0, MOST_LETTERS).replace(/^-+|-+$/g, "")
+  const name = isPlain ? whole : `${letters}-${createHash("sha256").update(whole).digest("hex").slice(0, 12)}`
+  const before = named.get(name) ?? 0
+  named.set(name, before + 1)
+  return `${name}${before ? `-${before + 1}` : ""}.trace`
+}

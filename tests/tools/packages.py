@@ -1,0 +1,429 @@
+#!/usr/bin/env python3
+"""packages.py PROGRAM: the recorders as packages of Python, JavaScript and Rust, each installed without a registry into an empty
+place, and used there by a test of that language's own runner, which must pass, or fail with an explanation and a saved trace.
+
+Needs node, npm and cargo, and for Debian's Python pip, setuptools, wheel, venv and pytest, which are installed where they are missing."""
+import os
+import re
+import shutil
+import subprocess
+import sys
+import tempfile
+from pathlib import Path
+
+ROOT = Path(__file__).resolve().parents[2]
+sys.path.insert(0, str(ROOT / "tests"))
+from shared.program import Tally, need, program_of  # noqa: E402
+
+RECORDERS = ROOT / "recorders"
+DEBIAN_PYTHON = "/usr/bin/python3"
+MODULES = {"pip": "python3-pip", "setuptools": "python3-setuptools", "wheel": "python3-wheel", "venv": "python3-venv",
+           "pytest": "python3-pytest"}
+
+# A replica received an element, and then answers that it has none. Its explanation begins with the first of these lines.
+LOST = "contents 1.1: "
+LOST_TRACE = "trace 1\nreplicas 2\n0 ins a 0 : a\n1 recv 0 1\n1 read :\n"
+TOLD = [LOST, "[a] inserted by 0.1 (line 3), arrived at replica 1 in line 4 (1 recv 0 1)"]
+BUILT = {"__pycache__", "build", "domepeeler.egg-info", "node_modules", "target", "Cargo.lock"}  # what a user's own use may leave there
+DICTIONARY = ["'verdict'", '"verdict"', "Traceback"]
+
+PYTEST = '''
+import pytest
+
+
+def lose(recording):
+    n = recording.insert(0, "a", 0, ["a"])
+    recording.received(1, 0, n)
+    recording.read(1, [])
+
+
+def test_right(domepeeler):
+    recording = domepeeler(2)
+    n = recording.insert(0, "a", 0, ["a"])
+    recording.received(1, 0, n)
+    recording.read(1, ["a"])
+
+
+def test_lost(domepeeler):
+    lose(domepeeler(2))
+
+
+def test_fails_by_itself(domepeeler):
+    lose(domepeeler(2))
+    assert 1 == 2
+
+
+def test_fails_by_itself_alone(domepeeler):
+    domepeeler(2).read(0, [])
+    assert 3 == 4
+
+
+@pytest.mark.parametrize("word", ["a/b", "a:b"])
+def test_second(domepeeler, word):
+    domepeeler(1).read(0, [])
+    lose(domepeeler(2))
+
+
+def test_without():
+    pass
+
+
+def test_not_causal(domepeeler):
+    recording = domepeeler(3)
+    recording.insert(2, "a", 0, ["a"])
+    recording.received_clock(1, 2, {2: 1})
+    recording.insert(1, "b", 1, ["a", "b"])
+    recording.received_clock(0, 1, recording.clock(1))
+
+
+@pytest.mark.xfail(strict=True)
+def test_meant_to_fail(domepeeler):
+    lose(domepeeler(2))
+'''
+
+NODE_TEST = '''
+import assert from "node:assert"
+import { test } from "node:test"
+import { NotCausal, Recording } from "domepeeler"
+import { NotAccepted, accepted, recorded } from "domepeeler/node_test"
+
+function lose(recording) {
+  const n = recording.insert(0, "a", 0, ["a"])
+  recording.received(1, 0, n)
+  recording.read(1, [])
+}
+
+test("right", recorded(2, (recording) => {
+  const n = recording.insert(0, "a", 0, ["a"])
+  recording.received(1, 0, n)
+  recording.read(1, ["a"])
+}))
+test("lost", recorded(2, lose))
+test("fails by itself", recorded(2, (recording) => {
+  lose(recording)
+  throw new Error("one is not two")
+}))
+test("awaited", async () => {
+  const recording = new Recording(2)
+  lose(recording)
+  const why = await accepted(recording, "own/awaited.trace").catch((why) => why)
+  if (!(why instanceof NotAccepted) || !why.message.startsWith("contents 1.1: ")) throw new Error(`not so: ${why}`)
+  await accepted(new Recording(1), "own/right.trace")
+  const clocked = new Recording(3)
+  clocked.insert(2, "a", 0, ["a"])
+  clocked.receivedClock(1, 2, new Map([[2, 1]]))
+  clocked.insert(1, "b", 1, ["a", "b"])
+  assert.throws(() => clocked.receivedClock(0, 1, { 1: 1, 2: 1 }), NotCausal)
+  clocked.receivedClock(0, 2, { 2: 1 })
+  assert.throws(() => clocked.receivedClock(0, 2, { 3: 1 }), /no replica 3 among 0 to 2/)
+  assert.strictEqual(clocked.text(), "trace 1\\nreplicas 3\\n2 ins a 0 : a\\n1 recv 2 1\\n1 ins b 1 : a b\\n0 recv 2 1\\n")
+})
+'''
+
+RUST_TEST = '''
+use domepeeler::Recording;
+
+fn checked(names: &[&str]) -> Result<(), Box<dyn std::error::Error>> {
+    let mut recording = Recording::new(2)?;
+    let n = recording.insert(0, "a", 0, &["a"])?;
+    recording.received(1, 0, n)?;
+    recording.read(1, names)?;
+    if !recording.judge()?.contains("\\"verdict\\":\\"accepted\\"") {
+        recording.save("failed.trace")?;
+        panic!("{}\\nThe trace is saved: failed.trace", recording.explain()?);
+    }
+    Ok(())
+}
+
+#[test]
+fn right() {
+    checked(&["a"]).unwrap();
+}
+
+#[test]
+fn lost() {
+    checked(&[]).unwrap();
+}
+'''
+
+# A recording with twelve long ids in each language, of which the last one alone is in the list, but is not answered; what is
+# printed of it, and what must be printed. The word that a script gets is a tool that is no explainer.
+LONG_ID = "4@abcdefghijklmnopqrstuvwxyz_-.0123456789"
+USES = {
+    "python": f'''
+import sys
+from domepeeler import Recording
+recording = Recording(1)
+for name in [f"{LONG_ID}/{{n}}" for n in range(1, 12)]:
+    recording.insert(0, name, 0, [name])
+    recording.delete(0, name, [])
+recording.insert(0, "{LONG_ID}/12", 0, [])
+print(recording.judge()["verdict"], recording.judge(["env", "domepeeler"])["verdict"])
+print(recording.explain(["env", "domepeeler-explain"]))
+print(Recording(1).explain())
+for words in [sys.argv[1]], ["nowhere"], ["false"]:
+    try:
+        recording.explain(words)
+    except RuntimeError as why:
+        print(why)
+''',
+    "javascript": f'''
+import {{ Recording }} from "domepeeler"
+const recording = new Recording(1)
+for (let n = 1; n < 12; n++) {{
+  recording.insert(0, `{LONG_ID}/${{n}}`, 0, [`{LONG_ID}/${{n}}`])
+  recording.delete(0, `{LONG_ID}/${{n}}`, [])
+}}
+recording.insert(0, "{LONG_ID}/12", 0, [])
+console.log((await recording.judge()).verdict, (await recording.judge(["env", "domepeeler"])).verdict)
+console.log(await recording.explain(["env", "domepeeler-explain"]))
+console.log(await new Recording(1).explain())
+for (const words of [[process.argv[2]], ["nowhere"], ["false"]]) {{
+  await recording.explain(words).catch((why) => console.log(why.message))
+}}
+''',
+    "rust": f'''
+use domepeeler::Recording;
+fn main() {{
+    let mut recording = Recording::new(1).unwrap();
+    let none = &[] as &[&str];
+    for name in (1..12).map(|n| format!("{LONG_ID}/{{n}}")) {{
+        recording.insert(0, &name, 0, &[&name]).unwrap();
+        recording.delete(0, &name, none).unwrap();
+    }}
+    recording.insert(0, "{LONG_ID}/12", 0, none).unwrap();
+    let verdict = |report: String| report.split("\\"verdict\\":\\"").nth(1).unwrap().split('"').next().unwrap().to_string();
+    println!("{{}} {{}}", verdict(recording.judge().unwrap()), verdict(recording.judge_by("domepeeler").unwrap()));
+    println!("{{}}", recording.explain().unwrap());
+    println!("{{}}", Recording::new(1).unwrap().explain().unwrap());
+    for tool in [&std::env::args().nth(1).unwrap(), "nowhere", "false"] {{
+        println!("{{}}", recording.explain_by(tool).unwrap_err());
+    }}
+}}
+''',
+}
+USED = ["contents contents\ncontents 0.23: ", f"Ids that were too long for a name\n  long12: {LONG_ID}/12\n\n", "accepted: ",
+        "no_explainer ended with status 2: not today", "nowhere cannot be run (", "in DOMEPEELER_EXPLAIN", "false ended with status 1: "]
+
+
+class Place:
+    """An empty folder with the installed program and its tools on the PATH, a copy of the recorders, and nothing of the repository."""
+
+    def __init__(self, folder: Path, program: str):
+        self.folder = folder
+        subprocess.run([ROOT / "tools" / "install", folder / "prefix"], check=True, stdout=subprocess.DEVNULL,
+                       env={**os.environ, "DOMEPEELER": program})
+        shutil.copytree(RECORDERS, folder / "recorders", symlinks=True, ignore=shutil.ignore_patterns(*BUILT))
+        tools = {os.path.dirname(shutil.which(tool)) for tool in ("python3", "node", "npm", "cargo", "cc")}
+        self.path = os.pathsep.join([str(folder / "prefix/bin"), *sorted(tools), "/usr/bin", "/bin"])
+        self.surroundings = {name: os.environ[name] for name in ("CARGO_HOME", "RUSTUP_HOME", "RUSTUP_TOOLCHAIN") if name in os.environ}
+        home = Path(os.environ.get("HOME", "/"))
+        self.surroundings |= {"HOME": str(folder), "PATH": self.path, "LC_ALL": "C.UTF-8", "PYTHONDONTWRITEBYTECODE": "1"}
+        for variable, own in ("CARGO_HOME", ".cargo"), ("RUSTUP_HOME", ".rustup"):
+            self.surroundings.setdefault(variable, str(home / own))
+
+    def run(self, words: list, place: str = "", **surroundings: str) -> subprocess.CompletedProcess:
+        done = subprocess.run(words, cwd=self.folder / place, env={**self.surroundings, **surroundings}, timeout=120, text=True,
+                              stdin=subprocess.DEVNULL, stdout=subprocess.PIPE, stderr=subprocess.STDOUT)
+        return done
+
+    def make(self, name: str, text: str, mode: int = 0o644) -> str:
+        path = self.folder / name
+        path.parent.mkdir(parents=True, exist_ok=True)
+        path.write_text(text)
+        path.chmod(mode)
+        return str(path)
+
+
+def prepare() -> None:
+    need("npm", "npm")
+    need("cargo", "cargo")
+    missing = [package for module, package in MODULES.items() if not has_module(module)]
+    if missing:
+        for words in ["update"], ["install", "-y", "--no-install-recommends", *missing]:
+            subprocess.run(["apt-get", *words], stdout=subprocess.DEVNULL, env={**os.environ, "DEBIAN_FRONTEND": "noninteractive"})
+    for module in MODULES:
+        if not has_module(module):
+            sys.exit(f"packages.py: {DEBIAN_PYTHON} has no {module}")
+
+
+def has_module(module: str) -> bool:
+    words = [DEBIAN_PYTHON, "-c", f"import {module}"]
+    return os.access(DEBIAN_PYTHON, os.X_OK) and subprocess.run(words, capture_output=True).returncode == 0
+
+
+def check_installed(tally: Tally, place: Place) -> None:
+    """What makes the packages is installed with the tools, as files and no links."""
+    share = place.folder / "prefix/share/domepeeler/recorders"
+    for package in "python", "javascript", "rust":
+        files = [path.relative_to(RECORDERS) for path in sorted((RECORDERS / package).rglob("*.*"))]
+        wanted = [path for path in files if (RECORDERS / path).is_file() and not path.name.startswith(".") and not BUILT & set(path.parts)]
+        same = [path for path in wanted if (share / path).is_file() and not (share / path).is_symlink() and
+                (share / path).read_bytes() == (RECORDERS / path).read_bytes()]
+        tally.check(f"installed: {package}", len(wanted) > 2 and same == wanted, set(wanted) - set(same))
+
+
+def example(package: str, begin: str) -> str:
+    """The block of a package's README that begins so, as a test of its own."""
+    found = re.findall(r"(?:^(?: {4}.*)?\n)+", (RECORDERS / package / "README.md").read_text(), re.MULTILINE)
+    blocks = [re.sub(r"^ {4}", "", block, flags=re.MULTILINE).strip("\n") + "\n" for block in found]
+    return next((block for block in blocks if block.startswith(begin)), f"the README of {package} has no block that begins with {begin}")
+
+
+def check_told(tally: Tally, name: str, said: str) -> None:
+    """An explanation, and neither a dictionary nor a trace of calls."""
+    tally.check(f"{name}: is explained", all(words in said for words in TOLD), said)
+    tally.check(f"{name}: no dictionary", not any(words in said for words in DICTIONARY), said)
+
+
+def check_saved(tally: Tally, name: str, said: str, folder: Path) -> None:
+    """The traces that are told of are there, below the folder, and no two in one file."""
+    paths = re.findall(r"The trace is saved: (.*)", said)
+    tally.check(f"{name}: paths", paths and len(set(paths)) == len(paths) and
+                all(os.path.dirname(path) == str(folder) for path in paths), (paths, said))
+    for path in paths:
+        tally.check(f"{name}: {path}", Path(path).is_file() and Path(path).read_text() == LOST_TRACE, path)
+
+
+def check_used(tally: Tally, name: str, done: subprocess.CompletedProcess) -> None:
+    """What `judge` and `explain` answer, by the installed commands and by words that are given, and that they say where they can't."""
+    at = 0
+    for words in USED:
+        found = done.stdout.find(words, at)
+        tally.check(f"{name}: {words!r}", found >= 0, done.stdout)
+        at = max(at, found)
+
+
+def sections(said: str) -> dict:
+    """What pytest says of each test that fails."""
+    parts = re.split(r"^_{3,} (\S+) _{3,}$", said.split("= short test summary")[0], flags=re.MULTILINE)
+    return dict(zip(parts[1::2], parts[2::2]))
+
+
+def check_python(tally: Tally, place: Place) -> None:
+    """The package is made of the file that is copied otherwise, and its plugin judges what tests record."""
+    made = place.run([DEBIAN_PYTHON, "-m", "venv", "--system-site-packages", "--without-pip", "venv"])
+    python = str(place.folder / "venv/bin/python")
+    done = place.run([python, "-m", "pip", "install", "--quiet", "--no-build-isolation", "--no-index", "./recorders/python"])
+    tally.check("Python: installs", made.returncode == 0 and done.returncode == 0, made.stdout + done.stdout)
+    shutil.rmtree(place.folder / "recorders")  # what is installed needs no source
+    package = next(iter(place.folder.glob("venv/lib/python*/site-packages/domepeeler")), place.folder / "none")
+    own = package / "__init__.py"
+    tally.check("Python: the one file", own.is_file() and not own.is_symlink() and
+                own.read_bytes() == (RECORDERS / "domepeeler.py").read_bytes())
+    tally.check("Python: typed", (package / "py.typed").is_file())
+    place.make("python/test_editor.py", PYTEST + "\n\n" + example("python", "def test_two_users"))
+    command = [python, "-m", "pytest", "-q", "-p", "no:cacheprovider", "test_editor.py"]
+    done = place.run(command, "python")
+    tally.check("pytest: counts", done.returncode == 1 and "6 failed, 3 passed, 1 xfailed" in done.stdout and
+                "error" not in done.stdout, done.stdout)
+    said = sections(done.stdout)
+    for name in ["test_lost", "test_second[a/b]", "test_second[a:b]", "test_fails_by_itself"]:
+        check_told(tally, f"pytest: {name}", said.get(name, ""))
+    own = said.get("test_fails_by_itself", "")
+    tally.check("pytest: the test's own fault comes first", own.find("assert 1 == 2") in range(own.find(LOST)), own)
+    refused = said.get("test_not_causal", "")
+    tally.check("pytest: a refused call is shown where the test makes it", "test_editor.py:" in refused and "__init__.py" not in refused
+                and "NotCausal: not causal: 1.1 was applied at replica 0 before 2.1, which replica 1 had seen" in refused, refused)
+    alone = said.get("test_fails_by_itself_alone", "")
+    tally.check("pytest: nothing is told of an accepted recording", "assert 3 == 4" in alone and "The trace is saved" not in alone, alone)
+    check_saved(tally, "pytest", "".join(said.values()), place.folder / "python" / "failed_traces")
+    kept = sorted(path.name for path in (place.folder / "python" / "failed_traces").iterdir())
+    tally.check("pytest: a file for each recording that fails", len(kept) == 5 and "test_editor.py--test_lost.trace" in kept, kept)
+    lost = [*command, "-k", "test_lost", "--failed-traces"]
+    done = place.run([*lost, "kept/here"], "python")
+    check_saved(tally, "pytest: a folder that is asked for", done.stdout, place.folder / "python/kept/here")
+    done = place.run([*lost, "test_editor.py"], "python")
+    tally.check("pytest: a folder that can't be made", done.returncode == 1 and "can't be saved in" in done.stdout and
+                LOST_TRACE in done.stdout and "INTERNALERROR" not in done.stdout, done.stdout)
+    done = place.run([*command, "-k", "test_right"], "python", DOMEPEELER="nowhere")
+    tally.check("pytest: without a program", "1 failed" in done.stdout and
+                "The recording was not judged: nowhere cannot be run (No such file or directory): name the program's path in DOMEPEELER"
+                in done.stdout, done.stdout)
+    done = place.run(lost[:-1], "python", DOMEPEELER_EXPLAIN="nowhere")
+    tally.check("pytest: without an explainer", "The recording is not accepted: contents. There is no explanation: nowhere cannot be run"
+                in done.stdout and "The trace is saved: " in done.stdout, done.stdout)
+    script = place.make("python/use.py", USES["python"])
+    check_used(tally, "Python", place.run([python, script, place.make("no_explainer", NO_EXPLAINER, 0o755)], "python"))
+
+
+NO_EXPLAINER = "#!/bin/sh\ncat > /dev/null\necho 'not today' >&2\nexit 2\n"
+
+
+def check_javascript(tally: Tally, place: Place) -> None:
+    """The packed file, and the folder itself, give the recorder and the helper for Node's test runner."""
+    link = place.folder / "recorders/javascript/domepeeler.mjs"
+    packed = place.run(["npm", "pack", "--offline", "--silent", "--pack-destination", place.folder], "recorders/javascript")
+    tally.check("npm pack", packed.returncode == 0 and link.is_symlink() and link.resolve().is_file(), packed.stdout)
+    archive = next(iter(place.folder.glob("*.tgz")), None)
+    if archive is None:
+        return
+    installed = place.folder / "prefix/share/domepeeler/recorders/javascript"
+    for name, source in ("packed", archive), ("folder", place.folder / "recorders/javascript"), ("installed", installed):
+        place.make(f"{name}/package.json", '{"name": "own", "version": "1.0.0", "type": "module"}\n')
+        done = place.run(["npm", "install", "--offline", "--no-audit", "--no-fund", "--silent", str(source)], name)
+        own = place.folder / name / "node_modules/domepeeler/domepeeler.mjs"
+        tally.check(f"npm install: {name}", done.returncode == 0 and own.is_file() and
+                    own.read_bytes() == (RECORDERS / "domepeeler.mjs").read_bytes(), done.stdout)
+    types = (place.folder / "packed/node_modules/domepeeler/domepeeler.d.mts").read_text()
+    script = 'import * as all from "domepeeler"; import "domepeeler/node_test"; ' \
+             "console.log([...Object.keys(all), ...Object.getOwnPropertyNames(all.Recording.prototype)].join(' '))"
+    named = place.run(["node", "--input-type=module", "-e", script], "packed").stdout.split()
+    untyped = [name for name in named if not re.search(rf"(class {name}\b|^  {name}\()", types, re.MULTILINE)]
+    tally.check("JavaScript: each name has a type", len(named) >= 16 and not untyped, untyped)
+    place.make("packed/editor.test.mjs", NODE_TEST)
+    place.make("packed/readme.test.mjs", example("javascript", "import { test }"))
+    done = place.run(["node", "--test", "--test-reporter=tap", "editor.test.mjs", "readme.test.mjs"], "packed")
+    tally.check("node --test: counts", done.returncode == 1 and "# pass 3" in done.stdout and "# fail 2" in done.stdout and
+                "ok 1 - right" in done.stdout and "ok 4 - awaited" in done.stdout and "ok 5 - two users" in done.stdout, done.stdout)
+    lost, own = done.stdout.split("not ok 2 - lost")[-1].split("not ok 3 - fails by itself")
+    for name, said in ("lost", lost), ("fails by itself", own.split("ok 4")[0]):
+        check_told(tally, f"node --test: {name}", said)
+    tally.check("node --test: the test's own fault", "one is not two" in own, own)
+    kept = sorted(path.name for path in (place.folder / "packed/failed_traces").iterdir())
+    tally.check("node --test: traces", len(kept) == 2 and kept[0].startswith("editor.test.mjs-") and all(
+        (place.folder / "packed/failed_traces" / name).read_text() == LOST_TRACE for name in kept) and
+        all(name in done.stdout for name in kept), (kept, done.stdout))
+    tally.check("node --test: a path of its own", [path.name for path in (place.folder / "packed/own").iterdir()] == ["awaited.trace"])
+    place.make("packed/use.mjs", USES["javascript"])
+    done = place.run(["node", "use.mjs", place.make("no_explainer", NO_EXPLAINER, 0o755)], "packed")
+    check_used(tally, "JavaScript", done)
+
+
+def check_rust(tally: Tally, place: Place) -> None:
+    """The crate packs without a registry, and another one's tests depend on what was packed."""
+    done = place.run(["cargo", "package", "--offline", "--quiet", "--allow-dirty", "--no-verify"], "recorders/rust")
+    archive = next(iter(place.folder.glob("recorders/rust/target/package/*.crate")), None)
+    tally.check("cargo package", done.returncode == 0 and archive, done.stdout)
+    if archive is None:
+        return
+    shutil.unpack_archive(archive, place.folder / "crate", "gztar")
+    packed = next((place.folder / "crate").iterdir())
+    tally.check("cargo package: the one file", (packed / "src/lib.rs").read_bytes() == (RECORDERS / "domepeeler.rs").read_bytes())
+    place.make("rust/Cargo.toml", '[package]\nname = "own"\nversion = "0.1.0"\nedition = "2021"\n[dependencies]\n'
+               f'domepeeler = {{ path = "{packed}" }}\n[profile.dev]\ndebug = 0\n')
+    place.make("rust/src/main.rs", USES["rust"])
+    place.make("rust/tests/editor.rs", RUST_TEST)
+    place.make("rust/tests/readme.rs", example("rust", "use domepeeler::Recording;"))
+    done = place.run(["cargo", "test", "--offline", "--quiet", "--no-fail-fast", "--test", "editor", "--test", "readme"], "rust")
+    tally.check("cargo test: counts", done.returncode != 0 and "1 passed; 1 failed" in done.stdout and
+                "1 passed; 0 failed" in done.stdout, done.stdout)
+    tally.check("cargo test: is explained", all(words in done.stdout for words in TOLD), done.stdout)
+    saved = place.folder / "rust/failed.trace"
+    tally.check("cargo test: saves", saved.is_file() and saved.read_text() == LOST_TRACE, done.stdout)
+    done = place.run(["cargo", "run", "--offline", "--quiet", "--", place.make("no_explainer", NO_EXPLAINER, 0o755)], "rust")
+    check_used(tally, "Rust", done)
+
+
+def main() -> None:
+    program = program_of(sys.argv)
+    prepare()
+    tally = Tally()
+    for check in check_installed, check_python, check_javascript, check_rust:
+        with tempfile.TemporaryDirectory() as name:
+            check(tally, Place(Path(name).resolve(), program))
+    tally.close()
+
+
+if __name__ == "__main__":
+    main()
