@@ -203,6 +203,43 @@ NO_TRACES = [
 OTHERS = [("echo hello", "0"), ("exit 0", "0"), ("echo '[]'", "0"), ("echo 5; exit 1", "1"), ("echo '{\"a\": 1}'", "0"),
           ("printf '\\377'", "0"), ("echo 'usage: other' >&2; echo 'or so' >&2; exit 2", "2: usage: other"), ("exit 3", "3")]
 
+NO_INSERT = ", which no line inserts, so no response shows whether it was deleted: is that its name, and was its insert recorded?"
+UNHEARD = ("no receipt brings it an insert or a delete from there, so nothing shows what it makes of these. At the end of a session let "
+           "everyone receive everything, and read")
+# By name: how many replicas, the entries of an accepted recording, and what is warned of, a line each.
+WARNED = [
+    ("nothing recorded", 3, "", "nothing was recorded: the trace has no entry, so the verdict says nothing of an editor"),
+    ("a replica without an entry", 3, "0 ins a 0 : a|2 recv 0 1|2 read : a",
+     "replica 1 has no entry: nothing that it showed is judged"),
+    ("a replica with receipts alone", 2, "0 ins a 0 : a|1 recv 0 1",
+     "replica 1 has receipts, but no operation: nothing that it showed is judged"),
+    ("a delete of what nothing inserts", 1, "0 ins a 0 : a|0 del A : a|0 del a :", f"line 4, 0.2: replica 0 deleted A{NO_INSERT}"),
+    ("seven of them", 2, "1 read :|" + "|".join(f"0 del a{i} :" for i in range(7)) + "|1 recv 0 7",
+     "|".join(f"line {i + 4}, 0.{i + 1}: replica 0 deleted a{i}{NO_INSERT}" for i in range(5))
+     + "|and 2 more deletes of what no line inserts"),
+    ("two that never hear of one another", 2, "0 ins a 0 : a|1 ins b 0 : b|0 read : a|1 read : b",
+     f"replica 0 never hears of replica 1: {UNHEARD}|replica 1 never hears of replica 0: {UNHEARD}"),
+    ("one that never hears of three others", 4, "0 ins a 0 : a|1 del a :|1 recv 0 1|2 ins c 0 : c|2 recv 1 1|2 recv 0 1|0 recv 2 1|"
+     "0 recv 1 1|1 recv 2 1|3 read :", f"replica 3 never hears of replicas 0, 1 and 2: {UNHEARD}"),
+    ("one that hears of a read alone", 2, "0 read :|1 recv 0 1|1 read :|0 ins a 0 : a", f"replica 1 never hears of replica 0: {UNHEARD}"),
+    ("all hear by way of a third", 3, "0 ins a 0 : a|2 recv 0 1|2 read : a|1 ins b 0 : b|1 recv 2 1|2 recv 1 1|2 read : b a|0 recv 2 2|"
+     "0 read : b a|1 read : b a", ""),
+    ("one that hears at the end", 2, "0 ins a 0 : a|1 read :|1 recv 0 1", ""),
+    ("one that reads is not heard of", 2, "0 ins a 0 : a|1 recv 0 1|1 read : a", ""),
+    ("a delete before its insert", 2, "0 ins a 0 : a|1 del a :|1 recv 0 1|1 read :|0 recv 1 1|0 read :", ""),
+]
+# What the file beside a trace of five lines holds, and what is warned of; `{}` is that file's name.
+BESIDE = [
+    (b"5\n", ""),
+    (b"5", ""),
+    (b"7\n", "the trace may have been cut at a line's end: it has 5 lines, and by {} it was saved with 7"),
+    (b"4\n", "the trace has 5 lines, and by {} it was saved with 4: is that file of another trace?"),
+    (b"", "{} holds no number of lines, so nothing says whether the trace is whole"),
+    (b"\xff\n", "{} holds no number of lines, so nothing says whether the trace is whole"),
+    (b"-5\n", "{} holds no number of lines, so nothing says whether the trace is whole"),
+    (b"9" * 5000, "the trace may have been cut at a line's end: it has 5 lines, and by {} it was saved with " + "9" * 64),
+]
+
 HOSTILE = ["ins", "del", "read", "recv", "5", "line", "0", "-", ".", "--", "..", "__proto__", "lt", "amp", "NaN", "e-1", "x" * 32]
 
 
@@ -248,6 +285,48 @@ def faults(tally: Tally, program: str, folder: str) -> None:
                Ended(2, b"", b"explain: /bin/false printed no report: is it domepeeler? It ended with status 1\n"))
     got = explain(program, ["--html", f"{folder}/no/such", good])
     tally.check("a page that can't be written", got.status == 2 and b"cannot write" in got.err and b"Traceback" not in got.err, got)
+
+
+def warned(got: Ended) -> list:
+    """The lines of the section of warnings, which is the last one."""
+    _, _, section = got.out.decode().partition("\nWhat this verdict may hide\n")
+    return [line.strip() for line in section.splitlines()]
+
+
+def warnings(tally: Tally, program: str, folder: str) -> None:
+    """What an accepted recording may hide is said, and the status stays; another verdict hides nothing but a cut."""
+    for name, replicas, entries, wanted in WARNED:
+        trace = text_of(replicas, entries).encode()
+        got = explain(program, ["-"], trace)
+        tally.check(f"warnings: {name}", warned(got) == [line for line in wanted.split("|") if line], got)
+        tally.check(f"warnings: {name}, accepted", got.out.startswith(b"accepted: ") and got.status == 0 and not got.err, got)
+    for example in sorted(ROOT.glob("examples/*.trace")):
+        tally.check(f"warnings: none of {example.name}", not warned(explain(program, [str(example)])))
+    for entries, status in ("0 ins a 0 : a|1 recv 0 1|1 read : a", 0), ("0 ins a 0 : a|1 recv 0 1|1 read :", 1):
+        path = Path(folder, "beside.trace")
+        side = Path(f"{path}.lines")
+        path.write_text(text_of(2, entries))
+        for text, wanted in BESIDE:
+            side.write_bytes(text)
+            got = explain(program, [str(path)])
+            tally.check(f"warnings: {text[:9]} beside a trace", warned(got) == [wanted.format(side)] * bool(wanted) and got.status == status
+                        and not got.err, got)
+        got = explain(program, ["-"], path.read_bytes())
+        tally.check("warnings: no file beside standard input", not warned(got), got)
+        side.unlink()
+        side.mkdir()
+        got = explain(program, [str(path)])
+        wanted = f"{side} can't be read (Is a directory), so nothing says whether the trace is whole"
+        tally.check("warnings: a folder beside a trace", warned(got) == [wanted] and got.status == status and not got.err, got)
+        side.rmdir()
+        long = path.with_name("x" * 255)
+        long.write_text(path.read_text())
+        got = explain(program, [str(long)])
+        tally.check("warnings: no file beside the longest name", not warned(got) and got.status == status and not got.err, got)
+    path.write_text(text_of(2, WARNED[5][2]))
+    explain(program, ["--html", f"{folder}/page.html", str(path)])
+    tree = ElementTree.fromstring(Path(folder, "page.html").read_text())
+    tally.check("warnings: on the page", [told(node) for node in tree.iter("li")][1:3] == WARNED[5][3].split("|"))
 
 
 def files(tally: Tally, program: str, folder: str) -> None:
@@ -476,6 +555,7 @@ def main() -> None:
     words(tally, program)
     with tempfile.TemporaryDirectory() as folder:
         faults(tally, program, folder)
+        warnings(tally, program, folder)
         files(tally, program, folder)
         finding(tally, program, folder)
         others(tally, folder)
