@@ -20,7 +20,8 @@ from shared.program import Ended, Tally, program_of, run  # noqa: E402
 from shared.sessions import session, with_fault  # noqa: E402
 from shared.traces import trace as long_trace  # noqa: E402
 
-sys.path.insert(0, str(ROOT / "tools"))
+sys.path[:0] = [str(ROOT / "tools"), str(ROOT / "recorders")]
+import domepeeler as recorder
 from explaining.evidence import Evidence
 from explaining.recordings import Recording
 from explaining.small import smallest
@@ -329,6 +330,31 @@ def warnings(tally: Tally, program: str, folder: str) -> None:
     tally.check("warnings: on the page", [told(node) for node in tree.iter("li")][1:3] == WARNED[5][3].split("|"))
 
 
+def saved(tally: Tally, program: str, folder: str) -> None:
+    """What the Python recorder saves is whole; where lines are lost at its end, that is said; and no pipe has a file beside it."""
+    recording = recorder.Recording(2)
+    recording.insert(0, "a", 0, ["a"])
+    recording.received(1, 0, 1)
+    recording.read(1, ["a"])
+    path = Path(folder, "saved.trace")
+    for name in str(path), path:
+        recording.save(name)
+        got = explain(program, [str(path)])
+        tally.check("saved: no warning", not warned(got) and got.status == 0, got)
+    lines = path.read_bytes().splitlines(True)
+    for left in range(2, len(lines)):
+        path.write_bytes(b"".join(lines[:left]))
+        got = explain(program, [str(path)])
+        wanted = f"the trace may have been cut at a line's end: it has {left} lines, and by {path}.lines it was saved with {len(lines)}"
+        tally.check(f"saved: {left} lines are left", wanted in warned(got) and got.status == 0, got)
+    pipe = Path(folder, "pipe")
+    os.mkfifo(pipe)
+    reading = subprocess.Popen(["cat", str(pipe)], stdout=subprocess.PIPE)
+    recording.save(str(pipe))
+    told = reading.communicate()[0]
+    tally.check("saved: into a pipe", told == recording.text().encode() and not Path(f"{pipe}.lines").exists(), told)
+
+
 def files(tally: Tally, program: str, folder: str) -> None:
     """What is wrong with a whole file comes first, and the command that mends it does."""
     for name, text, causes in MENDED:
@@ -556,6 +582,7 @@ def main() -> None:
     with tempfile.TemporaryDirectory() as folder:
         faults(tally, program, folder)
         warnings(tally, program, folder)
+        saved(tally, program, folder)
         files(tally, program, folder)
         finding(tally, program, folder)
         others(tally, folder)
