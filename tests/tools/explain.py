@@ -1,10 +1,12 @@
 #!/usr/bin/env python3
-"""explain.py PROGRAM: what `tools/explain` says of each kind of verdict, the pages that it draws, and its small traces.
+"""explain.py PROGRAM: what `tools/explain` says of each kind of verdict and warns of, the pages that it draws, and its small
+traces; and the way there from a plain test of Yjs, and from an engine of one's own.
 
 The words are compared with lines that were written by hand. Each small trace is judged again by the program."""
 import json
 import os
 import random
+import shutil
 import subprocess
 import sys
 import tempfile
@@ -27,6 +29,8 @@ from explaining.recordings import Recording
 from explaining.small import smallest
 
 EXPLAIN = str(ROOT / "tools" / "explain")
+RECORD = str(ROOT / "recorders" / "engines" / "record.py")
+YJS = ROOT / "examples" / "yjs"
 SEED = 20261123
 
 # How many small traces are made of each kind of verdict.
@@ -241,6 +245,51 @@ BESIDE = [
     (b"9" * 5000, "the trace may have been cut at a line's end: it has 5 lines, and by {} it was saved with " + "9" * 64),
 ]
 
+# The recordings of the plain test of Yjs: what switches its mistake on, the status, and lines of the explanation.
+YJS_TOLD = [
+    ("page.trace", "", 0, "accepted: well done, all 13 responses fit one order of the elements. Strong and weak list specification hold.|"
+     "t0-2 h0-0 i0-1 s1-0"),
+    ("page_newest_first.trace", "1", 1,
+     "contents 0.4: this response does not hold exactly what is visible to it. Strong and weak list specification fail.|"
+     "answered: h0-0 i0-1|expected, in whatever order: h0-0 i0-1 [s1-0]|Missing|"
+     "[s1-0] inserted by 1.2 (line 7), arrived at replica 2 in line 11 (2 recv 1 2), and from there arrived at replica 0 in line 16 "
+     "(0 recv 2 4)|[s1-0] no receipt at replica 0 names it by then: it counts as arrived since 2.4 (line 15) had seen it. Where each "
+     "operation travels by itself, it was missing, and the exchange is not causal|[s1-0] nothing deletes it"),
+]
+
+# A list in which of two concurrent inserts at one place the one that arrives later comes first.
+OWN_ENGINE = """
+class Engine:
+    def __init__(self, replica):
+        self.items = []
+
+    def names(self):
+        return [name for name, shown in self.items if shown]
+
+    def insert(self, name, position):
+        return self.apply((name, self.names()[position - 1] if position else None))
+
+    def delete(self, name):
+        return self.apply((name,))
+
+    def apply(self, message):
+        names = [name for name, _ in self.items]
+        if len(message) == 1:
+            self.items[names.index(message[0])][1] = False
+        else:
+            self.items.insert(names.index(message[1]) + 1 if message[1] else 0, [message[0], True])
+        return message
+"""
+# Modules that can't be used as an engine, and what is said; `{}` is the path.
+OWN_ENGINES_REFUSED = [
+    ("", "{} has no class Engine"),
+    ("Engine = 5\n", "{} has no class Engine"),
+    ("class Engine:\n    names = insert = len\n    apply = 5\n", "Engine of {} has no delete, apply"),
+    ("class Engine\n", "{} can't be loaded: SyntaxError: expected ':' (mine {{0}}.py, line 1)"),
+    ("raise ValueError('no\\nengine')\n", "{} can't be loaded: ValueError: no"),
+    ("exit(5)\n", "{} can't be loaded: SystemExit: 5"),
+]
+
 HOSTILE = ["ins", "del", "read", "recv", "5", "line", "0", "-", ".", "--", "..", "__proto__", "lt", "amp", "NaN", "e-1", "x" * 32]
 
 
@@ -353,6 +402,59 @@ def saved(tally: Tally, program: str, folder: str) -> None:
     recording.save(str(pipe))
     told = reading.communicate()[0]
     tally.check("saved: into a pipe", told == recording.text().encode() and not Path(f"{pipe}.lines").exists(), told)
+
+
+def from_yjs(tally: Tally, program: str, folder: str) -> None:
+    """From a plain test of Yjs to the explanation: its recordings as they are kept, and made anew where the machine has Yjs."""
+    variables = os.environ | {"DOMEPEELER": program, "NODE_PATH": f"/usr/share/nodejs:{os.environ.get('NODE_PATH', '')}"}
+    has_yjs = shutil.which("node") and subprocess.run(["node", "-e", "require('yjs')"], env=variables, capture_output=True).returncode == 0
+    if not has_yjs:
+        print("Yjs is not on this machine: its recordings are judged as they were kept")
+    for kept, planted, status, wanted in YJS_TOLD:
+        path = Path(folder, kept)
+        if has_yjs:
+            done = subprocess.run(["node", "--test", "--test-reporter=tap", YJS / "page.test.mjs"], capture_output=True, text=True,
+                                  env=variables | {"RECORDING": str(path), "PLANTED": planted})
+            said = f"domepeeler-explain {path} says what went wrong" in done.stdout
+            tally.check(f"Yjs: {kept}, its test", done.returncode == status and said == bool(status), done)
+            tally.check(f"Yjs: {kept} as it was kept", path.read_bytes() == (YJS / kept).read_bytes())
+        got = explain(program, [str(YJS / kept)])
+        missing = stand_in_order(got.out.decode().splitlines(), wanted.split("|"))
+        tally.check(f"Yjs: {kept} explained", missing is None and got.status == status and not warned(got) and not got.err, got)
+    if has_yjs:
+        done = subprocess.run(["node", "--test", YJS / "recorded_yjs.test.mjs"], capture_output=True, text=True, env=variables)
+        tally.check("Yjs: what is recorded", done.returncode == 0, done.stdout)
+
+
+def from_own_engine(tally: Tally, program: str, folder: str) -> None:
+    """From an engine of one's own, a Python module, to the explanation; and what is said of one that can't be used."""
+    def record(*words: str) -> subprocess.CompletedProcess:
+        return subprocess.run([RECORD, str(words[0]), program, "--sessions", "4", *words[1:]], capture_output=True, text=True)
+
+    kept, mine = Path(folder, "kept"), Path(folder, "mine {0}.py")
+    mine.write_text(OWN_ENGINE)
+    done = record(mine, "--keep", str(kept))
+    traces = sorted(kept.glob("mine {0}_*_refused_2.trace"))
+    tally.check("own engine: recorded, judged and kept", done.returncode == 0 and not done.stderr and len(traces) > 1, done)
+    for path in traces:
+        got = explain(program, [str(path)])
+        tally.check("own engine: explained", b"At the order of concurrent inserts: " in got.out and got.status == 1 and not warned(got), got)
+    mine.write_text("from list_crdt import ListCrdt\n\nprint('loaded')\n\n\nclass Engine(ListCrdt):\n    def apply(self, message):\n"
+                    "        print('applied')\n        super().apply(message)\n")
+    done = record(mine)
+    tally.check("own engine: a right one that prints", done.returncode == 0 and done.stdout.count("accepted: ") == 6
+                and "refused" not in done.stdout + done.stderr and "contents" not in done.stdout, done)
+    for text, said in OWN_ENGINES_REFUSED:
+        mine.write_text(text)
+        done = record(mine)
+        tally.check(f"own engine: {said}", done.returncode == 1 and not done.stdout and done.stderr == f"record.py: {said.format(mine)}\n", done)
+    mine.unlink()
+    done = record(mine)
+    tally.check("own engine: no file", done.returncode == 1 and done.stderr.startswith(f"record.py: {mine} can't be loaded: FileNotFoundError: ")
+                and done.stderr.count("\n") == 1, done)
+    done = record("yjss")
+    tally.check("no such engine", done.returncode == 1 and done.stderr.startswith("record.py: yjss is none of crdt_el, crdts, ")
+                and done.stderr.count("\n") == 1, done)
 
 
 def files(tally: Tally, program: str, folder: str) -> None:
@@ -583,6 +685,8 @@ def main() -> None:
         faults(tally, program, folder)
         warnings(tally, program, folder)
         saved(tally, program, folder)
+        from_yjs(tally, program, folder)
+        from_own_engine(tally, program, folder)
         files(tally, program, folder)
         finding(tally, program, folder)
         others(tally, folder)
