@@ -6,6 +6,7 @@ The words are compared with lines that were written by hand. Each small trace is
 import json
 import os
 import random
+import re
 import shutil
 import subprocess
 import sys
@@ -245,6 +246,18 @@ BESIDE = [
     (b"9" * 5000, "the trace may have been cut at a line's end: it has 5 lines, and by {} it was saved with " + "9" * 64),
 ]
 
+# By name: how many replicas, the entries, and on the page what letters stand for, and those of each operation.
+LETTERED = [
+    ("accepted", 2, "0 ins one 0 : one|0 ins two 0 : two one|1 ins a 0 : a|1 recv 0 2|1 read : two a one|1 del two : a one",
+     "B two, C one", {"line-3": "C", "line-4": "BC", "line-5": "a", "line-7": "BaC", "line-8": "aC"}),
+    ("names of one character", 2, "0 ins a 0 : a|1 recv 0 1|1 read : a", "", {}),
+    ("a fault first", 1, "0 ins first 0 : first|0 ins lost 1 : first lost|0 read : other first|0 read :",
+     "A lost, B other, C first", {"line-3": "C", "line-4": "CA", "line-5": "BC", "line-6": ""}),
+    ("too many for all", 2, "|".join(f"0 ins e{i} {i} : {' '.join(f'e{j}' for j in range(i + 1))}" for i in range(28))
+     + "|0 ins end 28 : " + " ".join(f"e{j}" for j in range(28)) + " end|1 recv 0 29|1 view : end e0",
+     "A e0, B end", {f"line-{i + 3}": "A" + "\u2026" * (i > 0) for i in range(28)} | {"line-31": "A\u2026B", "line-33": "BA"}),
+]
+
 # The recordings of the plain test of Yjs: what switches its mistake on, the status, and lines of the explanation.
 YJS_TOLD = [
     ("page.trace", "", 0, "accepted: well done, all 13 responses fit one order of the elements. Strong and weak list specification hold.|"
@@ -438,7 +451,8 @@ def from_own_engine(tally: Tally, program: str, folder: str) -> None:
     tally.check("own engine: recorded, judged and kept", done.returncode == 0 and not done.stderr and len(traces) > 1, done)
     for path in traces:
         got = explain(program, [str(path)])
-        tally.check("own engine: explained", b"At the order of concurrent inserts: " in got.out and got.status == 1 and not warned(got), got)
+        is_told = b"At the order of concurrent inserts: " in got.out
+        tally.check("own engine: explained", is_told and got.status == 1 and not warned(got), got)
     mine.write_text("from list_crdt import ListCrdt\n\nprint('loaded')\n\n\nclass Engine(ListCrdt):\n    def apply(self, message):\n"
                     "        print('applied')\n        super().apply(message)\n")
     done = record(mine)
@@ -447,11 +461,12 @@ def from_own_engine(tally: Tally, program: str, folder: str) -> None:
     for text, said in OWN_ENGINES_REFUSED:
         mine.write_text(text)
         done = record(mine)
-        tally.check(f"own engine: {said}", done.returncode == 1 and not done.stdout and done.stderr == f"record.py: {said.format(mine)}\n", done)
+        wanted = f"record.py: {said.format(mine)}\n"
+        tally.check(f"own engine: {said}", done.returncode == 1 and not done.stdout and done.stderr == wanted, done)
     mine.unlink()
     done = record(mine)
-    tally.check("own engine: no file", done.returncode == 1 and done.stderr.startswith(f"record.py: {mine} can't be loaded: FileNotFoundError: ")
-                and done.stderr.count("\n") == 1, done)
+    begun = f"record.py: {mine} can't be loaded: FileNotFoundError: "
+    tally.check("own engine: no file", done.returncode == 1 and done.stderr.startswith(begun) and done.stderr.count("\n") == 1, done)
     done = record("yjss")
     tally.check("no such engine", done.returncode == 1 and done.stderr.startswith("record.py: yjss is none of crdt_el, crdts, ")
                 and done.stderr.count("\n") == 1, done)
@@ -564,6 +579,22 @@ def pages(tally: Tally, program: str, folder: str) -> None:
         shown = {node.get("id") for node in by_class(tree, "li", "verdict") if node.get("id").startswith("line-")}
         tally.check(f"page of {example.name}: its responses marked", len(shown) == len(named), named)
         tally.check(f"page of {example.name}: its cycle", len(by_class(tree, "path", "step")) == len(steps), len(steps))
+
+
+def letters(tally: Tally, program: str, folder: str) -> None:
+    """On a page each element of a long name has a letter: those of the verdict first; an accepted recording's are in its order."""
+    for name, replicas, entries, legend, rows in LETTERED:
+        tree = page(tally, program, folder, "letters.trace", text_of(replicas, entries))
+        legends = [told(node) for node in by_class(tree, "p", "legend")][1:]
+        wanted = [f"Each response is also shown in letters: {legend}."] if legend else []
+        tally.check(f"letters: {name}, what they stand for", legends == wanted, legends)
+        shown = {node.get("id"): told(letters) for node in tree.iter("li") for letters in by_class(node, "span", "letters")}
+        tally.check(f"letters: {name}, of each response", shown == rows, shown)
+    marks = [told(node) for node in tree.iter("li") if node.find("mark") is not None]
+    tally.check("letters: before a name that is marked", marks[0].startswith("Ae0 before Bend: line 31, 0.29: "), marks)
+    style = tree.find(".//style").text
+    room = re.search(r"\.scroll \{[^}]*padding-bottom: ([\d.]+)rem", style)
+    tally.check("page: less than a row's height of room under a session", room and float(room[1]) * 16 < 30, style)
 
 
 def hostile(tally: Tally, program: str, folder: str) -> None:
@@ -692,6 +723,7 @@ def main() -> None:
         others(tally, folder)
         contradicted(tally, folder)
         pages(tally, program, folder)
+        letters(tally, program, folder)
         hostile(tally, program, folder)
         long_sessions(tally, program, folder)
         svg(tally, program, folder)
