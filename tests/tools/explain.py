@@ -449,10 +449,9 @@ def from_own_engine(tally: Tally, program: str, folder: str) -> None:
     done = record(mine, "--keep", str(kept))
     traces = sorted(kept.glob("mine {0}_*_refused_2.trace"))
     tally.check("own engine: recorded, judged and kept", done.returncode == 0 and not done.stderr and len(traces) > 1, done)
-    for path in traces:
-        got = explain(program, [str(path)])
-        is_told = b"At the order of concurrent inserts: " in got.out
-        tally.check("own engine: explained", is_told and got.status == 1 and not warned(got), got)
+    ended = [explain(program, [str(path)]) for path in traces]
+    tally.check("own engine: explained", all(got.out.startswith(b"refused 2: ") and got.status == 1 for got in ended)
+                and any(b"At the order of concurrent inserts: " in got.out for got in ended), ended)
     mine.write_text("from list_crdt import ListCrdt\n\nprint('loaded')\n\n\nclass Engine(ListCrdt):\n    def apply(self, message):\n"
                     "        print('applied')\n        super().apply(message)\n")
     done = record(mine)
@@ -470,6 +469,14 @@ def from_own_engine(tally: Tally, program: str, folder: str) -> None:
     done = record("yjss")
     tally.check("no such engine", done.returncode == 1 and done.stderr.startswith("record.py: yjss is none of crdt_el, crdts, ")
                 and done.stderr.count("\n") == 1, done)
+
+
+def names_of_examples(tally: Tally) -> None:
+    """The names of elements begin with a letter: another one may look like an operation's name."""
+    for example in sorted(ROOT.glob("examples/**/*.trace")):
+        entries = [line.split() for line in example.read_text().splitlines()[2:]]
+        names = {words[2] for words in entries if words[1] in ("ins", "del")}
+        tally.check(f"names of {example.name}", names and all(name[0].isalpha() for name in names), names)
 
 
 def files(tally: Tally, program: str, folder: str) -> None:
@@ -712,6 +719,7 @@ def main() -> None:
     program = program_of(sys.argv)
     tally = Tally()
     words(tally, program)
+    names_of_examples(tally)
     with tempfile.TemporaryDirectory() as folder:
         faults(tally, program, folder)
         warnings(tally, program, folder)
