@@ -1,6 +1,7 @@
 // Records the replicas of a Y.Text or Y.Array while a test uses them as it did before.
 //
-// Copy this file and recorders/domepeeler.mjs into your project. It was tried with Yjs 13.5.43; page.test.mjs is a test with it.
+// Copy this file and recorders/domepeeler.mjs into one folder of your project, and write "./domepeeler.mjs" in the import below.
+// It was tried with Yjs 13.5.43; page.test.mjs is a test with it.
 //
 //     const recorded = new RecordedDocs(Y, docs, (doc) => doc.getText("page")) // right after the docs are made
 //     recorded.applyUpdate(docs[1], update)        // in the place of Y.applyUpdate
@@ -10,6 +11,7 @@
 //
 // What the user changes at a doc is recorded by itself: each element that is gone as a delete, and then each new one as an
 // insert, from the left. An insert's position is where the element stands afterwards, so no fault of positions is found.
+// It is not for docs whose observers make changes of their own: such a change is recorded before it is sent.
 // An element's name is its letter (`item` where it is none), its doc's number, `-` and its clock: h0-3.
 import { Recording } from "../../recorders/domepeeler.mjs"
 

@@ -409,6 +409,11 @@ def saved(tally: Tally, program: str, folder: str) -> None:
         got = explain(program, [str(path)])
         wanted = f"the trace may have been cut at a line's end: it has {left} lines, and by {path}.lines it was saved with {len(lines)}"
         tally.check(f"saved: {left} lines are left", wanted in warned(got) and got.status == 0, got)
+    recording.read(1, [])
+    recording.save(str(path))
+    explain(program, ["--small", str(path), str(path)])
+    got = explain(program, [str(path)])
+    tally.check("saved: a small trace in its place", path.read_bytes().count(b"\n") == 5 and got.status == 1 and not warned(got), got)
     pipe = Path(folder, "pipe")
     os.mkfifo(pipe)
     reading = subprocess.Popen(["cat", str(pipe)], stdout=subprocess.PIPE)
