@@ -165,5 +165,5 @@ def session_of(evidence: Evidence) -> str:
 
 def letters_told(letters: dict) -> str:
     """Which letter stands for which element."""
-    told = ", ".join(f"<b>{escape(letter)}</b> {escape(name)}" for name, letter in letters.items() if letter != name)
+    told = ", ".join(f"<b>{escape(letter)}</b>\u00a0{escape(name)}" for name, letter in letters.items() if letter != name)
     return f'\n<p class="legend">Each response is also shown in letters: {told}.</p>' if told else ""
