@@ -154,9 +154,14 @@ class Recording:
         return "\n".join(self._lines) + "\n"
 
     def save(self, path: Union[str, "os.PathLike[str]"]) -> None:
-        """Writes the text into a file of this name."""
+        """Writes the text into a file of this name; and first, into one with `.lines` behind the name, how many lines it has, so
+        that the tools notice where the end of the file is lost. A pipe or a device has no such file beside it."""
+        text = self.text().encode()
         with open(path, "wb") as file:  # as bytes: each line ends with LF alone on every system
-            file.write(self.text().encode())
+            if os.path.isfile(path):
+                with open(f"{os.fsdecode(path)}.lines", "wb") as beside:
+                    beside.write(b"%d\n" % text.count(b"\n"))
+            file.write(text)
 
     def judge(self, program: Optional[Words] = None) -> Dict[str, Any]:
         """The program's report on this recording. The program is the words that are given, that of $DOMEPEELER, or `domepeeler`."""

@@ -2,6 +2,7 @@
 """A list CRDT of thirty lines, and how it is recorded. Run it by record.py; it reads plans and writes traces."""
 import sys
 from pathlib import Path
+from typing import TextIO
 
 sys.path.insert(0, str(Path(__file__).parent.parent))
 from domepeeler import Recording
@@ -97,16 +98,17 @@ def play(group: Group, words: list) -> None:
         group.read(replica)
 
 
-def main() -> None:
+def record_plans(engine: type, answers: TextIO = sys.stdout) -> None:
+    """Reads plans, and writes the recording of each."""
     for line in sys.stdin:
         words = line.split()
         if words[0] == "plan":
-            group = Group(int(words[1]))
+            group = Group(int(words[1]), engine)
         elif words[0] == "end":
-            print(group.recording.text() + "end", flush=True)
+            print(group.recording.text() + "end", file=answers, flush=True)
         else:
             play(group, words)
 
 
 if __name__ == "__main__":
-    main()
+    record_plans(ListCrdt)

@@ -8,6 +8,7 @@ ENGINE is one of these; what each needs is installed from Debian 12 by apt-get w
     crdts         the list of the Rust crate crdts, recorded by crdts.rs; cargo, librust-crdts-dev
     libinfinity   libinfinity, recorded by libinfinity.c; gcc, pkg-config, libinfinity-0.7-dev
     crdt_el       crdt.el, recorded by crdt_el.el; emacs-nox, elpa-crdt
+    FILE.py       one of your own, a Python module as own_engine.py says; nothing
 
 Prints, for each kind of session, how many were tried, how large they were, and what the program said of how many. Where
 some were not accepted it makes the shortest of each verdict smaller, as long as the verdict stays, and prints that trace;
@@ -95,6 +96,22 @@ ENGINES = {
     "crdt_el": Engine(["emacs-nox", "elpa-crdt"], ["emacs", "--batch", "-l", "{here}/crdt_el.el"],
                       [sessions.SMALL_STAR, sessions.SMALL_MIDDLE, sessions.MIDDLING_STAR], 100, seconds=2),
 }
+
+
+OWN_COUNT = 300  # small sessions of each kind of an engine of one's own
+
+
+def engine_of(word: str) -> Engine:
+    """The engine of this name, or that of the module at this path."""
+    if word in ENGINES:
+        return ENGINES[word]
+    if not word.endswith(".py"):
+        sys.exit(f"record.py: {word} is none of {', '.join(sorted(ENGINES))}, and no path of a Python module, which ends with .py")
+    module = os.path.abspath(word)
+    tried = subprocess.run([sys.executable, HERE / "own_engine.py", module], stdin=subprocess.DEVNULL, capture_output=True, text=True)
+    if tried.returncode:
+        sys.exit(f"record.py: {tried.stderr.strip().splitlines()[-1]}")
+    return Engine([], [sys.executable, "{here}/own_engine.py", module.replace("{", "{{").replace("}", "}}")], ALL, OWN_COUNT)
 
 
 def installed(package: str) -> bool:
@@ -207,7 +224,7 @@ def tried(kind: sessions.Kind, count: int, rnd: random.Random, driver: Driver, p
 
 def main() -> None:
     parser = argparse.ArgumentParser(description=__doc__.split("\n")[0])
-    parser.add_argument("engine", choices=sorted(ENGINES))
+    parser.add_argument("engine", help=", ".join(sorted(ENGINES)) + ", or the path of a Python module of your own")
     parser.add_argument("program")
     parser.add_argument("--sessions", type=int, help="how many small sessions of each kind")
     parser.add_argument("--seed", type=int, default=1)
@@ -215,7 +232,7 @@ def main() -> None:
     words = parser.parse_args()
     if not shutil.which(words.program):
         sys.exit(f"record.py: {words.program} is no program")
-    engine = ENGINES[words.engine]
+    engine = engine_of(words.engine)
     with tempfile.TemporaryDirectory() as folder:
         driver = Driver(engine, Path(folder))
         for kind in engine.kinds:
@@ -233,7 +250,7 @@ def show(words: argparse.Namespace, kind: sessions.Kind, verdict_word: str, trac
         print(f"the smallest found of {kind.name}, {verdict_word}:\n{trace}", flush=True)
     if words.keep:
         words.keep.mkdir(parents=True, exist_ok=True)
-        name = "_".join([words.engine, *kind.name.replace(",", "").split(), *verdict_word.split()])
+        name = "_".join([Path(words.engine).stem, *kind.name.replace(",", "").split(), *verdict_word.split()])
         (words.keep / f"{name}.trace").write_text(trace)
 
 

@@ -1,10 +1,13 @@
 #!/usr/bin/env python3
-"""explain.py PROGRAM: what `tools/explain` says of each kind of verdict, the pages that it draws, and its small traces.
+"""explain.py PROGRAM: what `tools/explain` says of each kind of verdict and warns of, the pages that it draws, and its small
+traces; and the way there from a plain test of Yjs, and from an engine of one's own.
 
 The words are compared with lines that were written by hand. Each small trace is judged again by the program."""
 import json
 import os
 import random
+import re
+import shutil
 import subprocess
 import sys
 import tempfile
@@ -20,12 +23,15 @@ from shared.program import Ended, Tally, program_of, run  # noqa: E402
 from shared.sessions import session, with_fault  # noqa: E402
 from shared.traces import trace as long_trace  # noqa: E402
 
-sys.path.insert(0, str(ROOT / "tools"))
+sys.path[:0] = [str(ROOT / "tools"), str(ROOT / "recorders")]
+import domepeeler as recorder
 from explaining.evidence import Evidence
 from explaining.recordings import Recording
 from explaining.small import smallest
 
 EXPLAIN = str(ROOT / "tools" / "explain")
+RECORD = str(ROOT / "recorders" / "engines" / "record.py")
+YJS = ROOT / "examples" / "yjs"
 SEED = 20261123
 
 # How many small traces are made of each kind of verdict.
@@ -203,6 +209,100 @@ NO_TRACES = [
 OTHERS = [("echo hello", "0"), ("exit 0", "0"), ("echo '[]'", "0"), ("echo 5; exit 1", "1"), ("echo '{\"a\": 1}'", "0"),
           ("printf '\\377'", "0"), ("echo 'usage: other' >&2; echo 'or so' >&2; exit 2", "2: usage: other"), ("exit 3", "3")]
 
+NO_INSERT = ", which no line inserts, so no response shows whether it was deleted: is that its name, and was its insert recorded?"
+UNHEARD = ("no receipt brings it an insert or a delete from there, so nothing shows what it makes of these. At the end of a session let "
+           "everyone receive everything, and read")
+# By name: how many replicas, the entries of an accepted recording, and what is warned of, a line each.
+WARNED = [
+    ("nothing recorded", 3, "", "nothing was recorded: the trace has no entry, so the verdict says nothing of an editor"),
+    ("a replica without an entry", 3, "0 ins a 0 : a|2 recv 0 1|2 read : a",
+     "replica 1 has no entry: nothing that it showed is judged"),
+    ("a replica with receipts alone", 2, "0 ins a 0 : a|1 recv 0 1",
+     "replica 1 has receipts, but no operation: nothing that it showed is judged"),
+    ("a delete of what nothing inserts", 1, "0 ins a 0 : a|0 del A : a|0 del a :", f"line 4, 0.2: replica 0 deleted A{NO_INSERT}"),
+    ("seven of them", 2, "1 read :|" + "|".join(f"0 del a{i} :" for i in range(7)) + "|1 recv 0 7",
+     "|".join(f"line {i + 4}, 0.{i + 1}: replica 0 deleted a{i}{NO_INSERT}" for i in range(5))
+     + "|and 2 more deletes of what no line inserts"),
+    ("two that never hear of one another", 2, "0 ins a 0 : a|1 ins b 0 : b|0 read : a|1 read : b",
+     f"replica 0 never hears of replica 1: {UNHEARD}|replica 1 never hears of replica 0: {UNHEARD}"),
+    ("one that never hears of three others", 4, "0 ins a 0 : a|1 del a :|1 recv 0 1|2 ins c 0 : c|2 recv 1 1|2 recv 0 1|0 recv 2 1|"
+     "0 recv 1 1|1 recv 2 1|3 read :", f"replica 3 never hears of replicas 0, 1 and 2: {UNHEARD}"),
+    ("one that hears of a read alone", 2, "0 read :|1 recv 0 1|1 read :|0 ins a 0 : a", f"replica 1 never hears of replica 0: {UNHEARD}"),
+    ("all hear by way of a third", 3, "0 ins a 0 : a|2 recv 0 1|2 read : a|1 ins b 0 : b|1 recv 2 1|2 recv 1 1|2 read : b a|0 recv 2 2|"
+     "0 read : b a|1 read : b a", ""),
+    ("one that hears at the end", 2, "0 ins a 0 : a|1 read :|1 recv 0 1", ""),
+    ("one that reads is not heard of", 2, "0 ins a 0 : a|1 recv 0 1|1 read : a", ""),
+    ("a delete before its insert", 2, "0 ins a 0 : a|1 del a :|1 recv 0 1|1 read :|0 recv 1 1|0 read :", ""),
+]
+# What the file beside a trace of five lines holds, and what is warned of; `{}` is that file's name.
+BESIDE = [
+    (b"5\n", ""),
+    (b"5", ""),
+    (b"7\n", "the trace may have been cut at a line's end: it has 5 lines, and by {} it was saved with 7"),
+    (b"4\n", "the trace has 5 lines, and by {} it was saved with 4: is that file of another trace?"),
+    (b"", "{} holds no number of lines, so nothing says whether the trace is whole"),
+    (b"\xff\n", "{} holds no number of lines, so nothing says whether the trace is whole"),
+    (b"-5\n", "{} holds no number of lines, so nothing says whether the trace is whole"),
+    (b"9" * 5000, "the trace may have been cut at a line's end: it has 5 lines, and by {} it was saved with " + "9" * 64),
+]
+
+# By name: how many replicas, the entries, and on the page what letters stand for, and those of each operation.
+LETTERED = [
+    ("accepted", 2, "0 ins one 0 : one|0 ins two 0 : two one|1 ins a 0 : a|1 recv 0 2|1 read : two a one|1 del two : a one",
+     "B two, C one", {"line-3": "C", "line-4": "BC", "line-5": "a", "line-7": "BaC", "line-8": "aC"}),
+    ("names of one character", 2, "0 ins a 0 : a|1 recv 0 1|1 read : a", "", {}),
+    ("a fault first", 1, "0 ins first 0 : first|0 ins lost 1 : first lost|0 read : other first|0 read :",
+     "A lost, B other, C first", {"line-3": "C", "line-4": "CA", "line-5": "BC", "line-6": ""}),
+    ("too many for all", 2, "|".join(f"0 ins e{i} {i} : {' '.join(f'e{j}' for j in range(i + 1))}" for i in range(28))
+     + "|0 ins end 28 : " + " ".join(f"e{j}" for j in range(28)) + " end|1 recv 0 29|1 view : end e0",
+     "A e0, B end", {f"line-{i + 3}": "A" + "\u2026" * (i > 0) for i in range(28)} | {"line-31": "A\u2026B", "line-33": "BA"}),
+]
+
+# The recordings of the plain test of Yjs: what switches its mistake on, the status, and lines of the explanation.
+YJS_TOLD = [
+    ("page.trace", "", 0, "accepted: well done, all 13 responses fit one order of the elements. Strong and weak list specification hold.|"
+     "t0-2 h0-0 i0-1 s1-0"),
+    ("page_newest_first.trace", "1", 1,
+     "contents 0.4: this response does not hold exactly what is visible to it. Strong and weak list specification fail.|"
+     "answered: h0-0 i0-1|expected, in whatever order: h0-0 i0-1 [s1-0]|Missing|"
+     "[s1-0] inserted by 1.2 (line 7), arrived at replica 2 in line 11 (2 recv 1 2), and from there arrived at replica 0 in line 16 "
+     "(0 recv 2 4)|[s1-0] no receipt at replica 0 names it by then: it counts as arrived since 2.4 (line 15) had seen it. Where each "
+     "operation travels by itself, it was missing, and the exchange is not causal|[s1-0] nothing deletes it"),
+]
+
+# A list in which of two concurrent inserts at one place the one that arrives later comes first.
+OWN_ENGINE = """
+class Engine:
+    def __init__(self, replica):
+        self.items = []
+
+    def names(self):
+        return [name for name, shown in self.items if shown]
+
+    def insert(self, name, position):
+        return self.apply((name, self.names()[position - 1] if position else None))
+
+    def delete(self, name):
+        return self.apply((name,))
+
+    def apply(self, message):
+        names = [name for name, _ in self.items]
+        if len(message) == 1:
+            self.items[names.index(message[0])][1] = False
+        else:
+            self.items.insert(names.index(message[1]) + 1 if message[1] else 0, [message[0], True])
+        return message
+"""
+# Modules that can't be used as an engine, and what is said; `{}` is the path.
+OWN_ENGINES_REFUSED = [
+    ("", "{} has no class Engine"),
+    ("Engine = 5\n", "{} has no class Engine"),
+    ("class Engine:\n    names = insert = len\n    apply = 5\n", "Engine of {} has no delete, apply"),
+    ("class Engine\n", "{} can't be loaded: SyntaxError: expected ':' (mine {{0}}.py, line 1)"),
+    ("raise ValueError('no\\nengine')\n", "{} can't be loaded: ValueError: no"),
+    ("exit(5)\n", "{} can't be loaded: SystemExit: 5"),
+]
+
 HOSTILE = ["ins", "del", "read", "recv", "5", "line", "0", "-", ".", "--", "..", "__proto__", "lt", "amp", "NaN", "e-1", "x" * 32]
 
 
@@ -248,6 +348,140 @@ def faults(tally: Tally, program: str, folder: str) -> None:
                Ended(2, b"", b"explain: /bin/false printed no report: is it domepeeler? It ended with status 1\n"))
     got = explain(program, ["--html", f"{folder}/no/such", good])
     tally.check("a page that can't be written", got.status == 2 and b"cannot write" in got.err and b"Traceback" not in got.err, got)
+
+
+def warned(got: Ended) -> list:
+    """The lines of the section of warnings, which is the last one."""
+    _, _, section = got.out.decode().partition("\nWhat this verdict may hide\n")
+    return [line.strip() for line in section.splitlines()]
+
+
+def warnings(tally: Tally, program: str, folder: str) -> None:
+    """What an accepted recording may hide is said, and the status stays; another verdict hides nothing but a cut."""
+    for name, replicas, entries, wanted in WARNED:
+        trace = text_of(replicas, entries).encode()
+        got = explain(program, ["-"], trace)
+        tally.check(f"warnings: {name}", warned(got) == [line for line in wanted.split("|") if line], got)
+        tally.check(f"warnings: {name}, accepted", got.out.startswith(b"accepted: ") and got.status == 0 and not got.err, got)
+    for example in sorted(ROOT.glob("examples/*.trace")):
+        tally.check(f"warnings: none of {example.name}", not warned(explain(program, [str(example)])))
+    for entries, status in ("0 ins a 0 : a|1 recv 0 1|1 read : a", 0), ("0 ins a 0 : a|1 recv 0 1|1 read :", 1):
+        path = Path(folder, "beside.trace")
+        side = Path(f"{path}.lines")
+        path.write_text(text_of(2, entries))
+        for text, wanted in BESIDE:
+            side.write_bytes(text)
+            got = explain(program, [str(path)])
+            tally.check(f"warnings: {text[:9]} beside a trace", warned(got) == [wanted.format(side)] * bool(wanted) and got.status == status
+                        and not got.err, got)
+        got = explain(program, ["-"], path.read_bytes())
+        tally.check("warnings: no file beside standard input", not warned(got), got)
+        side.unlink()
+        side.mkdir()
+        got = explain(program, [str(path)])
+        wanted = f"{side} can't be read (Is a directory), so nothing says whether the trace is whole"
+        tally.check("warnings: a folder beside a trace", warned(got) == [wanted] and got.status == status and not got.err, got)
+        side.rmdir()
+        long = path.with_name("x" * 255)
+        long.write_text(path.read_text())
+        got = explain(program, [str(long)])
+        tally.check("warnings: no file beside the longest name", not warned(got) and got.status == status and not got.err, got)
+    path.write_text(text_of(2, WARNED[5][2]))
+    explain(program, ["--html", f"{folder}/page.html", str(path)])
+    tree = ElementTree.fromstring(Path(folder, "page.html").read_text())
+    tally.check("warnings: on the page", [told(node) for node in tree.iter("li")][1:3] == WARNED[5][3].split("|"))
+
+
+def saved(tally: Tally, program: str, folder: str) -> None:
+    """What the Python recorder saves is whole; where lines are lost at its end, that is said; and no pipe has a file beside it."""
+    recording = recorder.Recording(2)
+    recording.insert(0, "a", 0, ["a"])
+    recording.received(1, 0, 1)
+    recording.read(1, ["a"])
+    path = Path(folder, "saved.trace")
+    for name in str(path), path:
+        recording.save(name)
+        got = explain(program, [str(path)])
+        tally.check("saved: no warning", not warned(got) and got.status == 0, got)
+    lines = path.read_bytes().splitlines(True)
+    for left in range(2, len(lines)):
+        path.write_bytes(b"".join(lines[:left]))
+        got = explain(program, [str(path)])
+        wanted = f"the trace may have been cut at a line's end: it has {left} lines, and by {path}.lines it was saved with {len(lines)}"
+        tally.check(f"saved: {left} lines are left", wanted in warned(got) and got.status == 0, got)
+    recording.read(1, [])
+    recording.save(str(path))
+    explain(program, ["--small", str(path), str(path)])
+    got = explain(program, [str(path)])
+    tally.check("saved: a small trace in its place", path.read_bytes().count(b"\n") == 5 and got.status == 1 and not warned(got), got)
+    pipe = Path(folder, "pipe")
+    os.mkfifo(pipe)
+    reading = subprocess.Popen(["cat", str(pipe)], stdout=subprocess.PIPE)
+    recording.save(str(pipe))
+    told = reading.communicate()[0]
+    tally.check("saved: into a pipe", told == recording.text().encode() and not Path(f"{pipe}.lines").exists(), told)
+
+
+def from_yjs(tally: Tally, program: str, folder: str) -> None:
+    """From a plain test of Yjs to the explanation: its recordings as they are kept, and made anew where the machine has Yjs."""
+    variables = os.environ | {"DOMEPEELER": program, "NODE_PATH": f"/usr/share/nodejs:{os.environ.get('NODE_PATH', '')}"}
+    has_yjs = shutil.which("node") and subprocess.run(["node", "-e", "require('yjs')"], env=variables, capture_output=True).returncode == 0
+    if not has_yjs:
+        print("Yjs is not on this machine: its recordings are judged as they were kept")
+    for kept, planted, status, wanted in YJS_TOLD:
+        path = Path(folder, kept)
+        if has_yjs:
+            done = subprocess.run(["node", "--test", "--test-reporter=tap", YJS / "page.test.mjs"], capture_output=True, text=True,
+                                  env=variables | {"RECORDING": str(path), "PLANTED": planted})
+            said = f"domepeeler-explain {path} says what went wrong" in done.stdout
+            tally.check(f"Yjs: {kept}, its test", done.returncode == status and said == bool(status), done)
+            tally.check(f"Yjs: {kept} as it was kept", path.read_bytes() == (YJS / kept).read_bytes())
+        got = explain(program, [str(YJS / kept)])
+        missing = stand_in_order(got.out.decode().splitlines(), wanted.split("|"))
+        tally.check(f"Yjs: {kept} explained", missing is None and got.status == status and not warned(got) and not got.err, got)
+    if has_yjs:
+        done = subprocess.run(["node", "--test", YJS / "recorded_yjs.test.mjs"], capture_output=True, text=True, env=variables)
+        tally.check("Yjs: what is recorded", done.returncode == 0, done.stdout)
+
+
+def from_own_engine(tally: Tally, program: str, folder: str) -> None:
+    """From an engine of one's own, a Python module, to the explanation; and what is said of one that can't be used."""
+    def record(*words: str) -> subprocess.CompletedProcess:
+        return subprocess.run([RECORD, str(words[0]), program, "--sessions", "4", *words[1:]], capture_output=True, text=True)
+
+    kept, mine = Path(folder, "kept"), Path(folder, "mine {0}.py")
+    mine.write_text(OWN_ENGINE)
+    done = record(mine, "--keep", str(kept))
+    traces = sorted(kept.glob("mine {0}_*_refused_2.trace"))
+    tally.check("own engine: recorded, judged and kept", done.returncode == 0 and not done.stderr and len(traces) > 1, done)
+    ended = [explain(program, [str(path)]) for path in traces]
+    tally.check("own engine: explained", all(got.out.startswith(b"refused 2: ") and got.status == 1 for got in ended)
+                and any(b"At the order of concurrent inserts: " in got.out for got in ended), ended)
+    mine.write_text("from list_crdt import ListCrdt\n\nprint('loaded')\n\n\nclass Engine(ListCrdt):\n    def apply(self, message):\n"
+                    "        print('applied')\n        super().apply(message)\n")
+    done = record(mine)
+    tally.check("own engine: a right one that prints", done.returncode == 0 and done.stdout.count("accepted: ") == 6
+                and "refused" not in done.stdout + done.stderr and "contents" not in done.stdout, done)
+    for text, said in OWN_ENGINES_REFUSED:
+        mine.write_text(text)
+        done = record(mine)
+        wanted = f"record.py: {said.format(mine)}\n"
+        tally.check(f"own engine: {said}", done.returncode == 1 and not done.stdout and done.stderr == wanted, done)
+    mine.unlink()
+    done = record(mine)
+    begun = f"record.py: {mine} can't be loaded: FileNotFoundError: "
+    tally.check("own engine: no file", done.returncode == 1 and done.stderr.startswith(begun) and done.stderr.count("\n") == 1, done)
+    done = record("yjss")
+    tally.check("no such engine", done.returncode == 1 and done.stderr.startswith("record.py: yjss is none of crdt_el, crdts, ")
+                and done.stderr.count("\n") == 1, done)
+
+
+def names_of_examples(tally: Tally) -> None:
+    """The names of elements begin with a letter: another one may look like an operation's name."""
+    for example in sorted(ROOT.glob("examples/**/*.trace")):
+        entries = [line.split() for line in example.read_text().splitlines()[2:]]
+        names = {words[2] for words in entries if words[1] in ("ins", "del")}
+        tally.check(f"names of {example.name}", names and all(name[0].isalpha() for name in names), names)
 
 
 def files(tally: Tally, program: str, folder: str) -> None:
@@ -357,6 +591,22 @@ def pages(tally: Tally, program: str, folder: str) -> None:
         shown = {node.get("id") for node in by_class(tree, "li", "verdict") if node.get("id").startswith("line-")}
         tally.check(f"page of {example.name}: its responses marked", len(shown) == len(named), named)
         tally.check(f"page of {example.name}: its cycle", len(by_class(tree, "path", "step")) == len(steps), len(steps))
+
+
+def letters(tally: Tally, program: str, folder: str) -> None:
+    """On a page each element of a long name has a letter: those of the verdict first; an accepted recording's are in its order."""
+    for name, replicas, entries, legend, rows in LETTERED:
+        tree = page(tally, program, folder, "letters.trace", text_of(replicas, entries))
+        legends = [told(node) for node in by_class(tree, "p", "legend")][1:]
+        wanted = [f"Each response is also shown in letters: {legend}."] if legend else []
+        tally.check(f"letters: {name}, what they stand for", legends == wanted, legends)
+        shown = {node.get("id"): told(letters) for node in tree.iter("li") for letters in by_class(node, "span", "letters")}
+        tally.check(f"letters: {name}, of each response", shown == rows, shown)
+    marks = [told(node) for node in tree.iter("li") if node.find("mark") is not None]
+    tally.check("letters: before a name that is marked", marks[0].startswith("Ae0 before Bend: line 31, 0.29: "), marks)
+    style = tree.find(".//style").text
+    room = re.search(r"\.scroll \{[^}]*padding-bottom: ([\d.]+)rem", style)
+    tally.check("page: less than a row's height of room under a session", room and float(room[1]) * 16 < 30, style)
 
 
 def hostile(tally: Tally, program: str, folder: str) -> None:
@@ -474,13 +724,19 @@ def main() -> None:
     program = program_of(sys.argv)
     tally = Tally()
     words(tally, program)
+    names_of_examples(tally)
     with tempfile.TemporaryDirectory() as folder:
         faults(tally, program, folder)
+        warnings(tally, program, folder)
+        saved(tally, program, folder)
+        from_yjs(tally, program, folder)
+        from_own_engine(tally, program, folder)
         files(tally, program, folder)
         finding(tally, program, folder)
         others(tally, folder)
         contradicted(tally, folder)
         pages(tally, program, folder)
+        letters(tally, program, folder)
         hostile(tally, program, folder)
         long_sessions(tally, program, folder)
         svg(tally, program, folder)

@@ -3,6 +3,7 @@
 and the script of `examples/ci` with the jobs that run it."""
 import json
 import os
+import random
 import re
 import shutil
 import subprocess
@@ -13,7 +14,13 @@ from pathlib import Path
 
 ROOT = Path(__file__).resolve().parents[2]
 sys.path.insert(0, str(ROOT / "tests"))
+from reference import verdicts  # noqa: E402
 from shared.program import Ended, Tally, need, program_of, run  # noqa: E402
+from shared.sessions import session  # noqa: E402
+
+sys.path.insert(0, str(ROOT / "recorders" / "engines"))
+import sessions as exchanged  # noqa: E402
+from list_crdt import Group, play  # noqa: E402
 
 TOOL = str(ROOT / "tools" / "judge_many")
 JOBS = ["github_workflow.yml", "gitlab_jobs.yml"]  # of examples/ci
@@ -44,6 +51,19 @@ OTHERS = [("echo hello", "{} printed no report: is it domepeeler? It ended with 
           ("echo '{\"a\": 1}'; exit 1", "{} printed no report: is it domepeeler? It ended with status 1"),
           ("echo 'usage: other' >&2; exit 2", "{} printed no report: is it domepeeler? It ended with status 2: usage: other"),
           ("kill -9 $$", "no answer")]
+
+SEED, SESSIONS, EXCHANGED = 20261128, 120, 40
+MOST_DELETES = 5  # that are told one by one
+# What is said of a recording with each of what an accepted one may hide.
+WARNINGS = {
+    "nothing": re.compile(r"()nothing was recorded: "),
+    "idle": re.compile(r"replica (\d+) has (?:no entry|receipts, but no operation): "),
+    "deleted": re.compile(r"line (\d+), "),
+    "more": re.compile(r"and (\d+) more deletes? "),
+    "unheard": re.compile(r"replica (\d+) never hears of replicas? ([\d, and]+): "),
+}
+
+KINDS_EXCHANGED = [exchanged.SMALL_PEERS, exchanged.SMALL_STAR, exchanged.SMALL_MIDDLE]
 
 KILLED = "Killed"  # what the shell that starts a program may print where that is killed
 
@@ -284,6 +304,85 @@ def errors(tally: Tally, program: str, folder: str) -> None:
     tally.check("another parallel", got.returncode == 2 and b"GNU parallel is needed" in got.stderr, got)
 
 
+def warnings(tally: Tally, program: str, folder: str) -> None:
+    """What an accepted recording may hide stands on standard error, in a column and in a field; the statuses stay."""
+    quiet = judge(program, [str(ROOT / "examples")])
+    tally.check("warnings: none of the examples", quiet.status == 1 and not quiet.err and b"warnings" not in quiet.out, quiet)
+    write(folder, {"apart.trace": "0 ins a 0 : a|1 ins b 0 : b", "lost.trace": "0 ins a 0 : a|0 read :", "fine.trace": "0 ins a 0 : a"})
+    Path(folder, "fine.trace.lines").write_text("3\n")
+    Path(folder, "lost.trace.lines").write_text("9\n")
+    got = judge(program, [folder])
+    lines = got.out.decode().splitlines()
+    tally.check("warnings: the column", [cells(line)[::5] for line in lines[:4]] == [("file", "warnings"), *(
+        (f"{folder}/{name}.trace", count) for name, count in (("lost", "1"), ("apart", "2"), ("fine", "0")))], lines)
+    said = [line.partition(": warning: ") for line in got.err.decode().splitlines()]
+    begun = ("lost", "the trace m"), ("apart", "replica 0 n"), ("apart", "replica 1 n")
+    tally.check("warnings: on standard error", [(front, told[:11]) for front, _, told in said] == [
+        (f"judge_many: {folder}/{name}.trace", told) for name, told in begun] and got.status == 1, got)
+    rows = {Path(row["file"]).stem: row for row in map(json.loads, judge(program, ["--json", folder]).out.decode().splitlines())}
+    tally.check("warnings: the field", {name: row.get("warnings") for name, row in rows.items()} == {
+        "fine": None, "lost": [said[0][2]], "apart": [told for _, _, told in said[1:]]}, rows)
+    got = judge(program, ["--json", f"{folder}/apart.trace"])
+    tally.check("warnings: status 0", got.status == 0 and len(got.err.splitlines()) == 2, got)
+    write(folder, {f"many/{i}.trace": "0 ins a 0 : a|1 ins b 0 : b" for i in range(11)})
+    told = judge(program, [f"{folder}/many"]).err.decode().splitlines()
+    last = "judge_many: and 2 more warnings, which --json shows"
+    tally.check("warnings: no more than twenty", len(told) == 21 and told[20] == last, told)
+
+
+def expected_warnings(text: str) -> dict:
+    """What a slow reader of the definitions finds: replicas without an operation, lines with deletes of what nothing inserts, and
+    pairs of a replica that did something and one whose changes it never heard of."""
+    recording = verdicts.recording_of(text)
+    operations, pairs = recording.operations, verdicts.visibility(recording)
+    inserted = {body.name for body in operations.values() if body.kind == "ins"}
+    heard = {(e[0], f[0]) for f, e in pairs if operations[f].kind in ("ins", "del")}
+    for replica, stream in enumerate(recording.streams):
+        seen = [entry.seen for entry in stream if isinstance(entry, verdicts.Receipt)]
+        heard |= {(replica, f[0]) for f, body in operations.items() if body.kind in ("ins", "del")
+                  if any(f == e or (f, e) in pairs for e in seen)}
+    acting = {replica for replica, _ in operations}
+    changing = {replica for (replica, _), body in operations.items() if body.kind in ("ins", "del")}
+    deletes = [number for number, line in enumerate(text.splitlines(), 1) if line.split()[1] == "del" and line.split()[2] not in inserted]
+    more = [len(deletes) - MOST_DELETES] if len(deletes) > MOST_DELETES else []
+    idle = sorted(set(range(len(recording.streams))) - acting) if acting else []
+    return {"nothing": [] if acting else [""], "idle": idle, "deleted": deletes[:MOST_DELETES], "more": more,
+            "unheard": {(r, q) for r in acting for q in changing if r != q} - heard}
+
+
+def played(steps: exchanged.Session) -> str:
+    """A session of the list CRDT in Python: at its end everyone has everything, and reads."""
+    group = Group(steps.replicas)
+    for line in exchanged.Plan(steps).lines[1:]:
+        play(group, line.split())
+    return group.recording.text()
+
+
+def warnings_of_sessions(tally: Tally, program: str, folder: str) -> None:
+    """Random sessions: of accepted ones exactly what the slow reader finds is warned of; where a list's replicas have exchanged all
+    that they did, and read, nothing."""
+    rnd = random.Random(SEED)
+    texts = {f"{i}.trace": session(rnd) for i in range(SESSIONS)}
+    texts |= {f"exchanged{i}.trace": played(exchanged.session(rnd.choice(KINDS_EXCHANGED), rnd)) for i in range(EXCHANGED)}
+    for name, text in texts.items():
+        Path(folder, name).write_text(text)
+    quiet = 0
+    for row in map(json.loads, judge(program, ["--json", folder]).out.decode().splitlines()):
+        said = row.get("warnings", [])
+        if row["verdict"] != "accepted":
+            tally.check("sessions: no warning but of an accepted one", not said, row)
+            continue
+        found = {kind: [match for match in map(words.match, said) if match] for kind, words in WARNINGS.items()}
+        got = {kind: [int(match[1]) if match[1] else "" for match in found[kind]] for kind in ("nothing", "idle", "deleted", "more")}
+        got["unheard"] = {(int(match[1]), int(q)) for match in found["unheard"] for q in re.findall(r"\d+", match[2])}
+        name = Path(row["file"]).name
+        wanted = expected_warnings(texts[name])
+        quiet += not said
+        tally.check("sessions: the warnings", got == wanted and len(said) == sum(map(len, found.values())), f"{row}: {wanted}")
+        tally.check("sessions: none where all was exchanged", not (said and name.startswith("exchanged")), row)
+    tally.check("sessions: some without a warning, some with", EXCHANGED <= quiet <= EXCHANGED + SESSIONS - 30, quiet)
+
+
 def closed_output(tally: Tally, program: str, folder: str) -> None:
     """A reader that has enough, as `head` has, is not told of as an error."""
     reader, writer = os.pipe()
@@ -310,6 +409,9 @@ def main() -> None:
         others(tally, folder, other)
         errors(tally, program, third)
         closed_output(tally, program, folder)
+    with tempfile.TemporaryDirectory() as folder, tempfile.TemporaryDirectory() as other:
+        warnings(tally, program, folder)
+        warnings_of_sessions(tally, program, other)
     tally.close()
 
 

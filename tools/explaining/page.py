@@ -4,6 +4,7 @@ from html import escape
 
 from .cycle_picture import picture
 from .evidence import Evidence
+from .letters import letters_of
 from .session_picture import Rows
 from .words import Explanation, Section
 
@@ -33,7 +34,7 @@ code, pre, .line, .said b, .words li { font-family: ui-monospace, Menlo, Consola
 mark { background: var(--mark); color: var(--mark-ink); border-radius: 3px; padding: 0 3px }
 a { color: var(--way) }
 pre { background: var(--card); padding: .75rem; overflow-x: auto; border-radius: 6px }
-.scroll { overflow-x: auto; padding-bottom: 5rem }
+.scroll { overflow-x: auto; padding-bottom: .5rem }
 .session { position: relative; min-width: calc(2.5rem + var(--lanes) + 12rem) }
 .session ol { list-style: none; margin: 0; padding: var(--row) 0 0 }
 .session li { position: relative; height: var(--row); line-height: var(--row); padding-left: calc(2.7rem + var(--lanes)) }
@@ -53,6 +54,8 @@ pre { background: var(--card); padding: .75rem; overflow-x: auto; border-radius:
 .session li[tabindex]:hover .said, .session li:focus .said, .session li:target .said { position: absolute; right: 0; z-index: 2;
   left: calc(2.4rem + var(--lanes)); line-height: 1.5; padding: .2rem .8rem; white-space: normal; overflow-wrap: anywhere;
   background: var(--card); box-shadow: 0 0 0 2px var(--way); max-height: 60vh; overflow-y: auto }
+/* Near the end a whole response stands over the lines before, so that no room is needed below the last one. */
+.session li:nth-last-child(-n+8):not(:nth-child(-n+3)) .said, .session li:nth-last-child(-n+2):not(:first-child) .said { bottom: 0 }
 .session li:focus .said { z-index: 3 } .session li[tabindex]:hover .said { z-index: 4 }
 .session li[tabindex]:hover .who, .session li:focus .who, .session li:target .who { display: block }
 .session li[tabindex]:hover:not(:focus) .said { pointer-events: none } /* else it would be in the way to the next line */
@@ -73,6 +76,10 @@ path.receipt.matters { stroke: var(--way); stroke-width: 2; opacity: 1 }
 .cycle .name { fill: var(--ink); text-anchor: middle } .cycle .number { font-family: system-ui, sans-serif; text-anchor: middle }
 .cycle .operation { fill: var(--ink); font-weight: bold } .cycle .shown { fill: var(--alarm); font-weight: bold }
 .cycle .step { fill: none; stroke: var(--alarm); stroke-width: 2 }
+.letters { display: inline-block; min-width: var(--letters); padding-right: .5ch; font-family: ui-monospace, Menlo, Consolas, monospace;
+  font-size: .875rem; font-weight: bold; color: var(--way) }
+.letter { color: var(--way); font-weight: bold; font-size: .7rem; padding-right: 2px; line-height: 1 }
+.legend b { color: var(--way) }
 .legend { color: var(--dim); font-size: .875rem; margin: .25rem 0 }
 @media (min-width: 64rem) { main { display: grid; grid-template-columns: minmax(0, 1fr) minmax(0, 1fr); gap: 0 2.5rem } }
 """
@@ -85,8 +92,8 @@ def head(name: str) -> str:
 
 def page_of(evidence: Evidence, told: Explanation, trace: str, report: str) -> str:
     kind, _, rest = told.headline.partition(":")
-    session = session_of(evidence)
-    words = "".join(section_of(section, session) for section in told.sections)
+    session, letters = session_of(evidence), letters_of(evidence)
+    words = "".join(section_of(section, session, letters) for section in told.sections)
     return f"""<!DOCTYPE html>
 <html lang="en">
 <head>
@@ -114,12 +121,16 @@ def page_of(evidence: Evidence, told: Explanation, trace: str, report: str) -> s
 """
 
 
-def section_of(section: Section, session: str) -> str:
-    """A section of the words: marks for brackets, and a link to each line that the session shows."""
+def section_of(section: Section, session: str, letters: dict) -> str:
+    """A section of the words: marks for brackets, with the element's letter, and a link to each line that the session shows."""
+    def marked(found: re.Match) -> str:
+        letter = letters.get(found[1], found[1])
+        return (f'<sup class="letter">{letter}</sup>' if letter != found[1] else "") + f"<mark>{found[1]}</mark>"
+
     def link(found: re.Match) -> str:
         return f'<a href="#line-{found[1]}">{found[0]}</a>' if f'id="line-{found[1]}"' in session else found[0]
 
-    lines = [LINE.sub(link, MARKED.sub(r"<mark>\1</mark>", escape(line))) for line in section.lines]
+    lines = [LINE.sub(link, MARKED.sub(marked, escape(line))) for line in section.lines]
     prose = ' class="prose"' if section.title.startswith("Where to look") else ""
     items = "\n".join(f"<li>{line}</li>" for line in lines)
     return f"<h2>{escape(section.title)}</h2>\n<ul{prose}>\n{items}\n</ul>\n"
@@ -136,8 +147,9 @@ def cycle_of(evidence: Evidence) -> str:
 def session_of(evidence: Evidence) -> str:
     """The session, or of a long one the lines that matter, and the rest folded."""
     entries = evidence.recording.entries
-    legend = ('<p class="legend">Time runs downwards, with a lane for each replica: + an insert, \u2212 a delete, = a read, ~ a view of a part, and an '
-              "arrow for each receipt. Point at a line, or go to it by the Tab key, for the whole response.</p>")
+    legend = ('<p class="legend">Time runs downwards, with a lane for each replica: + an insert, \u2212 a delete, = a read, '
+              "~ a view of a part, and an arrow for each receipt. Point at a line, or go to it by the Tab key, for the whole "
+              f"response.</p>{letters_told(letters_of(evidence))}")
     if len(entries) <= MOST_ROWS:
         return f"<h2>The session</h2>\n{legend}\n{Rows(evidence, entries, 'line-').html()}"
     chosen = [entry for entry in entries if entry.line in evidence.lines] or entries[:MOST_ROWS]
@@ -149,3 +161,9 @@ def session_of(evidence: Evidence) -> str:
         whole = (f"<details><summary>The whole session, {len(entries)} entries</summary>\n"
                  f"{Rows(evidence, entries, 'whole-').html()}\n</details>")
     return f"<h2>{title}</h2>\n{legend}\n{rows}\n{whole}"
+
+
+def letters_told(letters: dict) -> str:
+    """Which letter stands for which element."""
+    told = ", ".join(f"<b>{escape(letter)}</b>\u00a0{escape(name)}" for name, letter in letters.items() if letter != name)
+    return f'\n<p class="legend">Each response is also shown in letters: {told}.</p>' if told else ""

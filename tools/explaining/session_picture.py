@@ -6,6 +6,7 @@ from html import escape
 
 from .cycle_picture import shortened
 from .evidence import Evidence
+from .letters import in_letters, letters_of
 from .recordings import Operation, Receipt
 
 ROW = 30  # the height of a row
@@ -15,6 +16,7 @@ NODE = 9  # the radius of an operation
 BOW = 0.7  # how far arrows bend towards their ends: straight ones of one operation would lie on one another
 SIGNS = {"ins": "+", "del": "\u2212", "read": "=", "view": "~"}
 MOST_NAMES = 300  # of a response on the page
+MOST_LETTERS = 10  # for which there is room before what stands beside them moves to the right
 
 
 class Rows:
@@ -35,11 +37,16 @@ class Rows:
         replicas = sorted({entry.replica for entry in entries})
         self.lanes = {replica: lane for lane, replica in enumerate(replicas)}  # none for a replica without a row
         self.lane = max(NARROWEST, min(WIDEST, LANES // max(len(replicas), 1)))
+        names = letters_of(evidence)
+        operations = [entry for entry in entries if names and isinstance(entry, Operation)]
+        self.letters = {operation.line: in_letters(operation.response, names) for operation in operations}
 
     def html(self) -> str:
         width = len(self.lanes) * self.lane
+        room = min(MOST_LETTERS, max(map(len, self.letters.values()), default=0))
         rows = "\n".join(self.row(row) for row in self.rows)
-        return (f'<div class="scroll"><div class="session" style="--lanes: {width}px; --row: {ROW}px">\n{self.picture(width)}\n'
+        return (f'<div class="scroll"><div class="session" style="--lanes: {width}px; --row: {ROW}px; --letters: {room}ch">\n'
+                f'{self.picture(width)}\n'
                 f"<ol>\n{rows}\n</ol></div></div>")
 
     def row(self, row: Operation | Receipt | int) -> str:
@@ -53,7 +60,8 @@ class Rows:
             return f'<li id="{self.prefix}{row.line}" class="receipt{matters}" tabindex="0">{number}{said}</li>'
         verdict = " verdict" if row in self.evidence.operations else ""
         asked = row.text.partition(" :")[0].partition(" ")[2]
-        said = (f'<span class="said"><span class="who">{escape(self.who(row))}</span><b>{row.name}</b> '
+        letters = f'<span class="letters">{escape(self.letters[row.line])}</span> ' if self.letters else ""
+        said = (f'<span class="said"><span class="who">{escape(self.who(row))}</span><b>{row.name}</b> {letters}'
                 f'<code>{escape(asked)} : {self.names(row)}</code></span>')
         return f'<li id="{self.prefix}{row.line}" class="operation{matters}{verdict}" tabindex="0">{number}{said}</li>'
 

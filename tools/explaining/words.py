@@ -46,6 +46,11 @@ def explanation(evidence: Evidence) -> Explanation:
     return tell[evidence.report["verdict"]](evidence)
 
 
+def with_warnings(told: Explanation, warnings: list) -> Explanation:
+    """The explanation, and after it what the verdict may hide, where there is something."""
+    return told._replace(sections=[*told.sections, Section("What this verdict may hide", warnings)]) if warnings else told
+
+
 def text_of(told: Explanation) -> str:
     """The explanation as lines for a terminal."""
     lines = [told.headline]
