@@ -1,5 +1,5 @@
 #!/usr/bin/env python3
-"""packages.py PROGRAM: the recorders as packages of Python, JavaScript and Rust, each installed without a registry into an empty
+"""recorder_packages.py PROGRAM: the recorders as packages of Python, JavaScript and Rust, each installed without a registry into an empty
 place, and used there by a test of that language's own runner, which must pass, or fail with an explanation and a saved trace.
 
 Needs node, npm and cargo, and for Debian's Python pip, setuptools, wheel, venv and pytest, which are installed where they are missing."""
@@ -244,7 +244,7 @@ def prepare() -> None:
             subprocess.run(["apt-get", *words], stdout=subprocess.DEVNULL, env={**os.environ, "DEBIAN_FRONTEND": "noninteractive"})
     for module in MODULES:
         if not has_module(module):
-            sys.exit(f"packages.py: {DEBIAN_PYTHON} has no {module}")
+            sys.exit(f"recorder_packages.py: {DEBIAN_PYTHON} has no {module}")
 
 
 def has_module(module: str) -> bool:
