@@ -329,7 +329,9 @@ def check_python(tally: Tally, place: Place) -> None:
     tally.check("pytest: nothing is told of an accepted recording", "assert 3 == 4" in alone and "The trace is saved" not in alone, alone)
     check_saved(tally, "pytest", "".join(said.values()), place.folder / "python" / "failed_traces")
     kept = sorted(path.name for path in (place.folder / "python" / "failed_traces").iterdir())
-    tally.check("pytest: a file for each recording that fails", len(kept) == 5 and "test_editor.py--test_lost.trace" in kept, kept)
+    traces = [name for name in kept if name.endswith(".trace")]
+    tally.check("pytest: a file for each recording that fails", len(traces) == 5 and "test_editor.py--test_lost.trace" in traces, kept)
+    tally.check("pytest: and its number of lines beside it", kept == sorted([*traces, *(f"{name}.lines" for name in traces)]), kept)
     lost = [*command, "-k", "test_lost", "--failed-traces"]
     done = place.run([*lost, "kept/here"], "python")
     check_saved(tally, "pytest: a folder that is asked for", done.stdout, place.folder / "python/kept/here")
