@@ -1,1 +1,1 @@
-../domepeeler.mjs
+export * from "../domepeeler.mjs"

@@ -1,1 +1,0 @@
-../../domepeeler.py
