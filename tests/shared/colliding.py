@@ -5,7 +5,7 @@ import subprocess
 from pathlib import Path
 
 from shared.forger import line
-from shared.program import Tally, need, processor_seconds, run
+from shared.program import Tally, processor_seconds, run
 
 SOURCE = Path(__file__).with_name("colliding_names.c")
 REPLICAS = 16
@@ -64,6 +64,8 @@ def chosen_names(tally: Tally, program: str, folder: str, many: int) -> None:
     for hasher in HASHERS:
         for command in "verdict", "cert", "verify":
             took, wanted = seconds[command, hasher], seconds[command, "others"]
-            tally.check(f"{command} of names that collide by {hasher}", took < 2 * wanted + 0.02, f"{took:.3f} s of processor, others {wanted:.3f} s")
+            told = f"{took:.3f} s of processor, others {wanted:.3f} s"
+            tally.check(f"{command} of names that collide by {hasher}", took < 2 * wanted + 0.02, told)
         for command in "verdict", "cert":
-            tally.check(f"{command} of names that collide by {hasher}: the same answer", answers[command, hasher] == answers[command, "others"], "")
+            same = answers[command, hasher] == answers[command, "others"]
+            tally.check(f"{command} of names that collide by {hasher}: the same answer", same)
