@@ -159,8 +159,13 @@ It is the vector clock of an update that REPLICA makes now."
   (concat (string-join (reverse (domepeeler-recording-lines recording)) "\n") "\n"))
 
 (defun domepeeler-save (recording file)
-  "Write the text of RECORDING into FILE."
+  "Write the text of RECORDING into FILE.
+First write into a file with `.lines' behind its name how many lines the
+text has, so that the tools notice where the end of FILE is lost.
+A pipe or a device has no such file beside it."
   (let ((coding-system-for-write 'no-conversion))
+    (when (and (file-writable-p file) (or (file-regular-p file) (not (file-exists-p file))))
+      (write-region (format "%d\n" (length (domepeeler-recording-lines recording))) nil (concat file ".lines") nil 'silent))
     (write-region (domepeeler-text recording) nil file nil 'silent)))
 
 (defun domepeeler-judge (recording &optional program)

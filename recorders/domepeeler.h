@@ -30,6 +30,7 @@
 #include <stdio.h>
 #include <stdlib.h>
 #include <string.h>
+#include <sys/stat.h>
 #include <sys/wait.h>
 #include <unistd.h>
 
@@ -203,12 +204,36 @@ static inline const char *domepeeler_id_of(const struct domepeeler *d, const cha
     return one && strcmp(one->id, name) ? one->id : NULL;
 }
 
-/* Writes the text into a file of this name. Answers 1. */
-static inline unsigned domepeeler_save(struct domepeeler *d, const char *path) {
-    FILE *file = fopen(path, "wb");
-    int is_written = file && fwrite(d->text, 1, d->length, file) == d->length;
+/* Writes so many bytes into the file of this name that was opened, and closes it; it is NULL where it could not be. Answers 1. */
+static inline unsigned domepeeler_write(struct domepeeler *d, const char *path, FILE *file, const char *bytes, size_t length) {
+    int is_written = file && fwrite(bytes, 1, length, file) == length;
     if (file && fclose(file)) is_written = 0;
     return is_written ? 1 : domepeeler_refuse(d, 0, "cannot write %s: %s", path, strerror(errno));
+}
+
+/* Writes how many lines the text has into the file with `.lines` behind this name. Answers 1. */
+static inline unsigned domepeeler_save_lines(struct domepeeler *d, const char *path) {
+    size_t lines = 0, room = strlen(path) + sizeof ".lines";
+    for (size_t i = 0; i < d->length; i++) lines += d->text[i] == '\n';
+    char number[32], *beside = (char *)malloc(room);
+    if (!beside) return domepeeler_refuse(d, 0, "no memory");
+    snprintf(number, sizeof number, "%zu\n", lines);
+    snprintf(beside, room, "%s.lines", path);
+    unsigned is_written = domepeeler_write(d, beside, fopen(beside, "wb"), number, strlen(number));
+    free(beside);
+    return is_written;
+}
+
+/* Writes the text into a file of this name; and first, into one with `.lines` behind the name, how many lines it has, so that the
+ * tools notice where the end of the file is lost. A pipe or a device has no such file beside it. Answers 1. */
+static inline unsigned domepeeler_save(struct domepeeler *d, const char *path) {
+    FILE *file = fopen(path, "wb");
+    struct stat about;
+    if (file && !fstat(fileno(file), &about) && S_ISREG(about.st_mode) && !domepeeler_save_lines(d, path)) {
+        fclose(file);
+        return 0;
+    }
+    return domepeeler_write(d, path, file, d->text, d->length);
 }
 
 static inline unsigned domepeeler_known(struct domepeeler *d, int replica) {

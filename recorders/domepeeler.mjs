@@ -143,10 +143,19 @@ export class Recording {
     return this.#lines.join("\n") + "\n"
   }
 
-  /** Writes the text into a file of this name; a promise of nothing. */
+  /** Writes the text into a file of this name; and first, into one with `.lines` behind the name, how many lines it has, so that the
+   * tools notice where the end of the file is lost. A pipe or a device has no such file beside it. A promise of nothing. */
   async save(path) {
-    const { writeFile } = await import("node:fs/promises")
-    await writeFile(path, this.text())
+    const { open, writeFile } = await import("node:fs/promises")
+    const { fileURLToPath } = await import("node:url")
+    const text = this.text(), lines = this.#lines.length
+    const file = await open(path, "w")
+    try {
+      if ((await file.stat()).isFile()) await writeFile(`${path.href ? fileURLToPath(path) : path}.lines`, `${lines}\n`)
+      await file.writeFile(text)
+    } finally {
+      await file.close()
+    }
   }
 
   /** A promise of the program's report on this recording. The program is the words that are given, that of $DOMEPEELER, or

@@ -22,6 +22,7 @@
 
 use std::collections::{HashMap, HashSet};
 use std::fmt::{self, Display, Write as _};
+use std::fs::{self, File};
 use std::io::{self, Write as _};
 use std::path::Path;
 use std::process::{Command, Output, Stdio};
@@ -277,9 +278,16 @@ impl Recording {
         &self.lines
     }
 
-    /// Writes the text into a file of this name.
+    /// Writes the text into a file of this name; and first, into one with `.lines` behind the name, how many lines it has, so that
+    /// the tools notice where the end of the file is lost. A pipe or a device has no such file beside it.
     pub fn save(&self, path: impl AsRef<Path>) -> io::Result<()> {
-        std::fs::write(path, &self.lines)
+        let mut file = File::create(&path)?;
+        if file.metadata()?.is_file() {
+            let mut beside = path.as_ref().as_os_str().to_owned();
+            beside.push(".lines");
+            fs::write(beside, format!("{}\n", self.lines.matches('\n').count()))?;
+        }
+        file.write_all(self.lines.as_bytes())
     }
 
     /// The program's report on this recording, as JSON. The program is that of $DOMEPEELER, or `domepeeler`.

@@ -55,7 +55,8 @@ export class Recording {
   /** The trace; of one replica's log the text that merge.py takes. */
   text(): string
 
-  /** Writes the text into a file of this name. */
+  /** Writes the text into a file of this name; and first, into one with `.lines` behind the name, how many lines it has, so that the
+   * tools notice where the end of the file is lost. A pipe or a device has no such file beside it. */
   save(path: string | URL): Promise<void>
 
   /** The program's report on this recording. The program is the words that are given, that of $DOMEPEELER, or `domepeeler`. */

@@ -385,11 +385,14 @@ def check_javascript(tally: Tally, place: Place) -> None:
     for name, said in ("lost", lost), ("fails by itself", own.split("ok 4")[0]):
         check_told(tally, f"node --test: {name}", said)
     tally.check("node --test: the test's own fault", "one is not two" in own, own)
-    kept = sorted(path.name for path in (place.folder / "packed/failed_traces").iterdir())
+    kept = sorted(path.name for path in (place.folder / "packed/failed_traces").iterdir() if path.name.endswith(".trace"))
     tally.check("node --test: traces", len(kept) == 2 and kept[0].startswith("editor.test.mjs-") and all(
         (place.folder / "packed/failed_traces" / name).read_text() == LOST_TRACE for name in kept) and
         all(name in done.stdout for name in kept), (kept, done.stdout))
-    tally.check("node --test: a path of its own", [path.name for path in (place.folder / "packed/own").iterdir()] == ["awaited.trace"])
+    beside = {path.name: path.read_text() for path in (place.folder / "packed/failed_traces").iterdir() if path.name not in kept}
+    tally.check("node --test: and the number of lines beside each", beside == {f"{name}.lines": "5\n" for name in kept}, beside)
+    own = sorted(path.name for path in (place.folder / "packed/own").iterdir())
+    tally.check("node --test: a path of its own", own == ["awaited.trace", "awaited.trace.lines"], own)
     place.make("packed/use.mjs", USES["javascript"])
     done = place.run(["node", "use.mjs", place.make("no_explainer", NO_EXPLAINER, 0o755)], "packed")
     check_used(tally, "JavaScript", done)
@@ -408,6 +411,8 @@ def check_rust(tally: Tally, place: Place) -> None:
     tally.check("cargo test: is explained", all(words in done.stdout for words in TOLD), done.stdout)
     saved = place.folder / "rust/failed.trace"
     tally.check("cargo test: saves", saved.is_file() and saved.read_text() == LOST_TRACE, done.stdout)
+    beside = place.folder / "rust/failed.trace.lines"
+    tally.check("cargo test: and the number of lines beside it", beside.is_file() and beside.read_text() == "5\n", done.stdout)
     done = place.run(["cargo", "run", "--offline", "--quiet", "--", place.make("no_explainer", NO_EXPLAINER, 0o755)], "rust")
     check_used(tally, "Rust", done)
 

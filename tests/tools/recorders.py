@@ -411,6 +411,62 @@ def check_save(tally: Tally, recorder: Recorder, folder: Path) -> None:
                 and got[2:] == ["| trace 1", "| replicas 1", "ok"], got)
 
 
+# Runs a command whose files have room for 512 bytes; a write beyond that fails, or, in Emacs, ends the command.
+NO_ROOM = ["sh", "-c", "trap '' XFSZ; ulimit -c 0; ulimit -f 1; exec \"$@\"", "sh"]
+
+
+def check_lines(tally: Tally, recorder: Recorder, folder: Path) -> None:
+    """Beside what is saved stands how many lines it has, also where another recorder saved before, so that the tool warns of what was
+    cut, and of nothing else. It is written first. A pipe or a device has no such file, and where there can't be one save fails."""
+    from domepeeler import Recording
+    place = folder / f"lines of {recorder.language}"
+    place.mkdir()
+    trace = place / "cycle.trace"
+    calls = [fields(line.split(" -> ")[0]) for line in CYCLE.split("\n")[:-1]]
+
+    def saved(named: object, by: Recorder = recorder, calls: list = calls) -> str:
+        return by.answers([*calls, f"save\t{named}"])[-1]
+
+    def beside(path: Path) -> str:
+        side = Path(f"{path}.lines")
+        return side.read_text() if side.is_file() else "none"
+
+    def warned() -> list:
+        said = subprocess.run([EXPLAIN, trace], capture_output=True, text=True, env=recorder.surroundings).stdout
+        return [line.strip() for line in said.partition("\nWhat this verdict may hide\n")[2].splitlines()] if said else ["nothing is said"]
+
+    Recording(1).save(trace)
+    tally.check(f"{recorder.language}: another recorder's number of lines", beside(trace) == "2\n", beside(trace))
+    tally.check(f"{recorder.language}: the number of lines", saved(trace) == "ok" and beside(trace) == "11\n", beside(trace))
+    tally.check(f"{recorder.language}: no warning of a whole trace", warned() == [], warned())
+    trace.write_bytes(b"".join(trace.read_bytes().splitlines(True)[:-1]))
+    wanted = f"the trace may have been cut at a line's end: it has 10 lines, and by {trace}.lines it was saved with 11"
+    tally.check(f"{recorder.language}: a warning of one that was cut", wanted in warned(), warned())
+    spaced = place / "two words.trace"
+    got = saved(spaced.as_uri() if recorder.language == "mjs" else spaced)  # JavaScript takes URLs too
+    tally.check(f"{recorder.language}: a path with a space", got == "ok" and beside(spaced) == "11\n", (got, beside(spaced)))
+    pipe, device = place / "pipe", place / "device"
+    os.mkfifo(pipe)
+    reading = os.open(pipe, os.O_RDONLY | os.O_NONBLOCK)
+    got, told = saved(pipe), os.read(reading, 4096)
+    os.close(reading)
+    cycle = (EXAMPLES / "libinfinity_three_way_cycle.trace").read_bytes()
+    tally.check(f"{recorder.language}: a pipe", got == "ok" and told == cycle and beside(pipe) == "none", (got, told, beside(pipe)))
+    device.symlink_to("/dev/null")
+    got = saved(device)
+    tally.check(f"{recorder.language}: a device", got == "ok" and beside(device) == "none", (got, beside(device)))
+    Path(place, "folder.trace.lines").mkdir()
+    got = saved(place / "folder.trace")
+    tally.check(f"{recorder.language}: no number can be written", got.startswith("failed ") and "directory" in got, got)
+    got = saved(place / "nowhere" / "a.trace")
+    tally.check(f"{recorder.language}: nothing can be written", got.startswith("failed ") and "a.trace.lines" not in got, got)
+    full = place / "full.trace"
+    got = saved(full, Recorder(recorder.language, [*NO_ROOM, *recorder.words], recorder.surroundings["DOMEPEELER"]),
+                ["new\t1", *["read\t0"] * 100])
+    tally.check(f"{recorder.language}: the number comes first", got.startswith(("failed ", "ended with -")) and full.is_file()
+                and full.stat().st_size == 512 and beside(full) == "102\n", (got, beside(full)))
+
+
 def check_judge(tally: Tally, recorder: Recorder, folder: Path) -> None:
     """The report of the cycle, and what is said where there is no report."""
     calls = [fields(line.split(" -> ")[0]) for line in CYCLE.split("\n")[:-1]]
@@ -631,6 +687,7 @@ def main() -> None:
             if language in CLOCKED:
                 check_full_updates(tally, recorder)
             check_save(tally, recorder, folder)
+            check_lines(tally, recorder, folder)
             check_judge(tally, recorder, folder)
         check_limits_are_the_programs(tally, program, texts["py"])
         check_merge(tally, program, folder)

@@ -56,7 +56,7 @@ async function call(words, changeId = null) {
     case "id_of":
       return recording.ids().has(words[1]) ? `ok ${recording.ids().get(words[1])}` : "none"
     case "save":
-      await recording.save(words[1])
+      await recording.save(words[1].startsWith("file:") ? new URL(words[1]) : words[1])
       return "ok"
     case "judge":
       return "report " + JSON.stringify(await recording.judge())
