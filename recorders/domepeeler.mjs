@@ -23,6 +23,7 @@ const MOST_BYTES = 32
 const NAME = /^[A-Za-z0-9_.-]{1,32}$/
 const UUID = /^[0-9A-Fa-f]{8}(-[0-9A-Fa-f]{4}){3}-[0-9A-Fa-f]{12}$/
 const MOST_PRINTED = 1 << 28 // bytes: no report is as long
+const MORE_CHANGES = "; if the update carried more than one change, say how many (`changes`)"
 
 /** No trace can say this. */
 export class Refused extends Error {}
@@ -282,7 +283,8 @@ export class Recording {
       return given
     }
     if (new TextEncoder().encode(given).length <= MOST_BYTES) {
-      throw new Refused(`name "${given}" is not 1 to 32 of A-Z a-z 0-9 _ - .`)
+      const advice = /[@,]/.test(given) ? "; write - for @ and for a comma, and a letter before it, as e1-a" : ""
+      throw new Refused(`name "${given}" is not 1 to 32 of A-Z a-z 0-9 _ - .${advice}`)
     }
     let name = UUID.test(given) ? given.replaceAll("-", "") : ""
     if (!name || this.#ids.has(name)) name = this.#numbered(given)
@@ -346,7 +348,8 @@ export class Recording {
         const lacking = changes.slice(upTo(changes, has[other]), upTo(changes, last)).find((one) => !isCarried.has(`${other}.${one}`))
         if (lacking === undefined) return
         throw new NotCausal(`not causal: ${author}.${n} was applied at replica ${replica} before ${other}.${lacking}, ` +
-          `which replica ${author} had seen; ${other}.${lacking} has to arrive first, or in the same update`)
+          `which replica ${author} had seen; ${other}.${lacking} has to arrive first, or in the same update` +
+          (seen && other === author ? MORE_CHANGES : ""))
       })
     }
     this.#room(replica, ends.size)

@@ -34,6 +34,7 @@ const MOST_NAMES: usize = 4096;
 const MOST_PLACES: usize = 262_144;
 const MOST_BYTES: usize = 32;
 const UUID_BYTES: usize = 36;
+const MORE_CHANGES: &str = "; if the update carried more than one change, say how many (`changes`)";
 
 /// Why a call was refused: no trace can say it, or a limit of traces is reached.
 #[derive(Clone, Debug, PartialEq, Eq)]
@@ -102,7 +103,9 @@ impl Display for Refused {
             }
             Refused::NotCausal { replica, change: (author, n), lacking: (other, lacking) } => {
                 write!(f, "not causal: {author}.{n} was applied at replica {replica} before {other}.{lacking}, ")?;
-                write!(f, "which replica {author} had seen; {other}.{lacking} has to arrive first, or in the same update")
+                write!(f, "which replica {author} had seen; {other}.{lacking} has to arrive first, or in the same update")?;
+                let more = if other == author { MORE_CHANGES } else { "" };
+                f.write_str(more)
             }
             Refused::EntriesFull { replica } => {
                 write!(f, "replica {replica} has {MOST_ENTRIES} entries, the most that a trace takes")
