@@ -159,9 +159,10 @@ export class Recording {
   }
 
   /** A promise of what the report means, in words, and at the end the ids of the numbered names. The tool is the words that are given,
-   * that of $DOMEPEELER_EXPLAIN, or `domepeeler-explain`. */
+   * that of $DOMEPEELER_EXPLAIN, or `domepeeler-explain`, beside the program of $DOMEPEELER or on the PATH. */
   async explain(explainer = null) {
-    const { name, done } = await this.#ask(explainer, "DOMEPEELER_EXPLAIN", "domepeeler-explain", "the tool's", ["-"])
+    const command = await besideProgram("domepeeler-explain")
+    const { name, done } = await this.#ask(explainer, "DOMEPEELER_EXPLAIN", command, "the tool's", ["-"])
     if ((done.status !== 0 && done.status !== 1) || !done.stdout) throw ended(name, done)
     const words = new Set(done.stdout.match(/[A-Za-z0-9]+/g))
     const told = [...this.ids()].filter(([short]) => words.has(short) && short.startsWith("long"))
@@ -387,6 +388,21 @@ function whole(number, least, most) {
 function checkId(changeId) {
   if (typeof changeId !== "string" && typeof changeId !== "number") {
     throw new Refused(`an id of a change is a string or a number, not ${JSON.stringify(changeId) ?? changeId}`)
+  }
+}
+
+// The command's path where it lies beside the program of $DOMEPEELER; else the command.
+async function besideProgram(command) {
+  const { dirname, join } = await import("node:path")
+  const { accessSync, constants, statSync } = await import("node:fs")
+  const program = process.env.DOMEPEELER ?? ""
+  const path = join(dirname(program), command)
+  if (!/[/\\]/.test(program) || !statSync(path, { throwIfNoEntry: false })?.isFile()) return command
+  try {
+    accessSync(path, constants.X_OK)
+    return path
+  } catch {
+    return command
   }
 }
 

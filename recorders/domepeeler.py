@@ -174,8 +174,8 @@ class Recording:
 
     def explain(self, explainer: Optional[Words] = None) -> str:
         """What the report means, in words, and at the end the ids of the numbered names. The tool is the words that are given, that of
-        $DOMEPEELER_EXPLAIN, or `domepeeler-explain`."""
-        name, done = self._ask(explainer, "DOMEPEELER_EXPLAIN", "domepeeler-explain", "the tool's", ["-"])
+        $DOMEPEELER_EXPLAIN, or `domepeeler-explain`, beside the program of $DOMEPEELER or on the PATH."""
+        name, done = self._ask(explainer, "DOMEPEELER_EXPLAIN", _beside_program("domepeeler-explain"), "the tool's", ["-"])
         if done.returncode not in (0, 1) or not done.stdout:
             _ended(name, done)
         said = done.stdout.decode(errors="replace")
@@ -389,6 +389,13 @@ def _check_id(change_id: Any) -> None:
 
 def _quoted(change_id: Hashable) -> str:
     return f'"{change_id}"' if isinstance(change_id, str) else repr(change_id)
+
+
+def _beside_program(command: str) -> str:
+    """The command's path where it lies beside the program of $DOMEPEELER; else the command."""
+    folder = os.path.dirname(os.environ.get("DOMEPEELER", ""))
+    path = os.path.join(folder, command)
+    return path if folder and os.path.isfile(path) and os.access(path, os.X_OK) else command
 
 
 def _ended(name: str, done: subprocess.CompletedProcess[bytes]) -> NoReturn:

@@ -297,9 +297,9 @@ impl Recording {
     }
 
     /// What the report means, in words, and at the end the ids of the numbered names. The tool is that of $DOMEPEELER_EXPLAIN, or
-    /// `domepeeler-explain`.
+    /// `domepeeler-explain`, beside the program of $DOMEPEELER or on the PATH.
     pub fn explain(&self) -> Result<String, String> {
-        self.explain_by(&named("DOMEPEELER_EXPLAIN", "domepeeler-explain"))
+        self.explain_by(&named("DOMEPEELER_EXPLAIN", &beside_program("domepeeler-explain")))
     }
 
     /// The words of the tool at this path.
@@ -566,6 +566,14 @@ fn is_uuid(given: &str) -> bool {
 /// What the variable names, or the command.
 fn named(variable: &str, command: &str) -> String {
     std::env::var(variable).ok().filter(|named| !named.is_empty()).unwrap_or_else(|| command.to_string())
+}
+
+/// The command's path where it lies beside the program of $DOMEPEELER; else the command.
+fn beside_program(command: &str) -> String {
+    let program = named("DOMEPEELER", command);
+    let folder = Path::new(&program).parent().filter(|folder| !folder.as_os_str().is_empty());
+    let path = folder.map(|folder| folder.join(command)).filter(|path| path.is_file());
+    path.and_then(|path| path.to_str().map(str::to_string)).unwrap_or_else(|| command.to_string())
 }
 
 fn ended(program: &str, done: &Output) -> String {
