@@ -8,10 +8,11 @@
 //       ...
 //     }))
 //
-// Where the recording is not accepted the test fails, and its error has the explanation and the path of the saved trace. For a
-// property of fast-check or another library, let the property end with: await accepted(recording, "failed.trace")
+// Where the recording is not accepted the test fails, and its error has the explanation and the path of the saved trace; where the test
+// fails by itself, its diagnostics have them. Where it passes, the trace that it saved before is removed. For a property of fast-check or
+// another library, let the property end with: await accepted(recording, "failed.trace")
 import { createHash } from "node:crypto"
-import { mkdir } from "node:fs/promises"
+import { mkdir, rm } from "node:fs/promises"
 import { basename, dirname, resolve } from "node:path"
 import { Recording } from "./domepeeler.mjs"
 
@@ -36,10 +37,11 @@ export function recorded(replicas, body, { folder = FOLDER } = {}) {
       await body(recording, context)
     } catch (why) {
       const told = await fault(recording, path)
-      if (told) context.diagnostic(told)
+      if (told) `${context.name}: ${told}`.split("\n").forEach((line) => context.diagnostic(line)) // TAP shows each as one line
       throw why
     }
     await accepted(recording, path)
+    for (const left of [path, `${path}.lines`]) await rm(left, { force: true }).catch(() => {}) // most often there is none
   }
 }
 
