@@ -1,8 +1,8 @@
 #!/usr/bin/env python3
 """readme_commands.py PROGRAM: the commands that the pages show are run as written, and must print what the pages show.
 
-A command stands after `    $ `, its further lines after `    > `, and below it what it prints; where nothing is shown,
-only the status is looked at. PROGRAM must be the repository's own, since the pages name it. `tests/program/black_box.py` does this for
+A command stands after `    $ `. A document in it ends at the line with its last word; other further lines stand after `    > `. Below it
+stands what it prints; where nothing is shown, only the status is looked at. PROGRAM must be the repository's own, since the pages name it. `tests/program/black_box.py` does this for
 the gallery."""
 import os
 import re
@@ -61,6 +61,10 @@ def commands(block: str) -> list:
         while lines[count:] and lines[count].startswith("> "):
             count += 1
         command = "\n".join([lines[0], *(line[2:] for line in lines[1:count])])
+        document = re.search(r"<< '(\w+)'$", lines[0])
+        if document and count == 1:
+            count = lines.index(document[1]) + 1 if document[1] in lines else len(lines)
+            command = "\n".join(lines[:count])
         shown.append(Shown(command, "".join(line + "\n" for line in lines[count:]).strip("\n")))
     return shown
 

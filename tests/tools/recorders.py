@@ -591,6 +591,28 @@ def check_guide(tally: Tally, program: str, folder: Path) -> None:
         tally.check(f"guide: {trace}", got.out == wanted.encode(), got)
 
 
+# How README's examples begin, what runs them in the folder of the one file that they import, and that file.
+README = {"from domepeeler import": ([sys.executable, "readme.py"], "domepeeler.py"),
+          "import { Recording }": (["node", "readme.mjs"], "domepeeler.mjs")}
+
+
+def check_readme(tally: Tally, program: str, folder: Path) -> None:
+    """README's examples are accepted; and if replica 0 has lost the element in its last answer, each ends with the explanation."""
+    place = folder / "readme"
+    place.mkdir()
+    surroundings = {**os.environ, "DOMEPEELER": program, "DOMEPEELER_EXPLAIN": EXPLAIN, "PYTHONDONTWRITEBYTECODE": "1"}
+    for begin, (words, recorder) in README.items():
+        found = [block for block in blocks(ROOT / "README.md") if block.startswith(begin)]
+        tally.check(f"README: {begin}", len(found) == 1 and found[0].count('read(0, ["a"])') == 1, found)
+        shutil.copy(ROOT / "recorders" / recorder, place)
+        text = "".join(found)
+        for code, wanted in (text, ""), (text.replace('read(0, ["a"])', "read(0, [])"), "contents 0.2: "):
+            Path(place, words[-1]).write_text(code)
+            done = subprocess.run(words, cwd=place, capture_output=True, text=True, env=surroundings)
+            tally.check(f"README: {begin}, {wanted or 'accepted'}", done.returncode == int(wanted != "") and wanted in done.stderr and
+                        (wanted != "" or not done.stderr + done.stdout), done)
+
+
 def check_hypothesis(tally: Tally, program: str, folder: Path) -> None:
     """The test by Hypothesis: of the list with a fault it leaves the recording that it shows, as a file that can be explained; and
     each run tries other sessions."""
@@ -648,6 +670,7 @@ def main() -> None:
         check_limits_are_the_programs(tally, program, texts["py"])
         check_merge(tally, program, folder)
         check_guide(tally, program, folder)
+        check_readme(tally, program, folder)
         check_hypothesis(tally, program, folder)
     tally.close()
 
