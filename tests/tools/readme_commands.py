@@ -1,9 +1,10 @@
 #!/usr/bin/env python3
 """readme_commands.py PROGRAM: the commands that the pages show are run as written, and must print what the pages show.
 
-A command stands after `    $ `. A document in it ends at the line with its last word; other further lines stand after `    > `. Below it
-stands what it prints; where nothing is shown, only the status is looked at. PROGRAM must be the repository's own, since the pages name it. `tests/program/black_box.py` does this for
-the gallery."""
+A command stands after `    $ `. A here-document's lines follow as they are, up to its end word; other further lines of a command stand
+after `    > `. Below it stands what it prints; where nothing is shown, only the status is looked at. PROGRAM must be the repository's own,
+since the pages name it. `tests/program/black_box.py` does this for the gallery."""
+import itertools
 import os
 import re
 import subprocess
@@ -57,16 +58,14 @@ def blocks(page: str) -> list:
 def commands(block: str) -> list:
     shown = []
     for part in re.split(r"^\$ ", block, flags=re.MULTILINE)[1:]:
-        lines = part.split("\n")
-        count = 1
-        while lines[count:] and lines[count].startswith("> "):
-            count += 1
-        command = "\n".join([lines[0], *(line[2:] for line in lines[1:count])])
-        document = re.search(r"<< '(\w+)'$", lines[0])
-        if document and count == 1:
-            count = lines.index(document[1]) + 1 if document[1] in lines else len(lines)
-            command = "\n".join(lines[:count])
-        shown.append(Shown(command, "".join(line + "\n" for line in lines[count:]).strip("\n")))
+        first, *rest = part.split("\n")
+        document = re.search(r"<< '(\w+)'$", first)
+        if document and document[1] in rest:
+            count = rest.index(document[1]) + 1
+        else:
+            count = len(list(itertools.takewhile(lambda line: line.startswith("> "), rest)))
+        command = "\n".join([first, *(line.removeprefix("> ") for line in rest[:count])])
+        shown.append(Shown(command, "".join(line + "\n" for line in rest[count:]).strip("\n")))
     return shown
 
 

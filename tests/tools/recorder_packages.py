@@ -339,7 +339,8 @@ def check_beside(tally: Tally, place: Place, name: str, words: list, folder: str
     paths = os.pathsep.join(part for part in place.path.split(os.pathsep) if part != str(place.folder / "prefix/bin"))
     program = str(place.folder / "prefix/bin/domepeeler")
     done = place.run(words, folder, PATH=paths, DOMEPEELER=program)
-    tally.check(f"{name}: explains by the tool beside the program", done.returncode == 0 and "\naccepted: " in f"\n{done.stdout}", done.stdout)
+    tally.check(f"{name}: explains by the tool beside the program", done.returncode == 0 and done.stdout.startswith("accepted: "),
+                done.stdout)
     done = place.run(words, folder, PATH=paths, DOMEPEELER=program, DOMEPEELER_EXPLAIN="nowhere")
     tally.check(f"{name}: the tool that is named comes first", done.returncode != 0 and "nowhere cannot be run" in done.stdout, done.stdout)
     done = place.run(words, folder, PATH=paths, DOMEPEELER="domepeeler")
