@@ -156,7 +156,7 @@ def test_nothing(domepeeler):
     domepeeler(2)
 ''',
     "javascript": '''
-import { test } from "node:test"
+import { describe, test } from "node:test"
 import { recorded } from "domepeeler/node_test"
 
 const record = (isLost, isFailing = false) => recorded(2, (recording) => {
@@ -167,6 +167,7 @@ const record = (isLost, isFailing = false) => recorded(2, (recording) => {
 })
 const isLost = "LOSE" in process.env
 
+describe("suite", () => test("lost", record(false))) // another test than that of this name which stands in no suite
 test("mended", record(isLost))
 test("lost", record(true))
 test("fails_by_itself_now", record(isLost, !isLost))
@@ -511,6 +512,11 @@ def check_javascript(tally: Tally, place: Place) -> None:
     place.make("packed/again.test.mjs", AGAIN["javascript"])
     check_again(tally, place, "node --test", ["node", "--test", "again.test.mjs"], "packed",
                 {f"again.test.mjs--{test}.trace": test != "mended" for test in ("mended", "lost", "fails_by_itself_now")})
+    place.make("packed/deep/again.test.mjs", AGAIN["javascript"].replace("record(true)", "record(isLost)"))
+    lost = [place.folder / "packed/failed_traces" / name for name in ("again.test.mjs--lost.trace", "deep-again.test.mjs--lost.trace")]
+    were = [place.run(["node", "--test", "deep/again.test.mjs"], "packed", **more) and [path.is_file() for path in lost]
+            for more in ({"LOSE": "1"}, {})]
+    tally.check("node --test: a file of the same name in another folder", were == [[True, True], [True, False]], were)
     check_beside(tally, place, "JavaScript", ["node", "--input-type=module", "-e", EXPLAINING["javascript"]], "packed")
     line = example("javascript", "const { Recording }").strip()
     done = place.run(["node", "--input-type=commonjs", "-e", COMMON.format(line=line)], "packed")
