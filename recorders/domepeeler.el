@@ -254,9 +254,11 @@ COUNTS are the clock of the update, which carries AUTHOR's changes from FIRST."
            for lacking = (gethash place (domepeeler--replica-changes of))
            when (and (<= place seen) (or (/= other author) (< lacking first)))
            do (signal 'domepeeler-not-causal
-                      (list (format "not causal: %d.%d was applied at replica %d before %d.%d, which replica %d had seen; %s"
+                      (list (format "not causal: %d.%d was applied at replica %d before %d.%d, which replica %d had seen; %s%s"
                                     author n replica other lacking author
-                                    (format "%d.%d has to arrive first, or in the same update" other lacking))))))
+                                    (format "%d.%d has to arrive first, or in the same update" other lacking)
+                                    (if (/= other author) ""
+                                      "; if the update carried more than one change, say how many (`changes`)"))))))
 
 (defun domepeeler--receipt (recording replica author n)
   "Write a receipt that may be written."

@@ -23,6 +23,7 @@ const MOST_BYTES = 32
 const NAME = /^[A-Za-z0-9_.-]{1,32}$/
 const UUID = /^[0-9A-Fa-f]{8}(-[0-9A-Fa-f]{4}){3}-[0-9A-Fa-f]{12}$/
 const MOST_PRINTED = 1 << 28 // bytes: no report is as long
+const MORE_CHANGES = "; if the update carried more than one change, say how many (`changes`)"
 
 /** No trace can say this. */
 export class Refused extends Error {}
@@ -167,9 +168,10 @@ export class Recording {
   }
 
   /** A promise of what the report means, in words, and at the end the ids of the numbered names. The tool is the words that are given,
-   * that of $DOMEPEELER_EXPLAIN, or `domepeeler-explain`. */
+   * that of $DOMEPEELER_EXPLAIN, or `domepeeler-explain`, beside the program of $DOMEPEELER or on the PATH. */
   async explain(explainer = null) {
-    const { name, done } = await this.#ask(explainer, "DOMEPEELER_EXPLAIN", "domepeeler-explain", "the tool's", ["-"])
+    const command = await besideProgram("domepeeler-explain")
+    const { name, done } = await this.#ask(explainer, "DOMEPEELER_EXPLAIN", command, "the tool's", ["-"])
     if ((done.status !== 0 && done.status !== 1) || !done.stdout) throw ended(name, done)
     const words = new Set(done.stdout.match(/[A-Za-z0-9]+/g))
     const told = [...this.ids()].filter(([short]) => words.has(short) && short.startsWith("long"))
@@ -291,7 +293,8 @@ export class Recording {
       return given
     }
     if (new TextEncoder().encode(given).length <= MOST_BYTES) {
-      throw new Refused(`name "${given}" is not 1 to 32 of A-Z a-z 0-9 _ - .`)
+      const advice = /[@,]/.test(given) ? "; write - for @ and for a comma, and a letter before it, as e1-a" : ""
+      throw new Refused(`name "${given}" is not 1 to 32 of A-Z a-z 0-9 _ - .${advice}`)
     }
     let name = UUID.test(given) ? given.replaceAll("-", "") : ""
     if (!name || this.#ids.has(name)) name = this.#numbered(given)
@@ -355,7 +358,8 @@ export class Recording {
         const lacking = changes.slice(upTo(changes, has[other]), upTo(changes, last)).find((one) => !isCarried.has(`${other}.${one}`))
         if (lacking === undefined) return
         throw new NotCausal(`not causal: ${author}.${n} was applied at replica ${replica} before ${other}.${lacking}, ` +
-          `which replica ${author} had seen; ${other}.${lacking} has to arrive first, or in the same update`)
+          `which replica ${author} had seen; ${other}.${lacking} has to arrive first, or in the same update` +
+          (seen && other === author ? MORE_CHANGES : ""))
       })
     }
     this.#room(replica, ends.size)
@@ -393,6 +397,21 @@ function whole(number, least, most) {
 function checkId(changeId) {
   if (typeof changeId !== "string" && typeof changeId !== "number") {
     throw new Refused(`an id of a change is a string or a number, not ${JSON.stringify(changeId) ?? changeId}`)
+  }
+}
+
+// The command's path where it lies beside the program of $DOMEPEELER; else the command.
+async function besideProgram(command) {
+  const { dirname, join } = await import("node:path")
+  const { accessSync, constants, statSync } = await import("node:fs")
+  const program = process.env.DOMEPEELER ?? ""
+  const path = join(dirname(program), command)
+  if (!/[/\\]/.test(program) || !statSync(path, { throwIfNoEntry: false })?.isFile()) return command
+  try {
+    accessSync(path, constants.X_OK)
+    return path
+  } catch {
+    return command
   }
 }
 

@@ -31,6 +31,7 @@ NAME = re.compile(r"[A-Za-z0-9_.-]{1,32}", re.ASCII)
 UUID = re.compile(r"[0-9A-Fa-f]{8}(-[0-9A-Fa-f]{4}){3}-[0-9A-Fa-f]{12}", re.ASCII)
 __tracebackhide__ = True  # pytest shows a refused call where the test makes it
 ONE_LOG = "one replica's log is no recording: merge the logs first"
+MORE_CHANGES = "; if the update carried more than one change, say how many (`changes`)"
 
 Clock = Union[Sequence[int], Mapping[int, int]]
 Words = Union[str, Sequence[str]]
@@ -173,8 +174,8 @@ class Recording:
 
     def explain(self, explainer: Optional[Words] = None) -> str:
         """What the report means, in words, and at the end the ids of the numbered names. The tool is the words that are given, that of
-        $DOMEPEELER_EXPLAIN, or `domepeeler-explain`."""
-        name, done = self._ask(explainer, "DOMEPEELER_EXPLAIN", "domepeeler-explain", "the tool's", ["-"])
+        $DOMEPEELER_EXPLAIN, or `domepeeler-explain`, beside the program of $DOMEPEELER or on the PATH."""
+        name, done = self._ask(explainer, "DOMEPEELER_EXPLAIN", _beside_program("domepeeler-explain"), "the tool's", ["-"])
         if done.returncode not in (0, 1) or not done.stdout:
             _ended(name, done)
         said = done.stdout.decode(errors="replace")
@@ -278,7 +279,8 @@ class Recording:
                     raise Refused(f'name "{given}" is short for the id "{self._ids[given]}" already')
             return given
         if len(given.encode(errors="surrogatepass")) <= MOST_BYTES:
-            raise Refused(f'name "{given}" is not 1 to 32 of A-Z a-z 0-9 _ - .')
+            raise Refused(f'name "{given}" is not 1 to 32 of A-Z a-z 0-9 _ - .'
+                          + ("; write - for @ and for a comma, and a letter before it, as e1-a" if set(given) & set("@,") else ""))
         name = given.replace("-", "") if UUID.fullmatch(given) else ""
         if not name or name in self._ids:
             name = self._numbered(given)
@@ -335,20 +337,22 @@ class Recording:
             past = list(self._replicas[author].pasts[n - 1])
             past[author] = n - 1
             for other, pair in enumerate(zip(past, seen or past)):
-                self._check_has(replica, (author, n), other, has[other], max(pair), carried)
+                self._check_has(replica, (author, n), other, has[other], max(pair), carried, bool(seen))
         ends = {author: n for author, n in sorted(carried) if n > has[author]}
         self._room(replica, len(ends))
         for author, n in ends.items():
             self._receipt(replica, author, n)
 
-    def _check_has(self, replica: int, change: Tuple[int, int], other: int, have: int, last: int, carried: Set[Tuple[int, int]]) -> None:
+    def _check_has(self, replica: int, change: Tuple[int, int], other: int, have: int, last: int, carried: Set[Tuple[int, int]],
+                   by_clock: bool) -> None:
         """Each change of the other replica up to the last one is at the replica, or carried."""
         changes = self._replicas[other].changes
         for n in changes[bisect_right(changes, have):bisect_right(changes, last)]:
             if (other, n) not in carried:
                 author, number = change
                 raise NotCausal(f"not causal: {author}.{number} was applied at replica {replica} before {other}.{n}, "
-                                f"which replica {author} had seen; {other}.{n} has to arrive first, or in the same update")
+                                f"which replica {author} had seen; {other}.{n} has to arrive first, or in the same update"
+                                + (MORE_CHANGES if by_clock and other == author else ""))
 
     def _receipt(self, replica: int, author: int, n: int) -> None:
         """Writes a receipt that may be written."""
@@ -385,6 +389,13 @@ def _check_id(change_id: Any) -> None:
 
 def _quoted(change_id: Hashable) -> str:
     return f'"{change_id}"' if isinstance(change_id, str) else repr(change_id)
+
+
+def _beside_program(command: str) -> str:
+    """The command's path where it lies beside the program of $DOMEPEELER; else the command."""
+    folder = os.path.dirname(os.environ.get("DOMEPEELER", ""))
+    path = os.path.join(folder, command)
+    return path if folder and os.path.isfile(path) and os.access(path, os.X_OK) else command
 
 
 def _ended(name: str, done: subprocess.CompletedProcess[bytes]) -> NoReturn:

@@ -35,6 +35,7 @@ const MOST_NAMES: usize = 4096;
 const MOST_PLACES: usize = 262_144;
 const MOST_BYTES: usize = 32;
 const UUID_BYTES: usize = 36;
+const MORE_CHANGES: &str = "; if the update carried more than one change, say how many (`changes`)";
 
 /// Why a call was refused: no trace can say it, or a limit of traces is reached.
 #[derive(Clone, Debug, PartialEq, Eq)]
@@ -103,7 +104,9 @@ impl Display for Refused {
             }
             Refused::NotCausal { replica, change: (author, n), lacking: (other, lacking) } => {
                 write!(f, "not causal: {author}.{n} was applied at replica {replica} before {other}.{lacking}, ")?;
-                write!(f, "which replica {author} had seen; {other}.{lacking} has to arrive first, or in the same update")
+                write!(f, "which replica {author} had seen; {other}.{lacking} has to arrive first, or in the same update")?;
+                let more = if other == author { MORE_CHANGES } else { "" };
+                f.write_str(more)
             }
             Refused::EntriesFull { replica } => {
                 write!(f, "replica {replica} has {MOST_ENTRIES} entries, the most that a trace takes")
@@ -302,9 +305,9 @@ impl Recording {
     }
 
     /// What the report means, in words, and at the end the ids of the numbered names. The tool is that of $DOMEPEELER_EXPLAIN, or
-    /// `domepeeler-explain`.
+    /// `domepeeler-explain`, beside the program of $DOMEPEELER or on the PATH.
     pub fn explain(&self) -> Result<String, String> {
-        self.explain_by(&named("DOMEPEELER_EXPLAIN", "domepeeler-explain"))
+        self.explain_by(&named("DOMEPEELER_EXPLAIN", &beside_program("domepeeler-explain")))
     }
 
     /// The words of the tool at this path.
@@ -571,6 +574,14 @@ fn is_uuid(given: &str) -> bool {
 /// What the variable names, or the command.
 fn named(variable: &str, command: &str) -> String {
     std::env::var(variable).ok().filter(|named| !named.is_empty()).unwrap_or_else(|| command.to_string())
+}
+
+/// The command's path where it lies beside the program of $DOMEPEELER; else the command.
+fn beside_program(command: &str) -> String {
+    let program = named("DOMEPEELER", command);
+    let folder = Path::new(&program).parent().filter(|folder| !folder.as_os_str().is_empty());
+    let path = folder.map(|folder| folder.join(command)).filter(|path| path.is_file());
+    path.and_then(|path| path.to_str().map(str::to_string)).unwrap_or_else(|| command.to_string())
 }
 
 fn ended(program: &str, done: &Output) -> String {

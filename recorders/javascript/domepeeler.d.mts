@@ -62,6 +62,7 @@ export class Recording {
   /** The program's report on this recording. The program is the words that are given, that of $DOMEPEELER, or `domepeeler`. */
   judge(program?: string | readonly string[] | null): Promise<Report>
 
-  /** What the report means, in words. The tool is the words that are given, that of $DOMEPEELER_EXPLAIN, or `domepeeler-explain`. */
+  /** What the report means, in words. The tool is the words that are given, that of $DOMEPEELER_EXPLAIN, or `domepeeler-explain`, beside
+   * the program of $DOMEPEELER or on the PATH. */
   explain(explainer?: string | readonly string[] | null): Promise<string>
 }

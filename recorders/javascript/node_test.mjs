@@ -8,11 +8,12 @@
 //       ...
 //     }))
 //
-// Where the recording is not accepted the test fails, and its error has the explanation and the path of the saved trace. For a
-// property of fast-check or another library, let the property end with: await accepted(recording, "failed.trace")
+// Where the recording is not accepted the test fails, and its error has the explanation and the path of the saved trace; where the test
+// fails by itself, its diagnostics have them. Where it passes, the trace that it saved before is removed. For a property of fast-check or
+// another library, let the property end with: await accepted(recording, "failed.trace")
 import { createHash } from "node:crypto"
-import { mkdir } from "node:fs/promises"
-import { basename, dirname, resolve } from "node:path"
+import { mkdir, rm } from "node:fs/promises"
+import { dirname, relative, resolve } from "node:path"
 import { Recording } from "./domepeeler.mjs"
 
 const FOLDER = "failed_traces", MOST_LETTERS = 150
@@ -31,15 +32,17 @@ export class NotAccepted extends Error {
 export function recorded(replicas, body, { folder = FOLDER } = {}) {
   return async (context) => {
     const recording = new Recording(replicas)
-    const path = resolve(folder, fileName(context.name))
+    const test = context.fullName ?? context.name // with the suites' names where Node tells them
+    const path = resolve(folder, fileName(test))
     try {
       await body(recording, context)
     } catch (why) {
       const told = await fault(recording, path)
-      if (told) context.diagnostic(told)
+      if (told) `${test}: ${told}`.split("\n").forEach((line) => context.diagnostic(line)) // TAP shows each as one line
       throw why
     }
     await accepted(recording, path)
+    for (const left of [path, `${path}.lines`]) await rm(left, { force: true }).catch(() => {}) // most often there is none
   }
 }
 
@@ -72,12 +75,12 @@ async function saved(recording, path) {
   return `The trace is saved: ${path}`
 }
 
-// The name of a file that no other test has.
+// The name of a file that no other test has which is run in this folder.
 function fileName(test) {
-  const whole = `${basename(process.argv[1] ?? "")}--${test}`
-  const isPlain = /^[A-Za-z0-9_.]+--[A-Za-z0-9_.]+$/.test(whole) && whole.length <= MOST_LETTERS
+  const whole = `${relative("", process.argv[1] ?? "")}--${test}`
+  const isPlain = /^[A-Za-z0-9_.]+(\/[A-Za-z0-9_.]+)*--[A-Za-z0-9_.]+$/.test(whole) && whole.length <= MOST_LETTERS
   const letters = whole.replace(/[^A-Za-z0-9_.]+/g, "-").slice(0, MOST_LETTERS).replace(/^-+|-+$/g, "")
-  const name = isPlain ? whole : `${letters}-${createHash("sha256").update(whole).digest("hex").slice(0, 12)}`
+  const name = isPlain ? whole.replaceAll("/", "-") : `${letters}-${createHash("sha256").update(whole).digest("hex").slice(0, 12)}`
   const before = named.get(name) ?? 0
   named.set(name, before + 1)
   return `${name}${before ? `-${before + 1}` : ""}.trace`

@@ -1,9 +1,10 @@
 #!/usr/bin/env python3
 """readme_commands.py PROGRAM: the commands that the pages show are run as written, and must print what the pages show.
 
-A command stands after `    $ `, its further lines after `    > `, and below it what it prints; where nothing is shown,
-only the status is looked at. PROGRAM must be the repository's own, since the pages name it. `tests/program/black_box.py` does this for
-the gallery."""
+A command stands after `    $ `. A here-document's lines follow as they are, up to its end word; other further lines of a command stand
+after `    > `. Below it stands what it prints; where nothing is shown, only the status is looked at. PROGRAM must be the repository's own,
+since the pages name it. `tests/program/black_box.py` does this for the gallery."""
+import itertools
 import os
 import re
 import subprocess
@@ -19,7 +20,8 @@ from shared.program import Tally, need, program_of  # noqa: E402
 BUILT = ROOT / "crates" / "finder_cli" / "out" / "finder_cli"
 
 # The pages, and how many commands each must show at least.
-PAGES = {"README.md": 13, "docs/many.md": 7, "docs/recording.md": 5}
+FRONT = "README.md"
+PAGES = {FRONT: 13, "docs/many.md": 7, "docs/recording.md": 5}
 
 # Indented lines of the pages that are commands and are not run here, each with the reason.
 NOT_RUN = {
@@ -28,7 +30,7 @@ NOT_RUN = {
     "sudo apt-get install ./domepeeler_0.2.0_amd64.deb":
         "tests/tools/package.py installs the package into a system of its own",
     "mkdir -p ~/.local && tar -xzf domepeeler-0.2.0-x86_64-linux.tar.gz -C ~/.local --strip-components=1":
-        "tests/tools/package.py runs it",
+        "tests/tools/package.py runs it; what it unpacks is installed here before the commands of the page",
     'tools/package crates/finder_cli/out/finder_cli ~/packages "$(rt version)"':
         "it asks the toolchain for its own line; tests/tools/package.py makes the packages with another one",
     "tests/every_check": "it is the gate, which runs this script",
@@ -56,12 +58,14 @@ def blocks(page: str) -> list:
 def commands(block: str) -> list:
     shown = []
     for part in re.split(r"^\$ ", block, flags=re.MULTILINE)[1:]:
-        lines = part.split("\n")
-        count = 1
-        while lines[count:] and lines[count].startswith("> "):
-            count += 1
-        command = "\n".join([lines[0], *(line[2:] for line in lines[1:count])])
-        shown.append(Shown(command, "".join(line + "\n" for line in lines[count:]).strip("\n")))
+        first, *rest = part.split("\n")
+        document = re.search(r"<< '(\w+)'$", first)
+        if document and document[1] in rest:
+            count = rest.index(document[1]) + 1
+        else:
+            count = len(list(itertools.takewhile(lambda line: line.startswith("> "), rest)))
+        command = "\n".join([first, *(line.removeprefix("> ") for line in rest[:count])])
+        shown.append(Shown(command, "".join(line + "\n" for line in rest[count:]).strip("\n")))
     return shown
 
 
@@ -76,10 +80,18 @@ def run_all(shown: list, home: str) -> list:
     return list(zip(map(int, parts[1::2]), parts[::2]))
 
 
+def unpack(home: str) -> None:
+    """Puts into the home what the archive has."""
+    surroundings = {"PATH": os.environ["PATH"]}
+    subprocess.run([ROOT / "tools/install", f"{home}/.local"], check=True, stdout=subprocess.DEVNULL, env=surroundings)
+
+
 def check_page(tally: Tally, page: str, least: int) -> None:
     shown = [command for block in blocks((ROOT / page).read_text()) for command in commands(block)]
     tally.check(f"{page}: has its commands", len(shown) >= least, len(shown))
     with tempfile.TemporaryDirectory() as home:
+        if page == FRONT:
+            unpack(home)
         ended = run_all(shown, home)
     tally.check(f"{page}: all its commands are run", len(ended) == len(shown), f"{len(ended)} of {len(shown)}")
     for (command, printed), (status, got) in zip(shown, ended):
@@ -96,7 +108,7 @@ def main() -> None:
     tally.check("the program is the one of the pages", BUILT.exists() and os.path.samefile(program, BUILT), f"{program}, {BUILT}")
     for page, least in PAGES.items():
         check_page(tally, page, least)
-    front = (ROOT / "README.md").read_text()
+    front = (ROOT / FRONT).read_text()
     for line, reason in NOT_RUN.items():
         tally.check(f"README.md shows `{line}`, not run since {reason}", f"\n    {line}\n" in front)
     tally.close()

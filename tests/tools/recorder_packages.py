@@ -12,7 +12,8 @@ import tempfile
 from pathlib import Path
 
 ROOT = Path(__file__).resolve().parents[2]
-sys.path.insert(0, str(ROOT / "tests"))
+sys.path[:0] = [str(ROOT / "tests"), str(ROOT / "tools")]
+from explaining.warnings import warnings_of  # noqa: E402
 from shared.program import Tally, need, program_of  # noqa: E402
 
 RECORDERS = ROOT / "recorders"
@@ -121,6 +122,66 @@ test("awaited", async () => {
 })
 '''
 
+# Tests that are run first with LOSE in the surroundings, where all that record anything fail, and then without: then two still fail.
+AGAIN = {
+    "python": '''
+import os
+
+
+def record(recording, is_lost):
+    n = recording.insert(0, "a", 0, ["a"])
+    recording.received(1, 0, n)
+    recording.read(1, [] if is_lost else ["a"])
+
+
+def test_mended(domepeeler):
+    record(domepeeler(2), "LOSE" in os.environ)
+
+
+def test_mended_twice(domepeeler):
+    record(domepeeler(2), "LOSE" in os.environ)
+    record(domepeeler(2), "LOSE" in os.environ)
+
+
+def test_lost(domepeeler):
+    record(domepeeler(2), True)
+
+
+def test_fails_by_itself_now(domepeeler):
+    record(domepeeler(2), "LOSE" in os.environ)
+    assert "LOSE" in os.environ
+
+
+def test_nothing(domepeeler):
+    domepeeler(2)
+''',
+    "javascript": '''
+import { describe, test } from "node:test"
+import { recorded } from "domepeeler/node_test"
+
+const record = (isLost, isFailing = false) => recorded(2, (recording) => {
+  const n = recording.insert(0, "a", 0, ["a"])
+  recording.received(1, 0, n)
+  recording.read(1, isLost ? [] : ["a"])
+  if (isFailing) throw new Error("one is not two")
+})
+const isLost = "LOSE" in process.env
+
+describe("suite", () => test("lost", record(false))) // another test than that of this name which stands in no suite
+test("mended", record(isLost))
+test("lost", record(true))
+test("fails_by_itself_now", record(isLost, !isLost))
+'''}
+
+# What a test of CommonJS has in the place of `import`, by the package's README.
+COMMON = "(async () => {{ {line}; console.log(new Recording(2).text()) }})()"
+
+# Explains an empty recording in each language; in Rust it is the command that is built of USES, without a word.
+EXPLAINING = {
+    "python": "from domepeeler import Recording; print(Recording(1).explain())",
+    "javascript": 'import { Recording } from "domepeeler"; console.log(await new Recording(1).explain())',
+}
+
 RUST_TEST = '''
 use domepeeler::Recording;
 
@@ -187,6 +248,9 @@ for (const words of [[process.argv[2]], ["nowhere"], ["false"]]) {{
 use domepeeler::Recording;
 fn main() {{
     let mut recording = Recording::new(1).unwrap();
+    if std::env::args().count() == 1 {{
+        return println!("{{}}", recording.explain().unwrap());
+    }}
     let none = &[] as &[&str];
     for name in (1..12).map(|n| format!("{LONG_ID}/{{n}}")) {{
         recording.insert(0, &name, 0, &[&name]).unwrap();
@@ -261,6 +325,48 @@ def check_installed(tally: Tally, place: Place) -> None:
         wanted = [path for path in files if (RECORDERS / path).is_file() and not path.name.startswith(".") and not BUILT & set(path.parts)]
         same = [path for path in wanted if (share / path).is_file() and (share / path).read_bytes() == (RECORDERS / path).read_bytes()]
         tally.check(f"installed: {package}", len(wanted) > 1 and same == wanted, set(wanted) - set(same))
+
+
+def check_versions(tally: Tally, place: Place) -> None:
+    """The packages have the program's version."""
+    version = place.run(["domepeeler", "--version"]).stdout.split()[-1]
+    for name in "python/pyproject.toml", "javascript/package.json", "rust/Cargo.toml":
+        said = re.findall(r'^ *"?version"?\s*[=:]\s*"([^"]*)"', (RECORDERS / name).read_text(), re.MULTILINE)
+        tally.check(f"version of {name}", said == [version], (said, version))
+
+
+def check_beside(tally: Tally, place: Place, name: str, words: list, folder: str) -> None:
+    """The tool that explains lies beside the program that DOMEPEELER names; no PATH leads there. Another variable comes first."""
+    paths = os.pathsep.join(part for part in place.path.split(os.pathsep) if part != str(place.folder / "prefix/bin"))
+    program = str(place.folder / "prefix/bin/domepeeler")
+    done = place.run(words, folder, PATH=paths, DOMEPEELER=program)
+    tally.check(f"{name}: explains by the tool beside the program", done.returncode == 0 and done.stdout.startswith("accepted: "),
+                done.stdout)
+    done = place.run(words, folder, PATH=paths, DOMEPEELER=program, DOMEPEELER_EXPLAIN="nowhere")
+    tally.check(f"{name}: the tool that is named comes first", done.returncode != 0 and "nowhere cannot be run" in done.stdout, done.stdout)
+    done = place.run(words, folder, PATH=paths, DOMEPEELER="domepeeler")
+    tally.check(f"{name}: nothing beside a bare name", done.returncode != 0 and "domepeeler-explain cannot be run" in done.stdout,
+                done.stdout)
+
+
+def check_again(tally: Tally, place: Place, name: str, words: list, folder: str, traces: dict) -> str:
+    """A test that passes removes the traces that it saved before, and nothing else. `traces` says which there are of the tests that
+    fail first, and whether each is still there in the end. Answers what was printed of the second run."""
+    kept = place.folder / folder / "failed_traces"
+    shutil.rmtree(kept, ignore_errors=True)
+    place.run(words, folder, LOSE="1")
+    saved = sorted(path.name for path in kept.iterdir() if path.name.endswith(".trace"))
+    tally.check(f"{name}: saved first", saved == sorted(traces), saved)
+    others = [f"{one}{end}" for one in traces for end in (".old", ".lines.old")] + ["another.trace"]
+    for other in others:
+        (kept / other).write_text("kept\n")
+    done = place.run(words, folder)
+    wanted = sorted(others + [one for one, is_left in traces.items() if is_left])
+    left = sorted(path.name for path in kept.iterdir() if not path.name.endswith(".trace.lines"))
+    tally.check(f"{name}: left afterwards", left == wanted, (left, wanted, done.stdout))
+    lines = [path.name for path in kept.iterdir() if path.name.endswith(".trace.lines") and not (kept / path.stem).is_file()]
+    tally.check(f"{name}: no number of lines without its trace", lines == [], lines)
+    return done.stdout
 
 
 def example(package: str, begin: str) -> str:
@@ -345,6 +451,12 @@ def check_python(tally: Tally, place: Place) -> None:
     done = place.run(lost[:-1], "python", DOMEPEELER_EXPLAIN="nowhere")
     tally.check("pytest: without an explainer", "The recording is not accepted: contents. There is no explanation: nowhere cannot be run"
                 in done.stdout and "The trace is saved: " in done.stdout, done.stdout)
+    place.make("python/test_again.py", AGAIN["python"])
+    again = [f"test_again.py--test_{test}.trace" for test in ("mended", "mended_twice-1", "mended_twice-2", "lost", "fails_by_itself_now")]
+    said = check_again(tally, place, "pytest", [*command[:-1], "test_again.py"], "python", {one: "mended" not in one for one in again})
+    tally.check("pytest: warns where nothing was recorded, and nowhere else", "2 failed, 3 passed, 1 warning" in said and
+                "test_nothing" in said and all(words in said for words in warnings_of("accepted", b"trace 1\nreplicas 2\n")), said)
+    check_beside(tally, place, "Python", [python, "-c", EXPLAINING["python"]], "python")
     script = place.make("python/use.py", USES["python"])
     check_used(tally, "Python", place.run([python, script, place.make("no_explainer", NO_EXPLAINER, 0o755)], "python"))
 
@@ -381,6 +493,10 @@ def check_javascript(tally: Tally, place: Place) -> None:
     done = place.run(["node", "--test", "--test-reporter=tap", "editor.test.mjs", "readme.test.mjs"], "packed")
     tally.check("node --test: counts", done.returncode == 1 and "# pass 3" in done.stdout and "# fail 2" in done.stdout and
                 "ok 1 - right" in done.stdout and "ok 4 - awaited" in done.stdout and "ok 5 - two users" in done.stdout, done.stdout)
+    told = re.findall("^# (.*)", done.stdout, re.MULTILINE)
+    at = next((at for at, line in enumerate(told) if line.startswith("fails by itself: contents 1.1: ")), len(told))
+    tally.check("node --test: a line for each line of the explanation", any(line.strip() == TOLD[1] for line in told[at:]) and
+                not any("\\n" in line for line in told), told)
     lost, own = done.stdout.split("not ok 2 - lost")[-1].split("not ok 3 - fails by itself")
     for name, said in ("lost", lost), ("fails by itself", own.split("ok 4")[0]):
         check_told(tally, f"node --test: {name}", said)
@@ -396,6 +512,18 @@ def check_javascript(tally: Tally, place: Place) -> None:
     place.make("packed/use.mjs", USES["javascript"])
     done = place.run(["node", "use.mjs", place.make("no_explainer", NO_EXPLAINER, 0o755)], "packed")
     check_used(tally, "JavaScript", done)
+    place.make("packed/again.test.mjs", AGAIN["javascript"])
+    check_again(tally, place, "node --test", ["node", "--test", "again.test.mjs"], "packed",
+                {f"again.test.mjs--{test}.trace": test != "mended" for test in ("mended", "lost", "fails_by_itself_now")})
+    place.make("packed/deep/again.test.mjs", AGAIN["javascript"].replace("record(true)", "record(isLost)"))
+    lost = [place.folder / "packed/failed_traces" / name for name in ("again.test.mjs--lost.trace", "deep-again.test.mjs--lost.trace")]
+    were = [place.run(["node", "--test", "deep/again.test.mjs"], "packed", **more) and [path.is_file() for path in lost]
+            for more in ({"LOSE": "1"}, {})]
+    tally.check("node --test: a file of the same name in another folder", were == [[True, True], [True, False]], were)
+    check_beside(tally, place, "JavaScript", ["node", "--input-type=module", "-e", EXPLAINING["javascript"]], "packed")
+    line = example("javascript", "const { Recording }").strip()
+    done = place.run(["node", "--input-type=commonjs", "-e", COMMON.format(line=line)], "packed")
+    tally.check("JavaScript: in CommonJS", done.stdout.startswith("trace 1\nreplicas 2\n"), (line, done.stdout))
 
 
 def check_rust(tally: Tally, place: Place) -> None:
@@ -415,13 +543,14 @@ def check_rust(tally: Tally, place: Place) -> None:
     tally.check("cargo test: and the number of lines beside it", beside.is_file() and beside.read_text() == "5\n", done.stdout)
     done = place.run(["cargo", "run", "--offline", "--quiet", "--", place.make("no_explainer", NO_EXPLAINER, 0o755)], "rust")
     check_used(tally, "Rust", done)
+    check_beside(tally, place, "Rust", [str(place.folder / "rust/target/debug/own")], "rust")
 
 
 def main() -> None:
     program = program_of(sys.argv)
     prepare()
     tally = Tally()
-    for check in check_installed, check_python, check_javascript, check_rust:
+    for check in check_installed, check_versions, check_python, check_javascript, check_rust:
         with tempfile.TemporaryDirectory() as name:
             check(tally, Place(Path(name).resolve(), program))
     tally.close()

@@ -44,6 +44,8 @@ CYCLE_REPORT = {
               {"from": "a", "response": ["a", "x"], "shown": "1.1", "to": "x"}]}
 
 NAME = "is not 1 to 32 of A-Z a-z 0-9 _ - ."
+ADVICE = "; write - for @ and for a comma, and a letter before it, as e1-a"
+ADVISING = ["py", "mjs"]  # languages in which a name with one of the two is refused with this advice
 LETTERS32 = "abcdefghijklmnopqrstuvwxyz_-.019"
 UUID, UUID_DIGITS = "123e4567-e89b-12d3-a456-426614174000", "123e4567e89b12d3a456426614174000"
 ALMOST_UUIDS = ["123e4567-e89b-12d3-a456-42661417400g", "123e4567e-89b-12d3-a456-426614174000", "123e4567_e89b_12d3_a456_426614174000"]
@@ -101,6 +103,7 @@ SAID = [
 CLOCKED = ["py", "mjs", "rs", "c", "el"]
 UNCAUSAL = ("uncausal not causal: {0} was applied at replica {1} before {2}, which replica {3} had seen; "
             "{2} has to arrive first, or in the same update")
+MORE_CHANGES = "; if the update carried more than one change, say how many (`changes`)"
 CLOCKS = [
     ("a right session", "new 3 -> ok\nclock 0 -> ok 0 0 0\nread 2 -> ok 1\ninsert 2 a 0 a -> ok 2\nclock 2 -> ok 0 0 1\n"
      "received_clock 1 2 1 0 0 1 -> ok\nread 1 a -> ok 1\ninsert 1 b 1 a b -> ok 2\ndelete 1 a b -> ok 3\nclock 1 -> ok 0 2 1\n"
@@ -117,8 +120,13 @@ CLOCKS = [
      "new 3 -> ok\ninsert 2 a 0 a -> ok 1\nreceived 1 2 1 -> ok\ninsert 1 b 1 a b -> ok 1\n"
      f"received_clock 0 1 1 0 1 0 -> {UNCAUSAL.format('1.1', 0, '2.1', 1)}\n", ["2 ins a 0 : a", "1 recv 2 1", "1 ins b 1 : a b"]),
     ("an author's changes out of their order", "new 2 -> ok\ninsert 0 a 0 a -> ok 1\nread 0 a -> ok 2\ninsert 0 b 1 a b -> ok 3\n"
-     f"received_clock 1 0 1 2 0 -> {UNCAUSAL.format('0.3', 1, '0.1', 0)}\nreceived_clock 1 0 2 2 0 -> ok\n",
+     f"received_clock 1 0 1 2 0 -> {UNCAUSAL.format('0.3', 1, '0.1', 0)}{MORE_CHANGES}\nreceived_clock 1 0 2 2 0 -> ok\n",
      ["0 ins a 0 : a", "0 read : a", "0 ins b 1 : a b", "1 recv 0 3"]),
+    ("an update of four changes with too small a number of them",
+     "new 2 -> ok\ndelete 0 a -> ok 1\ndelete 0 b -> ok 2\ndelete 0 c -> ok 3\ndelete 0 d -> ok 4\n"
+     f"received_clock 1 0 1 4 0 -> {UNCAUSAL.format('0.4', 1, '0.1', 0)}{MORE_CHANGES}\n"
+     f"received_clock 1 0 3 4 0 -> {UNCAUSAL.format('0.2', 1, '0.1', 0)}{MORE_CHANGES}\nreceived_clock 1 0 4 4 0 -> ok\n",
+     ["0 del a :", "0 del b :", "0 del c :", "0 del d :", "1 recv 0 4"]),
     ("what an author has seen since need not arrive", "new 3 -> ok\ninsert 1 b 0 b -> ok 1\ninsert 2 a 0 a -> ok 1\nreceived 1 2 1 -> ok\n"
      "received_clock 0 1 1 0 1 0 -> ok\nclock 0 -> ok 0 1 0\n", ["1 ins b 0 : b", "2 ins a 0 : a", "1 recv 2 1", "0 recv 1 1"]),
     ("what an author reads need not arrive", "new 2 -> ok\nread 0 -> ok 1\ninsert 0 a 0 a -> ok 2\nview 0 a -> ok 3\n"
@@ -294,7 +302,7 @@ def check_table(tally: Tally, recorder: Recorder) -> None:
         cases += [(name, script, None) for name, script in REFUSED_UNTYPED]
     calls, wanted = [], {}
     for name, script, lines in cases:
-        pairs = [line.split(" -> ") for line in script.split("\n")[:-1]]
+        pairs = [advised(recorder.language, line).split(" -> ") for line in script.split("\n")[:-1]]
         if lines is None:
             lines = [said for call, reply in pairs for said in line_of(call, reply)]
         replicas = script.split("\n")[0].split(" ")[1]
@@ -328,6 +336,11 @@ def check_ids(tally: Tally, recorder: Recorder) -> str:
     tally.check(f"{recorder.language}: a name is refused where another id has it alone",
                 short and all((one, name) in names and name not in said for name, one in short.items()), short)
     return "".join(line[2:] + "\n" for line in got if line.startswith("| "))
+
+
+def advised(language: str, line: str) -> str:
+    """A line of a table with the advice behind a refused name, in the languages that give it."""
+    return line + ADVICE if language in ADVISING and line.endswith(NAME) and re.search('refused name "[^"]*[@,]', line) else line
 
 
 def line_of(call: str, reply: str) -> list:
@@ -634,6 +647,28 @@ def check_guide(tally: Tally, program: str, folder: Path) -> None:
         tally.check(f"guide: {trace}", got.out == wanted.encode(), got)
 
 
+# How README's examples begin, what runs them in the folder of the one file that they import, and that file.
+README = {"from domepeeler import": ([sys.executable, "readme.py"], "domepeeler.py"),
+          "import { Recording }": (["node", "readme.mjs"], "domepeeler.mjs")}
+
+
+def check_readme(tally: Tally, program: str, folder: Path) -> None:
+    """README's examples are accepted; and if replica 0 has lost the element in its last answer, each ends with the explanation."""
+    place = folder / "readme"
+    place.mkdir()
+    surroundings = {**os.environ, "DOMEPEELER": program, "DOMEPEELER_EXPLAIN": EXPLAIN, "PYTHONDONTWRITEBYTECODE": "1"}
+    for begin, (words, recorder) in README.items():
+        found = [block for block in blocks(ROOT / "README.md") if block.startswith(begin)]
+        tally.check(f"README: {begin}", len(found) == 1 and found[0].count('read(0, ["a"])') == 1, found)
+        shutil.copy(ROOT / "recorders" / recorder, place)
+        text = "".join(found)
+        for code, wanted in (text, ""), (text.replace('read(0, ["a"])', "read(0, [])"), "contents 0.2: "):
+            Path(place, words[-1]).write_text(code)
+            done = subprocess.run(words, cwd=place, capture_output=True, text=True, env=surroundings)
+            tally.check(f"README: {begin}, {wanted or 'accepted'}", done.returncode == int(wanted != "") and wanted in done.stderr and
+                        (wanted != "" or not done.stderr + done.stdout), done)
+
+
 def check_hypothesis(tally: Tally, program: str, folder: Path) -> None:
     """The test by Hypothesis: of the list with a fault it leaves the recording that it shows, as a file that can be explained; and
     each run tries other sessions."""
@@ -692,6 +727,7 @@ def main() -> None:
         check_limits_are_the_programs(tally, program, texts["py"])
         check_merge(tally, program, folder)
         check_guide(tally, program, folder)
+        check_readme(tally, program, folder)
         check_hypothesis(tally, program, folder)
     tally.close()
 
