@@ -48,44 +48,58 @@ WORDS = [
      "specification hold.|(there are no elements)"),
     ("two concurrent inserts", 2, "0 ins a 0 : a|1 ins b 0 : b|0 recv 1 1|1 recv 0 1|0 read : a b|1 read : b a",
      "refused 2: two responses can't be right together. Strong and weak list specification fail.|"
-     "[a] before [b]: line 7, 0.2: replica 0 read the list, answered [a] [b]|"
+     "[a] before [b]: line 7 of the trace, 0.2: replica 0 read the list, answered [a] [b]|"
      "[b] before [a]: line 8, 1.2: replica 1 read the list, answered [b] [a]|"
      "a: inserted by 0.1 (line 3)|b: inserted by 1.1 (line 4)|"
+     "b arrived at replica 0 in line 5, a at replica 1 in line 6: stop where these are applied|"
      "At the order of concurrent inserts: no author of the two elements had seen the other one, and two replicas, or one at two "
      "times, have put them in different orders."),
     ("an insert that had seen the other", 2, "0 ins a 0 : a|1 recv 0 1|1 ins b 1 : a b|0 recv 1 1|0 read : b a",
      "refused 2: two responses can't be right together. Strong and weak list specification fail.|"
-     "[a] before [b]: line 5, 1.1: replica 1 inserted b at position 1, answered [a] [b]|"
+     "[a] before [b]: line 5 of the trace, 1.1: replica 1 inserted b at position 1, answered [a] [b]|"
      "[b] before [a]: line 7, 0.2: replica 0 read the list, answered [b] [a]|"
+     "a arrived at replica 1 in line 4, b at replica 0 in line 6: stop where these are applied|"
      "At where a replica puts an insert that arrives: 1.1 (line 5) inserted b when it had seen a, so these are no concurrent "
      "inserts, and yet the two are put in different orders."),
     ("three-way cycle", 3, THREE_WAY,
      "refused 3: three responses can't be right together. Any two of them can. The strong list specification fails, the weak one "
-     "holds.|[x] before [b]: line 7, 2.1: replica 2 inserted b at position 1, answered [x] [b]|"
+     "holds.|[x] before [b]: line 7 of the trace, 2.1: replica 2 inserted b at position 1, answered [x] [b]|"
      "[b] before [a]: line 11, 0.3: replica 0 read the list, answered [b] [a]|"
      "[a] before [x]: line 6, 1.1: replica 1 inserted a at position 0, answered [a] [x]|"
      "x: inserted by 0.1 (line 3), deleted by 0.2 (line 8)|for 0.3 (line 11), x is deleted, by 0.2 (line 8)|"
+     "x arrived at replica 1 in line 4, x at replica 2 in line 5, a at replica 0 in line 9, b at replica 0 in line 10: stop where these "
+     "are applied|"
      "At positions beside deleted elements: no two of these responses disagree openly, and an insert beside an element that another "
      "replica has deleted may have lost its place there. Above stands which elements are deleted for which of the responses."),
     ("a ring of three that hear of one another", 3, "0 ins a 0 : a|1 ins b 0 : b|2 ins c 0 : c|0 recv 1 1|0 read : a b|1 recv 2 1|"
      "1 read : b c|2 recv 0 1|2 read : c a",
-     "[a] before [b]: line 7, 0.2: replica 0 read the list, answered [a] [b]|"
+     "[a] before [b]: line 7 of the trace, 0.2: replica 0 read the list, answered [a] [b]|"
      "[b] before [c]: line 9, 1.2: replica 1 read the list, answered [b] [c]|"
      "[c] before [a]: line 11, 2.2: replica 2 read the list, answered [c] [a]|"
+     "b arrived at replica 0 in line 6, c at replica 1 in line 8, a at replica 2 in line 10: stop where these are applied|"
      "At how a replica orders elements of which it shows only some: no two of these responses disagree openly, and none of the "
      "elements is deleted for any of them, so each replica has yet to hear of some."),
+    ("an element that came along with what had seen it", 3, "0 ins a 0 : a|1 recv 0 1|1 read : a|1 ins b 1 : a b|2 recv 1 1|2 recv 1 2|"
+     "2 recv 0 1|2 read : b a",
+     "[b] before [a]: line 10, 2.1: replica 2 read the list, answered [b] [a]|b: inserted by 1.2 (line 6)|"
+     "a arrived at replica 1 in line 4, a at replica 2 in line 7, b at replica 2 in line 8: stop where these are applied"),
+    ("one element that arrived", 2, "0 ins a 0 : a|1 recv 0 1|1 ins b 0 : b a|1 read : a b",
+     "[a] before [b]: line 6 of the trace, 1.2: replica 1 read the list, answered [a] [b]|a: inserted by 0.1 (line 3)|"
+     "b: inserted by 1.1 (line 5)|a arrived at replica 1 in line 4: stop where it is applied||Where to look in the editor"),
+    ("nothing that arrived", 1, "0 ins a 0 : a|0 ins b 1 : a b|0 read : b a", "a: inserted by 0.1 (line 3)|b: inserted by 0.2 (line 4)||"
+     "Where to look in the editor"),
     ("an element lost that came by way of another replica", 3,
      "0 ins a 0 : a|1 recv 0 1|1 ins b 1 : a b|2 recv 1 1|2 read : b",
      "contents 2.1: this response does not hold exactly what is visible to it. Strong and weak list specification fail.|"
-     "line 7, 2.1: replica 2 read the list|answered: b|expected, in whatever order: b [a]|"
+     "line 7 of the trace, 2.1: replica 2 read the list|answered: b|expected, in whatever order: b [a]|"
      "before it: replica 2 did nothing, and received line 6 (2 recv 1 1)|Missing|"
      "[a] inserted by 0.1 (line 3), arrived at replica 1 in line 4 (1 recv 0 1), and from there arrived at replica 2 in line 6 "
      "(2 recv 1 1)|[a] no receipt at replica 2 names it by then: it counts as arrived since 1.1 (line 5) had seen it. Where each "
      "operation travels by itself, it was missing, and the exchange is not causal|[a] nothing deletes it"),
     ("an element lost that arrived after what had seen it", 3,
      "0 ins a 0 : a|1 recv 0 1|1 ins b 1 : a b|2 recv 1 1|2 recv 0 1|2 read : b",
-     "line 8, 2.1: replica 2 read the list|[a] line 7 (2 recv 0 1) names it, after line 6 (2 recv 1 1) which brings it: an operation "
-     "arrived before what its author had seen, and the exchange is not causal|[a] nothing deletes it"),
+     "line 8 of the trace, 2.1: replica 2 read the list|[a] line 7 (2 recv 0 1) names it, after line 6 (2 recv 1 1) which brings it: an "
+     "operation arrived before what its author had seen, and the exchange is not causal|[a] nothing deletes it"),
     ("an element lost that arrived by itself before", 3,
      "0 ins a 0 : a|2 recv 0 1|1 recv 0 1|1 ins b 1 : a b|2 recv 1 1|2 read : b",
      "[a] inserted by 0.1 (line 3), arrived at replica 2 in line 4 (2 recv 0 1)|[a] nothing deletes it"),
@@ -111,7 +125,7 @@ WORDS = [
      "[a] deleted by 0.2 (line 4), this operation itself"),
     ("a deleted element in a view", 1, "0 ins a 0 : a|0 ins b 1 : a b|0 del a : b|0 view : a",
      "contents 0.4: this view does not hold a part of what is visible to it. Strong and weak list specification fail.|"
-     "line 6, 0.4: replica 0 showed a part of the list|answered: [a]|visible, of which a view may leave out some: b|"
+     "line 6 of the trace, 0.4: replica 0 showed a part of the list|answered: [a]|visible, of which a view may leave out some: b|"
      "before it: 0.3 (line 5) is still right; since then replica 0 received nothing|Too many|"
      "[a] inserted by 0.1 (line 3), an earlier operation of replica 0|[a] deleted by 0.3 (line 5), an earlier operation of replica 0"),
     ("a name twice in a view", 1, "0 ins a 0 : a|0 view : a a", "answered: [a] [a]|visible, of which a view may leave out some: a|"
@@ -121,13 +135,13 @@ WORDS = [
      "answered: (nothing)|expected, in whatever order: [a]|before it: 0.2 (line 4) is still right; since then replica 0 received nothing|Missing"),
     ("a view against an insert", 2, "0 ins a 0 : a|0 ins b 1 : a b|0 ins c 2 : a b c|1 recv 0 3|1 view : c a",
      "refused 2: two responses can't be right together. Strong and weak list specification fail.|"
-     "[a] before [c]: line 5, 0.3: replica 0 inserted c at position 2, answered [a] b [c]|"
+     "[a] before [c]: line 5 of the trace, 0.3: replica 0 inserted c at position 2, answered [a] b [c]|"
      "[c] before [a]: line 7, 1.1: replica 1 showed a part of the list, answered [c] [a]"),
     ("accepted, with a view", 2, "0 ins a 0 : a|0 ins b 1 : a b|1 recv 0 2|1 view : b",
      "accepted: well done, all 3 responses fit one order of the elements. Strong and weak list specification hold.|a b"),
     ("past the end, elsewhere", 1, "0 ins a 0 : a|0 ins b 4294967295 : b a",
      "position 0.2: b does not stand where it was asked for. Strong and weak list specification fail.|"
-     "line 4, 0.2: replica 0 inserted b at position 4294967295|answered: [b] [a]|"
+     "line 4 of the trace, 0.2: replica 0 inserted b at position 4294967295|answered: [b] [a]|"
      "asked for: position 4294967295, past the end, so the last place, 1, where [a] stands|found at: position 0"),
     ("a position", 1, "0 ins a 0 : a|0 ins b 1 : a b|0 ins c 1 : a b c",
      "answered: a [b] [c]|asked for: position 1, where [b] stands|found at: position 2"),
@@ -137,7 +151,35 @@ WORDS = [
      "found at: no position, since 1.1 (line 3) deletes it, arrived at replica 0 in line 4 (0 recv 1 1)"),
     ("doubled", 2, "0 ins a 0 : a|0 ins b 1 : a b|1 ins b 0 : b",
      "doubled: 0.2 and 1.1 insert the same name, b. The specifications know an element by its name, so nothing else was judged.|"
-     "line 4, 0.2: replica 0 inserted b at position 1|line 5, 1.1: replica 1 inserted b at position 0"),
+     "line 4 of the trace, 0.2: replica 0 inserted b at position 1|line 5, 1.1: replica 1 inserted b at position 0"),
+]
+
+FIRST = ["First of all", "this trace has no recv line: `received` was never called, so no replica has heard of another"]
+# How many replicas, the entries, and whether this is said of it before all else.
+UNHEARD_OF = [
+    (2, "0 ins a 0 : a|1 read : a", True), (3, "0 ins a 0 : a|2 ins a 0 : a", True), (2, "0 ins a 0 : a|0 read :|1 read :", True),
+    (2, "0 ins a 0 : a|0 ins b 0 : a b|1 read :", True), (2, "0 ins a 0 : a|0 ins b 1 : a b|1 read :|0 read : b a", True),
+    (2, "0 ins a 0 : a|1 read :", False), (1, "0 ins a 0 : a|0 read :", False), (2, "0 ins a 0 : a|0 read :", False),
+    (2, "0 ins a 0 : a|1 recv 0 1|1 read :", False), (3, "0 ins a 0 : a|1 recv 0 1|2 read : a", False),
+]
+# How many replicas, the entries, and of a delete that looks applied to another element what is said first of where to look.
+WRONG_DELETES = [
+    (2, "0 ins a 0 : a|0 ins b 1 : a b|1 recv 0 2|1 read : a b|0 del a : b|1 recv 0 3|1 read : a", "0.3 (line 7) looks applied to b in "
+     "the place of a: "),
+    (2, "0 ins a 0 : a|0 del a :|0 ins b 0 : b|1 recv 0 3|1 read : a", "0.2 (line 4) looks applied to b in the place of a: "),
+    (1, "0 ins a 0 : a|0 ins b 1 : a b|0 del a : a", "0.3 (line 5) looks applied to b in the place of a: "),
+    (2, "0 ins a 0 : a|0 ins b 1 : a b|1 recv 0 2|1 del a : b|0 del a : a", "0.3 (line 7) looks applied to b in the place of a: "),
+    (2, "0 ins a 0 : a|0 ins b 1 : a b|1 recv 0 2|1 read : a b|0 del a : b|1 recv 0 3|1 view :|1 read : a", "0.3 (line 7) looks applied "
+     "to b in the place of a: "),
+    (1, "0 ins a 0 : a|0 ins b 1 : a b|0 del a : b|0 read : a", ""),  # deleted for the response before, which is right
+    (2, "0 ins a 0 : a|0 ins b 1 : a b|1 recv 0 2|1 del b : a|0 del a : a", ""),  # the other one is deleted too, elsewhere
+    (1, "0 ins a 0 : a|0 ins b 1 : a b|0 ins c 2 : a b c|0 del a : a", ""),
+    (1, "0 ins a 0 : a|0 ins b 1 : a b|0 del a : a a", ""),
+    (1, "0 ins a 0 : a|0 ins b 1 : a b|0 del a : a q", ""),
+    (1, "0 ins a 0 : a|0 ins b 1 : a b|0 del a :", ""),
+    (1, "0 ins a 0 : a|0 del a : a", ""),
+    (2, "0 ins a 0 : a|1 ins b 0 : b|0 read : b", ""),  # it has not arrived
+    (2, "0 ins b 0 : b|1 ins a 0 : a|0 del a : a", ""),  # nor what it deletes
 ]
 
 # Texts that do not read: the words of the fault, and a line of what is said of it.
@@ -327,6 +369,61 @@ def words(tally: Tally, program: str) -> None:
         missing = stand_in_order(got.out.decode().splitlines(), wanted.split("|"))
         tally.check(f"words: {name}", missing is None and not got.err, f"no `{missing}` in\n{got.out.decode()}{got.err}")
         tally.check(f"status: {name}", got.status == run(program, ["verdict", "-"], trace).status, got.status)
+
+
+def arrivals_in(text: str) -> dict:
+    """By replica and element, the line of the receipt with which it came there: the session is played again, and each operation keeps
+    what its replica knew behind it."""
+    known, did, arrived = {}, {}, {}
+    for number, line in enumerate(text.splitlines()[2:], 3):
+        words = line.split()
+        replica = words[0]
+        mine, count = known.setdefault(replica, (set(), []))
+        if words[1] == "recv":
+            for element in did[words[2], int(words[3])] - mine:
+                arrived[replica, element] = number
+            mine |= did[words[2], int(words[3])]
+            continue
+        if words[1] == "ins":
+            mine.add(words[2])
+        count.append(number)
+        did[replica, len(count)] = set(mine)
+    return arrived
+
+
+def stops_of(text: str, report: dict) -> list:
+    """What is to be said of the elements of a refusal's steps that came from others: (line, replica, element), each once."""
+    arrived = arrivals_in(text)
+    shown = [(step["shown"].split(".")[0], name) for step in report["steps"] for name in (step["from"], step["to"])]
+    return sorted({(arrived[key], *key) for key in shown if key in arrived})
+
+
+def stops_told(said: str) -> tuple:
+    """What an explanation says of them, as (line, replica, element), and in what words the line ends; it is the last of its paragraph."""
+    paragraph = said.partition("\nThe elements\n")[2].partition("\n\n")[0].splitlines()
+    *others, last = paragraph
+    front, _, end = last.partition(": stop where ")
+    found = re.findall(r"(\S+)( arrived)? at replica (\d+) in line (\d+)(?:, |$)", front) if end else []
+    whole = ", ".join(f"{name}{verb} at replica {replica} in line {line}" for name, verb, replica, line in found)
+    verbs, lines = [bool(verb) for _, verb, *_ in found], [int(line) for *_, line in found]
+    is_right = ((whole == front.strip()) == bool(end) and verbs == [place == 0 for place in range(len(found))] and lines == sorted(lines)
+                and not any("stop where" in line for line in others))
+    return [(int(line), replica, name) for name, _, replica, line in found], end, is_right
+
+
+def said_first(tally: Tally, program: str) -> None:
+    """Where several replicas did something and nothing is received, that is said first; and of a delete that looks applied to another
+    element, that."""
+    for replicas, entries, wanted in UNHEARD_OF:
+        got = explain(program, ["-"], text_of(replicas, entries).encode())
+        lines = [line.strip() for line in got.out.decode().splitlines()]
+        tally.check(f"no receipts: {entries}", (lines[1:4] == ["", *FIRST]) == wanted and ("recv line" in got.out.decode()) == wanted, got)
+    for replicas, entries, wanted in WRONG_DELETES:
+        got = explain(program, ["-"], text_of(replicas, entries).encode())
+        first, *others = got.out.decode().partition("\nWhere to look\n")[2].splitlines()
+        is_said = bool(wanted) and first.startswith(f"  {wanted}") and len(others) == 1
+        tally.check(f"wrong delete: {entries}", got.out.startswith(b"contents ") and is_said == bool(wanted)
+                    and (is_said or not others and "looks applied" not in first), got)
 
 
 def faults(tally: Tally, program: str, folder: str) -> None:
@@ -586,6 +683,11 @@ def pages(tally: Tally, program: str, folder: str) -> None:
             arrows = by_class(tree, "path", "receipt")
             tally.check(f"page of {example.name}: arrows", len(arrows) == sum(" recv " in line for line in lines), len(arrows))
         report = json.loads(run(program, ["verdict", "--json", str(example)]).out)
+        for node in tree.iter("li"):
+            if not node.get("id") and ("stop where" in told(node) or "of the trace," in told(node)):
+                links = [link.get("href") for link in node.iter("a")]
+                named = [f"#line-{line}" for line in re.findall(r"\bline (\d+)", told(node))]
+                tally.check(f"page of {example.name}: links to lines", links and links == named, (links, told(node)))
         steps = report.get("steps", [])
         named = {step["shown"] for step in steps} | {report[key] for key in ("at", "first", "again") if key in report}
         shown = {node.get("id") for node in by_class(tree, "li", "verdict") if node.get("id").startswith("line-")}
@@ -603,7 +705,7 @@ def letters(tally: Tally, program: str, folder: str) -> None:
         shown = {node.get("id"): told(letters) for node in tree.iter("li") for letters in by_class(node, "span", "letters")}
         tally.check(f"letters: {name}, of each response", shown == rows, shown)
     marks = [told(node) for node in tree.iter("li") if node.find("mark") is not None]
-    tally.check("letters: before a name that is marked", marks[0].startswith("Ae0 before Bend: line 31, 0.29: "), marks)
+    tally.check("letters: before a name that is marked", marks[0].startswith("Ae0 before Bend: line 31 of the trace, 0.29: "), marks)
     style = tree.find(".//style").text
     room = re.search(r"\.scroll \{[^}]*padding-bottom: ([\d.]+)rem", style)
     tally.check("page: less than a row's height of room under a session", room and float(room[1]) * 16 < 30, style)
@@ -681,6 +783,8 @@ def small(tally: Tally, program: str, folder: str) -> None:
     viewing = sum(has_view(whole) for whole, _ in cases)
     tally.check("small: with views and without", 50 <= viewing <= len(cases) - 50, viewing)
 
+    arriving = Counter()
+
     def make(at: int) -> tuple:
         path = f"{folder}/small{at}"
         got = explain(program, ["--small", path, "-"], cases[at][0].encode())
@@ -695,11 +799,18 @@ def small(tally: Tally, program: str, folder: str) -> None:
             tally.check("small: no longer", len(text.splitlines()) <= len(whole.splitlines()), f"{whole}\nto\n{text}")
             tally.check("small: as it is written", text == written(text), text)
             if report["verdict"] == "refused":
+                stops, (told, end, is_right) = stops_of(whole, report), stops_told(got.out.decode())
+                ended = {0: "", 1: "it is applied"}.get(len(stops), "these are applied")
+                is_told = is_right and sorted(told) == stops and end == ended
+                tally.check("refused: where elements arrived", is_told, f"{whole}{stops}\n{got}")
+                arriving[len(stops)] += 1
                 cycle = {step["from"] for step in report["steps"]}
                 names = {line.split()[2] for line in text.splitlines()[2:] if line.split()[1] == "ins"}
                 tally.check("small: the cycle's elements", names == cycle and judged["inserts"] == report["k"], f"{whole}\nto\n{text}")
             most = {"position": judged.get("inserts") in (1, 2), "doubled": judged.get("operations") == 2}
             tally.check("small: of a fault", most.get(report["verdict"], True), f"{whole}\nto\n{text}")
+    tally.check("refused: elements arrived in most of them", sum(arriving[count] for count in arriving if count > 1) > SMALL["refused"] / 2,
+                arriving)
 
 
 def kept_more(tally: Tally) -> None:
@@ -724,6 +835,7 @@ def main() -> None:
     program = program_of(sys.argv)
     tally = Tally()
     words(tally, program)
+    said_first(tally, program)
     names_of_examples(tally)
     with tempfile.TemporaryDirectory() as folder:
         faults(tally, program, folder)

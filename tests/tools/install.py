@@ -72,6 +72,26 @@ def errors(tally: Tally, folder: str) -> None:
     tally.check("install: no program", done.returncode == 2 and "is not there: build it first" in done.stderr, done)
 
 
+def examples(tally: Tally, folder: str) -> None:
+    """The recordings that the pages show are there, and judged from there as in the repository; so is the test of Yjs, with what it
+    imports."""
+    share, here = Path(folder, "share/domepeeler"), os.environ | {"PATH": f"{folder}/bin:{os.environ['PATH']}"}
+    here.pop("DOMEPEELER", None)
+    paths = [path.relative_to(ROOT) for path in sorted(ROOT.glob("examples/**/*")) if path.is_file() and path.parent.name != "ci"]
+    paths = [path for path in paths if path.suffix in (".trace", ".cert", ".mjs")]
+    tally.check(f"examples in {folder}: all", len(paths) > 15 and all((share / path).is_file() and
+                (share / path).read_bytes() == (ROOT / path).read_bytes() for path in paths), paths)
+    for words in ["domepeeler", "verdict"], ["domepeeler-explain"]:
+        done = subprocess.run([*words, "examples/lost_element.trace"], cwd=share, env=here, capture_output=True)
+        tally.check(f"examples in {folder}: {words[0]}", done.returncode == 1 and b"contents 2.1" in done.stdout and not done.stderr, done)
+    words = ["domepeeler", "verify", "examples/libinfinity_three_way_cycle.trace", "examples/libinfinity_three_way_cycle.cert"]
+    done = subprocess.run(words, cwd=share, env=here, capture_output=True)
+    tally.same(f"examples in {folder}: the certificate", Ended(done.returncode, done.stdout, done.stderr), Ended(0, b"yes refused\n", b""))
+    imported = [path.parent / name for path in (share / "examples/yjs").glob("*.mjs")
+                for name in re.findall(r'^import .* from "(\.[^"]+)"', path.read_text(), re.MULTILINE)]
+    tally.check(f"examples in {folder}: what the test of Yjs imports", len(imported) >= 3 and all(map(Path.is_file, imported)), imported)
+
+
 def runs(tally: Tally, folder: str) -> None:
     """The tools ask the program beside them, with no variable and none on the PATH."""
     here = {"PATH": os.pathsep.join({os.path.dirname(shutil.which(tool)) for tool in ("python3", "parallel", "sh", "perl")})}
@@ -191,6 +211,7 @@ def main() -> None:
     with tempfile.TemporaryDirectory() as folder:
         errors(tally, folder)
         files(tally, program, f"{folder}/a place")
+        examples(tally, f"{folder}/a place")
         runs(tally, f"{folder}/a place")
         versions(tally, f"{folder}/a place")
         options(tally, f"{folder}/a place")

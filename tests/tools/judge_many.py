@@ -120,8 +120,9 @@ def statuses(tally: Tally, program: str, folder: str, other: str) -> None:
     lines = got.out.decode().splitlines()
     tally.check("a trace that does not read: status 2", got.status == 2, got)
     tally.check("a trace that does not read: its row", cells(lines[1])[:4] == (str(bad), "unread", "-", "3"), lines)
-    tally.check("a trace that does not read: its line", got.err.startswith(f"judge_many: {bad}: ".encode())
-                and got.err.endswith(b": line 3: shape\n"), got.err)
+    told = [f"judge_many: {bad}: finder: line 3: shape", "  line 3 is: 0 reads :",
+            "  `reads`, the second word, is not `ins`, `del`, `read`, `view` or `recv`"]
+    tally.check("a trace that does not read: its line, and what is wrong with it", got.err.decode().splitlines() == told, got.err)
     tally.check("a trace that does not read: the counts", lines[-1].endswith("1 doubled, 1 unread"), lines[-1])
     got = judge(program, ["--json", other])
     tally.check("a trace that does not read: JSON", json.loads(got.out)["verdict"] == "unread" and got.status == 2
@@ -181,6 +182,9 @@ def junit(tally: Tally, program: str, folder: str, other: str) -> None:
     tally.check("JUnit: errors", got.status == 2 and counts == ["2", "0", "2"] and
                 [(case[0].tag, case[0].get("type")) for case in (first, second)] == [("error", "unread")] * 2, (got, counts))
     tally.check("JUnit: the line of an error", first[0].get("message").endswith(": line 3: shape"), first[0].attrib)
+    said = run(str(ROOT / "tools" / "explain"), ["--program", program, "-"], b"trace 1\nreplicas 1\n0 reads :\n").err.decode()
+    tally.check("JUnit: the explanation of an error", "`reads`, the second word, is not" in said and f"{first[0].text}\n" == said,
+                (first[0].text, said))
     names = [case.get("name") for case in (first, second)]
     tally.check("JUnit: names that XML can't hold", names == ["a\ufffd <&\u00e9.trace", "b\ufffd.trace"], names)
     got = judge(program, ["--junit", f"{other}/missing/judged.xml", folder])

@@ -95,6 +95,17 @@ class Evidence:
             for receipt in filter(None, receipts):
                 self.lines.update((receipt.line, receipt.seen.line))
 
+    def arrivals(self) -> list:
+        """Of a refusal the receipts, each with the element that it brings: of each step's two elements those that others inserted,
+        when they came to the replica that shows them so. Each stands once, in the order of the trace."""
+        found = {}
+        for step, operation in zip(self.report["steps"], self.operations):
+            for name in step["from"], step["to"]:
+                insert = next(filter(operation.has_seen, self.recording.inserts.get(name, [])), None)
+                if insert is not None and insert.replica != operation.replica:
+                    found[name, operation.replica] = self.recording.arrival(insert, operation.replica)
+        return sorted(((receipt, name) for (name, _), receipt in found.items()), key=lambda arrival: arrival[0].line)
+
     def before(self, operation: Operation) -> tuple:
         """The replica's operation before, if there is one, and what the replica received since then."""
         before = self.recording.streams[operation.replica][:operation.n - 1][-1:]

@@ -1,6 +1,7 @@
 """What is wrong with a line that the program refuses, and what would be right."""
 import re
 import shlex
+from pathlib import Path
 
 CAUSE = re.compile(r"line (\d+): ([a-z ]+)(?:, have (\d+))?$")  # in the program's line on standard error
 MOST_SHOWN = 120  # bytes of a faulty line or word
@@ -42,6 +43,14 @@ def about_fault(error: str, trace: bytes, name: str) -> list:
     if what:
         return [what, line_told]
     return [*mending(trace, is_ended and line.endswith(b"\r"), name), line_told, *right(cause, have, line.removesuffix(b"\r"), lines)]
+
+
+def about_file(error: str, path: str) -> list:
+    """The same of a file that was judged before; nothing where it is no longer what was judged."""
+    try:
+        return about_fault(error, Path(path).read_bytes(), path)
+    except (OSError, ValueError, LookupError):
+        return []
 
 
 def no_trace(trace: bytes) -> str | None:

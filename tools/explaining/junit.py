@@ -5,6 +5,7 @@ import xml.etree.ElementTree as xml
 from pathlib import Path
 
 from .evidence import Evidence, Unexplained
+from .faulty_lines import about_file
 from .recordings import Recording
 from .words import explanation, text_of
 
@@ -19,7 +20,7 @@ def junit_of(rows: list) -> bytes:
         case = xml.SubElement(suite, "testcase", classname=written(folder or "."), name=written(name), file=written(row.file),
                               time=f"{row.seconds:.3f}")
         if row.report is None:
-            add_fault(case, "error", row.verdict, row.error)
+            add_fault(case, "error", row.verdict, "\n  ".join([row.error, *about_file(row.error, row.file)]))
         elif row.verdict != "accepted":
             add_fault(case, "failure", row.verdict, explained(row))
     counts = {"tests": len(rows), "failures": len(suite.findall("testcase/failure")), "errors": len(suite.findall("testcase/error")),

@@ -13,7 +13,7 @@ MOST_FOLDED = 2000  # entries that are on the page at all
 MARKED = re.compile(r"\[([A-Za-z0-9_.-]+)\]")
 WIDTH = re.compile(r'width="(\d+)"')
 SMALLEST = 0.7  # how far a picture shrinks on a narrow screen before it is scrolled
-LINE = re.compile(r"\bline (\d+)(?=[,)]| \(\d+ recv )")  # and not two names, `line` and a number
+LINE = re.compile(r"\bline (\d+)(?=[,):]| of the trace,| \(\d+ recv )")  # and not two names, `line` and a number
 
 STYLE = """\
 :root { color-scheme: light dark; --ground: #fff; --ink: #1d1d1f; --dim: #65656d; --faint: #dcdce2; --card: #f5f5f8;

@@ -43,7 +43,16 @@ class Explanation(NamedTuple):
 
 def explanation(evidence: Evidence) -> Explanation:
     tell = {"accepted": accepted, "refused": refused, "doubled": doubled, "contents": contents, "position": position}
-    return tell[evidence.report["verdict"]](evidence)
+    told = tell[evidence.report["verdict"]](evidence)
+    return told._replace(sections=without_receipts(evidence) + told.sections)
+
+
+def without_receipts(evidence: Evidence) -> list:
+    """What a new recorder forgets first: of several replicas that did something, none has heard of another."""
+    recording = evidence.recording
+    if evidence.report["verdict"] == "accepted" or any(recording.receipts) or sum(map(bool, recording.streams)) < 2:
+        return []
+    return [Section("First of all", ["this trace has no recv line: `received` was never called, so no replica has heard of another"])]
 
 
 def with_warnings(told: Explanation, warnings: list) -> Explanation:
@@ -75,12 +84,13 @@ def refused(evidence: Evidence) -> Explanation:
     headline = f"refused {k}: {counted(k)} responses can't be right together.{fewer} {weak}"
     shown = []
     for step, operation in zip(steps, evidence.operations):
-        shown.append(f"[{step['from']}] before [{step['to']}]: {did(operation)}, answered {answer(evidence, operation)}")
+        said = did(operation, is_first=not shown)
+        shown.append(f"[{step['from']}] before [{step['to']}]: {said}, answered {answer(evidence, operation)}")
     elements = [life(evidence.recording, name) for name in evidence.elements]
     gone = gone_before(evidence)
     look = look_at_two(evidence) if k == 2 else LOOK["deleted" if gone else "apart"]
     return Explanation(headline, [Section("What they show, each element before the next, and round again", shown),
-                                  Section("The elements", elements + gone),
+                                  Section("The elements", elements + gone + where_to_stop(evidence)),
                                   Section("Where to look in the editor", [look])])
 
 
@@ -104,6 +114,13 @@ def gone_before(evidence: Evidence) -> list:
     return lines
 
 
+def where_to_stop(evidence: Evidence) -> list:
+    """The moments at which the order may have gone wrong, which a response shows only later: where elements of others arrived."""
+    told = [f"{name}{' arrived' * (place == 0)} at replica {receipt.replica} in line {receipt.line}"
+            for place, (receipt, name) in enumerate(evidence.arrivals())]
+    return [f"{', '.join(told)}: stop where {'it is' if len(told) == 1 else 'these are'} applied"] if told else []
+
+
 def look_at_two(evidence: Evidence) -> str:
     """Where to look at two elements in opposite orders: whether one author had seen the other's element."""
     first, then = (evidence.recording.inserts[name][0] for name in evidence.elements)
@@ -117,14 +134,14 @@ def doubled(evidence: Evidence) -> Explanation:
     first, again = evidence.operations
     return Explanation(f"doubled: {first.name} and {again.name} insert the same name, {first.element}. "
                        "The specifications know an element by its name, so nothing else was judged.",
-                       [Section("The two inserts", [did(operation) for operation in evidence.operations]),
+                       [Section("The two inserts", [did(first, is_first=True), did(again)]),
                         Section("Where to look", [LOOK["doubled"]])])
 
 
 def contents(evidence: Evidence) -> Explanation:
     operation = evidence.operations[0]
     sections = [Section("The response", [
-        did(operation),
+        did(operation, is_first=True),
         f"answered: {answer(evidence, operation)}",
         expected(evidence, operation),
         since(evidence, operation),
@@ -134,9 +151,24 @@ def contents(evidence: Evidence) -> Explanation:
             lines = [line for name in names if name in evidence.elements for line in facts(evidence, name, operation)]
             left = sum(name not in evidence.elements for name in names)
             sections.append(Section(title, lines + ([f"and {left} more"] if left else [])))
-    sections.append(Section("Where to look", [LOOK["contents"]]))
+    sections.append(Section("Where to look", [*wrong_delete(evidence, operation), LOOK["contents"]]))
     said = "this view does not hold a part of" if operation.kind == "view" else "this response does not hold exactly"
     return Explanation(f"contents {operation.name}: {said} what is visible to it. Strong and weak list specification fail.", sections)
+
+
+def wrong_delete(evidence: Evidence, operation: Operation) -> list:
+    """Of a response that lacks one element, which nothing deletes, and has one that was deleted for it since its replica's response
+    before, which was right; but views, which may leave out any."""
+    if evidence.repeated or len(evidence.missing) != 1 or len(evidence.surplus) != 1:
+        return []
+    (missing,), (surplus,) = evidence.missing, evidence.surplus
+    inserts, deletes = evidence.recording.inserts.get(surplus, []), evidence.recording.deletes.get(surplus, [])
+    before = [one for one in evidence.recording.streams[operation.replica][:operation.n - 1] if one.kind != "view"][-1:]
+    news = [delete for delete in deletes if operation.has_seen(delete) and not any(one.has_seen(delete) for one in before)]
+    if missing in evidence.recording.deletes or not news or not any(map(operation.has_seen, inserts)):
+        return []
+    return [f"{at(news[0])} looks applied to {missing} in the place of {surplus}: look at how a delete finds its element where it is "
+            "applied, and at whether the recorder names the element that was deleted. If it was not so:"]
 
 
 def expected(evidence: Evidence, operation: Operation) -> str:
@@ -216,7 +248,7 @@ def position(evidence: Evidence) -> Explanation:
     operation = evidence.operations[0]
     response = operation.response
     asked = place_asked(operation, response)
-    lines = [did(operation), f"answered: {answer(evidence, operation)}"]
+    lines = [did(operation, is_first=True), f"answered: {answer(evidence, operation)}"]
     if asked < 0:
         lines.append("asked for: a place in the list, but the response is empty")
     else:
@@ -241,11 +273,11 @@ def at(operation: Operation) -> str:
     return f"{operation.name} (line {operation.line})"
 
 
-def did(operation: Operation) -> str:
-    """Who did what, in which line."""
+def did(operation: Operation, is_first: bool = False) -> str:
+    """Who did what, in which line; what is told first says of what, since among a test's words it looks like a line of the test."""
     what = {"ins": f"inserted {operation.element} at position {operation.at}", "del": f"deleted {operation.element}",
             "read": "read the list", "view": "showed a part of the list"}[operation.kind]
-    return f"line {operation.line}, {operation.name}: replica {operation.replica} {what}"
+    return f"line {operation.line}{' of the trace' * is_first}, {operation.name}: replica {operation.replica} {what}"
 
 
 def answer(evidence: Evidence, operation: Operation) -> str:
