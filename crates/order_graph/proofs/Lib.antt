@@ -11,3 +11,4 @@ pub mod Made
 pub mod Listed
 pub mod Covers
 pub mod Renumbered
+pub mod NewNumbers

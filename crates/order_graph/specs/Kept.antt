@@ -1,8 +1,7 @@
 -- What is kept of the responses, and what holds of it.
-use Rattle.std.specs.Prelude.{◌≡◌, ℕ, Option, List, [], ◌∷◌, length, map, slice_index_or}
+use Rattle.std.specs.Prelude.{◌≡◌, ℕ, List, [], ◌∷◌, length, map, slice_index_or}
 use Rattle.events.specs.Names.{NameBytes}
 use Rattle.events.specs.Operation.{Operation}
-use Rattle.specification.specs.Elements.{number_in}
 use Rattle.specification.specs.Responses.{Responses, Returned, AreProper}
 use Rattle.element_numbers.specs.Cuts.{rows_of, IsCut}
 use Rattle.order_graph.specs.Lists.{lists_of, AreFew}
@@ -23,16 +22,15 @@ returned_of names (o ∷ os) (r ∷ rs) = record { by = o; names = names_at name
 abbrev pub responses_kept : List NameBytes → List Operation → List (List ℕ) → Responses
 responses_kept names shown rows = record { elements = names; returned = returned_of names shown rows }
 
--- the numbers are those of the names, and the rows of places are the lists of the responses
-pub record AreListed (names : List NameBytes) (number : NameBytes → Option ℕ) (shown : List Operation) (places : Rows ℕ) : Type 0 where
+-- the rows of places are the lists of the responses
+pub record AreListed (names : List NameBytes) (shown : List Operation) (places : Rows ℕ) : Type 0 where
   pub proper : AreProper (responses_kept names shown (rows_of places))
   pub few : AreFew (responses_kept names shown (rows_of places))
-  pub numbered : (a : NameBytes) → number a ≡ number_in names a
   pub places_cut : IsCut places
   pub lists_are : lists_of (responses_kept names shown (rows_of places)) ≡ rows_of places
   pub count : length shown ≡ length (rows_of places)
 
 -- that, and the spots are those of the places
-pub record AreKept (names : List NameBytes) (number : NameBytes → Option ℕ) (shown : List Operation) (places : Rows ℕ) (spots : List (List Spot)) : Type 0 where
-  pub listed : AreListed names number shown places
+pub record AreKept (names : List NameBytes) (shown : List Operation) (places : Rows ℕ) (spots : List (List Spot)) : Type 0 where
+  pub listed : AreListed names shown places
   pub spots_are : (x : ℕ) → slice_index_or spots x [] ≡ spots_of (rows_of places) x

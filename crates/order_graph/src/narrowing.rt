@@ -1,17 +1,14 @@
 //! What is left of lists of numbers where some elements alone are kept, and are numbered anew.
 
-ghost use Rattle.std.specs.Prelude.{◌≡◌, ℕ, ◌<◌, ◌==◌, ◌++◌, [], All, IfOk, OnOk, Option, length, map};
-ghost use Rattle.indexmap.specs.IndexMap.{get};
-ghost use Rattle.events.specs.Names.{NameBytes};
+ghost use Rattle.std.specs.Prelude.{◌≡◌, ◌≢◌, ℕ, ◌<◌, ◌^◌, ◌++◌, [], All, AllPairs, IfOk, OnOk, Option, length, map};
 ghost use Rattle.order_graph.specs.Renumbered.{numbers_left};
 ghost use Rattle.order_graph.specs.Lists.{row};
 ghost use Rattle.element_numbers.specs.Cuts.{rows_of, IsCut};
-ghost use Rattle.std.specs.Cmp.Lexicographic.{pointwise};
 ghost use Rattle.specification.specs.Elements.{number_in};
 ghost use Rattle.order_graph.specs.Kept.{names_at};
 ghost use Rattle.std.specs.List.{cons_option};
 
-use element_numbers::{NameNumbers, Rows};
+use element_numbers::Rows;
 use events::{Memory, Name};
 use std::alloc::Global;
 
@@ -27,21 +24,36 @@ pub fn names_kept(alloc: Global, names: &[Name], kept: &[u32]) -> Result<Vec<Nam
     Ok(some)
 }
 
-/// The new number of each of these names, by the map of those that are kept; none where it is not kept. The
-/// map is asked once for each.
-pub fn new_numbers(
-    alloc: Global,
-    names: &[Name],
-    kept: &[Name],
-    numbers: &NameNumbers,
-) -> Result<Vec<Option<u32>>, Memory>
-    requires numbered { (a : NameBytes) → get (pointwise ◌==◌) numbers.now a ≡ number_in kept.now a }
-    ensures { IfOk result (λ v. v.items ≡ map (number_in kept.now) names.now) }
+/// The place of a name among these; none where it is not among them. It looks at them in turn.
+fn place_of(names: &[Name], name: &Name) -> Option<usize>
+    ensures { result ≡ number_in names.now name.now }
 {
-    let _ = kept;
-    let mut anew = Vec::new(alloc);
-    for name in names {
-        anew.push(numbers.get(name).copied())?;
+    names.iter().position(|other| name == other)
+}
+
+/// The number of a name among these; none where it is not among them. It looks at them in turn.
+pub fn number_of(names: &[Name], name: &Name) -> Option<u32>
+    requires { length names.now < 2 ^ 32 }
+    ensures { result ≡ number_in names.now name.now }
+{
+    match place_of(names, name) {
+        Some(place) => Some(place as u32),
+        None => None,
+    }
+}
+
+/// The new number of each of these names, where those with the kept numbers are numbered anew, in the same order;
+/// none where it is not kept.
+pub fn new_numbers(alloc: Global, names: &[Name], kept: &[u32]) -> Result<Vec<Option<u32>>, Memory>
+    requires distinct { AllPairs (λ a b. a ≢ b) names.now }
+    requires few { length names.now < 2 ^ 32 }
+    requires rising { AllPairs (λ x y. x < y) kept.now }
+    requires known { All (λ x. x < length names.now) kept.now }
+    ensures { IfOk result (λ v. v.items ≡ map (number_in (names_at names.now kept.now)) names.now) }
+{
+    let mut anew = Vec::from_elem(alloc, None, names.len())?;
+    for (i, x) in kept.iter().enumerate() {
+        anew[*x as usize] = Some(i as u32);
     }
     Ok(anew)
 }

@@ -9,12 +9,12 @@ ghost use Rattle.specification.specs.LayerRule.{narrowed};
 ghost use Rattle.specification.specs.Responses.{responses_of, AreProper, IsLeastShowing};
 
 use super::looked::Looked;
-use super::narrowing::{names_kept, new_numbers, places_left};
+use super::narrowing::{names_kept, new_numbers, number_of, places_left};
 use super::pairs::first_list;
 use super::spot::Spot;
 use super::spots::{all_spots, spots_at};
 use contents_check::Covering;
-use element_numbers::{NameNumbers, Rows, inserted_names, numbers_of, places_of};
+use element_numbers::{Rows, inserted_names, numbers_of, places_of};
 use events::{Memory, Name, OpName, Recording};
 use std::alloc::Global;
 use std::marker::Model;
@@ -31,16 +31,12 @@ use std::marker::Model;
 #[derive(Drop)]
 pub struct OrderGraph {
     names: Vec<Name>,
-    numbers: NameNumbers,
     shown: Vec<OpName>,
     places: Rows<u32>,
     spots: Vec<Vec<Spot>>,
 }
 
 impl Model for OrderGraph {
-    ghost use Rattle.std.specs.Prelude.{◌==◌};
-    ghost use Rattle.std.specs.Cmp.Lexicographic.{pointwise};
-    ghost use Rattle.indexmap.specs.IndexMap.{get};
     ghost use Rattle.specification.specs.Responses.{Responses};
     ghost use Rattle.element_numbers.specs.Cuts.{rows_of};
     ghost use Rattle.order_graph.specs.Kept.{responses_kept, AreKept};
@@ -50,8 +46,7 @@ impl Model for OrderGraph {
 
     ghost view = { λ g. responses_kept g.names.items g.shown.items (rows_of g.places) };
 
-    ghost invariant = { λ g. AreKept g.names.items
-        (get (pointwise ◌==◌) g.numbers) g.shown.items g.places
+    ghost invariant = { λ g. AreKept g.names.items g.shown.items g.places
         (map (λ s. s.items) g.spots.items) };
 }
 
@@ -62,9 +57,6 @@ impl OrderGraph {
     ghost use Rattle.element_numbers.specs.Cuts.{rows_of};
     ghost use Rattle.order_graph.specs.Kept.{names_at, responses_kept, AreListed};
     ghost use Rattle.order_graph.specs.Spots.{spots_of};
-    ghost use Rattle.std.specs.Prelude.{◌==◌};
-    ghost use Rattle.std.specs.Cmp.Lexicographic.{pointwise};
-    ghost use Rattle.indexmap.specs.IndexMap.{get};
 
     /// The graph of a recording that has no fault. It takes memory and time linear in the places of all
     /// responses, the operations and the elements: a name is looked up at most once for each place, and not
@@ -97,8 +89,7 @@ impl OrderGraph {
         let _ = recording.replicas();
         let operations = recording.operations(alloc)?;
         let names = inserted_names(alloc, recording, &operations)?;
-        let numbers = numbers_of(alloc, &names)?;
-        OrderGraph::with_spots(alloc, names, numbers, covering.operations, covering.rows)
+        OrderGraph::with_spots(alloc, names, covering.operations, covering.rows)
     }
 
     /// The graph of the responses of these operations, over the elements of the recording.
@@ -117,24 +108,22 @@ impl OrderGraph {
         let _ = recording.replicas();
         let numbers = numbers_of(alloc, &names)?;
         let places = places_of(alloc, recording, &shown, &names, &numbers)?;
-        OrderGraph::with_spots(alloc, names, numbers, shown, places)
+        OrderGraph::with_spots(alloc, names, shown, places)
     }
 
     /// The graph of these lists, with the spots of each element, which are found in one pass over the places.
     fn with_spots(
         alloc: Global,
         names: Vec<Name>,
-        numbers: NameNumbers,
         shown: Vec<OpName>,
         places: Rows<u32>,
     ) -> Result<OrderGraph, Memory>
-        requires { AreListed names.items (get (pointwise ◌==◌) numbers) shown.items places }
+        requires { AreListed names.items shown.items places }
         ensures { IfOk result (λ g. g ≡ responses_kept names.items shown.items (rows_of places)) }
     {
         let spots = all_spots(alloc, names.len(), &places)?;
         Ok(OrderGraph {
             names,
-            numbers,
             shown,
             places,
             spots,
@@ -143,18 +132,17 @@ impl OrderGraph {
 
     /// The graph of some of the elements alone, told by their numbers, which rise: each list keeps those of
     /// its places that hold one of them, and the elements are numbered anew, in the same order. Time and
-    /// memory are linear in the elements and the places; a name is looked up once for each element.
+    /// memory are linear in the elements and the places; no name is looked up.
     pub fn narrowed(&self, alloc: Global, kept: &[u32]) -> Result<OrderGraph, Memory>
         requires rising { AllPairs (λ x y. x < y) kept.now }
         requires known { All (λ x. x < length self.now.elements) kept.now }
         ensures { IfOk result (λ g. g ≡ narrowed self.now (names_at self.now.elements kept.now)) }
     {
         let names = names_kept(alloc, &self.names, kept)?;
-        let numbers = numbers_of(alloc, &names)?;
-        let anew = new_numbers(alloc, &self.names, &names, &numbers)?;
+        let anew = new_numbers(alloc, &self.names, kept)?;
         let places = places_left(alloc, &self.places, &anew)?;
         let shown = Vec::from_slice(alloc, self.shown.as_slice())?;
-        OrderGraph::with_spots(alloc, names, numbers, shown, places)
+        OrderGraph::with_spots(alloc, names, shown, places)
     }
 
     /// How many elements there are, at most 65,536.
@@ -165,11 +153,12 @@ impl OrderGraph {
         self.names.len() as u32
     }
 
-    /// The number of a name; none where it is no element's. It asks the map once.
+    /// The number of a name; none where it is no element's. It looks at the elements in turn: searches go by numbers
+    /// alone, so that no map of names is kept.
     pub fn number(&self, name: &Name) -> Option<u32>
         ensures { result ≡ number_in self.now.elements name.now }
     {
-        self.numbers.get(name).copied()
+        number_of(&self.names, name)
     }
 
     /// The name of the element with this number; none past the last.

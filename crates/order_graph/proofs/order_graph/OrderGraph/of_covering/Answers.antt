@@ -6,9 +6,8 @@ use Rattle.events.specs.Names.{NameBytes}
 use Rattle.events.specs.Operation.{Operation}
 use Rattle.events.specs.History.{History, inserted_name}
 use Rattle.events.specs.Operations.{operation, operation_names}
-use Rattle.specification.specs.Elements.{elements, number_in}
+use Rattle.specification.specs.Elements.{elements}
 use Rattle.specification.specs.Responses.{Responses, responses_of}
-use Rattle.element_numbers.proofs.Elements.{distinct-names, few-names}
 use Rattle.element_numbers.specs.Cuts.{rows_of}
 use Rattle.order_graph.specs.Covers.{IsCoveredBy}
 use Rattle.order_graph.proofs.Covers.{covers-all}
@@ -24,18 +23,6 @@ rows-are : (h : History) (names : List NameBytes) (shown : List Operation) (rows
     → rows ≡ answers h (elements h) shown → rows ≡ answers h names shown
 rows-are h names shown rows e is = is ∙ ap (λ n. answers h n shown) (sym e)
 
-pub numbers_of-requires-clause-distinct : goal.numbers_of-requires-clause-distinct
-numbers_of-requires-clause-distinct c =
-    let h = c.args.recording.now in
-    let names = names-are h c.in_ok-names.names.items c.in_ok-operations.operations.items c.deref.result.now c.deref.ensures.value c.in_ok-operations.ensures.names c.in_ok-names.ensures in
-    distinct-names h c.replicas.ensures.legal c.requires.sound c.deref-2.result.now (c.deref-2.ensures.value ∙ names)
-
-pub numbers_of-requires-clause-few : goal.numbers_of-requires-clause-few
-numbers_of-requires-clause-few c =
-    let h = c.args.recording.now in
-    let names = names-are h c.in_ok-names.names.items c.in_ok-operations.operations.items c.deref.result.now c.deref.ensures.value c.in_ok-operations.ensures.names c.in_ok-names.ensures in
-    few-names h c.replicas.ensures.legal c.requires.sound c.deref-2.result.now (c.deref-2.ensures.value ∙ names)
-
 pub with_spots-requires : goal.with_spots-requires
 with_spots-requires c =
     let h = c.args.recording.now in
@@ -50,7 +37,6 @@ with_spots-requires c =
     record {
       proper = kept-proper h legal sound names shown rows is part rows_is;
       few = kept-few h legal sound names shown rows is part rows_is;
-      numbered = λ a. c.in_ok-numbers.ensures.numbers a ∙ ap (λ (l : List NameBytes). number_in l a) c.deref-2.ensures.value;
       places_cut = c.requires.covering.rows.cut;
       lists_are = kept-lists h legal sound names shown rows is part rows_is;
       count = kept-count h legal sound names shown rows is part rows_is;

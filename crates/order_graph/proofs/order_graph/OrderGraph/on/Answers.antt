@@ -4,7 +4,6 @@ use Rattle.std.proofs.lemmas.Result.{IfOk-weaker}
 use Rattle.events.specs.Names.{NameBytes}
 use Rattle.events.specs.Operation.{Operation}
 use Rattle.events.specs.History.{History}
-use Rattle.specification.specs.Elements.{number_in}
 use Rattle.element_numbers.proofs.Elements.{distinct-names, few-names}
 use Rattle.element_numbers.specs.Cuts.{rows_of}
 use Rattle.order_graph.proofs.Made.{answers, kept-is, kept-lists, kept-proper, kept-few, kept-count}
@@ -40,7 +39,6 @@ with_spots-requires c =
     record {
       proper = kept-proper h legal sound names shown rows is part rows_is;
       few = kept-few h legal sound names shown rows is part rows_is;
-      numbered = λ a. c.in_ok-numbers.ensures.numbers a ∙ ap (λ (l : List NameBytes). number_in l a) c.deref.ensures.value;
       places_cut = c.in_ok-places.ensures.cut;
       lists_are = kept-lists h legal sound names shown rows is part rows_is;
       count = kept-count h legal sound names shown rows is part rows_is;
