@@ -12,3 +12,4 @@ pub mod Listed
 pub mod Covers
 pub mod Renumbered
 pub mod NewNumbers
+pub mod OneSpot

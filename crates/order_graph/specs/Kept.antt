@@ -1,5 +1,6 @@
 -- What is kept of the responses, and what holds of it.
-use Rattle.std.specs.Prelude.{◌≡◌, ℕ, List, [], ◌∷◌, length, map, slice_index_or}
+use Rattle.std.specs.Prelude.{◌≡◌, ℕ, IfSome, Option, List, Vec, [], ◌∷◌, length, map, slice_index_or}
+use Rattle.std.specs.Global.{Global}
 use Rattle.events.specs.Names.{NameBytes}
 use Rattle.events.specs.Operation.{Operation}
 use Rattle.specification.specs.Responses.{Responses, Returned, AreProper}
@@ -30,7 +31,11 @@ pub record AreListed (names : List NameBytes) (shown : List Operation) (places :
   pub lists_are : lists_of (responses_kept names shown (rows_of places)) ≡ rows_of places
   pub count : length shown ≡ length (rows_of places)
 
--- that, and the spots are those of the places
-pub record AreKept (names : List NameBytes) (shown : List Operation) (places : Rows ℕ) (spots : List (List Spot)) : Type 0 where
+-- each element has a list of its spots
+abbrev pub AreSpotsOf : List (List ℕ) → List (Vec Spot Global) → Type 0
+AreSpotsOf rows spots = (x : ℕ) → slice_index_or (map (λ s. s.items) spots) x [] ≡ spots_of rows x
+
+-- that, and the spots are those of the places, where they are listed
+pub record AreKept (names : List NameBytes) (shown : List Operation) (places : Rows ℕ) (spots : Option (Vec (Vec Spot Global) Global)) : Type 0 where
   pub listed : AreListed names shown places
-  pub spots_are : (x : ℕ) → slice_index_or spots x [] ≡ spots_of (rows_of places) x
+  pub spots_are : IfSome spots (λ lists. AreSpotsOf (rows_of places) lists.items)

@@ -1,6 +1,6 @@
 //! The order graph: each response as a list of numbers of elements.
 
-ghost use Rattle.std.specs.Prelude.{◌≡◌, ℕ, ◌<◌, ◌≤◌, ◌^◌, IfOk, IfSome, length, slice_get, is_some};
+ghost use Rattle.std.specs.Prelude.{◌≡◌, ℕ, ◌<◌, ◌≤◌, ◌^◌, IfOk, IfSome, MatchOption, length, slice_get, is_some};
 ghost use Rattle.std.specs.Prelude.{option_map, if◌then◌else◌, All, AllPairs};
 ghost use Rattle.events.specs.Operations.{operation_names};
 ghost use Rattle.specification.specs.Faults.{IsSound};
@@ -10,9 +10,9 @@ ghost use Rattle.specification.specs.Responses.{responses_of, AreProper, IsLeast
 
 use super::looked::Looked;
 use super::narrowing::{names_kept, new_numbers, number_of, places_left};
-use super::pairs::first_list;
+use super::pairs::stands_behind;
 use super::spot::Spot;
-use super::spots::{all_spots, spots_at};
+use super::spots::{all_spots, count_of_spots, spot_among, spot_at, spots_at};
 use contents_check::Covering;
 use element_numbers::{Rows, inserted_names, numbers_of, places_of};
 use events::{Memory, Name, OpName, Recording};
@@ -27,33 +27,32 @@ use std::marker::Model;
 /// element is a place where it stands.
 ///
 /// Its memory is linear in the places of the responses that are kept. Only `of`, `of_covering` and `narrowed`
-/// take memory.
+/// take memory. `of` and `narrowed` list the spots of each element, as the search for a cycle asks for them;
+/// `of_covering` doesn't, since an order is found without them: there they are looked for among all places.
 #[derive(Drop)]
 pub struct OrderGraph {
     names: Vec<Name>,
     shown: Vec<OpName>,
     places: Rows<u32>,
-    spots: Vec<Vec<Spot>>,
+    spots: Option<Vec<Vec<Spot>>>,
 }
 
 impl Model for OrderGraph {
     ghost use Rattle.specification.specs.Responses.{Responses};
     ghost use Rattle.element_numbers.specs.Cuts.{rows_of};
     ghost use Rattle.order_graph.specs.Kept.{responses_kept, AreKept};
-    ghost use Rattle.std.specs.Prelude.{map};
 
     ghost Value = { Responses };
 
     ghost view = { λ g. responses_kept g.names.items g.shown.items (rows_of g.places) };
 
-    ghost invariant = { λ g. AreKept g.names.items g.shown.items g.places
-        (map (λ s. s.items) g.spots.items) };
+    ghost invariant = { λ g. AreKept g.names.items g.shown.items g.places g.spots };
 }
 
 impl OrderGraph {
     ghost use Rattle.contents_check.specs.Covering.{Covers, IsPart};
     ghost use Rattle.order_graph.specs.Covers.{IsCoveredBy, responses_on};
-    ghost use Rattle.order_graph.specs.Lists.{lists_of, row, ticked, AreFew};
+    ghost use Rattle.order_graph.specs.Lists.{lists_of, row, ticked, AreFew, BeforeIn, IsLeastList};
     ghost use Rattle.element_numbers.specs.Cuts.{rows_of};
     ghost use Rattle.order_graph.specs.Kept.{names_at, responses_kept, AreListed};
     ghost use Rattle.order_graph.specs.Spots.{spots_of};
@@ -89,7 +88,12 @@ impl OrderGraph {
         let _ = recording.replicas();
         let operations = recording.operations(alloc)?;
         let names = inserted_names(alloc, recording, &operations)?;
-        OrderGraph::with_spots(alloc, names, covering.operations, covering.rows)
+        Ok(OrderGraph {
+            names,
+            shown: covering.operations,
+            places: covering.rows,
+            spots: None,
+        })
     }
 
     /// The graph of the responses of these operations, over the elements of the recording.
@@ -126,7 +130,7 @@ impl OrderGraph {
             names,
             shown,
             places,
-            spots,
+            spots: Some(spots),
         })
     }
 
@@ -210,26 +214,52 @@ impl OrderGraph {
         Some(x)
     }
 
-    /// How many spots an element has; 0 past the last element.
+    /// How many spots an element has; 0 past the last element. Where spots are not listed it goes through all places
+    /// for each of them.
     pub fn spots(&self, x: u32) -> u32
         ensures { result ≡ length (spots_of (lists_of self.now) x) }
     {
-        spots_at(&self.spots, x as usize).len() as u32
+        match &self.spots {
+            Some(spots) => spots_at(spots, x as usize).len() as u32,
+            None => count_of_spots(&self.places, x),
+        }
     }
 
-    /// The i-th spot of an element, from 0, in order of lists; none past the last.
+    /// The i-th spot of an element, from 0, in order of lists; none past the last. Where spots are not listed it goes
+    /// through all places.
     pub fn spot(&self, x: u32, i: u32) -> Option<Spot>
         ensures { result ≡ slice_get (spots_of (lists_of self.now) x) i }
     {
-        spots_at(&self.spots, x as usize).get(i as usize).copied()
+        match &self.spots {
+            Some(spots) => spot_at(spots, x as usize, i as usize),
+            None => spot_among(&self.places, x, i),
+        }
     }
 
     /// The least operation whose response shows element a before element b; none where no response does.
-    /// It reads the places after each spot of a, at most those of all responses together.
+    /// It reads the places after each spot of a, at most those of all responses together; and all places for each
+    /// spot where spots are not listed.
     pub fn before(&self, a: u32, b: u32) -> Option<OpName>
         ensures { IsLeastShowing self.now a b result }
     {
-        let list = first_list(&self.places, spots_at(&self.spots, a as usize), a, b)?;
+        // Its contract has that the responses are proper.
+        let _ = self.elements();
+        let list = self.first_list(a, b)?;
         self.shown_by(list)
+    }
+
+    /// The least list in which a stands before b.
+    fn first_list(&self, a: u32, b: u32) -> Option<u32>
+        ensures { MatchOption result ((l : ℕ) → ¬ BeforeIn (lists_of self.now) l a b)
+            (λ l. IsLeastList (lists_of self.now) a b l) }
+    {
+        for i in 0..self.spots(a) {
+            if let Some(spot) = self.spot(a, i) {
+                if stands_behind(self.list(spot.list), spot.place, b) {
+                    return Some(spot.list);
+                }
+            }
+        }
+        None
     }
 }

@@ -1,7 +1,7 @@
 //! The spots of each element.
 
-ghost use Rattle.std.specs.Prelude.{◌≡◌, ℕ, ◌<◌, ◌≤◌, ◌^◌, ◌++◌, [], All, IfOk, OnOk, length, map};
-ghost use Rattle.std.specs.Prelude.{replicate, slice_index_or, vec_len};
+ghost use Rattle.std.specs.Prelude.{◌≡◌, ℕ, ◌+◌, ◌<◌, ◌≤◌, ◌^◌, ◌++◌, [], All, IfOk, OnOk, MatchResult, Some};
+ghost use Rattle.std.specs.Prelude.{length, map, replicate, slice_get, slice_index_or, vec_len};
 ghost use Rattle.element_numbers.specs.Cuts.{rows_of, IsCut};
 ghost use Rattle.order_graph.specs.Lists.{row};
 ghost use Rattle.order_graph.specs.Spots.{spots_in, spots_of};
@@ -86,4 +86,65 @@ pub fn spots_at(spots: &[Vec<Spot>], x: usize) -> &[Spot]
         None => &[],
         Some(spots) => spots.as_slice(),
     }
+}
+
+/// The i-th of the listed spots of an element, from 0; none past the last.
+pub fn spot_at(spots: &[Vec<Spot>], x: usize, i: usize) -> Option<Spot>
+    ensures { result ≡ slice_get (slice_index_or (map (λ s. s.items) spots.now) x []) i }
+{
+    spots_at(spots, x).get(i).copied()
+}
+
+/// The i-th spot of an element in one list, from 0; where it has no more than i there, how many are left.
+fn spot_in(list: u32, row: &[u32], x: u32, i: u32) -> Result<Spot, u32>
+    requires { length row.now < 2 ^ 32 }
+    ensures { MatchResult result (λ spot. slice_get (spots_in list 0 row.now x) i ≡ Some spot)
+        (λ left. i ≡ length (spots_in list 0 row.now x) + left) }
+{
+    let mut left = i;
+    for (j, y) in row.iter().enumerate() {
+        if *y == x {
+            if left == 0 {
+                return Ok(Spot {
+                    list,
+                    place: j as u32,
+                });
+            }
+            left -= 1;
+        }
+    }
+    Err(left)
+}
+
+/// The i-th spot of an element, from 0, in order of lists; none past the last. It looks for it among all places.
+pub fn spot_among(places: &Rows<u32>, x: u32, i: u32) -> Option<Spot>
+    requires whole { IsCut places.now }
+    requires few { length (rows_of places.now) < 2 ^ 32 }
+    requires short { (l : ℕ) → length (row (rows_of places.now) l) < 2 ^ 32 }
+    ensures { result ≡ slice_get (spots_of (rows_of places.now) x) i }
+{
+    let mut left = i;
+    for list in 0..places.ends.len() {
+        match spot_in(list as u32, places.row(list), x, left) {
+            Ok(spot) => return Some(spot),
+            Err(more) => left = more,
+        }
+    }
+    None
+}
+
+/// How many spots an element has. It looks for each of them among all places.
+pub fn count_of_spots(places: &Rows<u32>, x: u32) -> u32
+    requires whole { IsCut places.now }
+    requires few { length (rows_of places.now) < 2 ^ 32 }
+    requires short { (l : ℕ) → length (row (rows_of places.now) l) < 2 ^ 32 }
+    requires count { length (spots_of (rows_of places.now) x) < 2 ^ 32 }
+    ensures { result ≡ length (spots_of (rows_of places.now) x) }
+{
+    for count in 0..u32::MAX {
+        if spot_among(places, x, count).is_none() {
+            return count;
+        }
+    }
+    u32::MAX
 }

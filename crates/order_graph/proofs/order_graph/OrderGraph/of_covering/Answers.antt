@@ -1,7 +1,6 @@
 -- What is kept of these operations reads as their responses, which cover those of all.
 use Rattle.std.proofs.Common.{◌≡◌, ℕ, List, sym, ◌∙◌, ap, subst}
 use Rattle.std.specs.Prelude.{filter_map, option_and_then}
-use Rattle.std.proofs.lemmas.Result.{IfOk-weaker}
 use Rattle.events.specs.Names.{NameBytes}
 use Rattle.events.specs.Operation.{Operation}
 use Rattle.events.specs.History.{History, inserted_name}
@@ -10,6 +9,7 @@ use Rattle.specification.specs.Elements.{elements}
 use Rattle.specification.specs.Responses.{Responses, responses_of}
 use Rattle.element_numbers.specs.Cuts.{rows_of}
 use Rattle.order_graph.specs.Covers.{IsCoveredBy}
+use Rattle.order_graph.specs.Kept.{AreListed}
 use Rattle.order_graph.proofs.Covers.{covers-all}
 use Rattle.order_graph.proofs.Made.{answers, kept-is, kept-lists, kept-proper, kept-few, kept-count}
 use Rattle.order_graph.proofs.order_graph.OrderGraph.of_covering.Goals as goal
@@ -23,8 +23,8 @@ rows-are : (h : History) (names : List NameBytes) (shown : List Operation) (rows
     → rows ≡ answers h (elements h) shown → rows ≡ answers h names shown
 rows-are h names shown rows e is = is ∙ ap (λ n. answers h n shown) (sym e)
 
-pub with_spots-requires : goal.with_spots-requires
-with_spots-requires c =
+pub invariant_of-result : goal.invariant_of-result
+invariant_of-result c =
     let h = c.args.recording.now in
     let legal = c.replicas.ensures.legal in
     let sound = c.requires.sound in
@@ -34,13 +34,14 @@ with_spots-requires c =
     let rows : List (List ℕ) = rows_of c.args.covering.rows in
     let is = names-are h names c.in_ok-operations.operations.items c.deref.result.now c.deref.ensures.value c.in_ok-operations.ensures.names c.in_ok-names.ensures in
     let rows_is = rows-are h names shown rows is c.requires.covering.rows.rows_are in
-    record {
+    let listed : AreListed names shown c.args.covering.rows = record {
       proper = kept-proper h legal sound names shown rows is part rows_is;
       few = kept-few h legal sound names shown rows is part rows_is;
       places_cut = c.requires.covering.rows.cut;
       lists_are = kept-lists h legal sound names shown rows is part rows_is;
       count = kept-count h legal sound names shown rows is part rows_is;
-    }
+    } in
+    record { listed = listed; spots_are = tt }
 
 pub returns : goal.returns
 returns c =
@@ -50,6 +51,4 @@ returns c =
     let rows : List (List ℕ) = rows_of c.args.covering.rows in
     let is = names-are h names c.in_ok-operations.operations.items c.deref.result.now c.deref.ensures.value c.in_ok-operations.ensures.names c.in_ok-names.ensures in
     let kept = kept-is h c.replicas.ensures.legal c.requires.sound names shown rows is c.requires.covering.operations.part (rows-are h names shown rows is c.requires.covering.rows.rows_are) in
-    IfOk-weaker c.with_spots.result _ _
-    (λ g same. subst (λ (w : Responses). IsCoveredBy (responses_of h) w) (sym (same ∙ kept)) (covers-all h shown c.requires.covering.operations))
-    c.with_spots.ensures
+    subst (λ (w : Responses). IsCoveredBy (responses_of h) w) (sym kept) (covers-all h shown c.requires.covering.operations)
