@@ -2,7 +2,6 @@
 
 ghost use Rattle.std.specs.Prelude.{◌≡◌, IfOk, List, map};
 ghost use Rattle.events.specs.History.{IsLegal};
-ghost use Rattle.events.specs.Operations.{operation_names};
 ghost use Rattle.specification.specs.Conflict.{Step};
 ghost use Rattle.specification.specs.Elements.{elements};
 ghost use Rattle.specification.specs.Faults.{IsSound};
@@ -10,7 +9,7 @@ ghost use Rattle.specification.specs.LayerRule.{Row};
 ghost use Rattle.specification.specs.Lines.{text_of};
 ghost use Rattle.specification.specs.CertificateText.{gives_cycle, row_line, step_line, IsSpellable};
 ghost use Rattle.certificate_text.specs.CertificateOf.{version_in};
-ghost use Rattle.contents_check.specs.Covering.{Covers};
+ghost use Rattle.contents_check.specs.Covering.{IsNumbered};
 ghost use Rattle.cert_check.specs.Judged.{IsJudged};
 
 use super::answer::{Answer, Kind, Reason};
@@ -18,7 +17,6 @@ use super::numbered::Numbered;
 use super::rows::rows_fault;
 use super::steps::first_wrong_step;
 use certificate_text::Version;
-use contents_check::Covering;
 use events::{Memory, Recording};
 use std::alloc::Global;
 
@@ -28,7 +26,7 @@ use std::alloc::Global;
 pub fn judge_cycle(
     alloc: Global,
     recording: &Recording,
-    covering: Covering,
+    found: contents_check::Numbered,
     version: Version,
     k: u32,
     steps: &[u8],
@@ -36,7 +34,7 @@ pub fn judge_cycle(
 ) -> Result<Answer, Memory>
     requires legal { IsLegal recording.now }
     requires sound { IsSound recording.now }
-    requires covers { Covers recording.now (elements recording.now) (operation_names recording.now) covering }
+    requires found { IsNumbered recording.now found }
     ensures { IfOk result (λ answer. (listed : List Step) (layers : List Row)
         → IsSpellable (gives_cycle k listed layers) → steps.now ≡ text_of (map step_line listed)
         → rows.now ≡ text_of (map row_line layers)
@@ -48,7 +46,7 @@ pub fn judge_cycle(
     if k < 3 {
         return Ok(Answer::Yes(Kind::Refused));
     }
-    let numbered = Numbered::of(alloc, recording, covering)?;
+    let numbered = Numbered::of(recording, found);
     match rows_fault(alloc, &numbered, version, k, rows)? {
         None => Ok(Answer::Yes(Kind::Refused)),
         Some(why) => Ok(Answer::No(why)),

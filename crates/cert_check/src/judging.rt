@@ -2,13 +2,12 @@
 
 ghost use Rattle.std.specs.Prelude.{IfOk};
 ghost use Rattle.events.specs.History.{IsLegal};
-ghost use Rattle.events.specs.Operations.{operation_names};
 ghost use Rattle.specification.specs.Elements.{elements};
 ghost use Rattle.specification.specs.Faults.{IsSound};
 ghost use Rattle.specification.specs.CertificateText.{Certificate, IsSpellable};
 ghost use Rattle.certificate_text.specs.CertificateOf.{version_in};
 ghost use Rattle.certificate_text.specs.Outlines.{Outlines};
-ghost use Rattle.contents_check.specs.Covering.{Covers};
+ghost use Rattle.contents_check.specs.Covering.{IsNumbered};
 ghost use Rattle.cert_check.specs.Judged.{IsJudged};
 
 use super::answer::{Answer, Reason};
@@ -16,7 +15,7 @@ use super::cycle::judge_cycle;
 use super::faults::judge_fault;
 use super::order::judge_order;
 use certificate_text::{Outline, Version};
-use contents_check::{Checked, Covering, check};
+use contents_check::{Checked, check};
 use events::{Memory, Recording};
 use std::alloc::Global;
 use std::thread::Threads;
@@ -38,28 +37,28 @@ pub fn judge<H: Threads + Sync>(
     let sight = Sight::of(alloc, recording)?;
     match check(rt, alloc, 1, recording, &sight)? {
         Checked::Faulty(fault) => Ok(judge_fault(outline, &fault)),
-        Checked::Sound(covering) => judge_sound(alloc, recording, covering, version, outline),
+        Checked::Sound(found) => judge_sound(alloc, recording, found, version, outline),
     }
 }
 
-/// The same, of a recording that has no fault, by operations that cover all.
+/// The same, of a recording that has no fault, by its elements and the operations that cover all.
 fn judge_sound(
     alloc: Global,
     recording: &Recording,
-    covering: Covering,
+    found: contents_check::Numbered,
     version: Version,
     outline: &Outline<'_>,
 ) -> Result<Answer, Memory>
     requires legal { IsLegal recording.now }
     requires sound { IsSound recording.now }
-    requires covers { Covers recording.now (elements recording.now) (operation_names recording.now) covering }
+    requires found { IsNumbered recording.now found }
     ensures { IfOk result (λ answer. (c : Certificate) → IsSpellable c → Outlines outline.now c
         → IsJudged (version_in version) recording.now c answer) }
 {
     match outline {
-        Outline::Accepted { names } => judge_order(alloc, recording, covering, names),
+        Outline::Accepted { names } => judge_order(alloc, recording, found, names),
         Outline::Refused { k, steps, rows } => {
-            judge_cycle(alloc, recording, covering, version, *k, steps, rows)
+            judge_cycle(alloc, recording, found, version, *k, steps, rows)
         }
         _ => Ok(Answer::No(Reason::WrongFault)),
     }

@@ -3,7 +3,7 @@
 use super::row_depths::RowDepths;
 use super::values::is_rising;
 use contents_check::Covering;
-use element_numbers::{NameNumbers, Rows, inserted_names, numbers_of};
+use element_numbers::{NameNumbers, Rows};
 use events::{Memory, Name, OpName, Recording};
 use format_words::{name_of, next_word};
 use std::alloc::Global;
@@ -33,13 +33,12 @@ ghost use Rattle.std.specs.Prelude.{◌≡◌, ◌+◌, ◌<◌, ◌≤◌, ◌�
 ghost use Rattle.std.specs.Prelude.{IfSome, IsPermutation, IsTrue, MatchBool, MatchOption, length, map};
 ghost use Rattle.std.specs.Prelude.{slice_get, slice_index, Some, None};
 ghost use Rattle.events.specs.Names.{IsName};
-ghost use Rattle.events.specs.Operations.{operation_names};
-ghost use Rattle.specification.specs.Elements.{elements, number_in};
+ghost use Rattle.specification.specs.Elements.{number_in};
 ghost use Rattle.specification.specs.Faults.{IsSound};
 ghost use Rattle.bit_tables.specs.Rule.{HaveDepths};
 ghost use Rattle.format_words.specs.Words.{words_behind};
 ghost use Rattle.element_numbers.specs.Cuts.{IsCut};
-ghost use Rattle.contents_check.specs.Covering.{Covers};
+ghost use Rattle.contents_check.specs.Covering.{IsNumbered};
 ghost use Rattle.cert_check.specs.Numbering.{IsNumbering, IsOf, AreWithin, lists_of, places_at};
 ghost use Rattle.cert_check.specs.Noted.{Noted, Holds, CanBeNoted, placed_from};
 ghost use Rattle.cert_check.specs.RowDepths.{IsUnset, IsWritten};
@@ -47,23 +46,26 @@ ghost use Rattle.cert_check.specs.RowWords.{GoesOn, IsRowWord, Stops, pairs_of, 
 ghost use Rattle.cert_check.specs.Values.{IsRising};
 
 impl Numbered {
-    /// The elements of a recording that has no fault, and the places of operations that cover all. It takes
-    /// memory and time linear in the operations and the elements.
-    pub fn of(alloc: Global, recording: &Recording, covering: Covering) -> Result<Numbered, Memory>
+    /// The elements of a recording that has no fault, and the places of operations that cover all, as they were found.
+    pub fn of(recording: &Recording, found: contents_check::Numbered) -> Numbered
         requires sound { IsSound recording.now }
-        requires covers { Covers recording.now (elements recording.now) (operation_names recording.now) covering }
-        ensures { IfOk result (λ t. IsOf recording.now t) }
+        requires found { IsNumbered recording.now found }
+        ensures { IsOf recording.now result }
     {
-        let all = recording.operations(alloc)?;
-        let names = inserted_names(alloc, recording, &all)?;
-        let numbers = numbers_of(alloc, &names)?;
+        // Its contract has that the recording is legal.
+        let _ = recording.replicas();
+        let contents_check::Numbered {
+            names,
+            numbers,
+            covering,
+        } = found;
         let Covering { operations, rows } = covering;
-        Ok(Numbered {
+        Numbered {
             names,
             numbers,
             operations,
             places: rows,
-        })
+        }
     }
 
     /// Whether the element with this number has this name.
@@ -89,7 +91,7 @@ impl Numbered {
             return None;
         };
         match self.numbers.get(&name) {
-            Some(number) => Some(*number),
+            Some(number) => Some(*number as u32),
             None => None,
         }
     }

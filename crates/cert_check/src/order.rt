@@ -3,13 +3,12 @@
 ghost use Rattle.std.specs.Prelude.{◌≡◌, All, IfOk, IsPermutation, List, length};
 ghost use Rattle.events.specs.Names.{IsName, NameBytes};
 ghost use Rattle.events.specs.History.{History};
-ghost use Rattle.events.specs.Operations.{operation_names};
 ghost use Rattle.specification.specs.Elements.{elements};
 ghost use Rattle.specification.specs.Faults.{IsSound};
 ghost use Rattle.specification.specs.Lines.{names_text};
 ghost use Rattle.specification.specs.Versions.{Version};
 ghost use Rattle.specification.specs.CertificateText.{gives_order};
-ghost use Rattle.contents_check.specs.Covering.{Covers};
+ghost use Rattle.contents_check.specs.Covering.{IsNumbered};
 ghost use Rattle.cert_check.specs.Judged.{IsJudged};
 ghost use Rattle.cert_check.specs.Noted.{Holds, placed_from};
 ghost use Rattle.element_numbers.specs.Cuts.{IsCut};
@@ -17,7 +16,6 @@ ghost use Rattle.cert_check.specs.Numbering.{IsOf, AreWithin, lists_of};
 
 use super::answer::{Answer, Kind, Reason};
 use super::numbered::Numbered;
-use contents_check::Covering;
 use events::{Memory, Recording};
 use std::alloc::Global;
 
@@ -29,18 +27,18 @@ use std::alloc::Global;
 pub fn judge_order(
     alloc: Global,
     recording: &Recording,
-    covering: Covering,
+    found: contents_check::Numbered,
     names: &[u8],
 ) -> Result<Answer, Memory>
     requires sound { IsSound recording.now }
-    requires covers { Covers recording.now (elements recording.now) (operation_names recording.now) covering }
+    requires found { IsNumbered recording.now found }
     ensures { IfOk result (λ answer. (version : Version) (order : List NameBytes) → All IsName order
         → names.now ≡ names_text order
         → IsJudged version recording.now (gives_order order) answer) }
 {
-    let numbered = Numbered::of(alloc, recording, covering)?;
-    let found = numbered.ranks_of(alloc, names)?;
-    match found {
+    let numbered = Numbered::of(recording, found);
+    let ranks = numbered.ranks_of(alloc, names)?;
+    match ranks {
         None => Ok(Answer::No(Reason::NotOrder)),
         Some(ranks) => Ok(judge_ranks(&numbered, &ranks)),
     }

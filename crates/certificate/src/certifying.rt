@@ -91,7 +91,7 @@ pub fn covering_graph(alloc: Global, recording: &Recording) -> Result<OrderGraph
 {
     let sight = Sight::of(alloc, recording)?;
     match check_in_turn(alloc, recording, &sight)? {
-        Checked::Sound(covering) => OrderGraph::of_covering(alloc, recording, covering),
+        Checked::Sound(numbered) => Ok(OrderGraph::of_covering(recording, numbered)),
         Checked::Faulty(_) => unreachable!(),
     }
 }

@@ -73,16 +73,16 @@ pub fn verdict_and_graph<H: Threads + Sync, G: Gate>(
         return Err(SearchFault::Workers);
     }
     let sight = Sight::of(alloc, recording)?;
-    let covering = match check(rt, alloc, workers, recording, &sight)? {
+    let numbered = match check(rt, alloc, workers, recording, &sight)? {
         Checked::Faulty(fault) => {
             return Ok(Judged {
                 verdict: Verdict::of_fault(fault),
                 graph: None,
             });
         },
-        Checked::Sound(covering) => covering,
+        Checked::Sound(numbered) => numbered,
     };
-    let graph = OrderGraph::of_covering(alloc, recording, covering)?;
+    let graph = OrderGraph::of_covering(recording, numbered);
     if let Some(order) = order(alloc, &graph)? {
         return Ok(Judged {
             verdict: accepted(recording, &graph, order),

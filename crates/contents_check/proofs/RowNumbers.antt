@@ -22,7 +22,7 @@ once-of (x ∷ xs) one = (
   once-of xs (λ i j a p q. omega (arith, one (suc i) (suc j) a p q)),
 )
 
-name_at : (elements : Elements) (i : ℕ) (a : NameBytes) → slice_get (element_names elements) i ≡ Some a → (x : Element) × (slice_get elements.list.items i ≡ Some x) × (x.name ≡ a)
+pub name_at : (elements : Elements) (i : ℕ) (a : NameBytes) → slice_get (element_names elements) i ≡ Some a → (x : Element) × (slice_get elements.list.items i ≡ Some x) × (x.name ≡ a)
 name_at elements i a at = go (slice_get elements.list.items i) refl (sym (slice_get-map (λ (x : Element). x.name) elements.list.items i) ∙ at)
   where
     go : (o : Option Element) → slice_get elements.list.items i ≡ o → option_map (λ (x : Element). x.name) o ≡ Some a → (x : Element) × (slice_get elements.list.items i ≡ Some x) × (x.name ≡ a)

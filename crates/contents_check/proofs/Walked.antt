@@ -9,8 +9,8 @@ use Rattle.events.specs.Names.{NameBytes}
 use Rattle.events.specs.Operation.{Operation, ComesBefore}
 use Rattle.events.specs.History.{History, IsLegal}
 use Rattle.events.specs.Operations.{count, numbers_from, operation_names, response}
-use Rattle.specification.specs.Elements.{numbers_in}
-use Rattle.specification.specs.Faults.{IsRight, IsFirstFault}
+use Rattle.specification.specs.Elements.{elements, numbers_in}
+use Rattle.specification.specs.Faults.{IsRight, IsFirstFault, IsSound}
 use Rattle.specification.proofs.Dictionary.{ComesBefore-from}
 use Rattle.specification.proofs.Members.{In, In-append_cases, All-member, All-from_members}
 use Rattle.specification.proofs.OperationNames.{AllPairs-from_Rising, In-numbers_from, Rising, Rising-map, numbers_from-bounds}
@@ -136,8 +136,9 @@ module _ (h : History) (legal : IsLegal h) (kept_elements : Kept) (are : AreElem
           (distinct h kept_elements legal are.inserts, first.first.operation, right_before h first.replica first.n before first.first, is.1, is.2)
 
   -- where all replicas are right the recording is sound
-  pub right-checked : (covering : Covering) → IsWalked h (element_names kept_elements) (numbers_from 0 h.replicas) (Right covering) → IsChecked h (Sound covering)
-  right-checked covering walked = (
+  pub right-sound : (covering : Covering) → IsWalked h (element_names kept_elements) (numbers_from 0 h.replicas) (Right covering)
+      → IsSound h × Covers h (elements h) (operation_names h) covering
+  right-sound covering walked = (
     record {
       names = distinct h kept_elements legal are.inserts;
       right = λ e is. All-member (IsRightReplica h) (numbers_from 0 h.replicas) e.replica walked.0

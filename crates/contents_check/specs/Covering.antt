@@ -1,18 +1,21 @@
 -- Operations whose responses cover those of others: what these show, they show, by the same operation or one that comes
 -- before; and the rows of numbers that are their responses.
-use Rattle.std.specs.Prelude.{◌≡◌, ◌⊎◌, ℕ, ◌*◌, ◌<◌, ⊤, List, [], ◌∷◌, ◌++◌, map, flat_map, take, drop, length, slice_index_or, All, Contains, IfOk, Result}
+use Rattle.std.specs.Prelude.{◌≡◌, ◌==◌, ◌⊎◌, ℕ, ◌*◌, ◌<◌, ⊤, List, [], ◌∷◌, ◌++◌, map, flat_map, take, drop, length, slice_index_or, All, Contains, IfOk, Result}
+use Rattle.std.specs.Cmp.Lexicographic.{pointwise}
+use Rattle.indexmap.specs.IndexMap.{get}
 use Rattle.events.specs.Names.{NameBytes}
 use Rattle.events.specs.declared.memory.Memory.{Memory}
 use Rattle.events.specs.Operation.{Operation, ComesBefore}
 use Rattle.events.specs.History.{History}
 use Rattle.events.specs.Operations.{count, numbers_from, operation_names, response}
-use Rattle.specification.specs.Elements.{elements, numbers_in}
+use Rattle.specification.specs.Elements.{elements, number_in, numbers_in}
 use Rattle.specification.specs.Faults.{HasRightContents, HasRightPosition, IsFirstFault, IsSound}
 use Rattle.specification.specs.Members.{In, Before}
 use Rattle.specification.specs.Orders.{IsSubsequence}
 use Rattle.element_numbers.specs.Cuts.{rows_of, IsCut}
 use Rattle.element_numbers.specs.declared.rows.Rows.{Rows}
 use Rattle.contents_check.specs.declared.covering.Covering.{Covering}
+use Rattle.contents_check.specs.declared.numbered.Numbered.{Numbered}
 use Rattle.contents_check.specs.declared.first.Checked.{Checked}
 use Rattle.contents_check.specs.declared.first.Checked.TheVariants.{Faulty, Sound}
 use Rattle.contents_check.specs.declared.fault.Fault.{Fault}
@@ -89,7 +92,13 @@ abbrev pub ArePieces : History → List NameBytes → ℕ → List ℕ → List 
 ArePieces h names size replicas pieces =
     (n : ℕ) (d : Result Walked Memory) → n < length pieces → IfOk (slice_index_or pieces n d) (IsWalked h names (take size (drop (n * size) replicas)))
 
--- the first fault; or there is none, and these operations cover all
+-- the elements of a recording with their numbers, and operations that cover all
+pub record IsNumbered (h : History) (numbered : Numbered) : Type 0 where
+  pub names : numbered.names.items ≡ elements h
+  pub numbers : (a : NameBytes) → get (pointwise ◌==◌) numbered.numbers a ≡ number_in (elements h) a
+  pub covers : Covers h (elements h) (operation_names h) numbered.covering
+
+-- the first fault; or there is none, and these are its elements
 abbrev pub IsChecked : History → Checked → Type 0
 IsChecked h (Faulty fault) = IsFirstFault h (fault_of fault)
-IsChecked h (Sound covering) = IsSound h × Covers h (elements h) (operation_names h) covering
+IsChecked h (Sound numbered) = IsSound h × IsNumbered h numbered

@@ -13,7 +13,7 @@ use indexmap::IndexMap;
 use std::alloc::Global;
 
 /// A number for each name, in a map that hashes by the names that are in it.
-pub type NameNumbers = IndexMap<Name, u32, NameKey>;
+pub type NameNumbers = IndexMap<Name, usize, NameKey>;
 
 /// Each name with its number, its place among these names. It takes memory and time linear in the names.
 pub fn numbers_of(alloc: Global, names: &[Name]) -> Result<NameNumbers, Memory>
@@ -24,7 +24,7 @@ pub fn numbers_of(alloc: Global, names: &[Name]) -> Result<NameNumbers, Memory>
 {
     let mut numbers = IndexMap::with_capacity_and_hasher(alloc, names.len(), NameKey::of(names))?;
     for (i, name) in names.iter().enumerate() {
-        numbers.insert(*name, i as u32)?;
+        numbers.insert(*name, i)?;
     }
     Ok(numbers)
 }
@@ -36,7 +36,7 @@ pub fn number_or_count(names: &[Name], numbers: &NameNumbers, name: &Name) -> u3
     ensures { result ≡ unwrap_or (number_in names.now name.now) (length names.now) }
 {
     match numbers.get(name) {
-        Some(number) => *number,
+        Some(number) => *number as u32,
         None => names.len() as u32,
     }
 }

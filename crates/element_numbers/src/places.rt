@@ -67,11 +67,12 @@ fn place_after(items: &[u32]) -> usize {
 /// The number of the name with these bytes, where its entry stands at this place in the map.
 fn number_there(names: &[Name], numbers: &NameNumbers, place: usize, bytes: &[u8]) -> Option<u32>
     requires numbered { (a : NameBytes) → get (pointwise ◌==◌) numbers.now a ≡ number_in names.now a }
+    requires few { length names.now < 2 ^ 32 }
     ensures { IfSome result (λ number. number_in names.now bytes.now ≡ Some number) }
 {
     let (name, number) = numbers.get_index(place)?;
     if name.bytes() == bytes {
-        Some(*number)
+        Some(*number as u32)
     } else {
         None
     }

@@ -13,7 +13,7 @@ use super::narrowing::{names_kept, new_numbers, number_of, places_left};
 use super::pairs::stands_behind;
 use super::spot::Spot;
 use super::spots::{all_spots, count_of_spots, spot_among, spot_at, spots_at};
-use contents_check::Covering;
+use contents_check::{Covering, Numbered};
 use element_numbers::{Rows, inserted_names, numbers_of, places_of};
 use events::{Memory, Name, OpName, Recording};
 use std::alloc::Global;
@@ -26,8 +26,7 @@ use std::marker::Model;
 /// empty, and `of_covering` some that cover them. Lists and their places are numbered from 0. A spot of an
 /// element is a place where it stands.
 ///
-/// Its memory is linear in the places of the responses that are kept. Only `of`, `of_covering` and `narrowed`
-/// take memory. `of` and `narrowed` list the spots of each element, as the search for a cycle asks for them;
+/// Its memory is linear in the places of the responses that are kept. Only `of` and `narrowed` take memory. `of` and `narrowed` list the spots of each element, as the search for a cycle asks for them;
 /// `of_covering` doesn't, since an order is found without them: there they are looked for among all places.
 #[derive(Drop)]
 pub struct OrderGraph {
@@ -50,7 +49,7 @@ impl Model for OrderGraph {
 }
 
 impl OrderGraph {
-    ghost use Rattle.contents_check.specs.Covering.{Covers, IsPart};
+    ghost use Rattle.contents_check.specs.Covering.{IsNumbered, IsPart};
     ghost use Rattle.order_graph.specs.Covers.{IsCoveredBy, responses_on};
     ghost use Rattle.order_graph.specs.Lists.{lists_of, row, ticked, AreFew, BeforeIn, IsLeastList};
     ghost use Rattle.element_numbers.specs.Cuts.{rows_of};
@@ -69,31 +68,30 @@ impl OrderGraph {
         OrderGraph::on(alloc, recording, names, shown)
     }
 
-    /// The graph of some responses that cover all, whose numbers were found with them.
+    /// The graph of some responses that cover all, whose numbers were found with them, over the elements that were.
     ///
     /// It has the same orders and cycles as the graph of all responses, and the same least operations that show
-    /// one element before another; it has fewer lists and places. It takes time and memory linear in the
-    /// operations, the elements and the places of these responses, which it keeps as they are: it reads no response
-    /// and looks up none of their names.
-    pub fn of_covering(
-        alloc: Global,
-        recording: &Recording,
-        covering: Covering,
-    ) -> Result<OrderGraph, Memory>
+    /// one element before another; it has fewer lists and places. It keeps names and rows as they are: it takes
+    /// neither time nor memory, reads no response and looks up none of their names.
+    pub fn of_covering(recording: &Recording, numbered: Numbered) -> OrderGraph
         requires sound { IsSound recording.now }
-        requires covering { Covers recording.now (elements recording.now) (operation_names recording.now) covering }
-        ensures { IfOk result (λ g. IsCoveredBy (responses_of recording.now) g) }
+        requires numbered { IsNumbered recording.now numbered }
+        ensures { IsCoveredBy (responses_of recording.now) result }
     {
         // Its contract has that the recording is legal.
         let _ = recording.replicas();
-        let operations = recording.operations(alloc)?;
-        let names = inserted_names(alloc, recording, &operations)?;
-        Ok(OrderGraph {
+        let Numbered {
             names,
-            shown: covering.operations,
-            places: covering.rows,
+            numbers: _,
+            covering,
+        } = numbered;
+        let Covering { operations, rows } = covering;
+        OrderGraph {
+            names,
+            shown: operations,
+            places: rows,
             spots: None,
-        })
+        }
     }
 
     /// The graph of the responses of these operations, over the elements of the recording.

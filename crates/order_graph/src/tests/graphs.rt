@@ -30,7 +30,7 @@ fn covering_graph(
     let sight = Sight::of(alloc, recording)?;
     match check(rt, alloc, workers, recording, &sight)? {
         Checked::Faulty(_) => Ok(None),
-        Checked::Sound(covering) => Ok(Some(OrderGraph::of_covering(alloc, recording, covering)?)),
+        Checked::Sound(numbered) => Ok(Some(OrderGraph::of_covering(recording, numbered))),
     }
 }
 
