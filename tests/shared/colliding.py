@@ -11,7 +11,7 @@ SOURCE = Path(__file__).with_name("colliding_names.c")
 REPLICAS = 16
 # Names for each group of a map: a map that is made with room for so many has the least power of two of groups that suffices.
 GROUP_LOAD = 9
-HASHERS = "fold", "sip"
+HASHERS = "fold", "quick", "sip"
 
 
 def colliding_names(folder: str, hasher: str, many: int) -> list:
