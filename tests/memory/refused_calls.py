@@ -26,15 +26,18 @@ VECTORS = [ROOT / "tests" / "vectors" / f"{name}.trace" for name in ("all-three-
 MOST = 20_000
 
 # Every call that can answer out of memory, by its name in docs/names.md; the list is kept by hand.
-CALLS = """Response::push, Recording::new, Recording::record, Recording::copy, trace_text::read, trace_text::write, Reader::feed,
-Sight::of, first_fault, OrderGraph::of, OrderGraph::of_covering, Scratch::new, Bound::new, conflict_number, least_cycle,
-least_conflict, judge, report::text, report::json, OrderGraph::narrowed, taken, order, certify, write_certificate,
-judge_and_write, Certificate::write, push_row, Certificate::read, check, check_recording, Session::open, Session::record, snapshot,
-watch_snapshot, watch, replay, replay_with, Registry::add, Registry::names, run, run_cert, run_verify, live, read_words"""
+CALLS = """Response::push, Response::push_names, Recording::new, Recording::record, Recording::copy, trace_text::read,
+trace_text::write, Reader::feed, Sight::of, first_fault, contents_check::check, check_in_turn, Covering::add, Covering::append,
+Rows::push_row, AfterTable::note_included, BitSet::outside_from, OrderGraph::of, OrderGraph::of_covering, Scratch::new,
+Bound::new, conflict_number, least_cycle, least_conflict, judge, report::text, report::json, OrderGraph::narrowed, taken, order,
+certify, write_certificate, judge_and_write, Certificate::write, certificate_text::push_row, Certificate::read, cert_check::check,
+check_recording, Session::open, Session::record, snapshot, watch_snapshot, watch, replay, replay_with, Registry::add,
+Registry::names, rehearse, run, run_cert, run_verify, live, read_words"""
 
 # By call: the crate and its tests, or the program's command.
 TESTS = {
     "Response::push": ("events", "responses_are_lists"),
+    "Response::push_names": ("events", "names_of_texts_are_put", "at_most_64_names_are_put_at_once"),
     "Recording::new": ("events", "a_recording_has_one_to_sixteen_replicas"),
     "Recording::record": ("events", "entries_are_taken_or_refused", "a_refused_entry_is_handed_back"),
     "Recording::copy": ("events", "a_full_recording_is_copied", "copies_are_equal_and_go_on_alone"),
@@ -43,6 +46,13 @@ TESTS = {
     "Reader::feed": ("trace_text", "a_text_in_two_pieces", "faults_of_texts_in_pieces"),
     "Sight::of": ("visibility", "a_chain_of_receipts_is_seen", "a_receipt_tells_what_comes_after_it"),
     "first_fault": ("contents_check", "contents_are_those_that_are_visible", "doubled_names_come_first"),
+    "contents_check::check": ("contents_check", "sound_recordings_have_no_fault", "inserts_stand_where_they_were_asked_for"),
+    "check_in_turn": ("contents_check", "one_thread_finds_the_same_fault"),
+    "Covering::add": ("contents_check", "one_thread_finds_the_same_fault"),
+    "Covering::append": ("contents_check", "sound_recordings_have_no_fault"),
+    "Rows::push_row": ("contents_check", "one_thread_finds_the_same_fault"),
+    "AfterTable::note_included": ("bit_tables", "rows_that_the_row_before_has"),
+    "BitSet::outside_from": ("bit_tables", "layers_of_numbers"),
     "OrderGraph::of": ("order_graph", "steps_of_worked_recordings", "marks_of_the_ring_of_four"),
     "OrderGraph::of_covering": ("order_graph", "covering_responses_of_the_ring_of_four"),
     "Scratch::new": ("level_search", "a_scratch_fits_its_graph_alone"),
@@ -60,9 +70,9 @@ TESTS = {
     "write_certificate": ("certificate", "certificates_written_row_by_row"),
     "judge_and_write": ("certificate", "certificates_with_their_verdicts"),
     "Certificate::write": ("certificate_text", "certificates_are_read_and_written_again"),
-    "push_row": ("certificate", "certificates_written_row_by_row"),
+    "certificate_text::push_row": ("certificate", "certificates_written_row_by_row"),
     "Certificate::read": ("certificate_text", "certificates_are_read_and_written_again"),
-    "check": ("cert_check", "valid_certificates", "reasons_against_certificates"),
+    "cert_check::check": ("cert_check", "valid_certificates", "reasons_against_certificates"),
     "check_recording": ("finder_cli", "right_trace_is_judged"),
     "Session::open": ("sessions", "sessions_have_1_to_16_replicas"),
     "Session::record": ("sessions", "two_passes"),
@@ -73,6 +83,7 @@ TESTS = {
     "replay_with": ("sessions", "waiter_says_how_often"),
     "Registry::add": ("sessions", "registry_of_64"),
     "Registry::names": ("sessions", "registry_of_64"),
+    "rehearse": ("program", "live"),
     "run": ("finder_cli", "worked_recordings", "any_number_of_workers"),
     "run_cert": ("program", "cert"),
     "run_verify": ("program", "verify"),

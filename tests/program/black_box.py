@@ -2,6 +2,7 @@
 """black_box.py PROGRAM: what only the built program can show: lines, statuses, standard error, files and pipes."""
 import json
 import os
+import re
 import subprocess
 import sys
 import tempfile
@@ -158,6 +159,26 @@ USAGE = [
     [""],
     ["t"],
     ["-"],
+]
+
+FORMATS, MAN = ROOT / "docs" / "formats.md", ROOT / "tools" / "installed" / "domepeeler.1"
+
+# What the help of a command says, as pages have it: the command, how the line of its help begins, a page, and a pattern whose group
+# stands in that line, articles aside.
+HELPED = [
+    ("verdict", "--json ", FORMATS, r"^## The (report as JSON)$"),
+    ("verdict", "--workers <N> ", FORMATS, r"N is (1 to 64), by default 4:"),
+    ("verdict", "--workers <N> ", FORMATS, r"N is 1 to 64, by default (4):"),
+    ("verdict", "<FILE> ", FORMATS, r"FILE and CERT `-` are (standard input);"),
+    ("live", "--workers <N> ", FORMATS, r"N is (1 to 64), by default 4:"),
+    ("cert", "", MAN, r"^Print a (certificate of the verdict)\.$"),
+    ("live", "", MAN, r"^Replay the trace (by threads in one session beside a watcher),"),
+    ("verify", "", FORMATS, r"prints: (whether the certificate is valid for the recording) that"),
+    ("verify", "", MAN, r"^Check a certificate against a trace, (without any search)\.$"),
+    ("verify", "<FILE> ", MAN, r"^Check a certificate against (a trace),"),
+    ("verify", "<FILE> ", FORMATS, r"FILE and CERT `-` are (standard input);"),
+    ("verify", "<CERT> ", MAN, r"^Check (a certificate) against"),
+    ("verify", "<CERT> ", FORMATS, r"FILE and CERT `-` are (standard input);"),
 ]
 
 
@@ -349,6 +370,44 @@ def command_line(tally: Tally, program: str) -> None:
     tally.same("a program name that is no text", Ended(named.returncode, named.stdout, named.stderr), fault("usage"))
 
 
+def plain(text: str) -> str:
+    """The words of a text in small letters, without articles."""
+    return " ".join(word for word in re.findall(r"[\w-]+", text.lower()) if word not in ("a", "the", "any"))
+
+
+def said_by(page: Path, pattern: str) -> str:
+    """What the pattern's group stands for in a page that has the pattern once."""
+    found = re.findall(pattern, page.read_text(), re.MULTILINE)
+    return found[0] if len(found) == 1 else f"{page.name} has {pattern} {len(found)} times"
+
+
+def version(tally: Tally, program: str) -> None:
+    """The version is the one that the pages name."""
+    wanted = said_by(FORMATS, r"`--version` prints `([^`]+)`")
+    for words in ["--version"], ["-V"]:
+        tally.same(f"version {words}", run(program, words), Ended(0, f"{wanted}\n".encode(), b""))
+    tally.check("version of the man page", said_by(MAN, r'^\.TH .*"Domepeeler ([^"]+)"') == wanted.removeprefix("domepeeler "), wanted)
+
+
+def helps(tally: Tally, program: str) -> None:
+    """The help of each command has its options and files, and says of them what the pages say."""
+    texts = {words[0]: (words[1:], run(program, [words[0], "--help"]).out.decode())
+             for words in re.findall(r"^    finder_cli ([a-z].*)$", FORMATS.read_text(), re.MULTILINE) for words in [words.split()]}
+    listed = [line.split(maxsplit=1) for line in run(program, ["--help"]).out.decode().splitlines()]
+    tally.check("help: commands", len(texts) == 4, list(texts))
+    for command, (words, text) in texts.items():
+        wanted = {word for word in re.findall(r"--[a-z]+", " ".join(words))} | {"--help"}
+        tally.check(f"help: options of {command}", set(re.findall(r"^ +(?:-h, )?(--[a-z]+)", text, re.MULTILINE)) == wanted, text)
+        files = [word for word in words if word in ("FILE", "CERT")]
+        tally.check(f"help: files of {command}", re.findall(r"^  <([A-Z]+)>", text, re.MULTILINE) == files, text)
+        tally.check(f"help: {command} in the list", [command, text.splitlines()[0]] in listed, listed)
+    for command, begin, page, pattern in HELPED:
+        lines = [line.strip() for line in texts[command][1].splitlines()]
+        line = next((line for line in lines if line.startswith(begin)), "")
+        told = plain(line.removeprefix(begin))
+        tally.check(f"help: {command} {begin}", f" {plain(said_by(page, pattern))} " in f" {told} ", line)
+
+
 def files(tally: Tally, program: str, folder: str) -> None:
     held = os.path.join(folder, "held trace")
     Path(held).write_bytes(DELETED)
@@ -447,6 +506,8 @@ def main() -> None:
     gallery(tally, program)
     embedding(tally)
     command_line(tally, program)
+    version(tally, program)
+    helps(tally, program)
     with tempfile.TemporaryDirectory() as folder:
         files(tally, program, folder)
         long_report(tally, program, folder)

@@ -1,4 +1,5 @@
 pub mod Done
 pub mod JoinedTexts
 pub mod LineFaults
+pub mod PiecesRead
 pub mod Reported

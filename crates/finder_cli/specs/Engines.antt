@@ -8,6 +8,7 @@ use Rattle.finder_cli.specs.declared.engine.Engine.{Engine}
 use Rattle.finder_cli.specs.declared.engine.Engine.TheVariants as engine
 use Rattle.finder_cli.specs.Runs.{Reports, ReportsFront, NamesFirstFault, IsNoWorkers, IsOfRun, IsOfVerifying}
 use Rattle.finder_cli.specs.Certified.{Certifies, CertifiesFront, Verifies, VerifiesFront}
+use Rattle.finder_cli.specs.OutOfMemory.{RunsOut, RunsOutVerifying}
 use Rattle.finder_cli.specs.declared.status.Status.{Status}
 use Rattle.finder_cli.specs.declared.status.RunFault.{RunFault}
 use Rattle.finder_cli.specs.declared.status.RunFault.TheVariants as run
@@ -27,11 +28,11 @@ pub record Judges (count : ℕ) (form : Form) (before after : SourceState) (old 
       × IfSome before.bytes (λ text. ReportsFront text form old.bytes new.bytes))
   pub unwritten : IfErr answer (λ fault. fault ≢ run.Write → new ≡ old)
 
--- the same without a session: no thread is missed, and no recorder gives up
+-- the same without a session: no thread is missed, no recorder gives up, and memory runs out at the trace, or behind it
 abbrev pub JudgesAlone : ℕ → Form → SourceState → SourceState → SinkState → SinkState → Result Status RunFault
     → Type 0
 JudgesAlone count form before after old new answer = Judges count form before after old new answer
-    × IfErr answer IsOfRun
+    × IfErr answer IsOfRun × IfErr answer (λ fault. fault ≡ run.Memory → RunsOut before after)
 
 -- the certificate of the verdict on the recording that the source spells
 pub record Shows (before after : SourceState) (old new : SinkState)
@@ -43,6 +44,7 @@ pub record Shows (before after : SourceState) (old new : SinkState)
   pub faults : IfErr answer IsOfRun
   pub read : IfErr answer (λ fault. fault ≡ run.Read → IsClosed after)
   pub memory : IfErr answer (λ fault. fault ≡ run.Memory → after.failed ≡ false)
+  pub place : IfErr answer (λ fault. fault ≡ run.Memory → RunsOut before after)
   pub trace : IfErr answer (λ fault. IfSome before.bytes (λ text. NamesFirstFault text fault))
   pub write : IfErr answer (λ fault. fault ≡ run.Write → (new.failed ≡ true)
       × IfSome before.bytes (λ text. CertifiesFront text old.bytes new.bytes))
@@ -66,6 +68,7 @@ pub record Checks (trace trace_after cert cert_after : SourceState) (old new : S
       ⊎ ((trace_after.ended ≡ true) × IsClosed cert_after))
   pub memory : IfErr answer (λ fault. fault ≡ run.Memory → (trace_after.failed ≡ false) × ((cert_after ≡ cert)
       ⊎ (cert_after.failed ≡ false)))
+  pub place : IfErr answer (λ fault. fault ≡ run.Memory → RunsOutVerifying trace trace_after cert cert_after)
   pub write : IfErr answer (λ fault. fault ≡ run.Write → (new.failed ≡ true)
       × IfSome trace.bytes (λ t. IfSome cert.bytes (λ c. VerifiesFront t c old.bytes new.bytes)))
   pub unwritten : IfErr answer (λ fault. fault ≢ run.Write → new ≡ old)

@@ -7,6 +7,7 @@ ghost use Rattle.certificate.specs.ByRows.{joined};
 ghost use Rattle.certificate.specs.VerdictOf.{verdict_of};
 ghost use Rattle.finder_cli.specs.Runs.{NamesFirstFault, IsOfRun, status_of};
 ghost use Rattle.finder_cli.specs.Certified.{IsCertificateFor, Certifies, CertifiesFront};
+ghost use Rattle.finder_cli.specs.OutOfMemory.{RunsOut};
 
 use super::output::{status_of, write_texts};
 use super::status::{RunFault, Status};
@@ -36,6 +37,9 @@ pub fn run_cert<H: Threads + Sync, R: Reader + Drop, W: Writer + Drop>(
     ensures faults { IfErr result IsOfRun }
     ensures read { IfErr result (λ fault. fault ≡ RunFault.Read → IsClosed source.new) }
     ensures memory { IfErr result (λ fault. fault ≡ RunFault.Memory → source.new.failed ≡ false) }
+    // Out of memory only at a piece with a line whose reading takes memory, or one that cut a line; or behind
+    // the whole text.
+    ensures place { IfErr result (λ fault. fault ≡ RunFault.Memory → RunsOut source.old source.new) }
     ensures trace { IfErr result (λ fault. IfSome source.old.bytes (λ text. NamesFirstFault text fault)) }
     ensures write { IfErr result (λ fault. fault ≡ RunFault.Write → (sink.new.failed ≡ true)
         × IfSome source.old.bytes (λ text. CertifiesFront text sink.old.bytes sink.new.bytes)) }

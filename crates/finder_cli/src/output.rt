@@ -7,6 +7,7 @@ ghost use Rattle.certificate.specs.ByRows.{joined};
 ghost use Rattle.certificate.specs.VerdictOf.{verdict_of};
 ghost use Rattle.byte_streams.specs.Streams.{AppendsFront, IsClosed};
 ghost use Rattle.finder_cli.specs.Runs.{IsOfReading, status_of};
+ghost use Rattle.finder_cli.specs.OutOfMemory.{HasBytes};
 
 use super::status::{RunFault, Status};
 use byte_streams::{ReadFault, Reader, Sink, Source, Writer};
@@ -32,6 +33,7 @@ pub fn whole_text<R: Reader + Drop>(
         × IsAtEnd source.new.bytes × (source.new.failed ≡ false) × (source.new.ended ≡ true)) }
     ensures read { IfErr result (λ fault. fault ≡ RunFault.Read → IsClosed source.new) }
     ensures memory { IfErr result (λ fault. fault ≡ RunFault.Memory → source.new.failed ≡ false) }
+    ensures some { IfErr result (λ fault. fault ≡ RunFault.Memory → HasBytes source.old source.new) }
     ensures reading { IfErr result IsOfReading }
 {
     match source.whole(alloc) {

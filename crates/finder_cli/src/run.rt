@@ -6,6 +6,7 @@ ghost use Rattle.certificate.specs.VerdictOf.{verdict_of};
 ghost use Rattle.byte_streams.specs.Streams.{IsClosed};
 ghost use Rattle.finder_cli.specs.Runs.{report_of, IsReportOn, Reports, ReportsFront, NamesFirstFault};
 ghost use Rattle.finder_cli.specs.Runs.{IsOfRun, IsNoWorkers};
+ghost use Rattle.finder_cli.specs.OutOfMemory.{RunsOut};
 
 use super::output::{Output, status_of, verdict_on, write_output};
 use super::status::{RunFault, Status};
@@ -37,6 +38,9 @@ pub fn run<H: Threads + Sync, R: Reader + Drop, W: Writer + Drop>(
     ensures faults { IfErr result IsOfRun }
     ensures read { IfErr result (λ fault. fault ≡ RunFault.Read → IsClosed source.new) }
     ensures memory { IfErr result (λ fault. fault ≡ RunFault.Memory → source.new.failed ≡ false) }
+    // Out of memory only at a piece with a line whose reading takes memory, or one that cut a line; or behind
+    // the whole text.
+    ensures place { IfErr result (λ fault. fault ≡ RunFault.Memory → RunsOut source.old source.new) }
     ensures trace { IfErr result (λ fault. IfSome source.old.bytes (λ text. NamesFirstFault text fault)) }
     ensures write { IfErr result (λ fault. fault ≡ RunFault.Write → (sink.new.failed ≡ true)
         × IfSome source.old.bytes (λ text. ReportsFront text form sink.old.bytes sink.new.bytes)) }

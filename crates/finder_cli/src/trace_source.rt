@@ -1,6 +1,7 @@
 //! The recording that a source spells, read as it comes.
 
-ghost use Rattle.std.specs.Prelude.{◌≡◌, ◌++◌, true, false, IfOk, IfErr, IfSome, List, MatchOption, OnOk, ℕ};
+ghost use Rattle.std.specs.Prelude.{◌≡◌, ◌≢◌, ◌++◌, true, false, IfOk, IfErr, IfSome, List, MatchOption, None};
+ghost use Rattle.std.specs.Prelude.{OnOk, ℕ};
 ghost use Rattle.std.specs.Io.KnownBytes.{IsAtEnd};
 ghost use Rattle.specification.specs.TraceText.{Spells};
 ghost use Rattle.trace_text.specs.Causes.{cause_of};
@@ -8,6 +9,7 @@ ghost use Rattle.trace_text.specs.Fed.{WasFed};
 ghost use Rattle.byte_streams.specs.Streams.{IsClosed};
 ghost use Rattle.finder_cli.specs.Runs.{IsOfReading, IsOfText, IsOfTrace, NamesFirstFault};
 ghost use Rattle.finder_cli.specs.Certified.{IsRecordingOf};
+ghost use Rattle.finder_cli.specs.OutOfMemory.{HasMemoryLine, RunsOutAtPiece};
 
 use super::status::RunFault;
 use byte_streams::{Reader, Source};
@@ -31,6 +33,9 @@ pub fn recording_from<R: Reader + Drop>(
     ensures faults { IfErr result IsOfTrace }
     ensures read { IfErr result (λ fault. fault ≡ RunFault.Read → IsClosed source.new) }
     ensures memory { IfErr result (λ fault. fault ≡ RunFault.Memory → source.new.failed ≡ false) }
+    // Out of memory only at a piece with a line whose reading takes memory, or one that cut a line.
+    ensures place { IfErr result (λ fault. fault ≡ RunFault.Memory
+        → RunsOutAtPiece source.old source.new) }
 {
     let mut reader = trace_text::Reader::new(alloc);
     let mut buffer = [0; PIECE];
@@ -58,6 +63,9 @@ pub fn recording_to_end<R: Reader + Drop>(
     ensures faults { IfErr result IsOfReading }
     ensures read { IfErr result (λ fault. fault ≡ RunFault.Read → IsClosed source.new) }
     ensures memory { IfErr result (λ fault. fault ≡ RunFault.Memory → source.new.failed ≡ false) }
+    // Out of memory only at a piece with a line whose reading takes memory, or one that cut a line.
+    ensures place { IfErr result (λ fault. fault ≡ RunFault.Memory
+        → RunsOutAtPiece source.old source.new) }
 {
     match recording_from(alloc, source) {
         Ok(recording) => Ok(Some(recording)),
@@ -90,6 +98,9 @@ fn feed(reader: &mut trace_text::Reader, piece: &[u8]) -> Result<(), RunFault>
     ensures faults { IfErr result IsOfText }
     ensures trace { IfErr result (λ fault. (text more : List ℕ) → WasFed reader.old text
         → NamesFirstFault ((text ++ piece.now) ++ more) fault) }
+    ensures none { OnOk result (reader.new.fault ≡ None) }
+    ensures place { reader.old.fault ≡ None → IfErr result (λ fault. fault ≡ RunFault.Memory
+        → (text : List ℕ) → WasFed reader.old text → HasMemoryLine text piece.now) }
 {
     match reader.feed(piece) {
         Ok(()) => Ok(()),
@@ -103,6 +114,7 @@ fn end(reader: trace_text::Reader) -> Result<Recording, RunFault>
     ensures faults { IfErr result IsOfText }
     ensures trace { IfErr result (λ fault. (text : List ℕ) → WasFed reader text
         → NamesFirstFault text fault) }
+    ensures none { reader.fault ≡ None → IfErr result (λ fault. fault ≢ RunFault.Memory) }
 {
     match reader.end() {
         Ok(recording) => Ok(recording),
@@ -112,8 +124,9 @@ fn end(reader: trace_text::Reader) -> Result<Recording, RunFault>
 
 /// The run's fault for a text's: out of memory has no line.
 fn trace_fault(fault: LineFault) -> RunFault
-    ensures { MatchOption (cause_of fault.cause) (result ≡ RunFault.Memory)
+    ensures names { MatchOption (cause_of fault.cause) (result ≡ RunFault.Memory)
         (λ _. result ≡ RunFault.Trace fault) }
+    ensures memory { result ≡ RunFault.Memory → fault.cause ≡ Cause.Refused Refusal.Memory }
 {
     match fault.cause {
         Cause::Refused(Refusal::Memory) => RunFault::Memory,

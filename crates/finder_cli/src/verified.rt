@@ -1,12 +1,14 @@
 //! A trace and a certificate in, the checker's line out.
 
-ghost use Rattle.std.specs.Prelude.{◌≡◌, ◌≢◌, ◌⊎◌, true, false, IfOk, IfErr, IfSome, List, OnOk, ℕ};
+ghost use Rattle.std.specs.Prelude.{◌≡◌, ◌≢◌, ◌⊎◌, true, false, IfOk, IfErr, IfSome, IsSome, List, OnOk, ℕ};
 ghost use Rattle.std.specs.Io.KnownBytes.{IsAtEnd};
 ghost use Rattle.byte_streams.specs.Streams.{IsClosed};
 ghost use Rattle.cert_check.specs.AnswerOf.{IsAnswer};
+ghost use Rattle.cert_check.specs.OutOfMemory.{CertTakesMemory};
 ghost use Rattle.finder_cli.specs.Runs.{IsOfVerifying};
 ghost use Rattle.finder_cli.specs.Certified.{IsLineOn, IsRecordingOf, Verifies, VerifiesFront};
 ghost use Rattle.finder_cli.specs.Certified.{status_of_answer};
+ghost use Rattle.finder_cli.specs.OutOfMemory.{RunsOutVerifying};
 
 use super::answer_line::line_of;
 use super::output::{Output, whole_text, write_output};
@@ -43,6 +45,10 @@ pub fn run_verify<H: Threads + Sync, T: Reader + Drop, C: Reader + Drop, W: Writ
         ⊎ ((trace.new.ended ≡ true) × IsClosed cert.new)) }
     ensures memory { IfErr result (λ fault. fault ≡ RunFault.Memory → (trace.new.failed ≡ false)
         × ((cert.new ≡ cert.old) ⊎ (cert.new.failed ≡ false))) }
+    // Out of memory only at a piece of the trace with a line whose reading takes memory, or one that cut a
+    // line; or behind the trace, where bytes of the certificate came, or all of them.
+    ensures place { IfErr result (λ fault. fault ≡ RunFault.Memory
+        → RunsOutVerifying trace.old trace.new cert.old cert.new) }
     ensures write { IfErr result (λ fault. fault ≡ RunFault.Write → (sink.new.failed ≡ true)
         × IfSome trace.old.bytes (λ t. IfSome cert.old.bytes
         (λ c. VerifiesFront t c sink.old.bytes sink.new.bytes))) }
@@ -79,8 +85,10 @@ fn answer_on<H: Threads + Sync>(
     cert: &[u8],
     recording: &Option<Recording>,
 ) -> Result<Answer, Memory>
-    ensures { IfOk result (λ a. (trace : List ℕ) → IsRecordingOf trace recording.now
+    ensures answer { IfOk result (λ a. (trace : List ℕ) → IsRecordingOf trace recording.now
         → IsAnswer trace cert.now a) }
+    // Out of memory only where a recording was read, and the text spells a certificate.
+    ensures memory { IfErr result (λ _. IsSome recording.now × CertTakesMemory cert.now) }
 {
     match recording {
         None => Ok(Answer::No(Reason::Trace)),

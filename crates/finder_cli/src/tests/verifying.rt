@@ -52,6 +52,32 @@ fn faulty_trace_is_read_to_its_end(rt: HostRuntime) {
     assert!(rt; check.trace.reads == 10 && check.cert.reads == 5);
 }
 
+/// Whether the check says this of the texts, and ends badly.
+fn says_no(check: &Trial<'_, '_>, line: &str) -> bool {
+    check.answer == Ok(Status::Bad) && check.page.text() == line.as_bytes()
+}
+
+#[test]
+fn texts_that_spell_nothing_are_answered(rt: HostRuntime) {
+    let right = "trace 1\nreplicas 1\n0 ins a 0 : a\n";
+    for trace in ["", "\n", "trace 1", "trace 1\n", FAULTY] {
+        for claim in ["", CERTIFICATE] {
+            let check = tried(&rt, rt.alloc(), trace, Some(claim), NEVER);
+            assert!(rt; says_no(&check, "no trace\n"), "of {trace} and {claim}");
+        }
+    }
+    for claim in [
+        "",
+        "\n",
+        "cert 1",
+        "cert 1\n",
+        "cert 1\naccepted\norder : a",
+    ] {
+        let check = tried(&rt, rt.alloc(), right, Some(claim), NEVER);
+        assert!(rt; says_no(&check, "no text\n"), "of {claim}");
+    }
+}
+
 #[test]
 fn right_trace_is_judged(rt: HostRuntime) {
     let text = "trace 1\nreplicas 1\n0 ins a 0 : a\n";

@@ -1,4 +1,5 @@
-use Rattle.std.proofs.Common.{List, Vec, ℕ, Global, sym, subst}
+use Rattle.std.proofs.Common.{List, Vec, ℕ, Global, inl, inr, sym, subst}
+use Rattle.std.proofs.lemmas.Result.{err_from_is_err_and}
 use Rattle.finder_cli.proofs.Reported.{written-on, front-on, certificate-on}
 use Rattle.certificate.specs.ByRows.{joined}
 use Rattle.finder_cli.specs.Certified.{IsCertificateFor, IsCertificateOn}
@@ -24,3 +25,14 @@ returns-clause-write g c =
     front-on IsCertificateOn _ c.args.source.now.bytes _ _ (joined c.deref.result.now) status c.write_texts.result
     (certificate-on c.args.source.now.bytes h (joined c.deref.result.now) status c.in_ok-recording.ensures.ok certificate)
     c.write_texts.ensures.err
+
+pub returns-in_err-recording-clause-place : goal.returns-in_err-recording-clause-place
+returns-in_err-recording-clause-place g c =
+    let p = err_from_is_err_and c.from_residual.result c.from_residual.ensures.1 in
+    rw (p.1, p.2) (λ memory. inl (c.in_err-recording.ensures.place memory))
+
+pub returns-in_err-certified-clause-place : goal.returns-in_err-certified-clause-place
+returns-in_err-certified-clause-place g c =
+    let p = err_from_is_err_and c.from_residual-in_err-certified.result c.from_residual-in_err-certified.ensures.1 in
+    let end = c.in_ok-recording.ensures.end in
+    rw (p.1, p.2) (λ _. inr (c.in_ok-recording.recording, end.2, end.0, c.in_ok-recording.ensures.ok))
