@@ -10,7 +10,7 @@ use Rattle.sessions.specs.declared.replaying.ReplayFault.{ReplayFault}
 use Rattle.sessions.specs.declared.replaying.ReplayFault.TheVariants.{Stalled, Refused}
 use Rattle.level_search.specs.declared.search_fault.SearchFault.{SearchFault}
 use Rattle.specification.proofs.Members.{In}
-use Rattle.rehearsal.specs.Faults.{replay_fault, watch_fault, start_fault}
+use Rattle.rehearsal.specs.Faults.{replay_fault, watch_fault, start_fault, fault_of_all}
 use Rattle.rehearsal.specs.Foremost.{foremost_of, foremost_of_all}
 use Rattle.rehearsal.specs.Joined.{HasJoined}
 use Rattle.rehearsal.specs.Replays.{AreReplayed, HasReplayed, HasStalled, HaveTold}
@@ -90,8 +90,8 @@ module _ (h : History) where
   stalled-in (p ∷ ps) (t ∷ ts) z (inr i) = stalled-in ps ts z.1 i
 
   -- and where it is that one stalled, one has
-  pub joined-stalled : (ps : List PassShown) (back : Back) → HasJoined h ps back → back.fault ≡ Some fault.Stalled → HasStalled h
-  joined-stalled ps back j e = stalled-in ps j.tolds j.told (foremost-among (map (λ (t : Told). replay_fault t.answer) j.tolds) fault.Stalled (sym j.fault_is ∙ e))
+  pub stalled-among : (ps : List PassShown) (ts : List Told) → HaveTold h ps ts → foremost_of_all (map (λ (t : Told). replay_fault t.answer) ts) ≡ Some fault.Stalled → HasStalled h
+  stalled-among ps ts told e = stalled-in ps ts told (foremost-among (map (λ (t : Told). replay_fault t.answer) ts) fault.Stalled e)
 
   no-workers : (ts : List Told) → In (Some fault.Workers) (map (λ (t : Told). replay_fault t.answer) ts) → ⊥
   no-workers [] i = i
@@ -101,7 +101,7 @@ module _ (h : History) where
   pub joined-workers : (ps : List PassShown) (back : Back) → HasJoined h ps back → back.fault ≡ Some fault.Workers → ⊥
   joined-workers ps back j e = no-workers j.tolds (foremost-among (map (λ (t : Told). replay_fault t.answer) j.tolds) fault.Workers (sym j.fault_is ∙ e))
 
-watch-memory : (w : Result (Unit {0}) SearchFault) (f : Option _) → watch_fault w ≡ f → (f ≡ None) ⊎ (f ≡ Some fault.Memory)
+watch-memory : {A : Type 0} (w : Result A SearchFault) (f : Option _) → watch_fault w ≡ f → (f ≡ None) ⊎ (f ≡ Some fault.Memory)
 watch-memory (Ok done) f e = inl (sym e)
 watch-memory (Err x) f e = inr (sym e)
 
@@ -113,15 +113,15 @@ pub start-none : (b : Bool) → start_fault b ≡ None → b ≡ true
 start-none true e = refl
 start-none false e = absurd cc
 
-module _ (a : Option _) (w : Result (Unit {0}) SearchFault) (b : Bool) where
+module _ {A : Type 0} (a : Option _) (w : Result A SearchFault) (b : Bool) where
   -- at the end: none is answered where no recorder had one and all were started
-  pub end-none : foremost_of (foremost_of a (watch_fault w)) (start_fault b) ≡ None → (a ≡ None) × (b ≡ true)
+  pub end-none : fault_of_all a w b ≡ None → (a ≡ None) × (b ≡ true)
   end-none e =
       let both = foremost-none (foremost_of a (watch_fault w)) (start_fault b) e in
       ((foremost-none a (watch_fault w) both.0).0, start-none b both.1)
 
   -- that one stalled is answered of a recorder alone
-  pub end-stalled : foremost_of (foremost_of a (watch_fault w)) (start_fault b) ≡ Some fault.Stalled → a ≡ Some fault.Stalled
+  pub end-stalled : fault_of_all a w b ≡ Some fault.Stalled → a ≡ Some fault.Stalled
   end-stalled e = elim (foremost-either (foremost_of a (watch_fault w)) (start_fault b) fault.Stalled e) [
     | inl first ↦ elim (foremost-either a (watch_fault w) fault.Stalled first) [
       | inl one ↦ one
@@ -130,7 +130,7 @@ module _ (a : Option _) (w : Result (Unit {0}) SearchFault) (b : Bool) where
     | inr started ↦ elim (start-thread b (Some fault.Stalled) started) [ inl x ↦ absurd cc | inr x ↦ absurd cc ]
   ]
 
-  pub end-workers : foremost_of (foremost_of a (watch_fault w)) (start_fault b) ≡ Some fault.Workers → a ≡ Some fault.Workers
+  pub end-workers : fault_of_all a w b ≡ Some fault.Workers → a ≡ Some fault.Workers
   end-workers e = elim (foremost-either (foremost_of a (watch_fault w)) (start_fault b) fault.Workers e) [
     | inl first ↦ elim (foremost-either a (watch_fault w) fault.Workers first) [
       | inl one ↦ one

@@ -1,3 +1,5 @@
 mod Passes
 mod Faults
 mod Joined
+mod Ended
+mod Watched

@@ -191,3 +191,8 @@ replayed_whole h old told has is = record { same = has.same; recorded = ok_holds
 pub first_and_rest : {X : Type 0} (xs ys : List X) (x : X) → 0 < length xs → x ≡ get_or xs 0 x → ys ≡ drop 1 xs → xs ≡ x ∷ ys
 first_and_rest [] ys x some first rest = absurd (omega arith)
 first_and_rest (y ∷ xs) ys x some first rest = λ i. sym first i ∷ sym rest i
+
+-- what holds of all, the first of which was set, holds of that
+pub first-of-set : (P : PassShown → Type 0) (ps : List PassShown) (q : PassShown) → 0 < length ps → All P (set ps 0 q) → P q
+first-of-set P [] q some all = absurd (omega arith)
+first-of-set P (p ∷ ps) q some all = All-head P q ps all

@@ -4,6 +4,7 @@ use Rattle.events.specs.declared.refusal.Refusal.TheVariants.{NoReplica, OwnRece
 use Rattle.sessions.specs.declared.replaying.ReplayFault.{ReplayFault}
 use Rattle.sessions.specs.declared.replaying.ReplayFault.TheVariants.{Stalled, Refused}
 use Rattle.level_search.specs.declared.search_fault.SearchFault.{SearchFault}
+use Rattle.rehearsal.specs.Foremost.{foremost_of}
 use Rattle.rehearsal.specs.declared.fault.RehearsalFault.{RehearsalFault}
 use Rattle.rehearsal.specs.declared.fault.RehearsalFault.TheVariants as fault
 
@@ -21,10 +22,14 @@ replay_fault (Err (Refused at PlacesFull)) = Some fault.Stalled
 replay_fault (Err (Refused at Memory)) = Some fault.Memory
 
 -- the workers were counted before, so a watch fails by memory alone
-abbrev pub watch_fault : Result (Unit {0}) SearchFault → Option RehearsalFault
+abbrev pub watch_fault : {A : Type 0} → Result A SearchFault → Option RehearsalFault
 watch_fault (Ok done) = None
 watch_fault (Err e) = Some fault.Memory
 
 abbrev pub start_fault : Bool → Option RehearsalFault
 start_fault true = None
 start_fault false = Some fault.Thread
+
+-- the foremost of the recorders', the watch's, and that not all recorders could be started
+abbrev pub fault_of_all : {A : Type 0} → Option RehearsalFault → Result A SearchFault → Bool → Option RehearsalFault
+fault_of_all recorders watch is_whole = foremost_of (foremost_of recorders (watch_fault watch)) (start_fault is_whole)

@@ -3,8 +3,9 @@ use Rattle.std.specs.Prelude.{◌≡◌, ℕ, List, [], ◌∷◌, ◌++◌, Som
 use Rattle.std.specs.List.{AllZip}
 use Rattle.events.specs.History.{History, stream}
 use Rattle.sessions.specs.Replays.{Stops}
-use Rattle.sessions.specs.Shown.{Which, PassShown, mine}
+use Rattle.sessions.specs.Shown.{ObserverShown, PassShown, mine}
 use Rattle.rehearsal.specs.Faults.{replay_fault}
+use Rattle.rehearsal.specs.Watched.{HasJudged}
 use Rattle.rehearsal.specs.declared.fault.RehearsalFault.TheVariants as fault
 use Rattle.rehearsal.specs.declared.recorder.Told.{Told}
 use Rattle.rehearsal.specs.declared.rehearsing.Returns.{Returns}
@@ -39,6 +40,6 @@ AreReplayed h [] (q ∷ qs) = ⊥
 AreReplayed h (p ∷ ps) [] = ⊥
 AreReplayed h (p ∷ ps) (q ∷ qs) = IsReplayed h p q × AreReplayed h ps qs
 
--- what comes back after these passes acted beside an observer of this session
-abbrev pub HaveActed : History → Which → List PassShown → Returns → Type 0
-HaveActed h session passes back = AreReplayed h passes back.passes.items × (back.observer.session ≡ session)
+-- what comes back after these passes acted beside this observer
+abbrev pub HaveActed : History → ObserverShown → List PassShown → Returns → Type 0
+HaveActed h observer passes back = AreReplayed h passes back.passes.items × HasJudged observer back.verdicts back.observer

@@ -5,7 +5,7 @@ ghost use Rattle.rehearsal.specs.Foremost.{foremost_of};
 ghost use Rattle.rehearsal.specs.declared.fault.RehearsalFault.TheVariants as fault;
 
 use events::{Memory, Refusal};
-use sessions::{ReplayFault, SearchFault};
+use sessions::{ReplayFault, SearchFault, Verdicts};
 use thiserror::Error;
 
 /// Why a rehearsal ended without a recording. `Workers` is tested first; after all threads are joined, out of
@@ -52,11 +52,11 @@ pub fn of_replay(answer: &Result<u32, ReplayFault>) -> Option<RehearsalFault>
 }
 
 /// What a watch that failed ends the rehearsal with.
-pub fn of_watch(answer: &Result<(), SearchFault>) -> Option<RehearsalFault>
+pub fn of_watch(answer: &Result<Verdicts, SearchFault>) -> Option<RehearsalFault>
     ensures { result ≡ watch_fault answer.now }
 {
     match answer {
-        Ok(()) => None,
+        Ok(_) => None,
         Err(_) => Some(RehearsalFault::Memory),
     }
 }

@@ -1,20 +1,22 @@
 //! The rehearsal: a session is opened, its recorders and its watcher act, and it is closed.
-ghost use Rattle.std.specs.Prelude.{◌≡◌, ◌≤◌, ◌<◌, ◌⊎◌, ◌↔◌, ℕ, List, All, IfOk, IsErrOf};
+ghost use Rattle.std.specs.Prelude.{◌≡◌, ◌≤◌, ◌<◌, ◌⊎◌, ◌↔◌, ℕ, List, All, Some, None, Ok, [], IfOk, IfErr, IsErrOf, length};
 ghost use Rattle.events.specs.History.{SameStreams, IsLegal};
+ghost use Rattle.sessions.specs.Prefixes.{HasPrefix};
 ghost use Rattle.sessions.specs.Replays.{operations_of};
 ghost use Rattle.sessions.specs.Shown.{PassShown};
-ghost use Rattle.rehearsal.specs.Faults.{start_fault, watch_fault};
-ghost use Rattle.rehearsal.specs.Foremost.{foremost_of};
+ghost use Rattle.rehearsal.specs.Ends.{IsEndOf, MayEnd};
+ghost use Rattle.rehearsal.specs.Faults.{fault_of_all};
 ghost use Rattle.rehearsal.specs.Opened.{AreOpened};
 ghost use Rattle.rehearsal.specs.Replays.{AreReplayed, HasStalled, HaveActed};
+ghost use Rattle.rehearsal.specs.Watched.{HasWatched, IsWatched, WasWatched};
 
 use super::board::Board;
 use super::fault::{RehearsalFault, foremost, of_watch};
 use super::team::{Back, Team, joined, started};
-use super::watcher::{Returned, Watched, watch_turns};
+use super::watcher::{Watched, Watches, watch_turns};
 use events::{MOST_REPLICAS, Memory, Recording};
 use level_search::{Gate, MOST_WORKERS};
-use sessions::{Observer, Pass, SearchFault, Session};
+use sessions::{Observer, Pass, SearchFault, Session, Verdicts};
 use std::alloc::Global;
 use std::snapshot::Snapshot;
 use std::sync::Wait;
@@ -35,6 +37,14 @@ struct Opened {
 struct Returns {
     passes: Vec<Pass>,
     observer: Observer,
+    verdicts: Verdicts,
+}
+
+/// What a rehearsal comes to: what the session has in the end, and the watcher's verdicts, the earliest first.
+#[derive(Drop)]
+pub struct Rehearsed {
+    pub recording: Recording,
+    pub verdicts: Verdicts,
 }
 
 /// Replays a recording in a session of its own, and answers what the session then has: a recording with the
@@ -53,22 +63,58 @@ pub fn rehearse<H: Threads + Wait + Sync, G: Gate>(
     gate: &G,
 ) -> Result<Recording, RehearsalFault>
     ensures streams { IfOk result (λ closed. SameStreams recording.now closed) }
+    ensures watched { IfOk result IsWatched }
     ensures workers { IsErrOf result RehearsalFault.Workers ↔ ((workers < 1) ⊎ (MOST_WORKERS < workers)) }
+    // `Thread` and `Stalled` are the foremost of what the threads told.
+    ensures ended { IfErr result (IsEndOf recording.now) }
     ensures stalled { IsErrOf result RehearsalFault.Stalled → HasStalled recording.now }
 {
     if workers == 0 || workers > MOST_WORKERS {
         return Err(RehearsalFault::Workers);
     }
+    let rehearsed = match rehearse_watched(rt, alloc, recording, workers, gate) {
+        Ok(rehearsed) => rehearsed,
+        Err(fault) => return Err(fault),
+    };
+    let Rehearsed {
+        recording: closed,
+        verdicts: _,
+    } = rehearsed;
+    Ok(closed)
+}
+
+/// The same, with the watcher's verdicts.
+pub fn rehearse_watched<H: Threads + Wait + Sync, G: Gate>(
+    rt: &H,
+    alloc: Global,
+    recording: &Recording,
+    workers: u32,
+    gate: &G,
+) -> Result<Rehearsed, RehearsalFault>
+    requires workers { (1 ≤ workers) × (workers ≤ MOST_WORKERS) }
+    ensures streams { IfOk result (λ rehearsed. SameStreams recording.now rehearsed.recording) }
+    ensures watched { IfOk result (λ rehearsed. WasWatched rehearsed.recording rehearsed.verdicts) }
+    ensures workers { ¬ IsErrOf result RehearsalFault.Workers }
+    ensures ended { IfErr result (IsEndOf recording.now) }
+{
     let Opened {
         session,
         passes,
         observer,
         board,
     } = open(alloc, recording.replicas())?;
-    let Returns { passes, observer } = act(
+    let Returns {
+        passes,
+        observer,
+        verdicts,
+    } = act(
         rt, alloc, &session, recording, passes, observer, workers, gate, &board,
     )?;
-    Ok(close(session, recording, passes, observer))
+    let closed = close(session, recording, passes, observer);
+    Ok(Rehearsed {
+        recording: closed,
+        verdicts,
+    })
 }
 
 /// A session of so many replicas, an observer that pass 0 made, and a board.
@@ -76,7 +122,7 @@ fn open(alloc: Global, replicas: u32) -> Result<Opened, Memory>
     requires { (1 ≤ replicas) × (replicas ≤ MOST_REPLICAS) }
     ensures replicas { IfOk result (λ o. o.session.replicas ≡ replicas) }
     ensures passes { IfOk result (λ o. AreOpened o.session o.passes.items) }
-    ensures observer { IfOk result (λ o. o.observer.session ≡ o.session) }
+    ensures observer { IfOk result (λ o. o.observer ≡ record { session = o.session; seen = [] }) }
 {
     let Ok((session, mut passes)) = Session::open(alloc, replicas) else {
         return Err(Memory);
@@ -102,23 +148,25 @@ fn act<H: Threads + Wait + Sync, G: Gate>(
     gate: &G,
     board: &Board,
 ) -> Result<Returns, RehearsalFault>
+    requires workers { (1 ≤ workers) × (workers ≤ MOST_WORKERS) }
+    requires some { 0 < length passes.items }
     requires passes { All (λ p. p.session ≡ session.now) passes.items }
     requires new { All (λ p. operations_of p ≡ 0) passes.items }
     requires observer { observer.session ≡ session.now }
-    ensures acted { IfOk result (HaveActed recording.now session.now passes.items) }
-    ensures workers { ¬ IsErrOf result RehearsalFault.Workers }
-    ensures stalled { IsErrOf result RehearsalFault.Stalled → HasStalled recording.now }
+    ensures acted { IfOk result (HaveActed recording.now observer passes.items) }
+    ensures ended { IfErr result (MayEnd recording.now passes.items) }
 {
     thread::scope(
         thread::scope_env(),
         rt,
         move |scope| -> Result<Returns, RehearsalFault>
+            requires workers { (1 ≤ workers) × (workers ≤ MOST_WORKERS) }
+            requires some { 0 < length passes.items }
             requires passes { All (λ p. p.session ≡ session.now) passes.items }
             requires new { All (λ p. operations_of p ≡ 0) passes.items }
             requires observer { observer.session ≡ session.now }
-            ensures acted { IfOk result (HaveActed recording.entry.now session.entry.now passes.items) }
-            ensures workers { ¬ IsErrOf result RehearsalFault.Workers }
-            ensures stalled { IsErrOf result RehearsalFault.Stalled → HasStalled recording.entry.now }
+            ensures acted { IfOk result (HaveActed recording.entry.now observer passes.items) }
+            ensures ended { IfErr result (MayEnd recording.entry.now passes.items) }
         {
             act_in(
                 rt, alloc, scope, session, recording, passes, observer, workers, gate, board,
@@ -140,55 +188,72 @@ fn act_in<'s, E, H: Threads + Wait + Sync, G: Gate>(
     gate: &'s G,
     board: &'s Board,
 ) -> Result<Returns, RehearsalFault>
+    requires workers { (1 ≤ workers) × (workers ≤ MOST_WORKERS) }
+    requires some { 0 < length passes.items }
     requires passes { All (λ p. p.session ≡ session.now) passes.items }
     requires new { All (λ p. operations_of p ≡ 0) passes.items }
     requires observer { observer.session ≡ session.now }
-    ensures acted { IfOk result (HaveActed recording.now session.now passes.items) }
-    ensures workers { ¬ IsErrOf result RehearsalFault.Workers }
-    ensures stalled { IsErrOf result RehearsalFault.Stalled → HasStalled recording.now }
+    ensures acted { IfOk result (HaveActed recording.now observer passes.items) }
+    ensures ended { IfErr result (MayEnd recording.now passes.items) }
 {
+    let handles = Vec::with_capacity(alloc, passes.len()).map_err(|_| RehearsalFault::Memory)?;
     let room = Vec::with_capacity(alloc, passes.len()).map_err(|_| RehearsalFault::Memory)?;
-    let promise = Returned {
+    let promise = Watches {
         observer: Snapshot::of(&observer),
     };
     let Ok(watcher) = scope.spawn_with(
         promise,
         move || -> Watched
-            requires { observer.session ≡ session.now }
-            ensures { result.observer.session ≡ session.entry.now }
+            requires session { observer.session ≡ session.now }
+            requires workers { (1 ≤ workers) × (workers ≤ MOST_WORKERS) }
+            ensures { HasWatched observer result }
         { watch_turns(rt, alloc, session, observer, workers) },
     ) else {
         return Err(RehearsalFault::Thread);
     };
     let Team { handles, is_whole } = started(
-        rt, alloc, scope, session, recording, gate, board, passes,
-    )?;
+        rt, alloc, scope, session, recording, gate, board, passes, handles,
+    );
     let back = joined(rt, recording, handles, room);
-    let Watched { observer, answer } = watcher.join(rt);
-    match fault_at_end(&back, &answer, is_whole) {
-        None => Ok(Returns {
-            passes: back.passes,
-            observer,
-        }),
-        Some(fault) => Err(fault),
-    }
+    let watched = watcher.join(rt);
+    returned(back, watched, is_whole)
 }
 
 /// What is answered where all threads have ended: the foremost of the recorders' faults, the watcher's, and that not all
-/// recorders could be started.
+/// recorders could be started; else what came back.
+fn returned(back: Back, watched: Watched, is_whole: bool) -> Result<Returns, RehearsalFault>
+    ensures none { IfOk result (λ _. fault_of_all back.fault watched.answer is_whole ≡ None) }
+    ensures fault { IfErr result (λ fault. fault_of_all back.fault watched.answer is_whole ≡ Some fault) }
+    ensures back { IfOk result (λ returns. (returns.passes.items ≡ back.passes.items)
+        × (returns.observer ≡ watched.observer) × (watched.answer ≡ Ok returns.verdicts)) }
+{
+    let Back { passes, fault } = back;
+    let Watched { observer, answer } = watched;
+    if let Some(fault) = fault_at_end(fault, &answer, is_whole) {
+        return Err(fault);
+    }
+    let Ok(verdicts) = answer else { unreachable!() };
+    Ok(Returns {
+        passes,
+        observer,
+        verdicts,
+    })
+}
+
+/// The foremost of the recorders' faults, the watcher's, and that not all recorders could be started.
 fn fault_at_end(
-    back: &Back,
-    answer: &Result<(), SearchFault>,
+    recorders: Option<RehearsalFault>,
+    answer: &Result<Verdicts, SearchFault>,
     is_whole: bool,
 ) -> Option<RehearsalFault>
-    ensures { result ≡ foremost_of (foremost_of back.now.fault (watch_fault answer.now)) (start_fault is_whole) }
+    ensures { result ≡ fault_of_all recorders answer.now is_whole }
 {
     let unstarted = if is_whole {
         None
     } else {
         Some(RehearsalFault::Thread)
     };
-    foremost(foremost(back.fault, of_watch(answer)), unstarted)
+    foremost(foremost(recorders, of_watch(answer)), unstarted)
 }
 
 /// Ends the observer at pass 0 and closes the session, all of whose passes have replayed the recording.
@@ -203,7 +268,9 @@ fn close(
     requires observer { observer.session ≡ session }
     requires replayed { (before : List PassShown) × AreOpened session before
         × AreReplayed recording.now before passes.items }
-    ensures { SameStreams recording.now result }
+    ensures streams { SameStreams recording.now result }
+    ensures replicas { result.replicas ≡ session.replicas }
+    ensures watched { HasPrefix result.entries observer.seen }
 {
     let mut passes = passes;
     session.end(observer, &mut passes[0]);

@@ -1,6 +1,7 @@
 //! The recorders' threads: started one after the other, and joined.
-ghost use Rattle.std.specs.Prelude.{◌≡◌, ◌<◌, ◌≤◌, ◌++◌, ◌∷◌, [], true, All, IfOk, map, vec_len};
+ghost use Rattle.std.specs.Prelude.{◌≡◌, ◌<◌, ◌≤◌, ◌++◌, ◌∷◌, [], All, map, nat_eq, vec_len};
 ghost use Rattle.std.specs.Vec.{vec_capacity};
+ghost use Rattle.sessions.specs.Prefixes.{HasPrefix};
 ghost use Rattle.sessions.specs.Replays.{operations_of};
 ghost use Rattle.rehearsal.specs.Faults.{replay_fault};
 ghost use Rattle.rehearsal.specs.Foremost.{foremost_of};
@@ -10,7 +11,7 @@ ghost use Rattle.rehearsal.specs.Replays.{HasReplayed};
 use super::board::Board;
 use super::fault::{RehearsalFault, foremost, of_replay};
 use super::recorder::{Replayed, Told, replay_stream};
-use events::{Memory, Recording};
+use events::Recording;
 use level_search::Gate;
 use sessions::{Pass, Session};
 use std::alloc::Global;
@@ -32,8 +33,9 @@ pub struct Back {
     pub fault: Option<RehearsalFault>,
 }
 
-/// Starts a recorder with each of the passes, until one can't be started.
-fn start_each<'s, E, R: Wait + Sync, G: Gate>(
+/// Starts a recorder with each of the passes, which are of all replicas, in order, and have recorded nothing, until one
+/// can't be started; then the others don't wait for those that never begin. There is room for the handles.
+pub fn started<'s, E, R: Wait + Sync, G: Gate>(
     rt: &'s R,
     alloc: Global,
     scope: &'s Scope<'s, E>,
@@ -42,16 +44,18 @@ fn start_each<'s, E, R: Wait + Sync, G: Gate>(
     gate: &'s G,
     board: &'s Board,
     mut passes: Vec<Pass>,
-) -> Result<Team, Memory>
+    room: Vec<PromisedHandle<Told, Replayed>>,
+) -> Team
     requires session { All (λ p. p.session ≡ session.now) passes.items }
     requires new { All (λ p. operations_of p ≡ 0) passes.items }
-    ensures whole { IfOk result (λ team. team.is_whole ≡ true
-        → map (λ h. h.promise.pass.value) team.handles.items ≡ passes.items) }
-    ensures recording { IfOk result (λ team. All
-        (λ h. h.promise.recording.value ≡ recording.now) team.handles.items) }
-    ensures count { IfOk result (λ team. vec_len team.handles ≤ vec_len passes) }
+    requires empty { room.items ≡ [] }
+    requires room { vec_len passes ≤ vec_capacity room }
+    ensures first { HasPrefix passes.items (map (λ h. h.promise.pass.value) result.handles.items) }
+    ensures whole { result.is_whole ≡ nat_eq (vec_len result.handles) (vec_len passes) }
+    ensures count { vec_len result.handles ≤ vec_len passes }
+    ensures recording { All (λ h. h.promise.recording.value ≡ recording.now) result.handles.items }
 {
-    let mut handles = Vec::with_capacity(alloc, passes.len())?;
+    let mut handles = room;
     'starts: while !passes.is_empty() {
         let pass = passes.remove(0);
         let promise = Replayed {
@@ -66,48 +70,20 @@ fn start_each<'s, E, R: Wait + Sync, G: Gate>(
                 ensures { HasReplayed recording.entry.now pass result }
             { replay_stream(rt, alloc, session, pass, recording, gate, board) },
         ) {
-            Ok(handle) => handles.push(handle)?,
+            Ok(handle) => handles.push_reserved(handle),
             Err(_) => {
-                return Ok(Team {
+                board.end_from(rt, handles.len());
+                return Team {
                     handles,
                     is_whole: false,
-                });
+                };
             }
         }
     }
-    Ok(Team {
+    Team {
         handles,
         is_whole: true,
-    })
-}
-
-/// Starts a recorder with each of the passes, which are of all replicas, in order, and have recorded nothing. If not
-/// all could be started, the others don't wait for them.
-pub fn started<'s, E, R: Wait + Sync, G: Gate>(
-    rt: &'s R,
-    alloc: Global,
-    scope: &'s Scope<'s, E>,
-    session: &'s Session,
-    recording: &'s Recording,
-    gate: &'s G,
-    board: &'s Board,
-    passes: Vec<Pass>,
-) -> Result<Team, Memory>
-    requires session { All (λ p. p.session ≡ session.now) passes.items }
-    requires new { All (λ p. operations_of p ≡ 0) passes.items }
-    ensures whole { IfOk result (λ team. team.is_whole ≡ true
-        → map (λ h. h.promise.pass.value) team.handles.items ≡ passes.items) }
-    ensures recording { IfOk result (λ team. All
-        (λ h. h.promise.recording.value ≡ recording.now) team.handles.items) }
-    ensures count { IfOk result (λ team. vec_len team.handles ≤ vec_len passes) }
-{
-    let team = start_each(rt, alloc, scope, session, recording, gate, board, passes);
-    match &team {
-        Ok(team) if team.is_whole => {}
-        Ok(team) => board.end_from(rt, team.handles.len()),
-        Err(Memory) => board.end_from(rt, 0),
     }
-    team
 }
 
 /// Puts a pass that came back at the end, and notes the fault if its replay stopped. There is room for the pass.

@@ -1,5 +1,7 @@
 //! What no clause says: that recorders run beside one another, that they wake each other, and that the gate is called
 //! round each replay.
+mod watched;
+
 use super::{RehearsalFault, rehearse};
 use events::{Body, Entry, OpName, Recording, Response};
 use level_search::{Gate, NoGate};

@@ -1,29 +1,37 @@
--- What is answered at the end says how the recorders' replays went.
-use Rattle.std.proofs.Common.{rules, ◌≡◌, List, Some, map, sym, ap, subst, ◌∙◌}
-use Rattle.sessions.specs.Shown.{PassShown}
-use Rattle.rehearsal.specs.Replays.{AreReplayed}
-use Rattle.rehearsal.specs.declared.fault.RehearsalFault.TheVariants as fault
-use Rattle.rehearsal.proofs.Joined.{end-none, end-stalled, end-workers, joined-replayed, joined-stalled, joined-workers}
+-- What is answered at the end is what the threads told.
+use Rattle.std.proofs.Common.{rules, arith, ◌≡◌, nat_eq, List, map, length, vec_len, sym, ap, subst, ◌∙◌}
+use Rattle.std.proofs.lemmas.List.{length-map}
+use Rattle.std.specs.declared.thread.PromisedHandle.{PromisedHandle}
+use Rattle.sessions.specs.Shown.{ObserverShown, PassShown}
+use Rattle.rehearsal.specs.Watched.{HasWatched}
+use Rattle.rehearsal.specs.declared.recorder.Replayed.{Replayed}
+use Rattle.rehearsal.specs.declared.recorder.Told.{Told}
+use Rattle.rehearsal.proofs.Ended.{acted-of, ended-of, unstarted}
 use Rattle.rehearsal.proofs.rehearsing.act_in.Goals as goal
 
-pub returns-in-None-clause-acted : goal.returns-in-None-clause-acted
-returns-in-None-clause-acted g c =
-    let h = c.args.recording.now in
-    let back = c.joined-back.result in
-    let both = end-none back.fault c.join-observer.result.answer c.in_ok-handles.field-0.is_whole (sym c.in-None.ensures) in
-    let replayed = joined-replayed h _ back c.joined-back.ensures.told both.0 in
-    (subst (λ (ps : List PassShown). AreReplayed h ps back.passes.items) (c.in_ok-handles.ensures.whole both.1) replayed, search rules)
+pub returns-in_default-clause-ended : goal.returns-in_default-clause-ended
+returns-in_default-clause-ended g c = unstarted c.args.recording.now c.args.passes.items c.requires.some
 
-pub returns-in-Some-clause-workers : goal.returns-in-Some-clause-workers
-returns-in-Some-clause-workers g c = λ is.
-    let same : c.in-Some.fault ≡ fault.Workers = cc in
-    let back = c.joined-back.result in
-    joined-workers c.args.recording.now _ back c.joined-back.ensures.told
-    (end-workers back.fault c.join-observer.result.answer c.in_ok-handles.field-0.is_whole (sym c.in-Some.ensures ∙ ap Some same))
+pub returns-clause-acted : goal.returns-clause-acted
+returns-clause-acted g c =
+    let pass : PromisedHandle Told Replayed → PassShown = λ p. p.promise.pass.value in
+    let started = c.started-handles.result.handles in
+    let some : vec_len started ≡ length (map pass started.items) = omega (arith, started.ok.0, length-map started.items pass) in
+    let all : vec_len c.args.passes ≡ length c.args.passes.items = omega (arith, c.args.passes.ok.0) in
+    let same : c.in-Ok.watcher.promise.observer.value ≡ c.args.observer = search rules in
+    acted-of c.args.recording.now c.args.passes.items c.args.observer (map pass started.items) c.joined-back.result c.join-watched.result c.started-handles.result.is_whole c.returned.result
+    c.joined-back.ensures.told c.started-handles.ensures.first
+    (c.started-handles.ensures.whole ∙ ap (λ n. nat_eq n (vec_len c.args.passes)) some ∙ ap (nat_eq (length (map pass started.items))) all)
+    (subst (λ (o : ObserverShown). HasWatched o c.join-watched.result) same c.join-watched.ensures)
+    c.returned.ensures.none c.returned.ensures.back
 
-pub returns-in-Some-clause-stalled : goal.returns-in-Some-clause-stalled
-returns-in-Some-clause-stalled g c = λ is.
-    let same : c.in-Some.fault ≡ fault.Stalled = cc in
-    let back = c.joined-back.result in
-    joined-stalled c.args.recording.now _ back c.joined-back.ensures.told
-    (end-stalled back.fault c.join-observer.result.answer c.in_ok-handles.field-0.is_whole (sym c.in-Some.ensures ∙ ap Some same))
+pub returns-clause-ended : goal.returns-clause-ended
+returns-clause-ended g c =
+    let pass : PromisedHandle Told Replayed → PassShown = λ p. p.promise.pass.value in
+    let started = c.started-handles.result.handles in
+    let some : vec_len started ≡ length (map pass started.items) = omega (arith, started.ok.0, length-map started.items pass) in
+    let all : vec_len c.args.passes ≡ length c.args.passes.items = omega (arith, c.args.passes.ok.0) in
+    ended-of c.args.recording.now c.args.passes.items c.args.observer (map pass started.items) c.joined-back.result c.join-watched.result c.started-handles.result.is_whole c.returned.result
+    c.joined-back.ensures.told c.started-handles.ensures.first
+    (c.started-handles.ensures.whole ∙ ap (λ n. nat_eq n (vec_len c.args.passes)) some ∙ ap (nat_eq (length (map pass started.items))) all)
+    c.returned.ensures.fault
