@@ -34,8 +34,8 @@ placed-few v xs rising placed =
     let rows : List (List ℕ) = lists_of v in
     let few : length xs ≤ length (joined rows) =
     Once-bounded xs (joined rows) (rising-once xs rising) (λ z i.
-        (let at = placed z (Contains-from_In xs z i) in
-        in-joined rows at.list z (In-from_place (row rows at.list) at.place z (slice_get-get_or (row rows at.list) at.place 0 at.here.within ∙ ap Some at.here.here)))) in
+    (let at = placed z (Contains-from_In xs z i) in
+    in-joined rows at.list z (In-from_place (row rows at.list) at.place z (slice_get-get_or (row rows at.list) at.place 0 at.here.within ∙ ap Some at.here.here)))) in
     omega (arith, few, joined-length rows, lists-total v)
 
 -- two looks at the row of each of these elements are no more than there are places and elements
