@@ -103,6 +103,23 @@ struct Hold {
     seen: AtomicU64,
 }
 
+impl Hold {
+    fn new() -> Hold {
+        Hold {
+            begun: AtomicU64::new(0),
+            ended: AtomicU64::new(0),
+            seen: AtomicU64::new(0),
+        }
+    }
+
+    /// Whether it held up three searches: the first saw another beside it, and all have ended. Where memory was wanted
+    /// after them, they were made again.
+    fn saw_three(&self) -> bool {
+        let ended = self.ended.load(Ordering::SeqCst);
+        self.seen.load(Ordering::SeqCst) == 1 && (ended == 3 || ended == 6)
+    }
+}
+
 impl Gate for Hold {
     fn before(&self, _worker: u32, _source: u32) {
         if self.begun.fetch_add(1, Ordering::SeqCst) != 0 {
@@ -123,15 +140,8 @@ impl Gate for Hold {
 
 #[test]
 fn two_searches_at_once(rt: HostRuntime) {
-    let hold = Hold {
-        begun: AtomicU64::new(0),
-        ended: AtomicU64::new(0),
-        seen: AtomicU64::new(0),
-    };
+    let hold = Hold::new();
     let answer = answered(&rt, rt.alloc(), THREE_WAY_CYCLE, 2, &hold);
     assert!(rt; answer == Said::Refused(3, 3));
-    assert!(rt; hold.seen.load(Ordering::SeqCst) == 1);
-    // Where memory is wanted after the three searches, they are made again.
-    let ended = hold.ended.load(Ordering::SeqCst);
-    assert!(rt; ended == 3 || ended == 6);
+    assert!(rt; hold.saw_three());
 }

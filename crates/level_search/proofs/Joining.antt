@@ -1,6 +1,7 @@
 -- Numbers and names: what stands before what, cycles and their lengths are the same told by numbers and by names.
 use Rattle.std.proofs.Common.{◌≡◌, ℕ, zero, suc, ◌<◌, ◌≤◌, ◌⊎◌, inl, inr, Option, Some, None, List, [], ◌∷◌, length, get_or, refl, sym, ◌∙◌, ap, subst, arith}
 use Rattle.std.specs.Prelude.{true, is_some, ◌+◌, All, IsTrue, slice_get, unwrap_or, nat_lt, ◌==◌, ◌&&◌}
+use Rattle.std.specs.Prelude.{false}
 use Rattle.std.proofs.lemmas.Bool.{true≢false, cases_order, or_cases, and_parts, ltb-true, eqb-true}
 use Rattle.std.proofs.lemmas.List.{get_or-map, length-map}
 use Rattle.std.proofs.lemmas.List.Elements.{All-nil, All-cons, All-head, All-tail}
@@ -244,6 +245,11 @@ module _ (v : Responses) (proper : AreProper v) where
       let low : k ≤ m = (shortest_of_all k shortest).shortest s m known answer.0.cycle in
       let same : m ≡ k = omega (arith, answer.1) in
       subst (λ n. HasCycle (lists_of v) s n) same answer.0.cycle
+
+  -- where it finds none, there is no cycle of this length
+  pub none-here : (k s b : ℕ) (r : Option ℕ) → b ≡ k + 1 → IsSearchAnswer (lists_of v) s b r → false ≡ is_some r → ¬ HasCycle (lists_of v) s k
+  none-here k s b None bound answer missed cycle = omega (arith, answer k cycle, bound)
+  none-here k s b (Some m) bound answer missed cycle = true≢false (sym missed)
 
   pub no_cycle : ((s n : ℕ) → s < length v.elements → ¬ HasCycle (lists_of v) s n) → HasNoCycle v
   no_cycle none cycle is = let walk = first-walk cycle is in none walk.0 (length cycle) walk.1 walk.2

@@ -1,12 +1,13 @@
--- Sizes of sets and layers: one element more, and what the next set of near elements has.
-use Rattle.std.proofs.Common.{◌≡◌, ℕ, zero, suc, ◌+◌, ◌-◌, ◌<◌, ◌≤◌, ◌⊎◌, List, inl, inr, sym, ap, ◌∙◌, arith}
+-- Sizes of sets and layers: one element more, and what the next set of near elements has; and counts of looks.
+use Rattle.std.proofs.Common.{◌≡◌, ℕ, zero, suc, ◌+◌, ◌-◌, ◌<◌, ◌≤◌, ◌⊎◌, List, add-one, inl, inr, refl, sym, ap, ◌∙◌, arith}
 use Rattle.std.specs.Prelude.{◌↔◌}
 use Rattle.std.proofs.lemmas.Bool.{cases_lt}
 use Rattle.std.proofs.lemmas.Nat.Bits.{bit_at-lt}
 use Rattle.bit_tables.specs.Sets.{Has}
 use Rattle.bit_tables.proofs.SetLemmas.{Has-either}
 use Rattle.level_search.specs.Balls.{IsInLayer}
-use Rattle.level_search.specs.LayerSizes.{bit, set_size, layer_size}
+use Rattle.order_graph.specs.Lists.{ticked}
+use Rattle.level_search.specs.LayerSizes.{bit, counted, set_size, layer_size}
 use Rattle.level_search.specs.declared.tabled.sets.Sets.{Sets}
 
 bit-low : (set : List ℕ) (x : ℕ) → bit set x < 2
@@ -43,6 +44,11 @@ layer-gap sets from (suc x) le none = elim (cases_lt x from) [
   | inr ge ↦ omega (arith, layer-gap sets from x ge (λ y low high. none y low (omega (arith, high))), out-of-layer sets x (none x ge (omega arith)))
 ]
 
+-- one element more after a gap
+pub layer-next : (sets : Sets) (from x : ℕ) → from ≤ x → ((y : ℕ) → from ≤ y → y < x → Has sets.reached y → Has sets.near y) → Has sets.reached x → ¬ Has sets.near x
+    → layer_size (x + 1) sets ≡ layer_size from sets + 1
+layer-next sets from x le none reached not_near = omega (arith, layer-gap sets from x le none, layer-more sets x reached not_near)
+
 pub layer-up : (sets : Sets) (m n : ℕ) → m ≤ n → layer_size m sets ≤ layer_size n sets
 layer-up sets m zero le = let e : m ≡ zero = omega (arith, le) in omega (arith, ap (λ k. layer_size k sets) e)
 layer-up sets m (suc n) le = elim (cases_lt n m) [
@@ -70,3 +76,29 @@ pub near-next : (n : ℕ) (sets : Sets) (new : List ℕ) → ((x : ℕ) → Has 
     → set_size n new ≡ set_size n sets.near + layer_size n sets
 near-next zero sets new is = omega arith
 near-next (suc n) sets new is = omega (arith, near-next n sets new is, bits-together sets new n (is n))
+
+pub near-none : (n : ℕ) (set : List ℕ) → ((x : ℕ) → ¬ Has set x) → set_size n set ≡ 0
+near-none zero set none = omega arith
+near-none (suc n) set none = omega (arith, near-none n set none, bit-not set n (none n))
+
+-- one look more
+pub counted-next : (k next old : ℕ) → next ≡ k + 1 → ticked (counted k old) ≡ counted next old
+counted-next k next old is = ap (λ n. counted n old) (sym (is ∙ add-one k))
+
+-- so many looks, and then so many more
+pub counted-plus : (m n old : ℕ) → counted m (counted n old) ≡ counted (n + m) old
+counted-plus zero n old = let e : n ≡ n + zero = omega arith in ap (λ k. counted k old) e
+counted-plus (suc m) n old = ap ticked (counted-plus m n old) ∙ counted-next (n + m) (n + suc m) old (omega arith)
+
+pub counted-most : (k old : ℕ) → counted k old ≤ old + k
+counted-most zero old = omega arith
+counted-most (suc k) old = omega (arith, counted-most k old)
+
+pub looked-more : (a b old was new : ℕ) → was ≡ counted a old → new ≡ counted b was → new ≡ counted (a + b) old
+looked-more a b old was new first then = then ∙ ap (counted b) first ∙ counted-plus b a old
+
+pub looked-as : (a b old new : ℕ) → new ≡ counted a old → a ≡ b → new ≡ counted b old
+looked-as a b old new is same = is ∙ ap (λ k. counted k old) same
+
+pub looked-within : (k most old new : ℕ) → new ≡ counted k old → k ≤ most → new ≤ old + most
+looked-within k most old new is less = omega (arith, is, less, counted-most k old)

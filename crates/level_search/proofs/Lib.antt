@@ -2,6 +2,7 @@
 pub mod Growth
 pub mod Reach
 pub mod Places
+pub mod Placed
 pub mod Levelled
 pub mod Layers
 pub mod Depths

@@ -1,6 +1,7 @@
 -- What workers over one bound leave: a claim, an offer, a seat taken in, and the end.
-use Rattle.std.proofs.Common.{◌≡◌, ◌≢◌, ℕ, zero, suc, ◌+◌, ◌-◌, ◌<◌, ◌≤◌, max, List, [], ◌∷◌, ◌++◌, length, get_or, sym, refl, ap, arith, All, subst, le_trans, ◌∙◌, ◌⊎◌, inl, inr, Some, None, min, take, drop, true, false, length-append, IsPermutation}
+use Rattle.std.proofs.Common.{◌≡◌, ◌≢◌, ℕ, zero, suc, ◌+◌, ◌-◌, ◌*◌, ◌<◌, ◌≤◌, max, List, [], ◌∷◌, ◌++◌, length, get_or, sym, refl, ap, arith, All, subst, le_trans, ◌∙◌, ◌⊎◌, inl, inr, Some, None, min, take, drop, true, false, length-append, IsPermutation}
 use Rattle.std.proofs.lemmas.List.{append-nil}
+use Rattle.std.proofs.Math.Nat.{add-mul}
 use Rattle.std.specs.List.{range_with_len}
 use Rattle.std.proofs.lemmas.List.Sorted.{All-permutation, IsPermutation-sym, length_permutation}
 use Rattle.std.proofs.lemmas.List.FromFn.{get_or-range_with_len, length-range_with_len}
@@ -17,7 +18,7 @@ use Rattle.level_search.specs.Walks.{IsSearchAnswer, NoneShorter}
 use Rattle.level_search.specs.BoundLaw.{CoversAllSources, IsAsLongThrough, MeetEachCycle}
 use Rattle.level_search.proofs.LeastOffer.{least_offer_is_shortest}
 use Rattle.level_search.specs.Sources.{MeetsCycles}
-use Rattle.level_search.specs.Team.{AreNumbered, IsSearchedAt, IsLength, Honest, IsReady, SameSeat, HasWorked, HaveWorked, ceiling, AtPlace, IsTeam, IsLeastLength}
+use Rattle.level_search.specs.Team.{AreNumbered, IsSearchedAt, IsLength, Honest, IsReady, SameSeat, HasWorked, HaveWorked, LooksWithinClaims, ceiling, AtPlace, IsTeam, IsLeastLength}
 use Rattle.level_search.specs.declared.workers.worker.Worker.{Worker}
 use Rattle.level_search.proofs.Joining.{cycle-known, first-walk, names_of_walk, walk_of_names}
 
@@ -68,6 +69,19 @@ pub fewer_left : (s t : SeatView) (source : ℕ) → t.bound ≡ s.bound → t.c
     → t.bound.sources - ceiling t.claimed < s.bound.sources - ceiling s.claimed
 fewer_left s t source bound claimed within above =
     subst (λ (z : BoundView × List ℕ). z.0.sources - ceiling z.1 < s.bound.sources - ceiling s.claimed) (λ i. (sym bound i, sym claimed i)) (fewer s.bound.sources source s.claimed within above)
+
+-- a claim, and then two looks at most at each row
+pub few_claimed : (n : ℕ) (s t : SeatView) (place was now : ℕ) → t.claimed ≡ s.claimed ++ place ∷ [] → LooksWithinClaims n s was → now ≤ was + 2 * n → LooksWithinClaims n t now
+few_claimed n s t place was now claimed few more =
+    let long : length t.claimed ≡ length s.claimed + 1 = ap length claimed ∙ length-append s.claimed (place ∷ []) in
+    subst (λ k. now ≤ k * (2 * n)) (sym long) (omega (arith, few, more, add-mul (length s.claimed) 1 (2 * n)))
+
+-- the looks of two seats together
+pub few_taken_in : (n : ℕ) (s o t : SeatView) (mine others all : ℕ) → t.claimed ≡ s.claimed ++ o.claimed → LooksWithinClaims n s mine → LooksWithinClaims n o others → all ≤ mine + others
+    → LooksWithinClaims n t all
+few_taken_in n s o t mine others all claimed few more sum =
+    let long : length t.claimed ≡ length s.claimed + length o.claimed = ap length claimed ∙ length-append s.claimed o.claimed in
+    subst (λ k. all ≤ k * (2 * n)) (sym long) (omega (arith, few, more, sum, add-mul (length s.claimed) (length o.claimed) (2 * n)))
 
 -- the last look, which finds no place
 pub finished : (rows : List (List ℕ)) (sources : List ℕ) (s t : SeatView) → t ≡ record s { done = true } → Honest rows sources s → Honest rows sources t
@@ -170,16 +184,17 @@ front_at [] x k d less = absurd (omega arith)
 front_at (y ∷ ys) x zero d less = refl
 front_at (y ∷ ys) x (suc k) d less = front_at ys x k d (omega arith)
 
--- what is known of the first seat and of the others, once all work is done
-abbrev pub IsFirst : BoundView → Responses → List ℕ → ℕ → SeatView → Type 0
-IsFirst b v sources m s = (s.bound ≡ b) × (s.is_first ≡ true) × (s.out ≡ m) × (s.done ≡ true) × Honest (lists_of v) sources s
+-- what is known of the worker with the first seat and of the others, once all work is done
+abbrev pub IsFirst : BoundView → Responses → List ℕ → ℕ → Worker → Type 0
+IsFirst b v sources m w =
+    (w.seat.bound ≡ b) × (w.seat.is_first ≡ true) × (w.seat.out ≡ m) × (w.seat.done ≡ true) × Honest (lists_of v) sources w.seat × LooksWithinClaims (length v.elements) w.seat w.looked
 
 abbrev pub IsOther : BoundView → Responses → List ℕ → Worker → Type 0
-IsOther b v sources w = (w.seat.bound ≡ b) × (w.seat.is_first ≡ false) × Honest (lists_of v) sources w.seat
+IsOther b v sources w = (w.seat.bound ≡ b) × (w.seat.is_first ≡ false) × Honest (lists_of v) sources w.seat × LooksWithinClaims (length v.elements) w.seat w.looked
 
 -- the last of a team that is done, and the others
 pub last_of_team : (b : BoundView) (v : Responses) (sources : List ℕ) (m : ℕ) (old front : List Worker) (first : Worker) → IsTeam b v sources m old → HaveWorked v sources old (front ++ first ∷ [])
-    → IsFirst b v sources (length front) first.seat × All (IsOther b v sources) front
+    → IsFirst b v sources (length front) first × All (IsOther b v sources) front
 last_of_team b v sources m old front first t worked =
     let long = length-append front (first ∷ []) in
     let size = t.0 in
@@ -189,18 +204,18 @@ last_of_team b v sources m old front first t worked =
     let at : AtPlace b v sources m (length front) first = at_place b v sources m (length front) (get_or old (length front) first) first (t.1 (length front) first (omega arith)) done in
     let mine = at.first (omega arith) in
     let out = mine.1 in (
-      (at.bound, mine.0, omega arith, done.done, at.ready.honest),
+      (at.bound, mine.0, omega arith, done.done, at.ready.honest, at.ready.few),
       λ k d less. (
           let did : HasWorked v sources (get_or old k d) (get_or front k d) = subst (λ (w : Worker). HasWorked v sources (get_or old k d) w) (front_at front first k d less) (worked.1 k d (omega arith)) in
           let p : AtPlace b v sources m k (get_or front k d) = at_place b v sources m k (get_or old k d) (get_or front k d) (t.1 k d (omega arith)) did in
-          (p.bound, (p.other (omega arith)).0, p.ready.honest)
+          (p.bound, (p.other (omega arith)).0, p.ready.honest, p.ready.few)
           ),
     )
 
 -- a team that was lent and has worked, and of which the last was taken out
 pub taken_of_team : (b : BoundView) (v : Responses) (sources : List ℕ) (m n : ℕ) (old lent new front : List Worker) (first : Worker) → IsTeam b v sources m old → n ≡ length old → lent ≡ old
     → HaveWorked v sources lent new → take n (new ++ drop (length new) old) ≡ front ++ first ∷ []
-    → IsFirst b v sources (length front) first.seat × All (IsOther b v sources) front
+    → IsFirst b v sources (length front) first × All (IsOther b v sources) front
 taken_of_team b v sources m n old lent new front first team whole same worked taken =
     let done : HaveWorked v sources old new = subst (λ (l : List Worker). HaveWorked v sources l new) same worked in
     last_of_team b v sources m old front first team

@@ -1,15 +1,19 @@
 -- What a search of the core has found, and the least conflict.
-use Rattle.std.specs.Prelude.{◌≡◌, Option, Some, None, length}
-use Rattle.specification.specs.Responses.{Responses, AreProper}
+use Rattle.std.specs.Prelude.{◌≡◌, ℕ, ◌+◌, Option, Some, None, length}
+use Rattle.specification.specs.Responses.{Responses, AreProper, place_count}
 use Rattle.specification.specs.Conflict.{AreLeastSteps, HasConflictNumber, HasNoConflict}
 use Rattle.specification.specs.LayerRule.{narrowed}
 use Rattle.order_graph.specs.Kept.{names_at}
 use Rattle.order_graph.specs.Lists.{lists_of}
 use Rattle.shown_table.specs.Tables.{IsShownTable}
 use Rattle.level_search.specs.Cores.{IsCoreOf}
-use Rattle.level_search.specs.Team.{IsLeastLength}
+use Rattle.level_search.specs.Team.{AreLooksOf, IsLeastLength}
 use Rattle.level_search.specs.declared.conflict.Conflict.{Conflict}
 use Rattle.level_search.specs.declared.conflict.Found.{Found}
+
+-- so many looks as some searches make, from no more elements than there are, each of which makes at most one for each place and for each element
+abbrev pub IsWithinSearches : Responses → ℕ → Type 0
+IsWithinSearches v looked = AreLooksOf (length v.elements) (place_count v + length v.elements) looked
 
 -- the core is one of these responses, the table is the core's, and the length that of a shortest cycle there
 pub record IsFound (v : Responses) (s : Found) : Type 0 where
@@ -19,6 +23,7 @@ pub record IsFound (v : Responses) (s : Found) : Type 0 where
   pub part_proper : AreProper s.core.graph
   pub table : IsShownTable (length s.core.graph.elements) (lists_of s.core.graph) s.table
   pub least : IsLeastLength s.core.graph s.least
+  pub looked : IsWithinSearches v s.looked
 
 -- the conflict number and the steps of the least cycle, as many; none where there is no conflict
 abbrev pub IsLeastConflict : Responses → Option Conflict → Type 0

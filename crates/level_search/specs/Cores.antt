@@ -4,9 +4,16 @@ use Rattle.events.specs.Names.{NameBytes}
 use Rattle.specification.specs.Responses.{Responses}
 use Rattle.specification.specs.Conflict.{IsCycle}
 use Rattle.order_graph.specs.Kept.{names_at}
+use Rattle.order_graph.specs.Lists.{Stands}
 
 -- these numbers rise, and the elements of each cycle are among those with these numbers
 pub record IsCoreOf (v : Responses) (numbers : List ℕ) : Type 0 where
   pub rising : AllPairs (λ x y. x < y) numbers
   pub known : All (λ x. x < length v.elements) numbers
   pub whole : (cycle : List NameBytes) → IsCycle v cycle → All (λ a. Contains (names_at v.elements numbers) a) cycle
+
+-- x stands at some place of the lists
+pub record IsPlaced (rows : List (List ℕ)) (x : ℕ) : Type 0 where
+  pub list : ℕ
+  pub place : ℕ
+  pub here : Stands rows list place x

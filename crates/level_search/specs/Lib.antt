@@ -5,6 +5,7 @@ pub mod Rings
 pub mod Progress
 pub mod Balls
 pub mod LayerSizes
+pub mod Looks
 pub mod ScratchView
 pub mod Steps
 pub mod Cores

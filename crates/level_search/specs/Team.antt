@@ -1,5 +1,5 @@
 -- What workers that search for cycles over one bound have found, and teams of them.
-use Rattle.std.specs.Prelude.{◌≡◌, ℕ, ◌+◌, ◌<◌, ◌≤◌, ◌⊎◌, max, true, false, List, [], ◌∷◌, length, slice_index, slice_index_or, All}
+use Rattle.std.specs.Prelude.{◌≡◌, ℕ, ◌+◌, ◌*◌, ◌<◌, ◌≤◌, ◌⊎◌, max, true, false, List, [], ◌∷◌, length, slice_index, slice_index_or, All}
 use Rattle.shared_bound.specs.Seats.{BoundView, SeatView}
 use Rattle.shared_bound.specs.declared.TheConstants.{NO_OFFER}
 use Rattle.specification.specs.Responses.{Responses}
@@ -23,10 +23,15 @@ pub record Honest (rows : List (List ℕ)) (sources : List ℕ) (s : SeatView) :
   pub offers : All (IsLength rows) s.offered
   pub claims : All (IsSearchedAt rows sources s.low) s.claimed
 
+-- at most two looks at the row of each of n elements, for each source that the seat was given
+abbrev pub LooksWithinClaims : ℕ → SeatView → ℕ → Type 0
+LooksWithinClaims n s looked = looked ≤ length s.claimed * (2 * n)
+
 -- a worker may search this graph from these sources
 pub record IsReady (v : Responses) (sources : List ℕ) (w : Worker) : Type 0 where
   pub honest : Honest (lists_of v) sources w.seat
   pub fits : FitsSets (length v.elements) w.sets
+  pub few : LooksWithinClaims (length v.elements) w.seat w.looked
 
 -- what no worker changes
 abbrev pub SameSeat : SeatView → SeatView → Type 0
@@ -70,6 +75,12 @@ IsTeam b v sources m team = (length team ≡ m + 1) × ((k : ℕ) (d : Worker) �
 -- the same, each with its work done
 abbrev pub IsDoneTeam : BoundView → Responses → List ℕ → ℕ → List Worker → Type 0
 IsDoneTeam b v sources m team = IsTeam b v sources m team × All (λ w. w.seat.done ≡ true) team
+
+-- looks of some searches, from no more elements than there are, at no more than `most` rows each
+pub record AreLooksOf (elements most looked : ℕ) : Type 0 where
+  pub searches : ℕ
+  pub known : searches ≤ elements
+  pub within : looked ≤ searches * most
 
 -- m is the length of a shortest cycle, or `NO_OFFER` where there is none
 abbrev pub IsLeastLength : Responses → ℕ → Type 0

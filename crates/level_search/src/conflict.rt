@@ -1,8 +1,8 @@
 //! The conflict number, and the least conflict.
 
-ghost use Rattle.std.specs.Prelude.{◌≡◌, ◌⊎◌, ◌↔◌, ◌<◌, IfOk, IsErrOf};
+ghost use Rattle.std.specs.Prelude.{◌≡◌, ◌⊎◌, ◌↔◌, ◌<◌, IfOk, IfSome, IsErrOf};
 ghost use Rattle.specification.specs.Conflict.{IsConflictNumber};
-ghost use Rattle.level_search.specs.Conflicts.{IsLeastConflict, IsFound};
+ghost use Rattle.level_search.specs.Conflicts.{IsFound, IsLeastConflict, IsWithinSearches};
 
 use super::MOST_WORKERS;
 use super::cycle_core::Core;
@@ -18,12 +18,13 @@ use std::thread::Threads;
 use witnesses::Steps;
 
 /// What the workers have found: the core, its table, and the length of a shortest cycle, or `NO_OFFER` where
-/// there is none.
+/// there is none; and how many steps they have taken.
 #[derive(Drop)]
 struct Found {
     core: Core,
     table: ShownTable,
     least: u32,
+    looked: u64,
 }
 
 /// Searches the core of a graph.
@@ -45,8 +46,13 @@ fn search_core<H: Threads + Sync, G: Gate>(
     let core = Core::of(alloc, graph)?;
     let _ = core.graph.elements();
     let table = ShownTable::of(alloc, &core.graph)?;
-    let least = least_length(rt, alloc, &core.graph, &table, workers, &core.gate(gate))?;
-    Ok(Found { core, table, least })
+    let searched = least_length(rt, alloc, &core.graph, &table, workers, &core.gate(gate))?;
+    Ok(Found {
+        core,
+        table,
+        least: searched.least,
+        looked: searched.looked,
+    })
 }
 
 /// The conflict number: the least number of operations whose responses no order of the elements has all as
@@ -84,11 +90,13 @@ pub fn conflict_number<H: Threads + Sync, G: Gate>(
     }
 }
 
-/// A conflict: its number, and the steps of the least cycle, as many.
+/// A conflict: its number, and the steps of the least cycle, as many; and how many looks at a row of their table the
+/// searches for the number took together, up to 18446744073709551615.
 #[derive(Drop)]
 pub struct Conflict {
     pub k: u32,
     pub steps: Steps,
+    pub looked: u64,
 }
 
 /// The conflict number and the least cycle, as `conflict_number` and `least_cycle` find them; none where
@@ -101,6 +109,7 @@ pub fn least_conflict<H: Threads + Sync, G: Gate>(
     gate: &G,
 ) -> Result<Option<Conflict>, SearchFault>
     ensures conflict { IfOk result (IsLeastConflict graph.now) }
+    ensures looked { IfOk result (λ found. IfSome found (λ c. IsWithinSearches graph.now c.looked)) }
     ensures workers { IsErrOf result SearchFault.Workers ↔ ((workers < 1) ⊎ (MOST_WORKERS < workers)) }
 {
     let found = search_core(rt, alloc, graph, workers, gate)?;
@@ -111,5 +120,6 @@ pub fn least_conflict<H: Threads + Sync, G: Gate>(
     Ok(Some(Conflict {
         k: found.least,
         steps,
+        looked: found.looked,
     }))
 }

@@ -1,6 +1,6 @@
 //! The part of a graph in which all its cycles are.
 
-ghost use Rattle.std.specs.Prelude.{◌≡◌, ◌<◌, ℕ, All, Contains, IfOk, length};
+ghost use Rattle.std.specs.Prelude.{◌≡◌, ◌<◌, ◌≤◌, ℕ, All, Contains, IfOk, length};
 ghost use Rattle.level_search.specs.Sources.{IsRanked};
 
 use super::gate::Gate;
@@ -20,6 +20,7 @@ pub struct Core {
 
 impl Core {
     ghost use Rattle.specification.specs.LayerRule.{narrowed};
+    ghost use Rattle.specification.specs.Responses.{place_count};
     ghost use Rattle.order_graph.specs.Kept.{names_at};
     ghost use Rattle.level_search.specs.Cores.{IsCoreOf};
 
@@ -29,6 +30,8 @@ impl Core {
         ensures elements { IfOk result (λ c. IsCoreOf graph.now c.elements.items) }
         ensures graph { IfOk result (λ c. c.graph
             ≡ narrowed graph.now (names_at graph.now.elements c.elements.items)) }
+        ensures few { IfOk result (λ c. (length c.elements.items ≤ length graph.now.elements)
+            × (length c.elements.items ≤ place_count graph.now)) }
     {
         let taken = taken(alloc, graph)?;
         let ranks = ranks_of(alloc, graph.elements() as usize, &taken)?;
@@ -54,6 +57,7 @@ fn ranks_of(alloc: Global, elements: usize, taken: &[u32]) -> Result<Vec<u32>, M
     requires { All (λ x. x < elements) taken.now }
     ensures count { IfOk result (λ ranks. length ranks.items ≡ elements) }
     ensures taken { IfOk result (λ ranks. (x : ℕ) → IsRanked ranks.items x → x < elements → Contains taken.now x) }
+    ensures others { IfOk result (λ ranks. All (IsRanked ranks.items) taken.now) }
 {
     let mut ranks = Vec::from_elem(alloc, UNRANKED, elements)?;
     for x in taken {

@@ -114,6 +114,7 @@ pub fn unranked(alloc: Global, ranks: &[u32]) -> Result<Vec<u32>, Memory>
     ensures count { IfOk result (λ v. length v.items ≤ length ranks.now) }
     ensures all { IfOk result (λ v. (x : ℕ) → x < length ranks.now → slice_index ranks.now x ≡ u32.MAX
         → Contains v.items x) }
+    ensures only { IfOk result (λ v. All (λ x. slice_index ranks.now x ≡ u32.MAX) v.items) }
 {
     let mut elements = Vec::new(alloc);
     for (x, rank) in ranks.iter().enumerate() {

@@ -6,7 +6,8 @@ ghost use Rattle.bit_tables.specs.Sets.{Has};
 ghost use Rattle.bit_tables.specs.Lists.{row_of};
 ghost use Rattle.shown_table.specs.Tables.{IsShownTable};
 ghost use Rattle.level_search.specs.Balls.{FitsSets, IsBall, IsInLayer};
-ghost use Rattle.level_search.specs.LayerSizes.{layer_size};
+ghost use Rattle.level_search.specs.LayerSizes.{counted, layer_size};
+ghost use Rattle.level_search.specs.Looks.{HasLooked, IsFirstBehind};
 ghost use Rattle.level_search.specs.Walks.{IsSearchAnswer};
 
 mod sets;
@@ -25,11 +26,13 @@ fn closes(
     looked: &mut Looked,
 ) -> bool
     requires { IsShownTable (length graph.now.elements) (lists_of graph.now) table.now }
-    ensures found { result ≡ true → (x : ℕ) × IsInLayer (length graph.now.elements) sets.now x
-        × Has (row_of table.now x) element }
+    ensures found { result ≡ true → (x : ℕ)
+        × IsFirstBehind (length graph.now.elements) (lists_of graph.now) sets.now element x
+        × (looked.new ≡ counted (layer_size (x + 1) sets.now) looked.old) }
     ensures missed { result ≡ false → (x : ℕ) → IsInLayer (length graph.now.elements) sets.now x
         → ¬ Has (row_of table.now x) element }
-    ensures looked { looked.new ≤ looked.old + layer_size (length graph.now.elements) sets.now }
+    ensures looked { result ≡ false
+        → looked.new ≡ counted (layer_size (length graph.now.elements) sets.now) looked.old }
 {
     let mut from = 0;
     'layer: while let Some(x) = sets.next_in_layer(graph, from) {
@@ -64,6 +67,8 @@ pub fn search_by_table<B: BoundSource>(
     ensures reads { B.reads source.old source.new }
     ensures fits { FitsSets (length graph.now.elements) sets.new }
     ensures looked { looked.new ≤ looked.old + 2 * length graph.now.elements }
+    ensures looks { HasLooked (length graph.now.elements) (lists_of graph.now) element sets.new result looked.old
+        looked.new }
 {
     // Its contract has that the responses are proper.
     let _ = graph.elements();

@@ -1,14 +1,15 @@
 //! The workers of one search for the conflict number, in threads.
 
-ghost use Rattle.std.specs.Prelude.{◌≡◌, ℕ, ◌+◌, ◌-◌, ◌<◌, ◌≤◌, true, false, length, IfOk, All, vec_len};
+ghost use Rattle.std.specs.Prelude.{◌≡◌, ℕ, ◌+◌, ◌-◌, ◌*◌, ◌<◌, ◌≤◌, true, false, length, IfOk, All, vec_len};
 ghost use Rattle.order_graph.specs.Lists.{lists_of};
 ghost use Rattle.specification.specs.Responses.{AreProper};
 ghost use Rattle.shared_bound.specs.Seats.{fresh_seat};
 ghost use Rattle.shown_table.specs.Tables.{IsShownTable};
 ghost use Rattle.level_search.specs.Sources.{MeetsCycles};
-ghost use Rattle.level_search.specs.Team.{CanWork, HasWorked, HaveWorked, Honest, IsLeastLength, IsTeam};
+ghost use Rattle.level_search.specs.Team.{AreLooksOf, CanWork, HasWorked, HaveWorked, Honest, IsLeastLength};
+ghost use Rattle.level_search.specs.Team.{IsTeam, LooksWithinClaims};
 
-mod bound_seat;
+pub mod bound_seat;
 mod worker;
 
 use super::MOST_WORKERS;
@@ -73,27 +74,34 @@ fn work_all<H: Threads + Sync, G: Gate>(
     );
 }
 
-/// The first seat, with all that the others claimed and offered.
+/// The first seat, with all that the others claimed and offered, and how many steps all have taken, up to
+/// 18446744073709551615.
 fn gathered(
     bound: &Bound,
     graph: &OrderGraph,
     sources: &[u32],
     mut first: Seat,
+    mut looked: u64,
     mut others: Vec<Worker>,
-) -> Seat
+) -> (Seat, u64)
     requires first { (first.bound ≡ bound.now) × (first.is_first ≡ true) × (first.out ≡ vec_len others)
         × (first.done ≡ true) }
     requires honest { Honest (lists_of graph.now) sources.now first }
+    requires looked { LooksWithinClaims (length graph.now.elements) first looked }
     requires others { All (λ w. (w.seat.bound ≡ bound.now) × (w.seat.is_first ≡ false)
-        × Honest (lists_of graph.now) sources.now w.seat) others.items }
-    ensures first { (result.bound ≡ bound.now) × (result.is_first ≡ true) × (result.out ≡ 0)
-        × (result.done ≡ true) }
-    ensures honest { Honest (lists_of graph.now) sources.now result }
+        × Honest (lists_of graph.now) sources.now w.seat
+        × LooksWithinClaims (length graph.now.elements) w.seat w.looked) others.items }
+    ensures first { (result.0.bound ≡ bound.now) × (result.0.is_first ≡ true) × (result.0.out ≡ 0)
+        × (result.0.done ≡ true) }
+    ensures honest { Honest (lists_of graph.now) sources.now result.0 }
+    ensures looked { LooksWithinClaims (length graph.now.elements) result.0 result.1 }
 {
     while let Some(other) = others.pop() {
-        bound.take_in(&mut first, other.into_seat());
+        let (seat, looks) = other.into_seat();
+        bound.take_in(&mut first, seat);
+        looked = looked.saturating_add(looks);
     }
-    first
+    (first, looked)
 }
 
 /// What the bound has at the end, once each source was searched from and all seats are taken in.
@@ -103,13 +111,21 @@ fn closed(bound: Bound, graph: &OrderGraph, sources: &[u32], first: Seat) -> u32
     requires met { MeetsCycles (lists_of graph.now) (length graph.now.elements) sources.now }
     requires first { (first.bound ≡ bound) × (first.is_first ≡ true) × (first.out ≡ 0) × (first.done ≡ true) }
     requires honest { Honest (lists_of graph.now) sources.now first }
-    ensures { IsLeastLength graph.now result }
+    ensures least { IsLeastLength graph.now result }
+    ensures claimed { length first.claimed ≡ length sources.now }
 {
     bound.close(first)
 }
 
-/// The length of a shortest cycle, or `NO_OFFER` where there is none, by a search from each of few elements.
-/// All memory is taken before a worker starts.
+/// What all searches have found: the length of a shortest cycle, or `NO_OFFER` where there is none; and how many steps
+/// they have taken, up to 18446744073709551615.
+#[derive(Drop)]
+pub struct Searched {
+    pub least: u32,
+    pub looked: u64,
+}
+
+/// The length of a shortest cycle by a search from each of few elements. All memory is taken before a worker starts.
 pub fn least_length<H: Threads + Sync, G: Gate>(
     rt: &H,
     alloc: Global,
@@ -117,11 +133,13 @@ pub fn least_length<H: Threads + Sync, G: Gate>(
     table: &ShownTable,
     workers: u32,
     gate: &G,
-) -> Result<u32, Memory>
+) -> Result<Searched, Memory>
     requires table { IsShownTable (length graph.now.elements) (lists_of graph.now) table.now }
     requires workers { (1 ≤ workers) × (workers ≤ MOST_WORKERS) }
     requires proper { AreProper graph.now }
-    ensures { IfOk result (IsLeastLength graph.now) }
+    ensures least { IfOk result (λ s. IsLeastLength graph.now s.least) }
+    ensures looked { IfOk result (λ s. AreLooksOf (length graph.now.elements) (2 * length graph.now.elements)
+        s.looked) }
 {
     let sources = feedback_vertex_set(alloc, graph, table)?;
     let (bound, first) = Bound::new(alloc, sources.len() as u32, workers)?;
@@ -130,6 +148,10 @@ pub fn least_length<H: Threads + Sync, G: Gate>(
     let Some(last) = team.pop() else {
         unreachable!()
     };
-    let first = gathered(&bound, graph, &sources, last.into_seat(), team);
-    Ok(closed(bound, graph, &sources, first))
+    let (first, looked) = last.into_seat();
+    let (first, looked) = gathered(&bound, graph, &sources, first, looked, team);
+    Ok(Searched {
+        least: closed(bound, graph, &sources, first),
+        looked,
+    })
 }

@@ -1,5 +1,6 @@
 //! Tests of certificates of worked recordings.
 
+use super::Hold;
 use crate::{NoGate, SearchFault, Version, certify, judge, judge_and_write, write_certificate};
 use events::Memory;
 use sample_recordings::{
@@ -166,6 +167,27 @@ fn certificates_by_workers_out_of_range(rt: HostRuntime) {
         let refused = are_refused(&rt, alloc, workers) || are_refused(&rt, alloc, workers);
         assert!(rt; refused, "{workers}");
     }
+}
+
+/// Whether two workers make a certificate between the calls of this gate; where the first try finds no memory, by a
+/// second.
+fn is_made_round<H: Threads + Sync>(rt: &H, alloc: Global, hold: &Hold) -> bool {
+    let Ok(recording) = recording(alloc, THREE_WAY_CYCLE) else {
+        return false;
+    };
+    match judge_and_write(rt, alloc, &recording, 2, hold) {
+        Err(SearchFault::Memory) => judge_and_write(rt, alloc, &recording, 2, hold).is_ok(),
+        made => made.is_ok(),
+    }
+}
+
+#[test]
+fn the_gate_of_a_certificate_is_called_round_its_searches(rt: HostRuntime) {
+    let hold = Hold::new();
+    let alloc = rt.alloc();
+    // Where the recording finds no memory, it is made again.
+    let made = is_made_round(&rt, alloc, &hold) || is_made_round(&rt, alloc, &hold);
+    assert!(rt; made && hold.saw_three());
 }
 
 /// The replicas of the wide ring that insert, each with the first letter of its elements' names.

@@ -7,6 +7,7 @@ ghost use Rattle.order_graph.specs.Lists.{lists_of};
 ghost use Rattle.level_search.specs.Rings.{IsFirstRing, IsLeastNext};
 ghost use Rattle.shown_table.specs.Tables.{IsShownTable};
 ghost use Rattle.level_search.specs.Balls.{FitsSets};
+ghost use Rattle.level_search.specs.Looks.{HaveLooked};
 ghost use Rattle.level_search.specs.Walks.{HasCycle};
 
 use super::choose::next_of_ring;
@@ -35,6 +36,7 @@ fn first_source(
     ensures lowest { (t : ℕ) → t < length graph.now.elements → HasCycle (lists_of graph.now) t k
         → result ≤ t }
     ensures looked { looked.new ≤ looked.old + length graph.now.elements * (2 * length graph.now.elements) }
+    ensures looks { HaveLooked (length graph.now.elements) (lists_of graph.now) (result + 1) looked.old looked.new }
 {
     for element in 0..graph.elements() {
         let mut source = PlainBound { least: k + 1 };

@@ -6,7 +6,7 @@ ghost use Rattle.bit_tables.specs.Sets.{Has};
 ghost use Rattle.bit_tables.specs.Lists.{row_of};
 ghost use Rattle.shown_table.specs.Tables.{IsShownTable};
 ghost use Rattle.level_search.specs.Balls.{FitsSets, IsInLayer};
-ghost use Rattle.level_search.specs.LayerSizes.{layer_size};
+ghost use Rattle.level_search.specs.LayerSizes.{counted, layer_size};
 
 use bit_tables::BitSet;
 use events::Memory;
@@ -72,7 +72,7 @@ impl Sets {
         ensures reached { self.new.reached ≡ self.old.reached }
         ensures next { (y : ℕ) → Has self.new.next y ↔ ((x : ℕ)
             × IsInLayer (length graph.now.elements) self.old x × Has (row_of table.now x) y) }
-        ensures looked { looked.new ≤ looked.old + layer_size (length graph.now.elements) self.old }
+        ensures looked { looked.new ≡ counted (layer_size (length graph.now.elements) self.old) looked.old }
     {
         self.next.clear();
         let mut from = 0;
@@ -97,7 +97,7 @@ impl Sets {
         ensures reached { (y : ℕ) → Has self.new.reached y ↔ (Has self.old.reached y ⊎ ((x : ℕ)
             × IsInLayer (length graph.now.elements) self.old x × Has (row_of table.now x) y)) }
         ensures last { result ≡ false → (x : ℕ) → Has self.new.reached x → Has self.new.near x }
-        ensures looked { looked.new ≤ looked.old + layer_size (length graph.now.elements) self.old }
+        ensures looked { looked.new ≡ counted (layer_size (length graph.now.elements) self.old) looked.old }
     {
         self.gather(graph, table, looked);
         self.near.union_with(&self.reached);

@@ -42,9 +42,10 @@ fn conflict_of(
     rt: &(impl Threads + Sync),
     alloc: Global,
     graph: &OrderGraph,
+    workers: u32,
 ) -> Result<Option<Conflict>, SearchFault> {
-    match least_conflict(rt, alloc, graph, 2, &NoGate) {
-        Err(SearchFault::Memory) => least_conflict(rt, alloc, graph, 2, &NoGate),
+    match least_conflict(rt, alloc, graph, workers, &NoGate) {
+        Err(SearchFault::Memory) => least_conflict(rt, alloc, graph, workers, &NoGate),
         found => found,
     }
 }
@@ -79,7 +80,13 @@ fn are(steps: Option<Steps>, expected: &[Shown]) -> Result<bool, Fail> {
 /// The steps of a conflict that has as many as its number says.
 fn counted(conflict: Option<Conflict>) -> Option<Steps> {
     match conflict {
-        Some(Conflict { k, steps }) if k as usize == steps.len() => Some(steps),
+        Some(
+            Conflict {
+                k,
+                steps,
+                looked: _,
+            },
+        ) if k as usize == steps.len() => Some(steps),
         _ => None,
     }
 }
@@ -128,9 +135,31 @@ fn steps_of_worked_recordings(rt: HostRuntime) -> Result<(), Fail> {
 fn conflicts_of_worked_recordings(rt: HostRuntime) -> Result<(), Fail> {
     for (text, expected) in WORKED.iter().copied() {
         let found = ask_of(&rt, rt.alloc(), &recording(rt.alloc(), text)?, |graph| {
-            Ok(conflict_of(&rt, rt.alloc(), graph)?)
+            Ok(conflict_of(&rt, rt.alloc(), graph, 2)?)
         })?;
         assert!(rt; are(counted(found), expected)?, "at {text}");
     }
+    Ok(())
+}
+
+/// How many looks at a row the searches for a conflict took together.
+fn looks_of(conflict: Option<Conflict>) -> Option<u64> {
+    match conflict {
+        Some(found) => Some(found.looked),
+        None => None,
+    }
+}
+
+/// The first search finds the cycle of four in seven looks. Then the bound is 4, and each of the three others looks twice in
+/// two layers and once in the third, since a fourth could only give a cycle that is no shorter: five looks.
+#[test]
+fn looks_of_all_searches_of_the_ring_of_four(rt: HostRuntime) -> Result<(), Fail> {
+    let found = ask_of(
+        &rt,
+        rt.alloc(),
+        &recording(rt.alloc(), RING_OF_FOUR)?,
+        |graph| Ok(conflict_of(&rt, rt.alloc(), graph, 1)?),
+    )?;
+    assert_eq!(rt; looks_of(found), Some(22));
     Ok(())
 }

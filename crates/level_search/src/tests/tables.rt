@@ -1,20 +1,26 @@
 //! Searches by a table: at how many rows they look, and that they read their bound again.
 
-ghost use Rattle.std.specs.Prelude.{IfOk, length};
+ghost use Rattle.std.specs.Prelude.{◌≡◌, ◌<◌, true, IfOk, length};
 ghost use Rattle.order_graph.specs.Lists.{lists_of};
 ghost use Rattle.shown_table.specs.Tables.{IsShownTable};
+ghost use Rattle.shared_bound.specs.Seats.{fresh_seat};
 ghost use Rattle.level_search.specs.Balls.{FitsSets};
 
 use super::graphs::ask_of;
 use super::sources::FallingBound;
 use crate::tabled::{Sets, search_by_table};
+use crate::workers::bound_seat::BoundSeat;
 use crate::{BoundSource, PlainBound};
 use events::Memory;
 use order_graph::{Looked, OrderGraph};
 use sample_recordings::{RING_OF_FOUR, recording};
+use shared_bound::{Bound, NO_OFFER, Seat};
 use shown_table::ShownTable;
 use std::alloc::Global;
+use std::sync::atomic::{AtomicU64, Ordering};
 use std::test::Fail;
+use std::thread;
+use std::thread::Threads;
 
 /// A table of the graph. A call that finds no memory is made again.
 fn table(alloc: Global, graph: &OrderGraph) -> Result<ShownTable, Fail>
@@ -73,5 +79,122 @@ fn a_search_by_a_table_reads_its_bound_again(rt: HostRuntime) -> Result<(), Fail
         found_by_table(alloc, ring, &mut FallingBound::new(5, 3))
     })?;
     assert_eq!(rt; found, (None, 3));
+    Ok(())
+}
+
+/// How many turns a thread waits for another at most.
+const TURNS: u32 = 50_000_000;
+
+/// How often a search has asked for its bound, and how many lengths another thread has offered.
+#[derive(Drop)]
+struct Meeting {
+    asked: AtomicU64,
+    offered: AtomicU64,
+}
+
+impl Meeting {
+    fn new() -> Meeting {
+        Meeting {
+            asked: AtomicU64::new(0),
+            offered: AtomicU64::new(0),
+        }
+    }
+
+    /// One thread asks. Where it isn't the first time, it waits for an offer.
+    fn ask(&self) {
+        if self.asked.fetch_add(1, Ordering::SeqCst) > 0 {
+            wait_for(&self.offered, 1);
+        }
+    }
+
+    /// Another thread offers this length once the first has asked again.
+    fn offer(&self, mut seat: BoundSeat, length: u32)
+        requires { length < NO_OFFER }
+    {
+        wait_for(&self.asked, 2);
+        seat.offer(length);
+        self.offered.fetch_add(1, Ordering::SeqCst);
+    }
+}
+
+/// Waits until a count has reached a number, or for `TURNS` turns.
+fn wait_for(count: &AtomicU64, number: u64) {
+    for _ in 0..TURNS {
+        if count.load(Ordering::SeqCst) >= number {
+            return;
+        }
+    }
+}
+
+/// A worker's seat at the shared bound, which lets another worker offer between its first answer and the second.
+#[derive(Drop)]
+struct MetSeat<'a> {
+    seat: BoundSeat<'a>,
+    meeting: &'a Meeting,
+}
+
+impl<'a> BoundSource for MetSeat<'a> {
+    ghost use Rattle.std.proofs.Common.{◌≡◌, refl, ◌∙◌, ap};
+    ghost use Rattle.shared_bound.specs.Seats.{SeatView};
+
+    ghost last = { λ a. a.seat.low };
+
+    ghost reads = { λ a b. b.seat ≡ record a.seat { low = b.seat.low } };
+
+    ghost reads_none = { λ a. refl };
+
+    ghost reads_more = { λ a b c p q. q ∙ ap (λ (s : SeatView). record s { low = c.seat.low }) p };
+
+    fn best(&mut self) -> u32 {
+        self.meeting.ask();
+        self.seat.best()
+    }
+}
+
+/// A bound for the workers of a search from four elements, with its first seat, in the same way as a table.
+fn bound(alloc: Global) -> Result<(Bound, Seat), Fail>
+    ensures { IfOk result (λ made. made.1 ≡ fresh_seat made.0 true NO_OFFER 1) }
+{
+    match Bound::new(alloc, 4, 2) {
+        Ok(made) => Ok(made),
+        Err(_) => Ok(Bound::new(alloc, 4, 2)?),
+    }
+}
+
+/// What a search from the first element finds, at how many rows of the table it looks, and how often it asks for its
+/// bound, where another worker offers this length once it asks for the second time.
+fn found_beside_an_offer(
+    rt: &(impl Threads + Sync),
+    alloc: Global,
+    graph: &OrderGraph,
+    length: u32,
+) -> Result<(Option<u32>, u64, u64), Fail>
+    requires { length < NO_OFFER }
+{
+    let (bound, mut first) = bound(alloc)?;
+    let other = BoundSeat::new(&bound, bound.share(&mut first));
+    let meeting = Meeting::new();
+    let mut seat = MetSeat {
+        seat: BoundSeat::new(&bound, first),
+        meeting: &meeting,
+    };
+    let (found, ()) = thread::join(
+        rt,
+        || found_by_table(alloc, graph, &mut seat),
+        || meeting.offer(other, length),
+    );
+    let (found, looked) = found?;
+    Ok((found, looked, meeting.asked.load(Ordering::SeqCst)))
+}
+
+/// The same as with a bound that falls, where it is the workers' bound, and another worker's offer lowers it in the midst
+/// of the search.
+#[test]
+fn an_offer_ends_another_workers_search(rt: HostRuntime) -> Result<(), Fail> {
+    let alloc = rt.alloc();
+    let found = ask_of(&rt, alloc, &recording(alloc, RING_OF_FOUR)?, |ring| {
+        found_beside_an_offer(&rt, alloc, ring, 3)
+    })?;
+    assert_eq!(rt; found, (None, 3, 2));
     Ok(())
 }

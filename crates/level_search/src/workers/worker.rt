@@ -1,9 +1,10 @@
 //! One worker: it claims sources, searches from them, and offers what it finds.
 
-ghost use Rattle.std.specs.Prelude.{◌≡◌, ℕ, ◌+◌, ◌*◌, List, ◌<◌, ◌≤◌, true, [], length, IfOk, All};
+ghost use Rattle.std.specs.Prelude.{◌≡◌, ℕ, ◌+◌, ◌*◌, Option, List, ◌<◌, ◌≤◌, true, [], length, IfOk, All};
 ghost use Rattle.order_graph.specs.Lists.{lists_of};
 ghost use Rattle.shown_table.specs.Tables.{IsShownTable};
 ghost use Rattle.level_search.specs.Balls.{FitsSets};
+ghost use Rattle.level_search.specs.Looks.{HasLooked};
 ghost use Rattle.level_search.specs.Team.{IsLength, IsReady, SameSeat};
 ghost use Rattle.level_search.specs.Walks.{NoneShorter};
 
@@ -50,17 +51,18 @@ impl<'a> Worker<'a> {
         })
     }
 
-    /// Its seat alone.
-    pub fn into_seat(self) -> Seat
-        ensures { result ≡ self.entry.seat }
+    /// Its seat, and how many steps its searches have taken.
+    pub fn into_seat(self) -> (Seat, u64)
+        ensures seat { result.0 ≡ self.entry.seat }
+        ensures looked { result.1 ≡ self.entry.looked }
     {
         let Worker {
             number: _,
             seat,
             sets: _,
-            looked: _,
+            looked,
         } = self;
-        seat.into_seat()
+        (seat.into_seat(), looked.count())
     }
 }
 
@@ -87,6 +89,8 @@ fn search_from<G: Gate>(
     ensures offers { All (IsLength (lists_of graph.now)) worker.old.seat.offered
         → All (IsLength (lists_of graph.now)) worker.new.seat.offered }
     ensures looked { worker.new.looked ≤ worker.old.looked + 2 * length graph.now.elements }
+    ensures looks { (answer : Option ℕ) × HasLooked (length graph.now.elements) (lists_of graph.now) source
+        worker.new.sets answer worker.old.looked worker.new.looked }
 {
     gate.before(worker.number, source);
     if let Some(length) = search_by_table(

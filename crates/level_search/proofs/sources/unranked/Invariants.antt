@@ -9,5 +9,6 @@ invariant-loop-x l = record {
   below : All (λ s. s < l.x) l.elements.items;
   known : All (λ s. s < length l.ranks) l.elements.items;
   few : length l.elements.items ≤ l.x;
+  only : All (λ s. slice_index l.ranks s ≡ UNRANKED) l.elements.items;
   all : (y : ℕ) → y < l.x → slice_index l.ranks y ≡ UNRANKED → Contains l.elements.items y;
 }

@@ -1,19 +1,34 @@
 -- One element of the layer more is looked at; those before it are none of the layer.
-use Rattle.std.proofs.Common.{◌≡◌, ℕ, ◌+◌, ◌<◌, ◌≤◌, List, length, inl, inr, sym, subst, arith, true≢false}
+use Rattle.std.proofs.Common.{◌≡◌, ℕ, ◌+◌, ◌<◌, ◌≤◌, ◌∙◌, List, length, inl, inr, refl, sym, ap, subst, arith, true≢false}
 use Rattle.std.proofs.lemmas.Bool.{cases_lt}
 use Rattle.bit_tables.specs.Lists.{row_of}
 use Rattle.bit_tables.specs.Sets.{Has}
-use Rattle.level_search.proofs.LayerSizes.{layer-gap, layer-more, layer-up}
+use Rattle.order_graph.specs.Lists.{lists_of, ticked}
+use Rattle.level_search.specs.LayerSizes.{counted}
+use Rattle.level_search.proofs.BallLemmas.{before_shown, shown_before}
+use Rattle.level_search.proofs.LayerSizes.{counted-next, layer-gap, layer-next}
 use Rattle.level_search.proofs.tabled.closes.Goals as goal
 
-pub returns-then-contains-clause-looked : goal.returns-then-contains-clause-looked
-returns-then-contains-clause-looked c =
+pub returns-then-contains-clause-found : goal.returns-then-contains-clause-found
+returns-then-contains-clause-found c =
     let sets = c.args.sets.now in
+    let rows : List (List ℕ) = lists_of c.args.graph.now in
+    let s : ℕ = c.args.element in
     let x : ℕ = c.in-Some.x in
-    let n : ℕ = length c.args.graph.now.elements in
     let some = c.in-Some.ensures.some in
-    let known = some.1.known in
-    omega (arith, c.layer.invariant.looked, c.expand.ensures.ticked, layer-gap sets c.layer.from x some.0 c.in-Some.ensures.first, layer-more sets x some.1.reached some.1.not_near, layer-up sets (x + 1) n (omega (arith, known)))
+    let inv = c.layer.invariant in
+    λ _. (
+      x,
+      record {
+        here = some.1;
+        before = shown_before rows s x ((c.requires.shown s x some.1.known).0 (subst (λ (row : List ℕ). Has row s) c.before-in-Some.ensures (c.if-contains.ensures.0 refl)));
+        first = λ y low layer. elim (cases_lt y c.layer.from) [
+          | inl less ↦ λ before. inv.missed y less layer.reached layer.not_near ((c.requires.shown s y layer.known).1 (before_shown rows s y before))
+          | inr from ↦ absurd (layer.not_near (c.in-Some.ensures.first y from low layer.reached))
+        ];
+      },
+      c.expand.ensures.ticked ∙ ap ticked inv.looked ∙ counted-next _ _ c.args.looked.now (layer-next sets c.layer.from x some.0 c.in-Some.ensures.first some.1.reached some.1.not_near),
+    )
 
 pub layer-preserved : goal.layer-preserved
 layer-preserved c =
@@ -23,7 +38,7 @@ layer-preserved c =
     let inv = c.layer.invariant in
     record {
       within = (let known = some.1.known in omega (arith, known));
-      looked = omega (arith, inv.looked, c.expand.ensures.ticked, layer-gap sets c.layer.from x some.0 c.in-Some.ensures.first, layer-more sets x some.1.reached some.1.not_near);
+      looked = c.expand.ensures.ticked ∙ ap ticked inv.looked ∙ counted-next _ _ c.args.looked.now (layer-next sets c.layer.from x some.0 c.in-Some.ensures.first some.1.reached some.1.not_near);
       missed = λ y low reached not_near. elim (cases_lt y c.layer.from) [
         | inl before ↦ inv.missed y before reached not_near
         | inr from ↦ elim (cases_lt y x) [
@@ -38,6 +53,6 @@ layer-preserved c =
 
 pub returns-clause-looked : goal.returns-clause-looked
 returns-clause-looked c =
-    let sets = c.args.sets.now in
     let n : ℕ = length c.args.graph.now.elements in
-    omega (arith, c.layer.invariant.looked, layer-up sets c.layer.from n c.layer.invariant.within)
+    let inv = c.layer.invariant in
+    λ _. inv.looked ∙ ap (λ k. counted k c.args.looked.now) (sym (layer-gap c.args.sets.now c.layer.from n inv.within c.in_default.ensures.none))

@@ -1,11 +1,25 @@
 -- From level to level.
-use Rattle.std.proofs.Common.{◌≡◌, ℕ, ◌+◌, ◌<◌, ◌≤◌, length, refl, arith}
+use Rattle.std.proofs.Common.{◌≡◌, ℕ, ◌+◌, ◌*◌, ◌<◌, ◌≤◌, ◌⊎◌, None, Some, List, length, ◌∙◌, inl, inr, refl, sym, subst, arith}
+use Rattle.std.specs.Prelude.{◌↔◌}
+use Rattle.bit_tables.specs.Sets.{Has}
 use Rattle.order_graph.specs.Lists.{lists_of}
-use Rattle.level_search.proofs.BallLemmas.{cycle_closes, cycle_longer, level_next, no_cycle_left}
+use Rattle.level_search.proofs.BallLemmas.{before_shown, cycle_closes, cycle_longer, level_next, no_cycle_left}
 use Rattle.level_search.proofs.Joining.{before-known}
-use Rattle.level_search.proofs.LayerSizes.{near-next, sizes-within}
+use Rattle.level_search.specs.LayerSizes.{counted, layer_size, set_size}
+use Rattle.level_search.specs.Looks.{HasLooked}
+use Rattle.level_search.specs.Rings.{Reaches}
+use Rattle.level_search.specs.declared.tabled.sets.Sets.{Sets}
+use Rattle.level_search.proofs.LayerSizes.{looked-as, looked-more, looked-within, near-next, near-none, sizes-within, layer-up}
 use Rattle.level_search.proofs.tabled.search_by_table.Goals as goal
 use Rattle.level_search.proofs.tabled.search_by_table.Goals.{then-bound-level-2-via-then-bound-level-2, then-bound-level-2-via-else-bound-level-2+then-not-next_layer}
+
+-- a layer is looked at for a cycle that closes there, and once more for the next one
+twice : (n : ℕ) (old new : Sets) (begun was closed now : ℕ) → was ≡ counted (2 * set_size n old.near) begun → closed ≡ counted (layer_size n old) was → now ≡ counted (layer_size n old) closed
+    → ((x : ℕ) → Has new.near x ↔ (Has old.near x ⊎ Has old.reached x)) → now ≡ counted (2 * set_size n new.near) begun
+twice n old new begun was closed now first second third near =
+    looked-as (2 * set_size n old.near + layer_size n old + layer_size n old) (2 * set_size n new.near) begun now
+    (looked-more (2 * set_size n old.near + layer_size n old) (layer_size n old) begun closed now (looked-more (2 * set_size n old.near) (layer_size n old) begun was closed first second) third)
+    (omega (arith, near-next n old new.near near))
 
 pub returns-then-closes-clause-answer : goal.returns-then-closes-clause-answer
 returns-then-closes-clause-answer g c =
@@ -15,7 +29,7 @@ returns-then-closes-clause-answer g c =
     let last = c.best-bound.ensures.answer in
     let bound = c.if-bound-level.false in (
       record {
-        cycle = cycle_closes (length v.elements) (lists_of v) c.args.table.now c.requires.table (before-known v c.elements.ensures.proper) c.args.element c.loop-level.level c.loop-level.sets at found.0 found.1 found.2;
+        cycle = cycle_closes (length v.elements) (lists_of v) c.args.table.now c.requires.table (before-known v c.elements.ensures.proper) c.args.element c.loop-level.level c.loop-level.sets at found.0 found.1.here ((c.requires.table.shown c.args.element found.0 found.1.here.known).1 (before_shown (lists_of v) c.args.element found.0 found.1.before));
         shortest = λ n cycle. let long = at.long n cycle in omega arith;
       },
       omega arith,
@@ -39,6 +53,32 @@ returns-then-bound-level-2-clause-answer g c n cycle =
           absurd (no_cycle_left (length v.elements) (lists_of v) c.args.table.now c.requires.table known c.args.element (c.loop-level.level + 1) w.next_layer.new.self then (w.if-not-next_layer.ensures.last refl) n cycle)
     ]
 
+pub loop-level-init : goal.loop-level-init
+loop-level-init g c =
+    let n : ℕ = length c.args.graph.now.elements in
+    let rows : List (List ℕ) = lists_of c.args.graph.now in
+    let s : ℕ = c.args.element in
+    let begun = c.begin.ensures in
+    let fits = c.requires.fits in
+    record {
+      at = record {
+        near = λ x. (λ has. absurd (begun.near x has), λ m. absurd (let low = m.1 in omega (arith, low)));
+        reached = λ x. (
+          λ has. (0, omega arith, (begun.reached x).0 has),
+          λ m.
+              let low = m.1 in
+              let none : m.0 ≡ 0 = omega (arith, low) in
+              (begun.reached x).1 (subst (λ k. Reaches rows s k x) none m.2),
+        );
+        long = λ m cycle. cycle.0;
+      };
+      fits = record { near = begun.near_width ∙ fits.near; reached = begun.reached_width ∙ fits.reached; next = begun.next_width ∙ fits.next };
+      bound = omega arith;
+      reads = g.met.B.BoundSource.reads_none _;
+      looked = looked-as 0 (2 * set_size n c.begin.new.self.near) c.args.looked.now c.args.looked.now refl (let none = near-none n c.begin.new.self.near begun.near in omega (arith, none));
+      read = λ some. absurd (omega (arith, some));
+    }
+
 pub loop-level-preserved : goal.loop-level-preserved
 loop-level-preserved g c =
     let v = c.args.graph.now in
@@ -52,23 +92,119 @@ loop-level-preserved g c =
       fits = next.fits;
       bound = omega (arith, falls, inv.bound);
       reads = g.met.B.BoundSource.reads_more _ _ _ inv.reads c.best-bound.ensures.reads;
-      looked = omega (arith, inv.looked, c.closes.ensures.looked, next.looked, near-next (length v.elements) c.loop-level.sets c.next_layer.new.self.near next.near);
+      looked = twice (length v.elements) c.loop-level.sets c.next_layer.new.self c.args.looked.now c.loop-level.looked c.closes.new.looked c.next_layer.new.looked inv.looked (c.if-closes.ensures.looked refl) next.looked next.near;
       read = λ some. omega arith;
     }
 
+-- within the bound on the looks, whatever the part of the layer
+few : (n k : ℕ) (sets : Sets) (old new : ℕ) → new ≡ counted (2 * set_size n sets.near + k) old → k ≤ layer_size n sets → new ≤ old + 2 * n
+few n k sets old new is part = looked-within (2 * set_size n sets.near + k) (2 * n) old new is (omega (arith, part, sizes-within n sets))
+
+part-within : (n : ℕ) (sets : Sets) (part : ℕ) → (part ≡ 0) ⊎ (part ≡ layer_size n sets) → part ≤ layer_size n sets
+part-within n sets part (inl e) = omega (arith, e)
+part-within n sets part (inr e) = omega (arith, e)
+
+none-of : (n : ℕ) (sets : Sets) (old new : ℕ) → new ≡ counted (2 * set_size n sets.near) old → new ≡ counted (2 * set_size n sets.near + 0) old
+none-of n sets old new is = looked-as _ _ old new is (omega arith)
+
 pub returns-then-bound-level-clause-looked : goal.returns-then-bound-level-clause-looked
-returns-then-bound-level-clause-looked g c = omega (arith, c.loop-level.invariant.looked, sizes-within (length c.args.graph.now.elements) c.loop-level.sets)
+returns-then-bound-level-clause-looked g c =
+    let n : ℕ = length c.args.graph.now.elements in
+    few n 0 c.loop-level.sets c.args.looked.now c.loop-level.looked (none-of n c.loop-level.sets c.args.looked.now c.loop-level.looked c.loop-level.invariant.looked) (omega arith)
+
+pub returns-then-bound-level-clause-looks : goal.returns-then-bound-level-clause-looks
+returns-then-bound-level-clause-looks g c =
+    let n : ℕ = length c.args.graph.now.elements in
+    let at = c.loop-level.invariant.at in
+    record {
+      level = c.loop-level.level;
+      near = at.near;
+      reached = at.reached;
+      part = 0;
+      is_part = inl refl;
+      looks = none-of n c.loop-level.sets c.args.looked.now c.loop-level.looked c.loop-level.invariant.looked;
+    }
+
+pub returns-then-closes-clause-looks : goal.returns-then-closes-clause-looks
+returns-then-closes-clause-looks g c =
+    let n : ℕ = length c.args.graph.now.elements in
+    let at = c.loop-level.invariant.at in
+    let found = c.if-closes.ensures.found refl in
+    record {
+      level = c.loop-level.level;
+      near = at.near;
+      reached = at.reached;
+      part = layer_size (found.0 + 1) c.loop-level.sets;
+      is_part = (refl, found.0, found.1, refl);
+      looks = looked-more (2 * set_size n c.loop-level.sets.near) (layer_size (found.0 + 1) c.loop-level.sets) c.args.looked.now c.loop-level.looked c.closes.new.looked c.loop-level.invariant.looked found.2;
+    }
 
 pub returns-then-closes-clause-looked : goal.returns-then-closes-clause-looked
-returns-then-closes-clause-looked g c = omega (arith, c.loop-level.invariant.looked, c.closes.ensures.looked, sizes-within (length c.args.graph.now.elements) c.loop-level.sets)
+returns-then-closes-clause-looked g c =
+    let n : ℕ = length c.args.graph.now.elements in
+    let found = c.if-closes.ensures.found refl in
+    let known = found.1.here.known in
+    let part = layer_size (found.0 + 1) c.loop-level.sets in
+    few n part c.loop-level.sets c.args.looked.now c.closes.new.looked
+    (looked-more (2 * set_size n c.loop-level.sets.near) part c.args.looked.now c.loop-level.looked c.closes.new.looked c.loop-level.invariant.looked found.2)
+    (layer-up c.loop-level.sets (found.0 + 1) n (omega (arith, known)))
+
+pub returns-then-bound-level-2-clause-looks : goal.returns-then-bound-level-2-clause-looks
+returns-then-bound-level-2-clause-looks g c =
+    let v = c.args.graph.now in
+    let n : ℕ = length v.elements in
+    let at = c.loop-level.invariant.at in
+    let missed = c.if-closes.ensures.missed refl in
+    let P : Sets × ℕ → Type 0 = λ z. HasLooked n (lists_of v) c.args.element z.0 None c.args.looked.now z.1 in
+    elim c.then-bound-level-2.branch [
+      | then-bound-level-2-via-then-bound-level-2 w ↦
+          subst P (λ i. (sym w.sets-is i, sym w.looked-is i))
+          (
+          record {
+            level = c.loop-level.level;
+            near = at.near;
+            reached = at.reached;
+            part = layer_size n c.loop-level.sets;
+            is_part = inr refl;
+            looks = looked-more (2 * set_size n c.loop-level.sets.near) (layer_size n c.loop-level.sets) c.args.looked.now c.loop-level.looked c.closes.new.looked c.loop-level.invariant.looked (c.if-closes.ensures.looked refl);
+          }
+          )
+      | then-bound-level-2-via-else-bound-level-2+then-not-next_layer w ↦
+          let next = w.next_layer.ensures in
+          let then = level_next n (lists_of v) c.args.table.now c.requires.table (before-known v c.elements.ensures.proper) c.args.element c.loop-level.level c.loop-level.sets w.next_layer.new.self at missed next.near next.reached in
+          subst P (λ i. (sym w.sets-is i, sym w.looked-is i))
+          (
+          record {
+            level = c.loop-level.level + 1;
+            near = then.near;
+            reached = then.reached;
+            part = 0;
+            is_part = inl refl;
+            looks = none-of n w.next_layer.new.self c.args.looked.now w.next_layer.new.looked (twice n c.loop-level.sets w.next_layer.new.self c.args.looked.now c.loop-level.looked c.closes.new.looked w.next_layer.new.looked c.loop-level.invariant.looked (c.if-closes.ensures.looked refl) next.looked next.near);
+          }
+          )
+    ]
 
 pub returns-then-bound-level-2-clause-looked : goal.returns-then-bound-level-2-clause-looked
-returns-then-bound-level-2-clause-looked g c = elim c.then-bound-level-2.branch [
-  | then-bound-level-2-via-then-bound-level-2 w ↦
-      omega (arith, w.looked-is, c.loop-level.invariant.looked, c.closes.ensures.looked, sizes-within (length c.args.graph.now.elements) c.loop-level.sets)
-  | then-bound-level-2-via-else-bound-level-2+then-not-next_layer w ↦
-      omega (arith, w.looked-is, c.loop-level.invariant.looked, c.closes.ensures.looked, w.next_layer.ensures.looked, sizes-within (length c.args.graph.now.elements) c.loop-level.sets)
-]
+returns-then-bound-level-2-clause-looked g c =
+    let n : ℕ = length c.args.graph.now.elements in
+    let looks = returns-then-bound-level-2-clause-looks g c in
+    few n looks.part c.then-bound-level-2.sets c.args.looked.now c.then-bound-level-2.looked looks.looks (part-within n c.then-bound-level-2.sets looks.part looks.is_part)
+
+pub returns-clause-looks : goal.returns-clause-looks
+returns-clause-looks g c =
+    let n : ℕ = length c.args.graph.now.elements in
+    let at = c.loop-level.invariant.at in
+    record {
+      level = c.loop-level.level;
+      near = at.near;
+      reached = at.reached;
+      part = 0;
+      is_part = inl refl;
+      looks = none-of n c.loop-level.sets c.args.looked.now c.loop-level.looked c.loop-level.invariant.looked;
+    }
 
 pub returns-clause-looked : goal.returns-clause-looked
-returns-clause-looked g c = omega (arith, c.loop-level.invariant.looked, sizes-within (length c.args.graph.now.elements) c.loop-level.sets)
+returns-clause-looked g c =
+    let n : ℕ = length c.args.graph.now.elements in
+    few n 0 c.loop-level.sets c.args.looked.now c.loop-level.looked (none-of n c.loop-level.sets c.args.looked.now c.loop-level.looked c.loop-level.invariant.looked) (omega arith)

@@ -1,7 +1,7 @@
-use Rattle.std.proofs.Common.{◌+◌, ◌*◌, ◌<◌, ◌≤◌, ◌^◌, length}
+use Rattle.std.proofs.Common.{◌≡◌, ◌+◌, ◌*◌, ◌<◌, ◌≤◌, ◌^◌, length}
 use Rattle.order_graph.specs.Lists.{lists_of}
 use Rattle.level_search.specs.Balls.{FitsSets, IsAtLevel}
-use Rattle.level_search.specs.LayerSizes.{set_size}
+use Rattle.level_search.specs.LayerSizes.{counted, set_size}
 use Rattle.level_search.proofs.tabled.search_by_table.Given as goal
 
 abbrev pub invariant-loop-level : goal.invariant-loop-level
@@ -10,6 +10,6 @@ invariant-loop-level g l = record {
   fits : FitsSets (length l.graph.elements) l.sets;
   bound : g.B.BoundSource.last l.source ≤ g.B.BoundSource.last l.fn.source;
   reads : g.B.BoundSource.reads l.fn.source l.source;
-  looked : l.looked ≤ l.fn.looked + 2 * set_size (length l.graph.elements) l.sets.near;
+  looked : l.looked ≡ counted (2 * set_size (length l.graph.elements) l.sets.near) l.fn.looked;
   read : 0 < l.level → g.B.BoundSource.last l.source < 2 ^ 32;
 }

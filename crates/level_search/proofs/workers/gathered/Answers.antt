@@ -1,9 +1,9 @@
 use Rattle.std.proofs.Common.{◌≡◌, ℕ, ap, sym, subst, ◌∙◌, arith, All, List, [], ◌∷◌, Bool, ◌||◌, min, length, length-append}
 use Rattle.order_graph.specs.Lists.{lists_of}
 use Rattle.shared_bound.specs.Seats.{SeatView}
-use Rattle.level_search.specs.Team.{Honest}
+use Rattle.level_search.specs.Team.{Honest, LooksWithinClaims}
 use Rattle.level_search.specs.declared.workers.worker.Worker.{Worker}
-use Rattle.level_search.proofs.Teams.{all_front, taken_in, IsOther}
+use Rattle.level_search.proofs.Teams.{all_front, few_taken_in, taken_in, IsOther}
 use Rattle.level_search.proofs.workers.gathered.Goals as goal
 
 pub loop-other-preserved : goal.loop-other-preserved
@@ -13,19 +13,22 @@ loop-other-preserved c =
     let rows : List (List ℕ) = lists_of c.args.graph.now in
     let items = c.in-Some.ensures.items in
     let P : Worker → Type 0 = IsOther c.args.bound.now c.args.graph.now c.args.sources.now in
-    let front = all_front P c.pop.new.self.items c.in-Some.other (subst (All P) items inv.5) in
+    let front = all_front P c.pop.new.self.items c.in-Some.other (subst (All P) items inv.6) in
     let ok = c.loop-other.others.ok.0 in
     let ok' = c.pop.new.self.ok.0 in
     let long = ap length items in
     let long' = length-append c.pop.new.self.items (c.in-Some.other ∷ []) in
     let out = inv.2 in
     let out' = c.take_in.ensures.out in
-    let low : c.take_in.new.first.low ≡ min c.loop-other.first.low c.into_seat.result.low = ap (λ (s : SeatView). s.low) e in (
+    let low : c.take_in.new.first.low ≡ min c.loop-other.first.low c.into_seat-seat.result.0.low = ap (λ (s : SeatView). s.low) e in (
       ap (λ (s : SeatView). s.bound) e ∙ inv.0,
       ap (λ (s : SeatView). s.is_first) e ∙ inv.1,
       omega arith,
-      ap (λ (s : SeatView). s.done) e ∙ ap (λ (b : Bool). b || c.into_seat.result.done) inv.3,
-      taken_in rows c.args.sources.now c.loop-other.first c.into_seat.result c.take_in.new.first inv.4 (subst (Honest rows c.args.sources.now) (sym c.into_seat.ensures) front.1.2)
+      ap (λ (s : SeatView). s.done) e ∙ ap (λ (b : Bool). b || c.into_seat-seat.result.0.done) inv.3,
+      taken_in rows c.args.sources.now c.loop-other.first c.into_seat-seat.result.0 c.take_in.new.first inv.4 (subst (Honest rows c.args.sources.now) (sym c.into_seat-seat.ensures.seat) front.1.2)
           (ap (λ (s : SeatView). s.claimed) e) (ap (λ (s : SeatView). s.offered) e) (omega arith) (omega arith),
+      few_taken_in (length c.args.graph.now.elements) c.loop-other.first c.into_seat-seat.result.0 c.take_in.new.first c.loop-other.looked c.into_seat-seat.result.1 c.saturating_add-looked.result (ap (λ (s : SeatView). s.claimed) e) inv.5
+          (subst (λ (s : SeatView). LooksWithinClaims (length c.args.graph.now.elements) s c.into_seat-seat.result.1) (sym c.into_seat-seat.ensures.seat) (subst (λ m. LooksWithinClaims (length c.args.graph.now.elements) c.in-Some.other.seat m) (sym c.into_seat-seat.ensures.looked) front.1.3))
+          (let sum = c.saturating_add-looked.ensures in omega (arith, sum)),
       front.0,
     )

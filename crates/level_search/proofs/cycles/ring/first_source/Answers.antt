@@ -1,5 +1,10 @@
-use Rattle.std.proofs.Common.{◌<◌, length, arith}
-use Rattle.level_search.proofs.Joining.{found-here, shortest_of_all}
+use Rattle.std.proofs.Common.{◌≡◌, ℕ, ◌+◌, ◌*◌, ◌<◌, ◌≤◌, length, add-one, inl, inr, sym, subst, arith}
+use Rattle.std.proofs.lemmas.Bool.{cases_lt}
+use Rattle.std.proofs.Math.Nat.{add-mul}
+use Rattle.order_graph.specs.Lists.{lists_of}
+use Rattle.level_search.specs.Looks.{HaveLooked}
+use Rattle.level_search.specs.Walks.{HasCycle}
+use Rattle.level_search.proofs.Joining.{found-here, none-here, shortest_of_all}
 use Rattle.level_search.proofs.ShortestFew.{shortest-fits}
 use Rattle.level_search.proofs.cycles.ring.first_source.Goals as goal
 
@@ -21,3 +26,31 @@ unreachable-requires c =
     let known = all.known in
     let count = c.elements-element-end.ensures.value in
     c.loop-element.invariant.none all.source (omega arith) all.cycle
+
+pub loop-element-preserved : goal.loop-element-preserved
+loop-element-preserved c =
+    let v = c.args.graph.now in
+    let n : ℕ = length v.elements in
+    let s : ℕ = c.loop-element.element in
+    let inv = c.loop-element.invariant in
+    let search = c.search_by_table.ensures in
+    record {
+      fits = search.fits;
+      looked = omega (arith, inv.looked, search.looked, add-mul s 1 (2 * n));
+      looks = subst (λ k. HaveLooked n (lists_of v) k c.args.looked.now c.search_by_table.new.looked) (sym (add-one s))
+          (c.loop-element.looked, inv.looks, c.search_by_table.new.sets, c.search_by_table.result, search.looks);
+      none = λ t low. elim (cases_lt t s) [
+        | inl less ↦ inv.none t less
+        | inr more ↦ λ cycle.
+            let e : t ≡ s = omega (arith, low, more) in
+            none-here v c.elements-element-end.ensures.proper c.args.k s c.search_by_table.new.source.least c.search_by_table.result search.reads search.answer c.if-is_some.ensures
+            (subst (λ x. HasCycle (lists_of v) x c.args.k) e cycle)
+      ];
+    }
+
+pub returns-then-is_some-clause-looks : goal.returns-then-is_some-clause-looks
+returns-then-is_some-clause-looks c =
+    let v = c.args.graph.now in
+    let s : ℕ = c.loop-element.element in
+    subst (λ k. HaveLooked (length v.elements) (lists_of v) k c.args.looked.now c.search_by_table.new.looked) (sym (add-one s))
+    (c.loop-element.looked, c.loop-element.invariant.looks, c.search_by_table.new.sets, c.search_by_table.result, c.search_by_table.ensures.looks)

@@ -1,11 +1,13 @@
 -- The next element of the layer, and after the last.
-use Rattle.std.proofs.Common.{◌≡◌, ℕ, ◌+◌, ◌<◌, ◌≤◌, ◌∙◌, inl, inr, List, length, sym, subst, arith}
+use Rattle.std.proofs.Common.{◌≡◌, ℕ, ◌+◌, ◌<◌, ◌≤◌, ◌∙◌, inl, inr, List, length, sym, ap, subst, arith}
 use Rattle.std.proofs.lemmas.Bool.{cases_eq}
 use Rattle.bit_tables.specs.Sets.{Has}
 use Rattle.bit_tables.specs.Lists.{row_of}
+use Rattle.order_graph.specs.Lists.{ticked}
 use Rattle.level_search.specs.Balls.{IsInLayer}
+use Rattle.level_search.specs.LayerSizes.{counted}
 use Rattle.level_search.proofs.BallLemmas.{layer_from, layer_to}
-use Rattle.level_search.proofs.LayerSizes.{layer-gap, layer-more, layer-up}
+use Rattle.level_search.proofs.LayerSizes.{counted-next, layer-gap, layer-next}
 use Rattle.level_search.proofs.tabled.sets.Sets.gather.Goals as goal
 
 pub layer-preserved : goal.layer-preserved
@@ -29,7 +31,7 @@ layer-preserved c =
     record {
       within = (let k = some.1.known in omega (arith, k));
       fits = record { near = inv.fits.near; reached = inv.fits.reached; next = joined.len ∙ inv.fits.next };
-      looked = omega (arith, inv.looked, c.expand.ensures.ticked, layer-more sets x here.reached here.not_near, layer-gap sets from x some.0 none);
+      looked = c.expand.ensures.ticked ∙ ap ticked inv.looked ∙ counted-next _ _ c.args.looked.now (layer-next sets from x some.0 none here.reached here.not_near);
       near = inv.near;
       reached = inv.reached;
       next = λ y. (
@@ -45,4 +47,11 @@ layer-preserved c =
     }
 
 pub returns-clause-looked : goal.returns-clause-looked
-returns-clause-looked c = omega (arith, c.layer.invariant.looked, layer-up c.args.self.now c.layer.from (length c.args.graph.now.elements) c.layer.invariant.within)
+returns-clause-looked c =
+    let inv = c.layer.invariant in
+    let sets = c.args.self.now in
+    let from : ℕ = c.layer.from in
+    let n : ℕ = length c.args.graph.now.elements in
+    let none : (y : ℕ) → from ≤ y → y < n → Has sets.reached y → Has sets.near y =
+    λ y low high has. subst (λ (s : List ℕ). Has s y) inv.near (c.in_default.ensures.none y low high (subst (λ (s : List ℕ). Has s y) (sym inv.reached) has)) in
+    inv.looked ∙ ap (λ k. counted k c.args.looked.now) (sym (layer-gap sets from n inv.within none))
