@@ -121,8 +121,34 @@ fn the_longest_right_line_in_pieces(rt: HostRuntime) -> Result<(), Fail> {
             back: b"\n",
         };
         let text = whole.join(rt.alloc())?;
-        let said = fed(rt.alloc(), &text, 37);
-        assert!(rt; is_recording(rt.alloc(), said, &text)?);
+        for size in [37, 101, 4096, 65536, 131072] {
+            let said = fed(rt.alloc(), &text, size);
+            assert!(rt;
+                is_recording(rt.alloc(), said, &text)?,
+                "in pieces of {size}"
+            );
+        }
+    }
+    Ok(())
+}
+
+#[test]
+fn a_right_line_of_1700_bytes_in_pieces_of_each_size(rt: HostRuntime) -> Result<(), Fail> {
+    for front in LONGEST {
+        let whole = Pieces {
+            front: front.as_bytes(),
+            piece: LONGEST_NAME,
+            count: 50,
+            back: b"\n",
+        };
+        let text = whole.join(rt.alloc())?;
+        for size in 1..text.len() + 1 {
+            let said = fed(rt.alloc(), &text, size);
+            assert!(rt;
+                is_recording(rt.alloc(), said, &text)?,
+                "in pieces of {size}"
+            );
+        }
     }
     Ok(())
 }
