@@ -23,16 +23,17 @@ pub record Judges (count : ℕ) (form : Form) (before after : SourceState) (old 
   pub unread : IsNoWorkers count → after ≡ before
   pub read : IfErr answer (λ fault. fault ≡ run.Read → IsClosed after)
   pub memory : IfErr answer (λ fault. fault ≡ run.Memory → after.failed ≡ false)
+  pub place : IfErr answer (λ fault. fault ≡ run.Memory → RunsOut before after)
   pub trace : IfErr answer (λ fault. IfSome before.bytes (λ text. NamesFirstFault text fault))
   pub write : IfErr answer (λ fault. fault ≡ run.Write → (new.failed ≡ true)
       × IfSome before.bytes (λ text. ReportsFront text form old.bytes new.bytes))
   pub unwritten : IfErr answer (λ fault. fault ≢ run.Write → new ≡ old)
 
--- the same without a session: no thread is missed, no recorder gives up, and memory runs out at the trace, or behind it
+-- the same without a session: no thread is missed, and no recorder gives up
 abbrev pub JudgesAlone : ℕ → Form → SourceState → SourceState → SinkState → SinkState → Result Status RunFault
     → Type 0
 JudgesAlone count form before after old new answer = Judges count form before after old new answer
-    × IfErr answer IsOfRun × IfErr answer (λ fault. fault ≡ run.Memory → RunsOut before after)
+    × IfErr answer IsOfRun
 
 -- the certificate of the verdict on the recording that the source spells
 pub record Shows (before after : SourceState) (old new : SinkState)

@@ -6,6 +6,7 @@ ghost use Rattle.byte_streams.specs.Streams.{IsClosed};
 ghost use Rattle.command_line.specs.declared.task.Form.TheVariants.{Text};
 ghost use Rattle.finder_cli.specs.Runs.{IsReportOn, Reports, ReportsFront, NamesFirstFault, IsOfSession};
 ghost use Rattle.finder_cli.specs.Runs.{IsNoWorkers};
+ghost use Rattle.finder_cli.specs.OutOfMemory.{RunsOut};
 
 use super::output::{Output, status_of, verdict_on, write_output};
 use super::status::{RunFault, Status};
@@ -43,6 +44,9 @@ pub fn live<H: Threads + Wait + Sync, R: Reader + Drop, W: Writer + Drop, G: Gat
     ensures unread { IsNoWorkers workers → source.new ≡ source.old }
     ensures read { IfErr result (λ fault. fault ≡ RunFault.Read → IsClosed source.new) }
     ensures memory { IfErr result (λ fault. fault ≡ RunFault.Memory → source.new.failed ≡ false) }
+    // Out of memory only at a piece with a line whose reading takes memory, or one that cut a line; or behind
+    // the whole text.
+    ensures place { IfErr result (λ fault. fault ≡ RunFault.Memory → RunsOut source.old source.new) }
     ensures trace { IfErr result (λ fault. IfSome source.old.bytes (λ text. NamesFirstFault text fault)) }
     ensures write { IfErr result (λ fault. fault ≡ RunFault.Write → (sink.new.failed ≡ true)
         × IfSome source.old.bytes (λ text. ReportsFront text Text sink.old.bytes sink.new.bytes)) }

@@ -1,3 +1,5 @@
+use Rattle.std.proofs.Common.{inl, inr}
+use Rattle.std.proofs.lemmas.Result.{err_from_is_err_and}
 use Rattle.command_line.specs.declared.task.Form.TheVariants.{Text}
 use Rattle.finder_cli.proofs.Reported.{written-on, front-on, report-on}
 use Rattle.finder_cli.specs.Runs.{IsReportOf}
@@ -14,3 +16,14 @@ returns-clause-write g c =
     front-on (λ t o s. IsReportOf t Text o s) _ c.args.source.now.bytes _ _ _ _ c.write_output.result
     (report-on c.args.source.now.bytes c.in_ok-recording.recording Text c.in_ok-report.report.bytes.items c.in_ok-report.report.status c.in_ok-recording.ensures.ok c.in_ok-report.ensures.ok)
     c.write_output.ensures.err
+
+pub returns-in_err-recording-clause-place : goal.returns-in_err-recording-clause-place
+returns-in_err-recording-clause-place g c =
+    let p = err_from_is_err_and c.from_residual.result c.from_residual.ensures.1 in
+    rw (p.1, p.2) (λ memory. inl (c.in_err-recording.ensures.place memory))
+
+pub returns-in_err-report-clause-place : goal.returns-in_err-report-clause-place
+returns-in_err-report-clause-place g c =
+    let p = err_from_is_err_and c.from_residual-in_err-report.result c.from_residual-in_err-report.ensures.1 in
+    let end = c.in_ok-recording.ensures.end in
+    rw (p.1, p.2) (λ _. inr (c.in_ok-recording.recording, end.2, end.0, c.in_ok-recording.ensures.ok))
