@@ -28,8 +28,7 @@ MOST = 20_000
 # Every call that can answer out of memory, by its name in docs/names.md; the list is kept by hand.
 CALLS = """Response::push, Response::push_names, Recording::new, Recording::record, Recording::copy, trace_text::read,
 trace_text::write, Reader::feed, Sight::of, first_fault, contents_check::check, check_in_turn, Covering::add, Covering::append,
-Rows::push_row, AfterTable::note_included, BitSet::outside_from, OrderGraph::of, OrderGraph::of_covering, Scratch::new,
-Bound::new, conflict_number, least_cycle, least_conflict, judge, report::text, report::json, OrderGraph::narrowed, taken, order,
+Rows::push_row, AfterTable::note_included, BitSet::outside_from, OrderGraph::of, Scratch::new, Bound::new, conflict_number, least_cycle, least_conflict, judge, report::text, report::json, OrderGraph::narrowed, taken, order,
 certify, write_certificate, judge_and_write, Certificate::write, certificate_text::push_row, Certificate::read, cert_check::check,
 check_recording, Session::open, Session::record, snapshot, watch_snapshot, watch, replay, replay_with, Registry::add,
 Registry::names, rehearse, run, run_cert, run_verify, live, read_words"""
@@ -54,7 +53,6 @@ TESTS = {
     "AfterTable::note_included": ("bit_tables", "rows_that_the_row_before_has"),
     "BitSet::outside_from": ("bit_tables", "layers_of_numbers"),
     "OrderGraph::of": ("order_graph", "steps_of_worked_recordings", "marks_of_the_ring_of_four"),
-    "OrderGraph::of_covering": ("order_graph", "covering_responses_of_the_ring_of_four"),
     "Scratch::new": ("level_search", "a_scratch_fits_its_graph_alone"),
     "Bound::new": ("shared_bound", "two_seats_share_three_sources"),
     "conflict_number": ("level_search", "worked_recordings_for_any_number_of_workers"),
