@@ -27,9 +27,10 @@ MOST = 20_000
 
 # Every call that can answer out of memory, by its name in docs/names.md; the list is kept by hand.
 CALLS = """Response::push, Response::push_names, Recording::new, Recording::record, Recording::copy, trace_text::read,
-trace_text::write, Reader::feed, Sight::of, first_fault, contents_check::check, check_in_turn, Covering::add, Covering::append,
-Rows::push_row, AfterTable::note_included, BitSet::outside_from, OrderGraph::of, Scratch::new, Bound::new, conflict_number, least_cycle, least_conflict, judge, report::text, report::json, OrderGraph::narrowed, taken, order,
-certify, write_certificate, judge_and_write, Certificate::write, certificate_text::push_row, Certificate::read, cert_check::check,
+trace_text::write, Reader::feed, Sight::of, first_fault, contents_check::check, check_in_turn, Covering::add,
+Covering::append, Rows::push_row, AfterTable::note_included, BitSet::outside_from, OrderGraph::of, Scratch::new, Bound::new,
+conflict_number, least_cycle, least_conflict, judge, report::text, report::json, OrderGraph::narrowed, taken, order, certify,
+write_certificate, judge_and_write, Certificate::write, certificate_text::push_row, Certificate::read, cert_check::check,
 check_recording, Session::open, Session::record, snapshot, watch_snapshot, watch, replay, replay_with, Registry::add,
 Registry::names, rehearse, run, run_cert, run_verify, live, read_words"""
 
