@@ -26,8 +26,9 @@ use std::marker::Model;
 /// empty, and `of_covering` some that cover them. Lists and their places are numbered from 0. A spot of an
 /// element is a place where it stands.
 ///
-/// Its memory is linear in the places of the responses that are kept. Only `of` and `narrowed` take memory. `of` and `narrowed` list the spots of each element, as the search for a cycle asks for them;
-/// `of_covering` doesn't, since an order is found without them: there they are looked for among all places.
+/// Its memory is linear in the places of the responses that are kept. Only `of` and `narrowed` take memory: they list
+/// the spots of each element, as the search for a cycle asks for them. `of_covering` doesn't, since an order is found
+/// without them. There each spot is looked for among all places.
 #[derive(Drop)]
 pub struct OrderGraph {
     names: Vec<Name>,
@@ -72,7 +73,7 @@ impl OrderGraph {
     ///
     /// It has the same orders and cycles as the graph of all responses, and the same least operations that show
     /// one element before another; it has fewer lists and places. It keeps names and rows as they are: it takes
-    /// neither time nor memory, reads no response and looks up none of their names.
+    /// no memory and constant time.
     pub fn of_covering(recording: &Recording, numbered: Numbered) -> OrderGraph
         requires sound { IsSound recording.now }
         requires numbered { IsNumbered recording.now numbered }
@@ -235,8 +236,8 @@ impl OrderGraph {
     }
 
     /// The least operation whose response shows element a before element b; none where no response does.
-    /// It reads the places after each spot of a, at most those of all responses together; and all places for each
-    /// spot where spots are not listed.
+    /// It reads the places after each spot of a, at most those of all responses together. Where spots are not
+    /// listed it reads all places twice more for each spot.
     pub fn before(&self, a: u32, b: u32) -> Option<OpName>
         ensures { IsLeastShowing self.now a b result }
     {

@@ -65,7 +65,7 @@ pub fn rehearse<H: Threads + Wait + Sync, G: Gate>(
     ensures streams { IfOk result (λ closed. SameStreams recording.now closed) }
     ensures watched { IfOk result IsWatched }
     ensures workers { IsErrOf result RehearsalFault.Workers ↔ ((workers < 1) ⊎ (MOST_WORKERS < workers)) }
-    // `Thread` and `Stalled` are the foremost of what the threads told.
+    // `Stalled` is the foremost of what recorders may tell of such replays; no clause ties it to those that ran.
     ensures ended { IfErr result (IsEndOf recording.now) }
     ensures stalled { IsErrOf result RehearsalFault.Stalled → HasStalled recording.now }
 {
