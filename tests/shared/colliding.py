@@ -1,5 +1,6 @@
 """Recordings whose names were chosen so that a map looks for all of them in one place, were it not for a key that it takes from the
 names: and how long the program takes over them."""
+import itertools
 import os
 import subprocess
 from pathlib import Path
@@ -12,6 +13,7 @@ REPLICAS = 16
 # Names for each group of a map: a map that is made with room for so many has the least power of two of groups that suffices.
 GROUP_LOAD = 9
 HASHERS = "fold", "quick", "sip"
+LETTERS = "ABCDEFGHIJKLMNOPQRSTUVWXYZabcdefghijklmnopqrstuvwxyz0123456789_-."
 
 
 def colliding_names(folder: str, hasher: str, many: int) -> list:
@@ -25,9 +27,17 @@ def colliding_names(folder: str, hasher: str, many: int) -> list:
     return subprocess.run([program, hasher, str(groups), str(many)], check=True, stdout=subprocess.PIPE, text=True).stdout.split()
 
 
-def other_names(many: int) -> list:
+def names_of_a_sparse_factor(many: int) -> list:
+    """So many names of 32 bytes that share few groups by the kit's quick hasher, whatever it begins with. It multiplies by each name's
+    last eight bytes, joined with a constant. By these the product is a few shifts, so the bits that tell the group hardly depend on the
+    letters that differ."""
+    triples = itertools.product(LETTERS, repeat=3)
+    return [f"{'a' * 18}{p}{i}aa{q}a5xJo9y7N" for i, p, q in itertools.islice(triples, many)]
+
+
+def other_names(many: int, length: int) -> list:
     """As many names of the same length."""
-    return [f"n{number:06d}" for number in range(many)]
+    return [f"n{number:06d}".ljust(length, "x") for number in range(many)]
 
 
 def trace(names: list) -> str:
@@ -40,16 +50,19 @@ def trace(names: list) -> str:
 
 
 def chosen_names(tally: Tally, program: str, folder: str, many: int) -> None:
-    """Names that were chosen to collide cost a verdict, and a certificate's check, about what other names cost; the answers are
-    those of the others, under the other names."""
+    """Names that were chosen to collide cost a verdict, and a certificate's check, about what other names of their length cost; the
+    answers are those of the others, under the other names."""
     many -= many % REPLICAS
     path, cert = os.path.join(folder, "names"), os.path.join(folder, "names.cert")
-    others = other_names(many)
-    seconds, answers = {}, {}
-    for kind, names in [("others", others)] + [(hasher, colliding_names(folder, hasher, many)) for hasher in HASHERS]:
+    chosen = {hasher: colliding_names(folder, hasher, many) for hasher in HASHERS} | {"a sparse factor": names_of_a_sparse_factor(many)}
+    seconds, answers, usual = {}, {}, {}
+    for kind, names in chosen.items():
+        usual[kind] = f"others of {len(names[0])} bytes"
+    others = {told: other_names(many, len(chosen[kind][0])) for kind, told in usual.items()}
+    for kind, names in [*others.items(), *chosen.items()]:
         tally.check(f"{many} names, {kind}", len(set(names)) == many, len(set(names)))
         Path(path).write_text(trace(names))
-        back = dict(zip(names, others))
+        back = dict(zip(names, others[usual.get(kind, kind)]))
         for command in "verdict", "cert":
             before = processor_seconds()
             got = run(program, [command, path])
@@ -61,11 +74,11 @@ def chosen_names(tally: Tally, program: str, folder: str, many: int) -> None:
         got = run(program, ["verify", path, cert])
         seconds["verify", kind] = processor_seconds() - before
         tally.same(f"verify with {kind}", got, line("yes accepted\n"))
-    for hasher in HASHERS:
+    for kind, told in usual.items():
         for command in "verdict", "cert", "verify":
-            took, wanted = seconds[command, hasher], seconds[command, "others"]
-            told = f"{took:.3f} s of processor, others {wanted:.3f} s"
-            tally.check(f"{command} of names that collide by {hasher}", took < 2 * wanted + 0.02, told)
+            took, wanted = seconds[command, kind], seconds[command, told]
+            tally.check(f"{command} of names that collide by {kind}", took < 2 * wanted + 0.02,
+                        f"{took:.3f} s of processor, {told} {wanted:.3f} s")
         for command in "verdict", "cert":
-            same = answers[command, hasher] == answers[command, "others"]
-            tally.check(f"{command} of names that collide by {hasher}: the same answer", same)
+            same = answers[command, kind] == answers[command, told]
+            tally.check(f"{command} of names that collide by {kind}: the same answer", same)
