@@ -10,6 +10,7 @@ import shutil
 import subprocess
 import sys
 import tempfile
+import weakref
 from pathlib import Path
 from random import Random
 from urllib.parse import unquote
@@ -441,8 +442,10 @@ def check_lines(tally: Tally, recorder: Recorder, folder: Path) -> None:
         return by.answers([*calls, f"save\t{named}"])[-1]
 
     def beside(path: Path) -> str:
+        """The first line of the file beside it; in a language whose recorder knows no places there is no other."""
         side = Path(f"{path}.lines")
-        return side.read_text() if side.is_file() else "none"
+        text = side.read_text() if side.is_file() else "none"
+        return text.split("\n")[0] + "\n" if recorder.language in PLACING and "\n" in text else text
 
     def warned() -> list:
         said = subprocess.run([EXPLAIN, trace], capture_output=True, text=True, env=recorder.surroundings).stdout
@@ -478,6 +481,169 @@ def check_lines(tally: Tally, recorder: Recorder, folder: Path) -> None:
                 ["new\t1", *["read\t0"] * 100])
     tally.check(f"{recorder.language}: the number comes first", got.startswith(("failed ", "ended with -")) and full.is_file()
                 and full.stat().st_size == 512 and beside(full) == "102\n", (got, beside(full)))
+    if recorder.language in PLACING:
+        got = saved(full, Recorder(recorder.language, [*NO_ROOM, *recorder.words], recorder.surroundings["DOMEPEELER"]),
+                    ["new\t1", *["read\t0"] * 40])
+        tally.check(f"{recorder.language}: the places come last", got.startswith("failed ") and beside(full) == "42\n"
+                    and full.read_bytes() == b"trace 1\nreplicas 1\n" + b"0 read :\n" * 40, (got, beside(full)))
+
+
+# Languages whose recorder remembers where each line was recorded.
+PLACING = ["py", "mjs", "rs"]
+
+
+def check_places(tally: Tally, recorder: Recorder, folder: Path) -> None:
+    """Beside what is saved stands for each line the place of the driver's call, from the folder in which it runs; and in another folder
+    the whole path."""
+    driver, trace = DRIVERS / f"driver.{recorder.language}", folder / "placed.trace"
+    calls = [fields(line.split(" -> ")[0]) for line in [*CYCLE.split("\n")[:-1], "view 0 -> ok", "received_clock 1 2 1 1 0 1 -> ok"]]
+    kinds = [call.split("\t")[0] for call in calls[1:]]
+    if recorder.language == "mjs":
+        kinds = [kind.replace("_clock", "Clock") for kind in kinds]
+    source = driver.read_text().splitlines()
+    for place, path in (ROOT, str(driver.relative_to(ROOT))), (folder, str(driver)):
+        given = "".join(call + "\n" for call in [*calls, f"save\t{trace}"]).encode()
+        subprocess.run(recorder.words, input=given, cwd=place, env=recorder.surroundings, stdout=subprocess.DEVNULL, check=True)
+        head, *lines = Path(f"{trace}.lines").read_text().splitlines()
+        tally.check(f"{recorder.language}: a place for each line", head == str(len(kinds) + 2) and len(lines) == len(kinds) and
+                    [line.split(" ")[0] for line in lines] == [str(number) for number in range(3, len(kinds) + 3)], lines)
+        for kind, line in zip(kinds, lines):
+            found = re.fullmatch(rf"\d+ {re.escape(path)}:(\d+)((?:, called from {re.escape(path)}:\d+){{0,2}})", line)
+            is_call = found and f"recording.{kind}(" in source[int(found[1]) - 1]
+            tally.check(f"{recorder.language}: the place of {kind}", is_call and (not found[2] or recorder.language != "rs"), line)
+
+
+# Programs of a user, in `tests/` of a folder in which they run, and what must stand beside the trace that each saves. An installed package
+# hands a call on, and what the language itself calls has no place. `{place}` is the folder, or nothing.
+USERS = {
+    "editor.py": (f'''import os
+import sys
+import threading
+sys.path[:0] = ["{ROOT / 'recorders'}", "lib/site-packages"]
+from domepeeler import Recording
+from other import call
+
+def typed(name):
+    return recording.insert(0, name, 0, [name])
+
+def deep(left):
+    if left:
+        return deep(left - 1)
+    recording.read(1, [])
+
+recording = Recording(2)
+n = call(typed, "a")
+thread = threading.Thread(target=recording.received, args=(1, 0, n))
+thread.start()
+thread.join()
+deep(5)
+recording.save("session.trace")
+print(recording.explain(), end="")
+whole = os.path.abspath("whole.trace")
+os.mkdir("gone")
+os.chdir("gone")
+os.rmdir("../gone")
+recording.save(whole)
+''', ["3 {place}tests/editor.py:9, called from {place}tests/editor.py:17",
+     "5 {place}tests/editor.py:14, called from {place}tests/editor.py:13, called from {place}tests/editor.py:13"]),
+    "editor.mjs": (f'''import {{ mkdirSync, rmdirSync }} from "node:fs"
+import {{ Recording }} from "{(ROOT / 'recorders').as_uri()}/domepeeler.mjs"
+import {{ call }} from "other"
+
+function typed(name) {{
+  return recording.insert(0, name, 0, [name])
+}}
+
+function deep(left) {{
+  if (left) deep(left - 1)
+  else recording.read(1, [])
+}}
+
+const recording = new Recording(2)
+const n = call(typed, "a")
+setTimeout(recording.received.bind(recording, 1, 0, n), 0)
+await new Promise((done) => setTimeout(done, 20))
+deep(5)
+await recording.save("session.trace")
+process.stdout.write(await recording.explain())
+const whole = process.cwd() + "/whole.trace"
+mkdirSync("gone")
+process.chdir("gone")
+rmdirSync("../gone")
+await recording.save(whole)
+''', ["3 {place}tests/editor.mjs:6, called from {place}tests/editor.mjs:15",
+     "5 {place}tests/editor.mjs:11, called from {place}tests/editor.mjs:10, called from {place}tests/editor.mjs:10"]),
+    "editor.rs": (f'''#[path = "{ROOT / 'recorders'}/domepeeler.rs"]
+mod domepeeler;
+use domepeeler::Recording;
+
+fn typed(recording: &mut Recording, name: &str) -> u32 {{
+    recording.insert(0, name, 0, &[name]).unwrap()
+}}
+
+#[track_caller]
+fn looked(recording: &mut Recording) {{
+    recording.read(1, &[] as &[&str]).unwrap();
+}}
+
+fn main() {{
+    let mut recording = Recording::new(2).unwrap();
+    let n = typed(&mut recording, "a");
+    recording.received(1, 0, n).unwrap();
+    looked(&mut recording);
+    recording.save("session.trace").unwrap();
+    print!("{{}}", recording.explain().unwrap());
+    let whole = std::env::current_dir().unwrap().join("whole.trace");
+    std::fs::create_dir("gone").unwrap();
+    std::env::set_current_dir("gone").unwrap();
+    std::fs::remove_dir("../gone").unwrap();
+    recording.save(whole).unwrap();
+}}
+''', ["3 {place}tests/editor.rs:6", "4 {place}tests/editor.rs:17", "5 {place}tests/editor.rs:18"]),
+}
+HANDING_ON = {"lib/site-packages/other.py": "def call(act, *words):\n    return act(*words)\n",
+              "node_modules/other/package.json": '{"name": "other", "type": "module", "main": "index.mjs"}\n',
+              "node_modules/other/index.mjs": "export const call = (act, ...words) => act(...words)\n"}
+
+
+def check_users(tally: Tally, program: str, folder: Path) -> None:
+    """Programs of a user: beside the trace stands where they call, and the words of `explain` are those of the tool on the saved file."""
+    place = folder / "user's [own] (place) ä"
+    for name, text in [*HANDING_ON.items(), *((f"tests/{name}", text) for name, (text, _) in USERS.items())]:
+        Path(place, name).parent.mkdir(parents=True, exist_ok=True)
+        Path(place, name).write_text(text)
+    subprocess.run(["rustc", "--edition", "2021", "-o", place / "editor", place / "tests/editor.rs"], check=True)
+    surroundings = {**os.environ, "DOMEPEELER": program, "DOMEPEELER_EXPLAIN": EXPLAIN, "PYTHONDONTWRITEBYTECODE": "1",
+                    "LC_ALL": "C.UTF-8"}
+    for name, words in ("editor.py", [sys.executable]), ("editor.mjs", ["node"]), ("editor.rs", []):
+        done = subprocess.run([*words, f"tests/{name}"] if words else ["./editor"], cwd=place, capture_output=True, text=True,
+                              env=surroundings)
+        for saved, path in ("session.trace.lines", ""), ("whole.trace.lines", f"{place}/"):
+            wanted = "".join(line + "\n" for line in ["5", *(line.format(place=path) for line in USERS[name][1])])
+            got = Path(place, saved).read_text() if Path(place, saved).is_file() else done
+            tally.check(f"{name}: places in {saved}", got == wanted, got)
+        told = subprocess.run([EXPLAIN, "session.trace"], cwd=place, capture_output=True, text=True, env=surroundings)
+        tally.check(f"{name}: explains as the tool explains the file", done.stdout == told.stdout and
+                    told.stdout.endswith("\n\nIn your code\n" + "".join(
+                        f"  line {line.format(place='')}\n".replace(" tests", ": tests", 1) for line in USERS[name][1])), (done, told))
+        for left in place.glob("*.trace*"):
+            left.unlink()
+
+
+def check_frames(tally: Tally) -> None:
+    """What the recorder remembers of its callers keeps nothing of theirs alive."""
+    from domepeeler import Recording
+
+    class Thing:
+        pass
+
+    def act() -> weakref.ref:
+        thing = Thing()
+        recording.read(0, [])
+        return weakref.ref(thing)
+
+    recording = Recording(1)
+    tally.check("py: keeps no frame of its callers", act()() is None)
 
 
 def check_judge(tally: Tally, recorder: Recorder, folder: Path) -> None:
@@ -723,7 +889,11 @@ def main() -> None:
                 check_full_updates(tally, recorder)
             check_save(tally, recorder, folder)
             check_lines(tally, recorder, folder)
+            if language in PLACING:
+                check_places(tally, recorder, folder)
             check_judge(tally, recorder, folder)
+        check_users(tally, program, folder)
+        check_frames(tally)
         check_limits_are_the_programs(tally, program, texts["py"])
         check_merge(tally, program, folder)
         check_guide(tally, program, folder)
