@@ -670,6 +670,36 @@ def check_judge(tally: Tally, recorder: Recorder, folder: Path) -> None:
     tally.check(f"{recorder.language}: judge by domepeeler on the PATH", got[1:] and got[1].startswith("report {"), got)
 
 
+def check_explain(tally: Tally, recorder: Recorder, folder: Path) -> None:
+    """What `explain` answers in Emacs Lisp is what the tool says of the text, and the ids of numbered names; and what is said where there
+    is no tool. The tool is that of the variable, or the one beside the program."""
+    calls = [fields(line.split(" -> ")[0]) for line in CYCLE.split("\n")[:-1]]
+    long = ["new 2", f"insert 0 {LETTERS32}x 0 {LETTERS32}x", f"delete 0 {LETTERS32}x", f"insert 0 4@{LETTERS32} 0 4@{LETTERS32}",
+            "received 1 0 3", "read 1"]
+    ids = f"\nIds that were too long for a name\n  long2: 4@{LETTERS32}\n"
+    for name, made, more in ("the cycle", calls, ""), ("nothing", ["new\t1"], ""), ("long ids", [fields(call) for call in long], ids):
+        got = recorder.answers([*made, "text", "explain"], DOMEPEELER_EXPLAIN=EXPLAIN)
+        at = next(at for at, line in enumerate(got) if line == "ok" and got[at - 1].startswith("| "))
+        text = "".join(line[2:] + "\n" for line in got[:at] if line.startswith("| "))
+        told = subprocess.run([EXPLAIN, "-"], input=text, capture_output=True, text=True, env=recorder.surroundings).stdout
+        said = "".join(line[2:] + "\n" for line in got[at + 1:-1])
+        tally.check(f"{recorder.language}: explain {name}", told and said == told + more and got[-1] == "ok", got)
+    got = recorder.answers(["new\t3\t1", "explain"], DOMEPEELER_EXPLAIN=EXPLAIN)[-1]
+    tally.check(f"{recorder.language}: explain one log", got == f"refused {ONE_LOG}", got)
+    for absent, why in (str(folder / "nowhere"), "cannot be run ("), ("/bin/false", "ended with status 1: "):
+        got = recorder.answers(["new\t1", "explain"], DOMEPEELER_EXPLAIN=absent)[-1]
+        is_named = why.startswith("ended") or got.endswith("): name the tool's path in DOMEPEELER_EXPLAIN")
+        tally.check(f"{recorder.language}: explain by {absent}", got.startswith(f"failed {absent} {why}") and is_named, got)
+    tool = folder / "path" / "domepeeler-explain"
+    tool.write_text("#!/bin/sh\ncat > /dev/null\necho the tool beside it\n")
+    tool.chmod(0o755)
+    beside = recorder.answers(["new\t1", "explain"], DOMEPEELER=str(tool.parent / "domepeeler"), DOMEPEELER_EXPLAIN="")
+    found = recorder.answers(["new\t1", "explain"], DOMEPEELER="domepeeler", DOMEPEELER_EXPLAIN="", PATH=f"{tool.parent}:{os.environ['PATH']}")
+    tally.check(f"{recorder.language}: explain by the tool beside the program, or on the PATH", beside == found ==
+                ["ok", "| the tool beside it", "ok"], (beside, found))
+    tool.unlink()
+
+
 ONE_LOG = "one replica's log is no recording: merge the logs first"
 LOGS = ["0 ins x 0 : x|0 del x :|0 recv 1 1|0 recv 2 1|0 read : b a", "1 recv 0 1|1 ins a 0 : a x",
         "2 recv 0 1|2 ins b 1 : x b"]
@@ -892,6 +922,8 @@ def main() -> None:
             if language in PLACING:
                 check_places(tally, recorder, folder)
             check_judge(tally, recorder, folder)
+            if language == "el":
+                check_explain(tally, recorder, folder)
         check_users(tally, program, folder)
         check_frames(tally)
         check_limits_are_the_programs(tally, program, texts["py"])
