@@ -25,6 +25,7 @@ const UUID = /^[0-9A-Fa-f]{8}(-[0-9A-Fa-f]{4}){3}-[0-9A-Fa-f]{12}$/
 const MOST_PRINTED = 1 << 28 // bytes: no report is as long
 const MORE_CHANGES = "; if the update carried more than one change, say how many (`changes`)"
 const MOST_CALLERS = 3, MOST_FRAMES = 50 // of an entry: callers that are kept, and frames that are looked at for them
+const MOST_STACKS = 1000 // that are remembered
 const HEAD_LINES = 2 // of a trace, before its entries
 const LINE = /\bline (\d+)(?=[,):]| of the trace,| \(\d+ recv )/g // a line of the trace in the explainer's words
 const WARNINGS = "\nWhat this verdict may hide\n" // the title of what stands last there
@@ -46,7 +47,7 @@ export class NotCausal extends Refused {}
 export class Recording {
   #lines
   #callers = [] // of each entry: the lines of code from which it was recorded
-  #stacks = new Map() // by stack: these lines, so that equal ones are kept once
+  #stacks = new Map() // by stack: these lines, so that most equal ones are kept once
   #replicas
   #only
   #ids = new Map() // by name: the id that has this name, where another id might come to the same name
@@ -212,7 +213,8 @@ export class Recording {
       const path = pathOf(caller, fileURLToPath)
       return (here && path.startsWith(here + sep) ? path.slice(here.length + 1) : path).replace(/[\p{C}\p{Zl}\p{Zp}]/gu, "?")
     }
-    const told = new Map([...this.#stacks.values()].map((callers) => [callers, callers.map(place).join(", called from ")]))
+    const told = new Map()
+    for (const callers of this.#callers) if (!told.has(callers)) told.set(callers, callers.map(place).join(", called from "))
     return this.#callers.map((callers, at) => [at + HEAD_LINES + 1, told.get(callers)]).filter(([, places]) => places)
   }
 
@@ -417,6 +419,7 @@ export class Recording {
 
   #write(line) {
     const stack = stackHere()
+    if (this.#stacks.size === MOST_STACKS) this.#stacks.clear()
     if (!this.#stacks.has(stack)) this.#stacks.set(stack, callersIn(stack))
     this.#lines.push(line)
     this.#callers.push(this.#stacks.get(stack))
@@ -444,9 +447,10 @@ function callersIn(stack) {
   return places.slice(0, MOST_CALLERS)
 }
 
-// Whether a place is neither in this file or its helper, nor in an installed package, nor in a text that was evaluated.
+// Whether a place is neither in this file or its helper, nor in an installed package (Debian's among them), nor in a text that was
+// evaluated.
 function isYours(place) {
-  return !/[/\\]node_modules[/\\]|<anonymous>/.test(place) && !OWN_FILES.some((own) => place.startsWith(`${own}:`))
+  return !/[/\\]node_modules[/\\]|^\/usr\/(?:share|lib)\/nodejs\/|<anonymous>/.test(place.replace(/^file:\/\//, "")) && !OWN_FILES.some((own) => place.startsWith(`${own}:`))
 }
 
 // A file's URL with a line, as its path with the line; a path as it is.

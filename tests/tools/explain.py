@@ -604,6 +604,9 @@ def from_yjs(tally: Tally, program: str, folder: str) -> None:
             said = f"domepeeler-explain {path} says what went wrong" in done.stdout
             tally.check(f"Yjs: {kept}, its test", done.returncode == status and said == bool(status), done)
             tally.check(f"Yjs: {kept} as it was kept", path.read_bytes() == (YJS / kept).read_bytes())
+            places = Path(f"{path}.lines").read_text().splitlines()[1:]
+            tally.check(f"Yjs: {kept}, places of the test alone", len(places) == path.read_bytes().count(b"\n") - 2 and
+                        all("page.test.mjs:" in line and "nodejs" not in line for line in places), places)
         got = explain(program, [str(YJS / kept)])
         missing = stand_in_order(got.out.decode().splitlines(), wanted.split("|"))
         tally.check(f"Yjs: {kept} explained", missing is None and got.status == status and not warned(got) and not got.err, got)

@@ -519,9 +519,9 @@ USERS = {
     "editor.py": (f'''import os
 import sys
 import threading
-sys.path[:0] = ["{ROOT / 'recorders'}", "lib/site-packages"]
+sys.path[:0] = ["{ROOT / 'recorders'}", "lib/site-packages", "lib/dist-packages"]
 from domepeeler import Recording
-from other import call
+from other import call, hand
 
 def typed(name):
     return recording.insert(0, name, 0, [name])
@@ -532,7 +532,7 @@ def deep(left):
     recording.read(1, [])
 
 recording = Recording(2)
-n = call(typed, "a")
+n = call(hand, typed, "a")
 thread = threading.Thread(target=recording.received, args=(1, 0, n))
 thread.start()
 thread.join()
@@ -601,7 +601,8 @@ fn main() {{
 }}
 ''', ["3 {place}tests/editor.rs:6", "4 {place}tests/editor.rs:17", "5 {place}tests/editor.rs:18"]),
 }
-HANDING_ON = {"lib/site-packages/other.py": "def call(act, *words):\n    return act(*words)\n",
+HANDING_ON = {"lib/site-packages/other.py": "from another import hand\n\n\ndef call(act, *words):\n    return act(*words)\n",
+              "lib/dist-packages/another.py": "def hand(act, *words):\n    return act(*words)\n",
               "node_modules/other/package.json": '{"name": "other", "type": "module", "main": "index.mjs"}\n',
               "node_modules/other/index.mjs": "export const call = (act, ...words) => act(...words)\n"}
 
@@ -630,9 +631,22 @@ def check_users(tally: Tally, program: str, folder: Path) -> None:
             left.unlink()
 
 
-def check_frames(tally: Tally) -> None:
-    """What the recorder remembers of its callers keeps nothing of theirs alive."""
+# Records 2,500 times, each time by other calls; all of them lead through line 3.
+MANY_STACKS = f'''import {{ Recording }} from "{(ROOT / 'recorders').as_uri()}/domepeeler.mjs"
+const recording = new Recording(1)
+const read = () => recording.read(0, [])
+for (let at = 0; at < 2500; at++) new Function("act", " ".repeat(at) + "act()")(read)
+await recording.save("many.trace")
+'''
+
+
+def check_frames(tally: Tally, folder: Path) -> None:
+    """What the recorder remembers of its callers keeps nothing of theirs alive; and of many different ones none is lost."""
     from domepeeler import Recording
+    Path(folder, "many.mjs").write_text(MANY_STACKS)
+    subprocess.run(["node", "many.mjs"], cwd=folder, check=True)
+    wanted = "2502\n" + "".join(f"{line} many.mjs:3, called from many.mjs:4\n" for line in range(3, 2503))
+    tally.check("mjs: many calls", Path(folder, "many.trace.lines").read_text() == wanted)
 
     class Thing:
         pass
@@ -925,7 +939,7 @@ def main() -> None:
             if language == "el":
                 check_explain(tally, recorder, folder)
         check_users(tally, program, folder)
-        check_frames(tally)
+        check_frames(tally, folder)
         check_limits_are_the_programs(tally, program, texts["py"])
         check_merge(tally, program, folder)
         check_guide(tally, program, folder)

@@ -23,8 +23,8 @@ def name_as_it_can_be(error: UnicodeError) -> tuple:
 
 def run_command(main: Callable) -> None:
     """Runs it. File names on standard output may be any bytes or letters, and a reader that has enough is no error to tell of."""
-    codecs.register_error("name", name_as_it_can_be)
-    sys.stdout.reconfigure(errors="name")
+    codecs.register_error("domepeeler.names", name_as_it_can_be)
+    sys.stdout.reconfigure(errors="domepeeler.names")
     try:
         main()
         sys.stdout.flush()
