@@ -32,7 +32,8 @@ const WARNINGS = "\nWhat this verdict may hide\n" // the title of what stands la
 // A line of a stack, with the path or the URL of a file, and the line in it.
 const FRAME = /^ +at (?:async |.*\()?((?:[a-z]{2,}:\/\/|\/|[A-Za-z]:[\\/]).*:\d+):\d+\)?$/
 const OWN = String(import.meta.url)
-const OWN_FILES = [OWN, OWN.replace(/[^/]*$/, "javascript/node_test.mjs")] // this one, and the helper that calls a test
+// This file, and the helper that calls a test; as URLs, and as the paths that test runners with modules of their own have in stacks.
+const OWN_FILES = [OWN, OWN.replace(/[^/]*$/, "javascript/node_test.mjs")].flatMap((url) => [url, decodeURI(url.replace("file://", ""))])
 
 /** No trace can say this. */
 export class Refused extends Error {}

@@ -640,9 +640,31 @@ await recording.save("many.trace")
 '''
 
 
+# A test runner that loads modules by itself, under their paths, as Jest does.
+OWN_MODULES = f'''import {{ readFileSync }} from "node:fs"
+import {{ pathToFileURL }} from "node:url"
+import vm from "node:vm"
+const path = "{ROOT / 'recorders/domepeeler.mjs'}"
+const recorder = new vm.SourceTextModule(readFileSync(path, "utf8"), {{
+  identifier: path,
+  initializeImportMeta: (meta) => {{ meta.url = pathToFileURL(path).href }},
+  importModuleDynamically: (name) => import(name),
+}})
+await recorder.link(() => null)
+await recorder.evaluate()
+const recording = new recorder.namespace.Recording(1)
+recording.read(0, [])
+await recording.save("own_modules.trace")
+'''
+
+
 def check_frames(tally: Tally, folder: Path) -> None:
     """What the recorder remembers of its callers keeps nothing of theirs alive; and of many different ones none is lost."""
     from domepeeler import Recording
+    Path(folder, "own_modules.mjs").write_text(OWN_MODULES)
+    subprocess.run(["node", "--no-warnings", "--experimental-vm-modules", "own_modules.mjs"], cwd=folder, check=True)
+    beside = Path(folder, "own_modules.trace.lines").read_text()
+    tally.check("mjs: modules that a test runner loads", beside == "3\n3 own_modules.mjs:13\n", beside)
     Path(folder, "many.mjs").write_text(MANY_STACKS)
     subprocess.run(["node", "many.mjs"], cwd=folder, check=True)
     wanted = "2502\n" + "".join(f"{line} many.mjs:3, called from many.mjs:4\n" for line in range(3, 2503))
