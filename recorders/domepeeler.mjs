@@ -451,7 +451,8 @@ function callersIn(stack) {
 // Whether a place is neither in this file or its helper, nor in an installed package (Debian's among them), nor in a text that was
 // evaluated.
 function isYours(place) {
-  return !/[/\\]node_modules[/\\]|^\/usr\/(?:share|lib)\/nodejs\/|<anonymous>/.test(place.replace(/^file:\/\//, "")) && !OWN_FILES.some((own) => place.startsWith(`${own}:`))
+  const isInstalled = /[/\\]node_modules[/\\]|^(?:file:\/\/)?\/usr\/(?:share|lib)\/nodejs\//.test(place)
+  return !isInstalled && !place.includes("<anonymous>") && !OWN_FILES.some((own) => place.startsWith(`${own}:`))
 }
 
 // A file's URL with a line, as its path with the line; a path as it is.

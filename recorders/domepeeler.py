@@ -191,10 +191,10 @@ class Recording:
         name, done = self._ask(explainer, "DOMEPEELER_EXPLAIN", _beside_program("domepeeler-explain"), "the tool's", ["-"])
         if done.returncode not in (0, 1) or not done.stdout:
             _ended(name, done)
-        said = self._with_places(done.stdout.decode(errors="replace"))
+        said = done.stdout.decode(errors="replace")
         words = set(re.findall("[A-Za-z0-9]+", said))
         told = [f"  {name}: {given}\n" for name, given in self.ids().items() if name in words and name.startswith("long")]
-        return said + ("\nIds that were too long for a name\n" + "".join(told) if told else "")
+        return self._with_places(said) + ("\nIds that were too long for a name\n" + "".join(told) if told else "")
 
     def _with_places(self, said: str) -> str:
         """The words, and behind those on the verdict the places of the lines of the trace that they name."""

@@ -333,26 +333,22 @@ impl Recording {
         if done.stdout.is_empty() {
             return Err(ended(explainer, &done));
         }
-        let mut said = self.with_places(printed(explainer, done)?);
+        let said = printed(explainer, done)?;
         let words: HashSet<&str> = said.split(|letter: char| !letter.is_ascii_alphanumeric()).collect();
         let ids = self.ids().into_iter().filter(|(name, _)| words.contains(name) && name.starts_with("long"));
         let told: String = ids.map(|(name, id)| format!("  {name}: {id}\n")).collect();
-        if !told.is_empty() {
-            said += &format!("\nIds that were too long for a name\n{told}");
-        }
-        Ok(said)
+        let title = if told.is_empty() { "" } else { "\nIds that were too long for a name\n" };
+        Ok(self.with_places(&said) + title + &told)
     }
 
     /// The words, and behind those on the verdict the places of the lines of the trace that they name.
-    fn with_places(&self, said: String) -> String {
-        let named = lines_named(&said);
+    fn with_places(&self, said: &str) -> String {
+        let named = lines_named(said);
         let places = self.places().filter(|(line, _)| named.contains(line));
         let told: String = places.map(|(line, place)| format!("  line {line}: {place}\n")).collect();
-        if told.is_empty() {
-            return said;
-        }
+        let title = if told.is_empty() { "" } else { "\nIn your code\n" };
         let (front, rest) = said.split_at(said.find(WARNINGS).unwrap_or(said.len()));
-        format!("{front}\nIn your code\n{told}{rest}")
+        format!("{front}{title}{told}{rest}")
     }
 
     /// By line of the trace the place in your code.

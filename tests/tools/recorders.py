@@ -601,6 +601,42 @@ fn main() {{
 }}
 ''', ["3 {place}tests/editor.rs:6", "4 {place}tests/editor.rs:17", "5 {place}tests/editor.rs:18"]),
 }
+# Programs with a long id, `long1`, that the explanation does not name; and how each is run.
+LONG_NAMES = {
+    "long1.py": (f'''import sys
+sys.path.insert(0, "{ROOT / 'recorders'}")
+from domepeeler import Recording
+recording = Recording(2)
+recording.insert(0, "{LETTERS32}x", 0, ["{LETTERS32}x"])
+recording.delete(0, "{LETTERS32}x", [])
+recording.insert(0, "a", 0, ["a"])
+recording.received(1, 0, 3)
+recording.read(1, [])
+print(recording.explain())
+''', [sys.executable, "long1.py"]),
+    "long1.mjs": (f'''import {{ Recording }} from "{(ROOT / 'recorders').as_uri()}/domepeeler.mjs"
+const recording = new Recording(2)
+recording.insert(0, "{LETTERS32}x", 0, ["{LETTERS32}x"])
+recording.delete(0, "{LETTERS32}x", [])
+recording.insert(0, "a", 0, ["a"])
+recording.received(1, 0, 3)
+recording.read(1, [])
+console.log(await recording.explain())
+''', ["node", "long1.mjs"]),
+    "long1.rs": (f'''#[path = "{ROOT / 'recorders'}/domepeeler.rs"]
+mod domepeeler;
+fn main() {{
+    let none: &[&str] = &[];
+    let mut recording = domepeeler::Recording::new(2).unwrap();
+    recording.insert(0, "{LETTERS32}x", 0, &["{LETTERS32}x"]).unwrap();
+    recording.delete(0, "{LETTERS32}x", none).unwrap();
+    recording.insert(0, "a", 0, &["a"]).unwrap();
+    recording.received(1, 0, 3).unwrap();
+    recording.read(1, none).unwrap();
+    println!("{{}}", recording.explain().unwrap());
+}}
+''', ["./long1"]),
+}
 HANDING_ON = {"lib/site-packages/other.py": "from another import hand\n\n\ndef call(act, *words):\n    return act(*words)\n",
               "lib/dist-packages/another.py": "def hand(act, *words):\n    return act(*words)\n",
               "node_modules/other/package.json": '{"name": "other", "type": "module", "main": "index.mjs"}\n',
@@ -610,12 +646,18 @@ HANDING_ON = {"lib/site-packages/other.py": "from another import hand\n\n\ndef c
 def check_users(tally: Tally, program: str, folder: Path) -> None:
     """Programs of a user: beside the trace stands where they call, and the words of `explain` are those of the tool on the saved file."""
     place = folder / "user's [own] (place) ä"
-    for name, text in [*HANDING_ON.items(), *((f"tests/{name}", text) for name, (text, _) in USERS.items())]:
+    programs = [(name, text) for name, (text, _) in LONG_NAMES.items()]
+    for name, text in [*HANDING_ON.items(), *programs, *((f"tests/{name}", text) for name, (text, _) in USERS.items())]:
         Path(place, name).parent.mkdir(parents=True, exist_ok=True)
         Path(place, name).write_text(text)
-    subprocess.run(["rustc", "--edition", "2021", "-o", place / "editor", place / "tests/editor.rs"], check=True)
+    for source in "tests/editor.rs", "long1.rs":
+        subprocess.run(["rustc", "--edition", "2021", "-o", Path(source).stem, place / source], cwd=place, check=True)
     surroundings = {**os.environ, "DOMEPEELER": program, "DOMEPEELER_EXPLAIN": EXPLAIN, "PYTHONDONTWRITEBYTECODE": "1",
                     "LC_ALL": "C.UTF-8"}
+    for name in "long1.py", "long1.mjs", "long1.rs":
+        done = subprocess.run(LONG_NAMES[name][1], cwd=place, capture_output=True, text=True, env=surroundings)
+        tally.check(f"{name}: a place is no name of an id", "In your code\n" in done.stdout and f": {name}:" in done.stdout and
+                    "too long" not in done.stdout, done)
     for name, words in ("editor.py", [sys.executable]), ("editor.mjs", ["node"]), ("editor.rs", []):
         done = subprocess.run([*words, f"tests/{name}"] if words else ["./editor"], cwd=place, capture_output=True, text=True,
                               env=surroundings)
