@@ -13,7 +13,8 @@
 ;;     (domepeeler-read recording 0 '("a"))                   ; replica 0 read its list
 ;;     (domepeeler-view recording 0 '("a"))                   ; replica 0 showed this part of its list
 ;;     (domepeeler-save recording "session.trace")            ; the trace as a file, for tools/explain
-;;     (alist-get 'verdict (domepeeler-judge recording)))     ; asks the program
+;;     (alist-get 'verdict (domepeeler-judge recording))      ; asks the program
+;;     (princ (domepeeler-explain recording)))                ; what that means, in words
 ;;
 ;; Where updates have vector clocks, `domepeeler-received-clock' writes the receipts, and refuses what is not causal.
 ;;
@@ -171,24 +172,50 @@ A pipe or a device has no such file beside it."
 (defun domepeeler-judge (recording &optional program)
   "The report of PROGRAM on RECORDING, as an alist.
 PROGRAM is by default that of the environment's DOMEPEELER, or \"domepeeler\"."
+  (json-read-from-string
+   (domepeeler--ask recording (list program (getenv "DOMEPEELER") "domepeeler") "the program's path in DOMEPEELER" "{"
+                    "verdict" "--json" "-")))
+
+(defun domepeeler-explain (recording &optional explainer)
+  "What the report on RECORDING means, in words.
+At the end stand the ids of the numbered names.  EXPLAINER is by default
+that of the environment's DOMEPEELER_EXPLAIN, or \"domepeeler-explain\",
+beside the program of DOMEPEELER or where programs are found."
+  (let* ((named (list explainer (getenv "DOMEPEELER_EXPLAIN") (domepeeler--beside-program "domepeeler-explain")))
+         (said (domepeeler--ask recording named "the tool's path in DOMEPEELER_EXPLAIN" "." "-"))
+         (words (split-string said "[^A-Za-z0-9]+"))
+         (told (cl-loop for (name . id) in (domepeeler-ids recording)
+                        when (and (string-prefix-p "long" name) (member name words))
+                        concat (format "  %s: %s\n" name id))))
+    (if (string-empty-p told) said (concat said "\nIds that were too long for a name\n" told))))
+
+(defun domepeeler--beside-program (command)
+  "The path of COMMAND where it lies beside the program of DOMEPEELER.
+Else COMMAND."
+  (let* ((folder (file-name-directory (or (getenv "DOMEPEELER") "")))
+         (path (and folder (expand-file-name command folder))))
+    (if (and path (file-regular-p path) (file-executable-p path)) path command)))
+
+(defun domepeeler--ask (recording programs named begin &rest words)
+  "What the first of PROGRAMS that there is prints for the text of RECORDING.
+Its arguments are WORDS; BEGIN matches where an answer begins, and NAMED
+says what another program is named by."
   (when (domepeeler-recording-only recording)
     (domepeeler--refuse "one replica's log is no recording: merge the logs first"))
-  (let ((program (seq-find (lambda (named) (and named (not (string-empty-p named))))
-                           (list program (getenv "DOMEPEELER") "domepeeler")))
+  (let ((program (seq-find (lambda (named) (and named (not (string-empty-p named)))) programs))
+        (coding-system-for-read 'utf-8-unix)
         (errors (make-temp-file "domepeeler")))
     (unwind-protect
         (with-temp-buffer
           (insert (domepeeler-text recording))
           (let ((status (condition-case why
-                            (call-process-region (point-min) (point-max) program t (list t errors) nil
-                                                 "verdict" "--json" "-")
-                          (file-error (error "%s cannot be run (%s): name the program's path in DOMEPEELER" program
-                                             (error-message-string why))))))
+                            (apply #'call-process-region (point-min) (point-max) program t (list t errors) nil words)
+                          (file-error (error "%s cannot be run (%s): name %s" program (error-message-string why) named)))))
             (goto-char (point-min))
-            (unless (and (memq status '(0 1)) (looking-at "{"))
+            (unless (and (memq status '(0 1)) (looking-at begin))
               (error "%s ended with status %s: %s" program status
                      (with-temp-buffer (insert-file-contents errors) (string-trim (buffer-string)))))
-            (json-read)))
+            (buffer-string)))
       (delete-file errors))))
 
 (defun domepeeler--of (recording replica)

@@ -24,6 +24,16 @@ const NAME = /^[A-Za-z0-9_.-]{1,32}$/
 const UUID = /^[0-9A-Fa-f]{8}(-[0-9A-Fa-f]{4}){3}-[0-9A-Fa-f]{12}$/
 const MOST_PRINTED = 1 << 28 // bytes: no report is as long
 const MORE_CHANGES = "; if the update carried more than one change, say how many (`changes`)"
+const MOST_CALLERS = 3, MOST_FRAMES = 50 // of an entry: callers that are kept, and frames that are looked at for them
+const MOST_STACKS = 1000 // that are remembered
+const HEAD_LINES = 2 // of a trace, before its entries
+const LINE = /\bline (\d+)(?=[,):]| of the trace,| \(\d+ recv )/g // a line of the trace in the explainer's words
+const WARNINGS = "\nWhat this verdict may hide\n" // the title of what stands last there
+// A line of a stack, with the path or the URL of a file, and the line in it.
+const FRAME = /^ +at (?:async |.*\()?((?:[a-z]{2,}:\/\/|\/|[A-Za-z]:[\\/]).*:\d+):\d+\)?$/
+const OWN = String(import.meta.url)
+// This file, and the helper that calls a test; as URLs, and as the paths that test runners with modules of their own have in stacks.
+const OWN_FILES = [OWN, OWN.replace(/[^/]*$/, "javascript/node_test.mjs")].flatMap((url) => [url, decodeURI(url.replace("file://", ""))])
 
 /** No trace can say this. */
 export class Refused extends Error {}
@@ -37,6 +47,8 @@ export class NotCausal extends Refused {}
 /** A session of so many replicas; with `only`, the log that this one replica keeps on its own machine. */
 export class Recording {
   #lines
+  #callers = [] // of each entry: the lines of code from which it was recorded
+  #stacks = new Map() // by stack: these lines, so that most equal ones are kept once
   #replicas
   #only
   #ids = new Map() // by name: the id that has this name, where another id might come to the same name
@@ -145,18 +157,23 @@ export class Recording {
   }
 
   /** Writes the text into a file of this name; and first, into one with `.lines` behind the name, how many lines it has, so that the
-   * tools notice where the end of the file is lost. A pipe or a device has no such file beside it. A promise of nothing. */
+   * tools notice where the end of the file is lost. In the end it writes there from where in your code each line was recorded. A pipe or
+   * a device has no such file beside it. A promise of nothing. */
   async save(path) {
-    const { open, writeFile } = await import("node:fs/promises")
+    const { appendFile, open, writeFile } = await import("node:fs/promises")
     const { fileURLToPath } = await import("node:url")
     const text = this.text(), lines = this.#lines.length
+    const places = (await this.#places()).map(([line, told]) => `${line} ${told}\n`).join("")
     const file = await open(path, "w")
+    let beside = null
     try {
-      if ((await file.stat()).isFile()) await writeFile(`${path.href ? fileURLToPath(path) : path}.lines`, `${lines}\n`)
+      if ((await file.stat()).isFile()) beside = `${path.href ? fileURLToPath(path) : path}.lines`
+      if (beside !== null) await writeFile(beside, `${lines}\n`)
       await file.writeFile(text)
     } finally {
       await file.close()
     }
+    if (beside !== null) await appendFile(beside, places)
   }
 
   /** A promise of the program's report on this recording. The program is the words that are given, that of $DOMEPEELER, or
@@ -167,8 +184,8 @@ export class Recording {
     return JSON.parse(done.stdout)
   }
 
-  /** A promise of what the report means, in words, and at the end the ids of the numbered names. The tool is the words that are given,
-   * that of $DOMEPEELER_EXPLAIN, or `domepeeler-explain`, beside the program of $DOMEPEELER or on the PATH. */
+  /** A promise of what the report means, in words, with the lines of your code, and at the end the ids of the numbered names. The tool
+   * is the words that are given, that of $DOMEPEELER_EXPLAIN, or `domepeeler-explain`, beside the program of $DOMEPEELER or on the PATH. */
   async explain(explainer = null) {
     const command = await besideProgram("domepeeler-explain")
     const { name, done } = await this.#ask(explainer, "DOMEPEELER_EXPLAIN", command, "the tool's", ["-"])
@@ -176,7 +193,30 @@ export class Recording {
     const words = new Set(done.stdout.match(/[A-Za-z0-9]+/g))
     const told = [...this.ids()].filter(([short]) => words.has(short) && short.startsWith("long"))
     const lines = told.map(([short, given]) => `  ${short}: ${given}\n`)
-    return done.stdout + (lines.length ? `\nIds that were too long for a name\n${lines.join("")}` : "")
+    return await this.#withPlaces(done.stdout) + (lines.length ? `\nIds that were too long for a name\n${lines.join("")}` : "")
+  }
+
+  // The words, and behind those on the verdict the places of the lines of the trace that they name.
+  async #withPlaces(said) {
+    const named = new Set([...said.matchAll(LINE)].map(([, line]) => Number(line)))
+    const told = (await this.#places()).filter(([line]) => named.has(line)).map(([line, places]) => `  line ${line}: ${places}\n`)
+    if (!told.length) return said
+    const end = said.includes(WARNINGS) ? said.indexOf(WARNINGS) : said.length
+    return `${said.slice(0, end)}\nIn your code\n${told.join("")}${said.slice(end)}`
+  }
+
+  // By line of the trace the places in your code, where there are some.
+  async #places() {
+    const { fileURLToPath } = await import("node:url")
+    const { sep } = await import("node:path")
+    const here = folderHere()
+    const place = (caller) => {
+      const path = pathOf(caller, fileURLToPath)
+      return (here && path.startsWith(here + sep) ? path.slice(here.length + 1) : path).replace(/[\p{C}\p{Zl}\p{Zp}]/gu, "?")
+    }
+    const told = new Map()
+    for (const callers of this.#callers) if (!told.has(callers)) told.set(callers, callers.map(place).join(", called from "))
+    return this.#callers.map((callers, at) => [at + HEAD_LINES + 1, told.get(callers)]).filter(([, places]) => places)
   }
 
   // How a program ended that had the text on its standard input, and its name.
@@ -260,7 +300,7 @@ export class Recording {
     if (changeId !== null) {
       this.#changes.set(changeId, [...(this.#changes.get(changeId) ?? []), [replica, own.operations]])
     }
-    this.#lines.push([...words, ":", ...names].join(" "))
+    this.#write([...words, ":", ...names].join(" "))
     return own.operations
   }
 
@@ -375,7 +415,62 @@ export class Recording {
       const others = own.others.map((have, other) => Math.max(have, past[other], other === author ? n : 0))
       if (others.some((have, other) => have > own.others[other])) own.others = others
     }
-    this.#lines.push(`${replica} recv ${author} ${n}`)
+    this.#write(`${replica} recv ${author} ${n}`)
+  }
+
+  #write(line) {
+    const stack = stackHere()
+    if (this.#stacks.size === MOST_STACKS) this.#stacks.clear()
+    if (!this.#stacks.has(stack)) this.#stacks.set(stack, callersIn(stack))
+    this.#lines.push(line)
+    this.#callers.push(this.#stacks.get(stack))
+  }
+}
+
+// The calls that led here, as the engine tells them; "" where it doesn't.
+function stackHere() {
+  const before = Error.stackTraceLimit
+  try {
+    Error.stackTraceLimit = MOST_FRAMES
+    return String(new Error().stack)
+  } catch { // an engine whose errors may not be changed
+    return ""
+  } finally {
+    try {
+      Error.stackTraceLimit = before
+    } catch { /* it was not changed */ }
+  }
+}
+
+// The nearest callers in a stack that are your code, each as its file and line.
+function callersIn(stack) {
+  const places = stack.split("\n").map((line) => FRAME.exec(line)?.[1]).filter((place) => place && isYours(place))
+  return places.slice(0, MOST_CALLERS)
+}
+
+// Whether a place is neither in this file or its helper, nor in an installed package (Debian's among them), nor in a text that was
+// evaluated.
+function isYours(place) {
+  const isInstalled = /[/\\]node_modules[/\\]|^(?:file:\/\/)?\/usr\/(?:share|lib)\/nodejs\//.test(place)
+  return !isInstalled && !place.includes("<anonymous>") && !OWN_FILES.some((own) => place.startsWith(`${own}:`))
+}
+
+// A file's URL with a line, as its path with the line; a path as it is.
+function pathOf(caller, fileURLToPath) {
+  const [, file, line] = /^(.*)(:\d+)$/.exec(caller)
+  try {
+    return (file.startsWith("file://") ? fileURLToPath(file) : file) + line
+  } catch { // a URL that is no path here
+    return caller
+  }
+}
+
+// The current folder; "" where it is gone.
+function folderHere() {
+  try {
+    return process.cwd()
+  } catch {
+    return ""
   }
 }
 

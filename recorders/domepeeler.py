@@ -22,7 +22,9 @@ import json
 import os
 import re
 import subprocess
+import sys
 from bisect import bisect_right
+from functools import lru_cache
 from typing import Any, Dict, Hashable, Iterable, List, Mapping, NoReturn, Optional, Sequence, Set, Tuple, Union
 
 MOST_REPLICAS, MOST_ENTRIES, MOST_INSERTS = 16, 16384, 4096
@@ -32,9 +34,14 @@ UUID = re.compile(r"[0-9A-Fa-f]{8}(-[0-9A-Fa-f]{4}){3}-[0-9A-Fa-f]{12}", re.ASCI
 __tracebackhide__ = True  # pytest shows a refused call where the test makes it
 ONE_LOG = "one replica's log is no recording: merge the logs first"
 MORE_CHANGES = "; if the update carried more than one change, say how many (`changes`)"
+MOST_CALLERS, MOST_FRAMES = 3, 100  # of an entry: callers that are kept, and frames that are looked at for them
+HEAD_LINES = 2  # of a trace, before its entries
+LINE = re.compile(r"\bline (\d+)(?=[,):]| of the trace,| \(\d+ recv )")  # a line of the trace in the explainer's words
+WARNINGS = "\nWhat this verdict may hide\n"  # the title of what stands last there
 
 Clock = Union[Sequence[int], Mapping[int, int]]
 Words = Union[str, Sequence[str]]
+Callers = Tuple[Tuple[str, int], ...]
 
 
 class Refused(ValueError):
@@ -67,6 +74,7 @@ class Recording:
         if not _whole(replicas, 1, MOST_REPLICAS):
             raise Refused(f"replicas are 1 to {MOST_REPLICAS}, not {replicas}")
         self._lines = ["trace 1", f"replicas {replicas}"]
+        self._callers: List[Callers] = []  # of each entry: the lines of code from which it was recorded
         self._replicas = [_Replica(replicas) for _ in range(replicas)]
         self._only: Optional[int] = None
         self._ids: Dict[str, str] = {}  # by name: the id that has this name, where another id might come to the same name
@@ -156,13 +164,18 @@ class Recording:
 
     def save(self, path: Union[str, "os.PathLike[str]"]) -> None:
         """Writes the text into a file of this name; and first, into one with `.lines` behind the name, how many lines it has, so
-        that the tools notice where the end of the file is lost. A pipe or a device has no such file beside it."""
+        that the tools notice where the end of the file is lost. In the end it writes there from where in your code each line was
+        recorded. A pipe or a device has no such file beside it."""
         text = self.text().encode()
         with open(path, "wb") as file:  # as bytes: each line ends with LF alone on every system
-            if os.path.isfile(path):
-                with open(f"{os.fsdecode(path)}.lines", "wb") as beside:
-                    beside.write(b"%d\n" % text.count(b"\n"))
+            beside = f"{os.fsdecode(path)}.lines" if os.path.isfile(path) else None
+            if beside is not None:
+                with open(beside, "wb") as lines:
+                    lines.write(b"%d\n" % text.count(b"\n"))
             file.write(text)
+        if beside is not None:
+            with open(beside, "ab") as lines:
+                lines.write("".join(f"{line} {places}\n" for line, places in self._places()).encode(errors="replace"))
 
     def judge(self, program: Optional[Words] = None) -> Dict[str, Any]:
         """The program's report on this recording. The program is the words that are given, that of $DOMEPEELER, or `domepeeler`."""
@@ -173,15 +186,31 @@ class Recording:
         return report
 
     def explain(self, explainer: Optional[Words] = None) -> str:
-        """What the report means, in words, and at the end the ids of the numbered names. The tool is the words that are given, that of
-        $DOMEPEELER_EXPLAIN, or `domepeeler-explain`, beside the program of $DOMEPEELER or on the PATH."""
+        """What the report means, in words, with the lines of your code, and at the end the ids of the numbered names. The tool is the
+        words that are given, that of $DOMEPEELER_EXPLAIN, or `domepeeler-explain`, beside the program of $DOMEPEELER or on the PATH."""
         name, done = self._ask(explainer, "DOMEPEELER_EXPLAIN", _beside_program("domepeeler-explain"), "the tool's", ["-"])
         if done.returncode not in (0, 1) or not done.stdout:
             _ended(name, done)
         said = done.stdout.decode(errors="replace")
         words = set(re.findall("[A-Za-z0-9]+", said))
         told = [f"  {name}: {given}\n" for name, given in self.ids().items() if name in words and name.startswith("long")]
-        return said + ("\nIds that were too long for a name\n" + "".join(told) if told else "")
+        return self._with_places(said) + ("\nIds that were too long for a name\n" + "".join(told) if told else "")
+
+    def _with_places(self, said: str) -> str:
+        """The words, and behind those on the verdict the places of the lines of the trace that they name."""
+        named = {int(line) for line in LINE.findall(said)}
+        told = [f"  line {line}: {places}\n" for line, places in self._places() if line in named]
+        front, warnings, rest = said.partition(WARNINGS)
+        return front + ("\nIn your code\n" + "".join(told) if told else "") + warnings + rest
+
+    def _places(self) -> List[Tuple[int, str]]:
+        """By line of the trace the places in your code, where there are some."""
+        try:
+            here = os.path.join(os.getcwd(), "")
+        except OSError:  # the folder is gone
+            here = ""
+        return [(line, ", called from ".join(_place(file, at, here) for file, at in callers))
+                for line, callers in enumerate(self._callers, HEAD_LINES + 1) if callers]
 
     def _ask(self, given: Optional[Words], variable: str, command: str, whose: str,
              more: List[str]) -> Tuple[str, subprocess.CompletedProcess[bytes]]:
@@ -252,7 +281,7 @@ class Recording:
             own.changes.append(own.operations)
         if change_id is not None:
             self._changes.setdefault(change_id, []).append((replica, own.operations))
-        self._lines.append(" ".join([*words, ":", *names]))
+        self._write(" ".join([*words, ":", *names]))
         return own.operations
 
     def _fits(self, replica: int, inserts: int, names: int) -> None:
@@ -363,7 +392,40 @@ class Recording:
             others[author] = max(others[author], n)
             if tuple(others) != own.others:
                 own.others = tuple(others)
-        self._lines.append(f"{replica} recv {author} {n}")
+        self._write(f"{replica} recv {author} {n}")
+
+    def _write(self, line: str) -> None:
+        self._lines.append(line)
+        self._callers.append(_callers())
+
+
+def _callers() -> Callers:
+    """The nearest callers that are your code, each as its file and line."""
+    found: List[Tuple[str, int]] = []
+    frame = sys._getframe(1)
+    for _ in range(MOST_FRAMES):
+        if _is_yours(frame.f_code.co_filename):
+            found.append((frame.f_code.co_filename, frame.f_lineno))
+        if len(found) == MOST_CALLERS or frame.f_back is None:
+            break
+        frame = frame.f_back
+    return tuple(found)
+
+
+@lru_cache(maxsize=None)
+def _is_yours(file: str) -> bool:
+    """Whether a file is neither this one, nor of Python itself, nor of an installed package or its commands."""
+    parts = file.replace(os.sep, "/").split("/")
+    folders = [os.path.dirname(path) for path in (getattr(os, "__file__", ""), sys.executable) if path]
+    installed = [os.path.join(folder, "") for folder in folders if folder]
+    return not (file == _callers.__code__.co_filename or file.startswith(("<", *installed))
+                or "site-packages" in parts or "dist-packages" in parts)
+
+
+def _place(file: str, line: int, here: str) -> str:
+    """A line of code, with the file's path from the current folder if it lies below that."""
+    path = file[len(here):] if here and file.startswith(here) else file
+    return "".join(letter if letter.isprintable() else "?" for letter in path) + f":{line}"
 
 
 def _whole(number: Any, least: int, most: int) -> bool:

@@ -22,8 +22,9 @@
 
 use std::collections::{HashMap, HashSet};
 use std::fmt::{self, Display, Write as _};
-use std::fs::{self, File};
+use std::fs::File;
 use std::io::{self, Write as _};
+use std::panic::Location;
 use std::path::Path;
 use std::process::{Command, Output, Stdio};
 use std::sync::Arc;
@@ -35,6 +36,8 @@ const MOST_NAMES: usize = 4096;
 const MOST_PLACES: usize = 262_144;
 const MOST_BYTES: usize = 32;
 const UUID_BYTES: usize = 36;
+const HEAD_LINES: usize = 2; // of a trace, before its entries
+const WARNINGS: &str = "\nWhat this verdict may hide\n"; // the title of what stands last in the explainer's words
 const MORE_CHANGES: &str = "; if the update carried more than one change, say how many (`changes`)";
 
 /// Why a call was refused: no trace can say it, or a limit of traces is reached.
@@ -153,6 +156,8 @@ struct Names {
 #[derive(Clone)]
 pub struct Recording {
     lines: String,
+    /// Of each entry the line of code from which it was recorded.
+    callers: Vec<&'static Location<'static>>,
     replicas: Vec<Replica>,
     only: Option<usize>,
     names: Names,
@@ -166,7 +171,8 @@ impl Recording {
         let lines = format!("trace 1\nreplicas {replicas}\n");
         let others: Arc<[u32]> = vec![0; replicas].into();
         let new = Replica { entries: 0, operations: 0, inserts: 0, places: 0, changes: vec![], others, pasts: vec![] };
-        Ok(Recording { lines, replicas: vec![new; replicas], only: None, names: Names::default() })
+        let callers = Vec::new();
+        Ok(Recording { lines, callers, replicas: vec![new; replicas], only: None, names: Names::default() })
     }
 
     /// The log of one replica of so many, on its own machine.
@@ -178,6 +184,7 @@ impl Recording {
     }
 
     /// The replica inserted the name at the position and then had this list. Answers the operation's number.
+    #[track_caller]
     pub fn insert<N: AsRef<str>>(
         &mut self,
         replica: usize,
@@ -189,16 +196,19 @@ impl Recording {
     }
 
     /// The replica deleted the name and then had this list. Answers the operation's number.
+    #[track_caller]
     pub fn delete<N: AsRef<str>>(&mut self, replica: usize, name: &str, response: &[N]) -> Result<u32, Refused> {
         self.operation(replica, "del", Some((name, None)), response)
     }
 
     /// The replica read its list. Answers the operation's number.
+    #[track_caller]
     pub fn read<N: AsRef<str>>(&mut self, replica: usize, response: &[N]) -> Result<u32, Refused> {
         self.operation(replica, "read", None, response)
     }
 
     /// The replica showed this part of its list, the window of an editor say. Answers the operation's number.
+    #[track_caller]
     pub fn view<N: AsRef<str>>(&mut self, replica: usize, part: &[N]) -> Result<u32, Refused> {
         let n = self.operation(replica, "view", None, part)?;
         self.lines.replace_range(.."trace 1".len(), "trace 2");
@@ -206,6 +216,7 @@ impl Recording {
     }
 
     /// The author's operation n, and with it all that the author had seen by then, was applied at the replica.
+    #[track_caller]
     pub fn received(&mut self, replica: usize, author: usize, n: u32) -> Result<(), Refused> {
         self.acts(replica)?;
         self.known(author)?;
@@ -227,6 +238,7 @@ impl Recording {
     /// The author's update with this vector clock was applied at the replica: it carries the last of the author's changes that the
     /// clock counts, or so many of the last. The clock has for each replica how many of its inserts and deletes the author had
     /// seen, its own with the carried ones among them. Writes the receipt, unless the replica has it already.
+    #[track_caller]
     pub fn received_clock(
         &mut self,
         replica: usize,
@@ -282,15 +294,20 @@ impl Recording {
     }
 
     /// Writes the text into a file of this name; and first, into one with `.lines` behind the name, how many lines it has, so that
-    /// the tools notice where the end of the file is lost. A pipe or a device has no such file beside it.
+    /// the tools notice where the end of the file is lost. In the end it writes there from where in your code each line was
+    /// recorded. A pipe or a device has no such file beside it.
     pub fn save(&self, path: impl AsRef<Path>) -> io::Result<()> {
         let mut file = File::create(&path)?;
-        if file.metadata()?.is_file() {
-            let mut beside = path.as_ref().as_os_str().to_owned();
-            beside.push(".lines");
-            fs::write(beside, format!("{}\n", self.lines.matches('\n').count()))?;
+        if !file.metadata()?.is_file() {
+            return file.write_all(self.lines.as_bytes());
         }
-        file.write_all(self.lines.as_bytes())
+        let mut name = path.as_ref().as_os_str().to_owned();
+        name.push(".lines");
+        let mut beside = File::create(name)?;
+        writeln!(beside, "{}", self.lines.matches('\n').count())?;
+        file.write_all(self.lines.as_bytes())?;
+        let places: String = self.places().map(|(line, place)| format!("{line} {place}\n")).collect();
+        beside.write_all(places.as_bytes())
     }
 
     /// The program's report on this recording, as JSON. The program is that of $DOMEPEELER, or `domepeeler`.
@@ -304,8 +321,8 @@ impl Recording {
         if done.stdout.starts_with(b"{") { printed(program, done) } else { Err(ended(program, &done)) }
     }
 
-    /// What the report means, in words, and at the end the ids of the numbered names. The tool is that of $DOMEPEELER_EXPLAIN, or
-    /// `domepeeler-explain`, beside the program of $DOMEPEELER or on the PATH.
+    /// What the report means, in words, with the lines of your code, and at the end the ids of the numbered names. The tool is that
+    /// of $DOMEPEELER_EXPLAIN, or `domepeeler-explain`, beside the program of $DOMEPEELER or on the PATH.
     pub fn explain(&self) -> Result<String, String> {
         self.explain_by(&named("DOMEPEELER_EXPLAIN", &beside_program("domepeeler-explain")))
     }
@@ -316,14 +333,33 @@ impl Recording {
         if done.stdout.is_empty() {
             return Err(ended(explainer, &done));
         }
-        let mut said = printed(explainer, done)?;
+        let said = printed(explainer, done)?;
         let words: HashSet<&str> = said.split(|letter: char| !letter.is_ascii_alphanumeric()).collect();
         let ids = self.ids().into_iter().filter(|(name, _)| words.contains(name) && name.starts_with("long"));
         let told: String = ids.map(|(name, id)| format!("  {name}: {id}\n")).collect();
-        if !told.is_empty() {
-            said += &format!("\nIds that were too long for a name\n{told}");
-        }
-        Ok(said)
+        let title = if told.is_empty() { "" } else { "\nIds that were too long for a name\n" };
+        Ok(self.with_places(&said) + title + &told)
+    }
+
+    /// The words, and behind those on the verdict the places of the lines of the trace that they name.
+    fn with_places(&self, said: &str) -> String {
+        let named = lines_named(said);
+        let places = self.places().filter(|(line, _)| named.contains(line));
+        let told: String = places.map(|(line, place)| format!("  line {line}: {place}\n")).collect();
+        let title = if told.is_empty() { "" } else { "\nIn your code\n" };
+        let (front, rest) = said.split_at(said.find(WARNINGS).unwrap_or(said.len()));
+        format!("{front}{title}{told}{rest}")
+    }
+
+    /// By line of the trace the place in your code.
+    fn places(&self) -> impl Iterator<Item = (usize, String)> + '_ {
+        let here = std::env::current_dir().unwrap_or_default();
+        let place = move |caller: &Location| {
+            let file = Path::new(caller.file());
+            let near = file.strip_prefix(&here).unwrap_or(file).to_string_lossy();
+            near.replace(char::is_control, "?") + &format!(":{}", caller.line())
+        };
+        self.callers.iter().enumerate().map(move |(at, caller)| (at + HEAD_LINES + 1, place(caller)))
     }
 
     /// How a program ended, by itself and with a status that says that it has answered.
@@ -365,11 +401,14 @@ impl Recording {
         if self.replicas[replica].entries == MOST_ENTRIES { Err(Refused::EntriesFull { replica }) } else { Ok(()) }
     }
 
+    #[track_caller]
     fn line(&mut self, words: fmt::Arguments) {
         writeln!(self.lines, "{words}").expect("a String takes each line");
+        self.callers.push(Location::caller());
     }
 
     /// Records it, or leaves all as it was, the names of ids among it.
+    #[track_caller]
     fn operation<N: AsRef<str>>(
         &mut self,
         replica: usize,
@@ -385,6 +424,7 @@ impl Recording {
         done
     }
 
+    #[track_caller]
     fn said<N: AsRef<str>>(
         &mut self,
         replica: usize,
@@ -485,6 +525,7 @@ impl Recording {
     }
 
     /// Writes a receipt that may be written.
+    #[track_caller]
     fn receipt(&mut self, replica: usize, author: usize, n: u32) {
         self.replicas[replica].entries += 1;
         if self.only.is_none() {
@@ -557,6 +598,23 @@ impl Names {
             }
         }
     }
+}
+
+/// The lines of the trace that the explainer's words name: `line 7` with something behind it that is no name.
+fn lines_named(said: &str) -> HashSet<usize> {
+    let number = |(at, word): (usize, &str)| {
+        let rest = &said[at + word.len()..];
+        let digits = rest.bytes().take_while(u8::is_ascii_digit).count();
+        let is_word = said[..at].ends_with(|letter: char| letter.is_alphanumeric() || letter == '_');
+        if is_word || !is_named(&rest[digits..]) { None } else { rest[..digits].parse().ok() }
+    };
+    said.match_indices("line ").filter_map(number).collect()
+}
+
+fn is_named(behind: &str) -> bool {
+    let replica = behind.strip_prefix(" (").map(|words| words.trim_start_matches(|digit: char| digit.is_ascii_digit()));
+    let is_receipt = replica.map_or(false, |words| words.starts_with(" recv "));
+    behind.starts_with([',', ')', ':']) || behind.starts_with(" of the trace,") || is_receipt
 }
 
 fn is_name(given: &str) -> bool {

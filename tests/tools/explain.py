@@ -280,12 +280,35 @@ WARNED = [
 BESIDE = [
     (b"5\n", ""),
     (b"5", ""),
+    (b"5\n3 a.py:1\n7\n", ""),
+    (b"5\n\xff\0", ""),
+    (b"7\n5 a.py:1\n", "the trace may have been cut at a line's end: it has 5 lines, and by {} it was saved with 7"),
+    (b"\n5\n", "{} holds no number of lines, so nothing says whether the trace is whole"),
+    (b"5 a.py:1\n", "{} holds no number of lines, so nothing says whether the trace is whole"),
     (b"7\n", "the trace may have been cut at a line's end: it has 5 lines, and by {} it was saved with 7"),
     (b"4\n", "the trace has 5 lines, and by {} it was saved with 4: is that file of another trace?"),
     (b"", "{} holds no number of lines, so nothing says whether the trace is whole"),
     (b"\xff\n", "{} holds no number of lines, so nothing says whether the trace is whole"),
     (b"-5\n", "{} holds no number of lines, so nothing says whether the trace is whole"),
     (b"9" * 5000, "the trace may have been cut at a line's end: it has 5 lines, and by {} it was saved with " + "9" * 64),
+]
+
+# A trace whose explanation names lines 3, 4, 5 and 7, and not 6; and by name what the file beside it holds, and the section of places.
+PLACED = "0 ins a 0 : a|1 recv 0 1|1 read : a|0 read : a|1 read :"
+PLACES = [
+    ("each line", "7\n3 t.py:31, called from t.py:12\n4 t.py:13\n5 t.py:14\n6 t.py:15\n7 t.py:16\n",
+     "line 3: t.py:31, called from t.py:12|line 4: t.py:13|line 5: t.py:14|line 7: t.py:16"),
+    ("some, in another order, and one twice", "7\n7 b.py:2\n3 a.py:1\n3 c.py:9\n", "line 3: a.py:1|line 7: b.py:2"),
+    ("no line that is named", "7\n6 t.py:15\n", ""),
+    ("the number alone", "7\n", ""),
+    ("no end of the number", "7", ""),
+    ("of a shorter trace", "6\n3 a.py:1\n", ""),
+    ("of a longer trace", "8\n3 a.py:1\n", ""),
+    ("no number", "3 a.py:1\n4 a.py:2\n", ""),
+    ("a last line without an end", "7\n3 a.py:1\n4 a.py:1", "line 3: a.py:1"),
+    ("garbage between two", "7\n3 a.py:1\n\n4\n4 \nx a.py:1\n04 a.py:1\n-4 a.py:1\n+4 a.py:1\n4\ta.py:1\n4 \x1b[31ma.py:1\n4 a\0\n\xb2 a.py:1\n4  \u2028\n"
+     + "4 " + "x" * 5000 + "\n" + "9" * 5000 + " a.py:1\n0 a.py:1\n2 a.py:1\n8 a.py:1\n7 b.py:2\n", "line 3: a.py:1|line 7: b.py:2"),
+    ("letters of all kinds", "7\n3 pages/[id] line 4, or (line 5)/\u00e4<b>&amp;\".py:1\n", "line 3: pages/[id] line 4, or (line 5)/\u00e4<b>&amp;\".py:1"),
 ]
 
 # By name: how many replicas, the entries, and on the page what letters stand for, and those of each operation.
@@ -489,6 +512,54 @@ def warnings(tally: Tally, program: str, folder: str) -> None:
     tally.check("warnings: on the page", [told(node) for node in tree.iter("li")][1:3] == WARNED[5][3].split("|"))
 
 
+def places(tally: Tally, program: str, folder: str) -> None:
+    """The places of the lines that the words name, and of no others, stand at the end, on the page too; of a file of another trace, or of
+    garbage, nothing is said."""
+    path, page = Path(folder, "placed.trace"), Path(folder, "page.html")
+    path.write_text(text_of(2, PLACED))
+    bare = explain(program, ["-"], path.read_bytes()).out.decode()
+    for name, beside, wanted in PLACES:
+        Path(f"{path}.lines").write_bytes(beside.encode())
+        got = explain(program, ["--html", str(page), str(path)])
+        lines = wanted.split("|") if wanted else []
+        told_first, _, section = got.out.decode().partition("\nIn your code\n")
+        is_warned = not beside.startswith("7")
+        tally.check(f"places: {name}", got.status == 1 and not got.err and [line.strip() for line in section.splitlines()] == lines
+                    and (is_warned or told_first == bare), got)
+        tree = ElementTree.fromstring(page.read_text())
+        shown = [[told(node) for node in after.iter("li")] for head, after in zip(tree.iter(), by_next(tree)) if told(head) == "In your code"]
+        tally.check(f"places: {name}, on the page", shown == ([lines] if lines else []), shown)
+        links = [node.get("href") for node in tree.iter("a")][-len(lines):] if lines else []
+        tally.check(f"places: {name}, linked", links == [f"#{line.partition(':')[0].replace(' ', '-')}" for line in lines], links)
+        tally.check(f"places: {name}, not of standard input", explain(program, ["-"], path.read_bytes()).out.decode() == bare)
+    last = PLACES[-1]
+    done = subprocess.run([EXPLAIN, "--program", program, str(path)], capture_output=True, env=os.environ | {"PYTHONIOENCODING": "ascii"})
+    tally.check("places: letters that the terminal has not", last[2].replace("\u00e4", "?").encode() in done.stdout and not done.stderr, done)
+    for suffix in "bytes that are no text", "a folder":
+        side = Path(f"{path}.lines")
+        if suffix == "a folder":
+            side.unlink()
+            side.mkdir()
+        else:
+            side.write_bytes(b"7\n3 \xff.py:1\n")
+        got = explain(program, [str(path)])
+        wanted = ["line 3: \ufffd.py:1"] if suffix != "a folder" else []
+        section = got.out.decode().partition("\nIn your code\n")[2].splitlines()
+        tally.check(f"places: {suffix}", got.status == 1 and not got.err and [line.strip() for line in section] == wanted, got)
+    side.rmdir()
+    path.write_text(text_of(1, "0 ins a 0 : a|0 del b : a"))
+    side.write_text("4\n3 a.py:1\n4 a.py:2\n")
+    got = explain(program, [str(path)]).out.decode()
+    tally.check("places: of a line that a warning names, before it", got.startswith("accepted: ") and
+                "\n  a\n\nIn your code\n  line 4: a.py:2\n\nWhat this verdict may hide\n  line 4, 0.2: " in got, got)
+    side.unlink()
+
+
+def by_next(tree: ElementTree.Element) -> list:
+    """The elements of a tree, without the first."""
+    return list(tree.iter())[1:]
+
+
 def saved(tally: Tally, program: str, folder: str) -> None:
     """What the Python recorder saves is whole; where lines are lost at its end, that is said; and no pipe has a file beside it."""
     recording = recorder.Recording(2)
@@ -533,6 +604,9 @@ def from_yjs(tally: Tally, program: str, folder: str) -> None:
             said = f"domepeeler-explain {path} says what went wrong" in done.stdout
             tally.check(f"Yjs: {kept}, its test", done.returncode == status and said == bool(status), done)
             tally.check(f"Yjs: {kept} as it was kept", path.read_bytes() == (YJS / kept).read_bytes())
+            places = Path(f"{path}.lines").read_text().splitlines()[1:]
+            tally.check(f"Yjs: {kept}, places of the test alone", len(places) == path.read_bytes().count(b"\n") - 2 and
+                        all("page.test.mjs:" in line and "nodejs" not in line for line in places), places)
         got = explain(program, [str(YJS / kept)])
         missing = stand_in_order(got.out.decode().splitlines(), wanted.split("|"))
         tally.check(f"Yjs: {kept} explained", missing is None and got.status == status and not warned(got) and not got.err, got)
@@ -840,6 +914,7 @@ def main() -> None:
     with tempfile.TemporaryDirectory() as folder:
         faults(tally, program, folder)
         warnings(tally, program, folder)
+        places(tally, program, folder)
         saved(tally, program, folder)
         from_yjs(tally, program, folder)
         from_own_engine(tally, program, folder)

@@ -144,6 +144,28 @@ def recorders(tally: Tally, folder: str) -> None:
     tally.check(f"recorders in {folder}: merge.py", merged and merged.stdout == b"trace 1\nreplicas 2\n1 read :\n", merged)
 
 
+def pages(tally: Tally, folder: str) -> None:
+    """A relative link of an installed page leads to what is installed, and one with a heading to a heading that is there."""
+    share = Path(folder, "share/domepeeler").resolve()
+    dead, count = [], 0
+    for page in sorted(share.rglob("*.md")):
+        for link in re.findall(r"\]\(([^)\s]+)\)", page.read_text()):
+            if re.match("[a-z]+:", link):
+                continue
+            path, _, heading = link.partition("#")
+            place = (page.parent / path).resolve() if path else page
+            is_there = place.exists() and place.is_relative_to(share)
+            if not is_there or heading and heading not in headings(place):
+                dead.append(f"{page.relative_to(share)}: {link}")
+            count += 1
+    tally.check(f"pages in {folder}: no dead link", count > 60 and not dead, (count, dead))
+
+
+def headings(page: Path) -> set:
+    """The names by which links lead to the headings of a page."""
+    return {re.sub(r"[^\w\- ]", "", head.lower()).replace(" ", "-") for head in re.findall("^#+ (.*)", page.read_text(), re.MULTILINE)}
+
+
 def manual(tally: Tally, folder: str) -> None:
     for words in ["-l", f"{folder}/share/man/man1/domepeeler.1"], *([tool] for tool in TOOLS):
         done = subprocess.run(["man", *words], capture_output=True, text=True, errors="replace",
@@ -216,6 +238,7 @@ def main() -> None:
         versions(tally, f"{folder}/a place")
         options(tally, f"{folder}/a place")
         recorders(tally, f"{folder}/a place")
+        pages(tally, f"{folder}/a place")
         manual(tally, f"{folder}/a place")
         exit_statuses(tally, f"{folder}/a place")
         completions(tally, f"{folder}/a place")

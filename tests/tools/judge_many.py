@@ -328,10 +328,20 @@ def warnings(tally: Tally, program: str, folder: str) -> None:
         "fine": None, "lost": [said[0][2]], "apart": [told for _, _, told in said[1:]]}, rows)
     got = judge(program, ["--json", f"{folder}/apart.trace"])
     tally.check("warnings: status 0", got.status == 0 and len(got.err.splitlines()) == 2, got)
+    places(tally, program, folder)
     write(folder, {f"many/{i}.trace": "0 ins a 0 : a|1 ins b 0 : b" for i in range(11)})
     told = judge(program, [f"{folder}/many"]).err.decode().splitlines()
     last = "judge_many: and 2 more warnings, which --json shows"
     tally.check("warnings: no more than twenty", len(told) == 21 and told[20] == last, told)
+
+
+def places(tally: Tally, program: str, folder: str) -> None:
+    """What JUnit's file says of a failure has the places that a recorder has saved."""
+    Path(folder, "lost.trace.lines").write_text("4\n3 t.py:7\n4 t.py:8, called from t.py:9\n")
+    judge(program, ["--junit", f"{folder}/junit.xml", folder])
+    (failure,) = xml.parse(f"{folder}/junit.xml").getroot().iter("failure")
+    wanted = "\n\nIn your code\n  line 3: t.py:7\n  line 4: t.py:8, called from t.py:9\n"
+    tally.check("JUnit's file: places", failure.text.endswith(wanted), failure.text)
 
 
 def expected_warnings(text: str) -> dict:

@@ -116,7 +116,7 @@ def debian_has(tally: Tally, program: str, folder: str, archive: dict) -> None:
     control, data = (subprocess.run(["dpkg-deb", f"--{part}-tarfile", deb], capture_output=True, check=True).stdout
                      for part in ("ctrl", "fsys"))
     found = entries(tally, "package", data, is_dpkg=True)
-    licences = {path: what for path, what in archive.items() if "LICENSE" in path}
+    licences = {path: what for path, what in archive.items() if path.startswith("share/doc/domepeeler/LICENSE")}
     wanted = {moved(path) for path in archive if path not in licences} | {"./usr/share/doc/domepeeler/copyright"}
     tally.check("package: its files", set(found) == wanted, set(found) ^ wanted)
     for text, _ in licences.values():

@@ -1,10 +1,9 @@
 #!/usr/bin/env python3
 """readme_commands.py PROGRAM: the commands that the pages show are run as written, and must print what the pages show.
 
-A command stands after `    $ `. A here-document's lines follow as they are, up to its end word; other further lines of a command stand
-after `    > `. Below it stands what it prints; where nothing is shown, only the status is looked at. PROGRAM must be the repository's own,
+A command stands after `    $ `. A here-document's lines follow as they are, up to its end word, so that they can be copied as they
+stand. Below it stands what it prints; where nothing is shown, only the status is looked at. PROGRAM must be the repository's own,
 since the pages name it. `tests/program/black_box.py` does this for the gallery."""
-import itertools
 import os
 import re
 import subprocess
@@ -60,11 +59,8 @@ def commands(block: str) -> list:
     for part in re.split(r"^\$ ", block, flags=re.MULTILINE)[1:]:
         first, *rest = part.split("\n")
         document = re.search(r"<< '(\w+)'$", first)
-        if document and document[1] in rest:
-            count = rest.index(document[1]) + 1
-        else:
-            count = len(list(itertools.takewhile(lambda line: line.startswith("> "), rest)))
-        command = "\n".join([first, *(line.removeprefix("> ") for line in rest[:count])])
+        count = rest.index(document[1]) + 1 if document and document[1] in rest else 0
+        command = "\n".join([first, *rest[:count]])
         shown.append(Shown(command, "".join(line + "\n" for line in rest[count:]).strip("\n")))
     return shown
 

@@ -47,11 +47,11 @@ def test_right(domepeeler):
 
 
 def test_lost(domepeeler):
-    lose(domepeeler(2))
+    lose(domepeeler(2))  # lost
 
 
 def test_fails_by_itself(domepeeler):
-    lose(domepeeler(2))
+    lose(domepeeler(2))  # and fails
     assert 1 == 2
 
 
@@ -102,7 +102,7 @@ test("right", recorded(2, (recording) => {
 }))
 test("lost", recorded(2, lose))
 test("fails by itself", recorded(2, (recording) => {
-  lose(recording)
+  lose(recording) // and fails
   throw new Error("one is not two")
 }))
 test("awaited", async () => {
@@ -382,6 +382,16 @@ def check_told(tally: Tally, name: str, said: str) -> None:
     tally.check(f"{name}: no dictionary", not any(words in said for words in DICTIONARY), said)
 
 
+def check_places(tally: Tally, name: str, said: str, file: str, text: str, caller: str = "") -> None:
+    """An explanation ends with the lines of the test's file that recorded: three calls stand there first, and where these stand in a
+    function, `caller` is in the line that calls it."""
+    lines = text.splitlines()
+    calls = [next(number for number, line in enumerate(lines, 1) if f"recording.{call}(" in line) for call in ("insert", "received", "read")]
+    end = f", called from {file}:{next(number for number, line in enumerate(lines, 1) if caller in line)}" if caller else ""
+    wanted = "".join(f"  line {line}: {file}:{call}{end}\n" for line, call in enumerate(calls, 3))
+    tally.check(f"{name}: the lines of the test", f"\nIn your code\n{wanted}\nThe trace is saved: " in said, (wanted, said))
+
+
 def check_saved(tally: Tally, name: str, said: str, folder: Path) -> None:
     """The traces that are told of are there, below the folder, and no two in one file."""
     paths = re.findall(r"The trace is saved: (.*)", said)
@@ -426,6 +436,9 @@ def check_python(tally: Tally, place: Place) -> None:
     said = sections(done.stdout)
     for name in ["test_lost", "test_second[a/b]", "test_second[a:b]", "test_fails_by_itself"]:
         check_told(tally, f"pytest: {name}", said.get(name, ""))
+    check_places(tally, "pytest: test_lost", said.get("test_lost", ""), "test_editor.py", PYTEST, "lose(domepeeler(2))  # lost")
+    check_places(tally, "pytest: test_fails_by_itself", said.get("test_fails_by_itself", ""), "test_editor.py", PYTEST,
+                 "lose(domepeeler(2))  # and fails")
     own = said.get("test_fails_by_itself", "")
     tally.check("pytest: the test's own fault comes first", own.find("assert 1 == 2") in range(own.find(LOST)), own)
     refused = said.get("test_not_causal", "")
@@ -500,15 +513,21 @@ def check_javascript(tally: Tally, place: Place) -> None:
     lost, own = done.stdout.split("not ok 2 - lost")[-1].split("not ok 3 - fails by itself")
     for name, said in ("lost", lost), ("fails by itself", own.split("ok 4")[0]):
         check_told(tally, f"node --test: {name}", said)
+    check_places(tally, "node --test: lost", re.sub("^    ", "", lost, flags=re.MULTILINE), "editor.test.mjs", NODE_TEST)
+    check_places(tally, "node --test: fails by itself", "\n".join(told[at:]) + "\n", "editor.test.mjs", NODE_TEST, "// and fails")
     tally.check("node --test: the test's own fault", "one is not two" in own, own)
     kept = sorted(path.name for path in (place.folder / "packed/failed_traces").iterdir() if path.name.endswith(".trace"))
     tally.check("node --test: traces", len(kept) == 2 and kept[0].startswith("editor.test.mjs-") and all(
         (place.folder / "packed/failed_traces" / name).read_text() == LOST_TRACE for name in kept) and
         all(name in done.stdout for name in kept), (kept, done.stdout))
-    beside = {path.name: path.read_text() for path in (place.folder / "packed/failed_traces").iterdir() if path.name not in kept}
-    tally.check("node --test: and the number of lines beside each", beside == {f"{name}.lines": "5\n" for name in kept}, beside)
+    beside = {path.name: path.read_text().split("\n")[0] for path in (place.folder / "packed/failed_traces").iterdir()
+              if path.name not in kept}
+    tally.check("node --test: and the number of lines beside each", beside == {f"{name}.lines": "5" for name in kept}, beside)
     own = sorted(path.name for path in (place.folder / "packed/own").iterdir())
     tally.check("node --test: a path of its own", own == ["awaited.trace", "awaited.trace.lines"], own)
+    place.make("folder/editor.test.mjs", NODE_TEST)
+    linked = place.run(["node", "--test", "--test-reporter=tap", "editor.test.mjs"], "folder").stdout.split("not ok 2 - lost")[-1]
+    check_places(tally, "node --test: of a folder that is a link", re.sub("^    ", "", linked, flags=re.MULTILINE), "editor.test.mjs", NODE_TEST)
     place.make("packed/use.mjs", USES["javascript"])
     done = place.run(["node", "use.mjs", place.make("no_explainer", NO_EXPLAINER, 0o755)], "packed")
     check_used(tally, "JavaScript", done)
@@ -540,7 +559,8 @@ def check_rust(tally: Tally, place: Place) -> None:
     saved = place.folder / "rust/failed.trace"
     tally.check("cargo test: saves", saved.is_file() and saved.read_text() == LOST_TRACE, done.stdout)
     beside = place.folder / "rust/failed.trace.lines"
-    tally.check("cargo test: and the number of lines beside it", beside.is_file() and beside.read_text() == "5\n", done.stdout)
+    tally.check("cargo test: and the number of lines beside it", beside.is_file() and beside.read_text().startswith("5\n"), done.stdout)
+    check_places(tally, "cargo test", done.stdout, "tests/editor.rs", RUST_TEST)
     done = place.run(["cargo", "run", "--offline", "--quiet", "--", place.make("no_explainer", NO_EXPLAINER, 0o755)], "rust")
     check_used(tally, "Rust", done)
     check_beside(tally, place, "Rust", [str(place.folder / "rust/target/debug/own")], "rust")

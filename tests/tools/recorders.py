@@ -10,6 +10,7 @@ import shutil
 import subprocess
 import sys
 import tempfile
+import weakref
 from pathlib import Path
 from random import Random
 from urllib.parse import unquote
@@ -441,8 +442,10 @@ def check_lines(tally: Tally, recorder: Recorder, folder: Path) -> None:
         return by.answers([*calls, f"save\t{named}"])[-1]
 
     def beside(path: Path) -> str:
+        """The first line of the file beside it; in a language whose recorder knows no places there is no other."""
         side = Path(f"{path}.lines")
-        return side.read_text() if side.is_file() else "none"
+        text = side.read_text() if side.is_file() else "none"
+        return text.split("\n")[0] + "\n" if recorder.language in PLACING and "\n" in text else text
 
     def warned() -> list:
         said = subprocess.run([EXPLAIN, trace], capture_output=True, text=True, env=recorder.surroundings).stdout
@@ -478,6 +481,247 @@ def check_lines(tally: Tally, recorder: Recorder, folder: Path) -> None:
                 ["new\t1", *["read\t0"] * 100])
     tally.check(f"{recorder.language}: the number comes first", got.startswith(("failed ", "ended with -")) and full.is_file()
                 and full.stat().st_size == 512 and beside(full) == "102\n", (got, beside(full)))
+    if recorder.language in PLACING:
+        got = saved(full, Recorder(recorder.language, [*NO_ROOM, *recorder.words], recorder.surroundings["DOMEPEELER"]),
+                    ["new\t1", *["read\t0"] * 40])
+        tally.check(f"{recorder.language}: the places come last", got.startswith("failed ") and beside(full) == "42\n"
+                    and full.read_bytes() == b"trace 1\nreplicas 1\n" + b"0 read :\n" * 40, (got, beside(full)))
+
+
+# Languages whose recorder remembers where each line was recorded.
+PLACING = ["py", "mjs", "rs"]
+
+
+def check_places(tally: Tally, recorder: Recorder, folder: Path) -> None:
+    """Beside what is saved stands for each line the place of the driver's call, from the folder in which it runs; and in another folder
+    the whole path."""
+    driver, trace = DRIVERS / f"driver.{recorder.language}", folder / "placed.trace"
+    calls = [fields(line.split(" -> ")[0]) for line in [*CYCLE.split("\n")[:-1], "view 0 -> ok", "received_clock 1 2 1 1 0 1 -> ok"]]
+    kinds = [call.split("\t")[0] for call in calls[1:]]
+    if recorder.language == "mjs":
+        kinds = [kind.replace("_clock", "Clock") for kind in kinds]
+    source = driver.read_text().splitlines()
+    for place, path in (ROOT, str(driver.relative_to(ROOT))), (folder, str(driver)):
+        given = "".join(call + "\n" for call in [*calls, f"save\t{trace}"]).encode()
+        subprocess.run(recorder.words, input=given, cwd=place, env=recorder.surroundings, stdout=subprocess.DEVNULL, check=True)
+        head, *lines = Path(f"{trace}.lines").read_text().splitlines()
+        tally.check(f"{recorder.language}: a place for each line", head == str(len(kinds) + 2) and len(lines) == len(kinds) and
+                    [line.split(" ")[0] for line in lines] == [str(number) for number in range(3, len(kinds) + 3)], lines)
+        for kind, line in zip(kinds, lines):
+            found = re.fullmatch(rf"\d+ {re.escape(path)}:(\d+)((?:, called from {re.escape(path)}:\d+){{0,2}})", line)
+            is_call = found and f"recording.{kind}(" in source[int(found[1]) - 1]
+            tally.check(f"{recorder.language}: the place of {kind}", is_call and (not found[2] or recorder.language != "rs"), line)
+
+
+# Programs of a user, in `tests/` of a folder in which they run, and what must stand beside the trace that each saves. An installed package
+# hands a call on, and what the language itself calls has no place. `{place}` is the folder, or nothing.
+USERS = {
+    "editor.py": (f'''import os
+import sys
+import threading
+sys.path[:0] = ["{ROOT / 'recorders'}", "lib/site-packages", "lib/dist-packages"]
+from domepeeler import Recording
+from other import call, hand
+
+def typed(name):
+    return recording.insert(0, name, 0, [name])
+
+def deep(left):
+    if left:
+        return deep(left - 1)
+    recording.read(1, [])
+
+recording = Recording(2)
+n = call(hand, typed, "a")
+thread = threading.Thread(target=recording.received, args=(1, 0, n))
+thread.start()
+thread.join()
+deep(5)
+recording.save("session.trace")
+print(recording.explain(), end="")
+whole = os.path.abspath("whole.trace")
+os.mkdir("gone")
+os.chdir("gone")
+os.rmdir("../gone")
+recording.save(whole)
+''', ["3 {place}tests/editor.py:9, called from {place}tests/editor.py:17",
+     "5 {place}tests/editor.py:14, called from {place}tests/editor.py:13, called from {place}tests/editor.py:13"]),
+    "editor.mjs": (f'''import {{ mkdirSync, rmdirSync }} from "node:fs"
+import {{ Recording }} from "{(ROOT / 'recorders').as_uri()}/domepeeler.mjs"
+import {{ call }} from "other"
+
+function typed(name) {{
+  return recording.insert(0, name, 0, [name])
+}}
+
+function deep(left) {{
+  if (left) deep(left - 1)
+  else recording.read(1, [])
+}}
+
+const recording = new Recording(2)
+const n = call(typed, "a")
+setTimeout(recording.received.bind(recording, 1, 0, n), 0)
+await new Promise((done) => setTimeout(done, 20))
+deep(5)
+await recording.save("session.trace")
+process.stdout.write(await recording.explain())
+const whole = process.cwd() + "/whole.trace"
+mkdirSync("gone")
+process.chdir("gone")
+rmdirSync("../gone")
+await recording.save(whole)
+''', ["3 {place}tests/editor.mjs:6, called from {place}tests/editor.mjs:15",
+     "5 {place}tests/editor.mjs:11, called from {place}tests/editor.mjs:10, called from {place}tests/editor.mjs:10"]),
+    "editor.rs": (f'''#[path = "{ROOT / 'recorders'}/domepeeler.rs"]
+mod domepeeler;
+use domepeeler::Recording;
+
+fn typed(recording: &mut Recording, name: &str) -> u32 {{
+    recording.insert(0, name, 0, &[name]).unwrap()
+}}
+
+#[track_caller]
+fn looked(recording: &mut Recording) {{
+    recording.read(1, &[] as &[&str]).unwrap();
+}}
+
+fn main() {{
+    let mut recording = Recording::new(2).unwrap();
+    let n = typed(&mut recording, "a");
+    recording.received(1, 0, n).unwrap();
+    looked(&mut recording);
+    recording.save("session.trace").unwrap();
+    print!("{{}}", recording.explain().unwrap());
+    let whole = std::env::current_dir().unwrap().join("whole.trace");
+    std::fs::create_dir("gone").unwrap();
+    std::env::set_current_dir("gone").unwrap();
+    std::fs::remove_dir("../gone").unwrap();
+    recording.save(whole).unwrap();
+}}
+''', ["3 {place}tests/editor.rs:6", "4 {place}tests/editor.rs:17", "5 {place}tests/editor.rs:18"]),
+}
+# Programs with a long id, `long1`, that the explanation does not name; and how each is run.
+LONG_NAMES = {
+    "long1.py": (f'''import sys
+sys.path.insert(0, "{ROOT / 'recorders'}")
+from domepeeler import Recording
+recording = Recording(2)
+recording.insert(0, "{LETTERS32}x", 0, ["{LETTERS32}x"])
+recording.delete(0, "{LETTERS32}x", [])
+recording.insert(0, "a", 0, ["a"])
+recording.received(1, 0, 3)
+recording.read(1, [])
+print(recording.explain())
+''', [sys.executable, "long1.py"]),
+    "long1.mjs": (f'''import {{ Recording }} from "{(ROOT / 'recorders').as_uri()}/domepeeler.mjs"
+const recording = new Recording(2)
+recording.insert(0, "{LETTERS32}x", 0, ["{LETTERS32}x"])
+recording.delete(0, "{LETTERS32}x", [])
+recording.insert(0, "a", 0, ["a"])
+recording.received(1, 0, 3)
+recording.read(1, [])
+console.log(await recording.explain())
+''', ["node", "long1.mjs"]),
+    "long1.rs": (f'''#[path = "{ROOT / 'recorders'}/domepeeler.rs"]
+mod domepeeler;
+fn main() {{
+    let none: &[&str] = &[];
+    let mut recording = domepeeler::Recording::new(2).unwrap();
+    recording.insert(0, "{LETTERS32}x", 0, &["{LETTERS32}x"]).unwrap();
+    recording.delete(0, "{LETTERS32}x", none).unwrap();
+    recording.insert(0, "a", 0, &["a"]).unwrap();
+    recording.received(1, 0, 3).unwrap();
+    recording.read(1, none).unwrap();
+    println!("{{}}", recording.explain().unwrap());
+}}
+''', ["./long1"]),
+}
+HANDING_ON = {"lib/site-packages/other.py": "from another import hand\n\n\ndef call(act, *words):\n    return act(*words)\n",
+              "lib/dist-packages/another.py": "def hand(act, *words):\n    return act(*words)\n",
+              "node_modules/other/package.json": '{"name": "other", "type": "module", "main": "index.mjs"}\n',
+              "node_modules/other/index.mjs": "export const call = (act, ...words) => act(...words)\n"}
+
+
+def check_users(tally: Tally, program: str, folder: Path) -> None:
+    """Programs of a user: beside the trace stands where they call, and the words of `explain` are those of the tool on the saved file."""
+    place = folder / "user's [own] (place) ä"
+    programs = [(name, text) for name, (text, _) in LONG_NAMES.items()]
+    for name, text in [*HANDING_ON.items(), *programs, *((f"tests/{name}", text) for name, (text, _) in USERS.items())]:
+        Path(place, name).parent.mkdir(parents=True, exist_ok=True)
+        Path(place, name).write_text(text)
+    for source in "tests/editor.rs", "long1.rs":
+        subprocess.run(["rustc", "--edition", "2021", "-o", Path(source).stem, place / source], cwd=place, check=True)
+    surroundings = {**os.environ, "DOMEPEELER": program, "DOMEPEELER_EXPLAIN": EXPLAIN, "PYTHONDONTWRITEBYTECODE": "1",
+                    "LC_ALL": "C.UTF-8"}
+    for name in "long1.py", "long1.mjs", "long1.rs":
+        done = subprocess.run(LONG_NAMES[name][1], cwd=place, capture_output=True, text=True, env=surroundings)
+        tally.check(f"{name}: a place is no name of an id", "In your code\n" in done.stdout and f": {name}:" in done.stdout and
+                    "too long" not in done.stdout, done)
+    for name, words in ("editor.py", [sys.executable]), ("editor.mjs", ["node"]), ("editor.rs", []):
+        done = subprocess.run([*words, f"tests/{name}"] if words else ["./editor"], cwd=place, capture_output=True, text=True,
+                              env=surroundings)
+        for saved, path in ("session.trace.lines", ""), ("whole.trace.lines", f"{place}/"):
+            wanted = "".join(line + "\n" for line in ["5", *(line.format(place=path) for line in USERS[name][1])])
+            got = Path(place, saved).read_text() if Path(place, saved).is_file() else done
+            tally.check(f"{name}: places in {saved}", got == wanted, got)
+        told = subprocess.run([EXPLAIN, "session.trace"], cwd=place, capture_output=True, text=True, env=surroundings)
+        tally.check(f"{name}: explains as the tool explains the file", done.stdout == told.stdout and
+                    told.stdout.endswith("\n\nIn your code\n" + "".join(
+                        f"  line {line.format(place='')}\n".replace(" tests", ": tests", 1) for line in USERS[name][1])), (done, told))
+        for left in place.glob("*.trace*"):
+            left.unlink()
+
+
+# Records 2,500 times, each time by other calls; all of them lead through line 3.
+MANY_STACKS = f'''import {{ Recording }} from "{(ROOT / 'recorders').as_uri()}/domepeeler.mjs"
+const recording = new Recording(1)
+const read = () => recording.read(0, [])
+for (let at = 0; at < 2500; at++) new Function("act", " ".repeat(at) + "act()")(read)
+await recording.save("many.trace")
+'''
+
+
+# A test runner that loads modules by itself, under their paths, as Jest does.
+OWN_MODULES = f'''import {{ readFileSync }} from "node:fs"
+import {{ pathToFileURL }} from "node:url"
+import vm from "node:vm"
+const path = "{ROOT / 'recorders/domepeeler.mjs'}"
+const recorder = new vm.SourceTextModule(readFileSync(path, "utf8"), {{
+  identifier: path,
+  initializeImportMeta: (meta) => {{ meta.url = pathToFileURL(path).href }},
+  importModuleDynamically: (name) => import(name),
+}})
+await recorder.link(() => null)
+await recorder.evaluate()
+const recording = new recorder.namespace.Recording(1)
+recording.read(0, [])
+await recording.save("own_modules.trace")
+'''
+
+
+def check_frames(tally: Tally, folder: Path) -> None:
+    """What the recorder remembers of its callers keeps nothing of theirs alive; and of many different ones none is lost."""
+    from domepeeler import Recording
+    Path(folder, "own_modules.mjs").write_text(OWN_MODULES)
+    subprocess.run(["node", "--no-warnings", "--experimental-vm-modules", "own_modules.mjs"], cwd=folder, check=True)
+    beside = Path(folder, "own_modules.trace.lines").read_text()
+    tally.check("mjs: modules that a test runner loads", beside == "3\n3 own_modules.mjs:13\n", beside)
+    Path(folder, "many.mjs").write_text(MANY_STACKS)
+    subprocess.run(["node", "many.mjs"], cwd=folder, check=True)
+    wanted = "2502\n" + "".join(f"{line} many.mjs:3, called from many.mjs:4\n" for line in range(3, 2503))
+    tally.check("mjs: many calls", Path(folder, "many.trace.lines").read_text() == wanted)
+
+    class Thing:
+        pass
+
+    def act() -> weakref.ref:
+        thing = Thing()
+        recording.read(0, [])
+        return weakref.ref(thing)
+
+    recording = Recording(1)
+    tally.check("py: keeps no frame of its callers", act()() is None)
 
 
 def check_judge(tally: Tally, recorder: Recorder, folder: Path) -> None:
@@ -502,6 +746,36 @@ def check_judge(tally: Tally, recorder: Recorder, folder: Path) -> None:
         tally.check(f"{recorder.language}: judge by {absent}", got[1:] and got[1].startswith(f"failed {absent} {why}"), got)
     got = recorder.answers(["new\t1", "judge"], DOMEPEELER="", PATH=f"{folder / 'path'}:{os.environ['PATH']}")
     tally.check(f"{recorder.language}: judge by domepeeler on the PATH", got[1:] and got[1].startswith("report {"), got)
+
+
+def check_explain(tally: Tally, recorder: Recorder, folder: Path) -> None:
+    """What `explain` answers in Emacs Lisp is what the tool says of the text, and the ids of numbered names; and what is said where there
+    is no tool. The tool is that of the variable, or the one beside the program."""
+    calls = [fields(line.split(" -> ")[0]) for line in CYCLE.split("\n")[:-1]]
+    long = ["new 2", f"insert 0 {LETTERS32}x 0 {LETTERS32}x", f"delete 0 {LETTERS32}x", f"insert 0 4@{LETTERS32} 0 4@{LETTERS32}",
+            "received 1 0 3", "read 1"]
+    ids = f"\nIds that were too long for a name\n  long2: 4@{LETTERS32}\n"
+    for name, made, more in ("the cycle", calls, ""), ("nothing", ["new\t1"], ""), ("long ids", [fields(call) for call in long], ids):
+        got = recorder.answers([*made, "text", "explain"], DOMEPEELER_EXPLAIN=EXPLAIN)
+        at = next(at for at, line in enumerate(got) if line == "ok" and got[at - 1].startswith("| "))
+        text = "".join(line[2:] + "\n" for line in got[:at] if line.startswith("| "))
+        told = subprocess.run([EXPLAIN, "-"], input=text, capture_output=True, text=True, env=recorder.surroundings).stdout
+        said = "".join(line[2:] + "\n" for line in got[at + 1:-1])
+        tally.check(f"{recorder.language}: explain {name}", told and said == told + more and got[-1] == "ok", got)
+    got = recorder.answers(["new\t3\t1", "explain"], DOMEPEELER_EXPLAIN=EXPLAIN)[-1]
+    tally.check(f"{recorder.language}: explain one log", got == f"refused {ONE_LOG}", got)
+    for absent, why in (str(folder / "nowhere"), "cannot be run ("), ("/bin/false", "ended with status 1: "):
+        got = recorder.answers(["new\t1", "explain"], DOMEPEELER_EXPLAIN=absent)[-1]
+        is_named = why.startswith("ended") or got.endswith("): name the tool's path in DOMEPEELER_EXPLAIN")
+        tally.check(f"{recorder.language}: explain by {absent}", got.startswith(f"failed {absent} {why}") and is_named, got)
+    tool = folder / "path" / "domepeeler-explain"
+    tool.write_text("#!/bin/sh\ncat > /dev/null\necho the tool beside it\n")
+    tool.chmod(0o755)
+    beside = recorder.answers(["new\t1", "explain"], DOMEPEELER=str(tool.parent / "domepeeler"), DOMEPEELER_EXPLAIN="")
+    found = recorder.answers(["new\t1", "explain"], DOMEPEELER="domepeeler", DOMEPEELER_EXPLAIN="", PATH=f"{tool.parent}:{os.environ['PATH']}")
+    tally.check(f"{recorder.language}: explain by the tool beside the program, or on the PATH", beside == found ==
+                ["ok", "| the tool beside it", "ok"], (beside, found))
+    tool.unlink()
 
 
 ONE_LOG = "one replica's log is no recording: merge the logs first"
@@ -723,7 +997,13 @@ def main() -> None:
                 check_full_updates(tally, recorder)
             check_save(tally, recorder, folder)
             check_lines(tally, recorder, folder)
+            if language in PLACING:
+                check_places(tally, recorder, folder)
             check_judge(tally, recorder, folder)
+            if language == "el":
+                check_explain(tally, recorder, folder)
+        check_users(tally, program, folder)
+        check_frames(tally, folder)
         check_limits_are_the_programs(tally, program, texts["py"])
         check_merge(tally, program, folder)
         check_guide(tally, program, folder)

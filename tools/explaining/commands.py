@@ -1,4 +1,5 @@
 """What the commands have in common: their version, and how they end where nobody reads on."""
+import codecs
 import os
 import sys
 from argparse import ArgumentParser
@@ -12,9 +13,18 @@ def add_version(parser: ArgumentParser, command: str) -> None:
     parser.add_argument("--version", action="version", version=f"{command} {VERSION}", help="show the version and exit")
 
 
+def name_as_it_can_be(error: UnicodeError) -> tuple:
+    """What is printed for letters that standard output can't hold: the bytes that they stand for, or question marks."""
+    try:
+        return codecs.lookup_error("surrogateescape")(error)
+    except UnicodeError:
+        return "?" * (error.end - error.start), error.end
+
+
 def run_command(main: Callable) -> None:
-    """Runs it. File names on standard output may be any bytes, and a reader that has enough is no error to tell of."""
-    sys.stdout.reconfigure(errors="surrogateescape")
+    """Runs it. File names on standard output may be any bytes or letters, and a reader that has enough is no error to tell of."""
+    codecs.register_error("domepeeler.names", name_as_it_can_be)
+    sys.stdout.reconfigure(errors="domepeeler.names")
     try:
         main()
         sys.stdout.flush()

@@ -6,6 +6,7 @@ from pathlib import Path
 
 from .evidence import Evidence, Unexplained
 from .faulty_lines import about_file
+from .places import with_places
 from .recordings import Recording
 from .words import explanation, text_of
 
@@ -43,7 +44,8 @@ def add_fault(case: xml.Element, kind: str, verdict: str, told: str) -> None:
 def explained(row: object) -> str:
     """What `explain` says of the trace, or its verdict alone, where the file is no longer what was judged."""
     try:
-        return text_of(explanation(Evidence(Recording(Path(row.file).read_text(encoding="utf-8")), row.report)))
+        trace = Path(row.file).read_bytes()
+        return text_of(with_places(explanation(Evidence(Recording(trace.decode()), row.report)), [], trace, row.file))
     except (Unexplained, OSError, ValueError, LookupError):
         return row.verdict
 

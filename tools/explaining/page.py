@@ -6,14 +6,13 @@ from .cycle_picture import picture
 from .evidence import Evidence
 from .letters import letters_of
 from .session_picture import Rows
-from .words import Explanation, Section
+from .words import CODE, LINE, Explanation, Section
 
 MOST_ROWS = 40  # entries that are shown at once
 MOST_FOLDED = 2000  # entries that are on the page at all
 MARKED = re.compile(r"\[([A-Za-z0-9_.-]+)\]")
 WIDTH = re.compile(r'width="(\d+)"')
 SMALLEST = 0.7  # how far a picture shrinks on a narrow screen before it is scrolled
-LINE = re.compile(r"\bline (\d+)(?=[,):]| of the trace,| \(\d+ recv )")  # and not two names, `line` and a number
 
 STYLE = """\
 :root { color-scheme: light dark; --ground: #fff; --ink: #1d1d1f; --dim: #65656d; --faint: #dcdce2; --card: #f5f5f8;
@@ -122,7 +121,8 @@ def page_of(evidence: Evidence, told: Explanation, trace: str, report: str) -> s
 
 
 def section_of(section: Section, session: str, letters: dict) -> str:
-    """A section of the words: marks for brackets, with the element's letter, and a link to each line that the session shows."""
+    """A section of the words: marks for brackets, with the element's letter, and a link to each line that the session shows. In places
+    of code brackets are no marks, and a line of the trace stands first alone."""
     def marked(found: re.Match) -> str:
         letter = letters.get(found[1], found[1])
         return (f'<sup class="letter">{letter}</sup>' if letter != found[1] else "") + f"<mark>{found[1]}</mark>"
@@ -130,7 +130,10 @@ def section_of(section: Section, session: str, letters: dict) -> str:
     def link(found: re.Match) -> str:
         return f'<a href="#line-{found[1]}">{found[0]}</a>' if f'id="line-{found[1]}"' in session else found[0]
 
-    lines = [LINE.sub(link, MARKED.sub(marked, escape(line))) for line in section.lines]
+    if section.title == CODE:
+        lines = [LINE.sub(link, escape(line), count=1) for line in section.lines]
+    else:
+        lines = [LINE.sub(link, MARKED.sub(marked, escape(line))) for line in section.lines]
     prose = ' class="prose"' if section.title.startswith("Where to look") else ""
     items = "\n".join(f"<li>{line}</li>" for line in lines)
     return f"<h2>{escape(section.title)}</h2>\n<ul{prose}>\n{items}\n</ul>\n"

@@ -5,9 +5,9 @@ never heard of another, a delete named what nothing inserts, or the file was cut
 import errno
 from pathlib import Path
 
-SIDE = ".lines"  # the end of the name of a file beside the trace, in which a recorder says how many lines it saved
+SIDE = ".lines"  # the end of the name of a file beside the trace, in whose first line a recorder says how many lines it saved
 MOST_DELETES = 5  # that are told one by one
-MOST_BYTES = 64  # of a side file that are looked at
+MOST_BYTES = 64  # of that line that are looked at
 
 
 def warnings_of(verdict: str, trace: bytes, name: str = "-") -> list:
@@ -82,11 +82,11 @@ def counted(replicas: list) -> str:
 
 
 def cut(trace: bytes, name: str) -> list:
-    """Whether the file beside the trace, where there is one, says another number of lines than the trace has."""
+    """Whether the file beside the trace, where there is one, says in its first line another number of lines than the trace has."""
     side = Path(name + SIDE)
     try:
         with side.open("rb") as file:
-            said = file.read(MOST_BYTES).strip()
+            said = file.readline(MOST_BYTES).strip()
     except OSError as error:
         if error.errno in (errno.ENOENT, errno.ENAMETOOLONG):
             return []

@@ -1,13 +1,16 @@
 """What a verdict means for its trace, in words: a headline, and sections of lines.
 
 A name in brackets is one of the names that the verdict is about; names themselves have no brackets."""
+import re
 from typing import NamedTuple
 
 from .evidence import MOST_ARRIVED, Evidence
 from .programs import GUIDE
 from .recordings import Operation, Recording, place_asked
 
+CODE = "In your code"  # the title of the section with places of the user's code
 MOST_NAMES = 24  # of a list that is shown whole
+LINE = re.compile(r"\bline (\d+)(?=[,):]| of the trace,| \(\d+ recv )")  # of the trace, in words; and not two names, `line` and a number
 NUMBERS = "zero one two three four five six seven eight nine ten eleven twelve thirteen fourteen fifteen sixteen".split()
 
 LOOK = {

@@ -39,6 +39,7 @@
       ("id_of" (let ((pair (assoc (nth 1 words) (domepeeler-ids driver-recording)))) (if pair (concat "ok " (cdr pair)) "none")))
       ("save" (domepeeler-save driver-recording (nth 1 words)) "ok")
       ("judge" (concat "report " (json-encode (domepeeler-judge driver-recording))))
+      ("explain" (concat (replace-regexp-in-string "\\(.*\\)\n" "| \\1\n" (domepeeler-explain driver-recording)) "ok"))
       ("untyped" (funcall (nth number driver-untyped)))
       (_ (concat (replace-regexp-in-string "^\\(.\\)" "| \\1" (domepeeler-text driver-recording)) "ok")))))
 
