@@ -22,3 +22,4 @@ pub mod BallLemmas
 pub mod Teams
 pub mod LeastOffer
 pub mod LayerSizes
+pub mod Counts

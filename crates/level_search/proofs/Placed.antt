@@ -1,6 +1,9 @@
 -- Numbers that stand at places of lists are no more than the places.
-use Rattle.std.proofs.Common.{◌≡◌, ◌≢◌, ℕ, zero, suc, ◌+◌, ◌*◌, ◌<◌, ◌≤◌, Some, List, [], ◌∷◌, ◌++◌, length, refl, ap, ◌∙◌, le_trans, arith, length-append}
+use Rattle.std.proofs.Common.{◌≡◌, ◌≢◌, ℕ, zero, suc, ◌+◌, ◌*◌, ◌<◌, ◌≤◌, Some, List, [], ◌∷◌, ◌++◌, length, refl, ap, ◌∙◌, arith, length-append}
 use Rattle.std.specs.Prelude.{AllPairs, Contains, sum_by}
+use Rattle.std.specs.List.{range_with_len}
+use Rattle.std.proofs.lemmas.List.FromFn.{length-range_with_len}
+use Rattle.std.proofs.lemmas.List.Sorted.{length_permutation}
 use Rattle.std.proofs.lemmas.List.Sums.{sum_by-cons}
 use Rattle.std.proofs.lemmas.Nat.{mul-le}
 use Rattle.std.proofs.lemmas.Option.{slice_get-get_or}
@@ -11,6 +14,8 @@ use Rattle.order_graph.proofs.Shown.{lists-total}
 use Rattle.level_search.specs.Conflicts.{IsWithinSearches}
 use Rattle.level_search.specs.Cores.{IsPlaced}
 use Rattle.level_search.specs.Team.{AreLooksOf}
+use Rattle.level_search.proofs.Counts.{counts-most}
+use Rattle.level_search.proofs.LayerSizes.{counted-most}
 
 -- all lists, one after the other
 abbrev joined : List (List ℕ) → List ℕ
@@ -38,10 +43,12 @@ placed-few v xs rising placed =
     in-joined rows at.list z (In-from_place (row rows at.list) at.place z (slice_get-get_or (row rows at.list) at.place 0 at.here.within ∙ ap Some at.here.here)))) in
     omega (arith, few, joined-length rows, lists-total v)
 
--- two looks at the row of each of these elements are no more than there are places and elements
-pub within-searches : (v : Responses) (n looked : ℕ) → n ≤ length v.elements → n ≤ place_count v → AreLooksOf n (2 * n) looked → IsWithinSearches v looked
-within-searches v n looked known placed is = record {
-  searches = is.searches;
-  known = le_trans is.known known;
-  within = le_trans is.within (mul-le is.searches (2 * n) is.searches (place_count v + length v.elements) (omega arith) (omega (arith, known, placed)));
-}
+-- a search from each of these elements, with two looks at most at the row of each, makes no more looks than elements times places and elements
+pub within-searches : (v : Responses) (n : ℕ) (rows : List (List ℕ)) (least looked : ℕ) → n ≤ length v.elements → n ≤ place_count v → AreLooksOf n rows least looked → IsWithinSearches v looked
+within-searches v n rows least looked known placed is =
+    let all = counts-most n rows least is.sources is.places is.count is.counts in
+    let searches : length is.places ≡ length is.sources = length_permutation (range_with_len 0 (length is.sources)) is.places is.once ∙ length-range_with_len 0 (length is.sources) in
+    let few = is.few in
+    let most = mul-le (length is.places) (2 * n) (length v.elements) (place_count v + length v.elements) (omega (arith, searches, few, known)) (omega (arith, known, placed)) in
+    let looked_is = is.looked_is in
+    omega (arith, looked_is, all, most, counted-most is.count 0)

@@ -1,7 +1,6 @@
 -- What workers over one bound leave: a claim, an offer, a seat taken in, and the end.
-use Rattle.std.proofs.Common.{◌≡◌, ◌≢◌, ℕ, zero, suc, ◌+◌, ◌-◌, ◌*◌, ◌<◌, ◌≤◌, max, List, [], ◌∷◌, ◌++◌, length, get_or, sym, refl, ap, arith, All, subst, le_trans, ◌∙◌, ◌⊎◌, inl, inr, Some, None, min, take, drop, true, false, length-append, IsPermutation}
+use Rattle.std.proofs.Common.{◌≡◌, ◌≢◌, ℕ, zero, suc, ◌+◌, ◌-◌, ◌*◌, ◌<◌, ◌≤◌, max, List, [], ◌∷◌, ◌++◌, length, get_or, sym, refl, ap, arith, All, subst, le_trans, ◌∙◌, ◌⊎◌, inl, inr, Option, Some, None, min, take, drop, true, false, length-append, IsPermutation}
 use Rattle.std.proofs.lemmas.List.{append-nil}
-use Rattle.std.proofs.Math.Nat.{add-mul}
 use Rattle.std.specs.List.{range_with_len}
 use Rattle.std.proofs.lemmas.List.Sorted.{All-permutation, IsPermutation-sym, length_permutation}
 use Rattle.std.proofs.lemmas.List.FromFn.{get_or-range_with_len, length-range_with_len}
@@ -17,8 +16,12 @@ use Rattle.order_graph.specs.Lists.{lists_of}
 use Rattle.level_search.specs.Walks.{IsSearchAnswer, NoneShorter}
 use Rattle.level_search.specs.BoundLaw.{CoversAllSources, IsAsLongThrough, MeetEachCycle}
 use Rattle.level_search.proofs.LeastOffer.{least_offer_is_shortest}
+use Rattle.level_search.proofs.Counts.{counted-together, counts-append, counts-lower, counts-one}
+use Rattle.level_search.proofs.LayerSizes.{looked-more}
 use Rattle.level_search.specs.Sources.{MeetsCycles}
-use Rattle.level_search.specs.Team.{AreNumbered, IsSearchedAt, IsLength, Honest, IsReady, SameSeat, HasWorked, HaveWorked, LooksWithinClaims, ceiling, AtPlace, IsTeam, IsLeastLength}
+use Rattle.level_search.specs.Team.{AreNumbered, IsSearchedAt, IsLength, Honest, IsReady, SameSeat, HasWorked, HaveWorked, AreLooksOfClaims, ceiling, AtPlace, IsTeam, IsLeastLength}
+use Rattle.level_search.specs.Looks.{AreCountsAt, HasLooked}
+use Rattle.level_search.specs.declared.tabled.sets.Sets.{Sets}
 use Rattle.level_search.specs.declared.workers.worker.Worker.{Worker}
 use Rattle.level_search.proofs.Joining.{cycle-known, first-walk, names_of_walk, walk_of_names}
 
@@ -70,18 +73,25 @@ pub fewer_left : (s t : SeatView) (source : ℕ) → t.bound ≡ s.bound → t.c
 fewer_left s t source bound claimed within above =
     subst (λ (z : BoundView × List ℕ). z.0.sources - ceiling z.1 < s.bound.sources - ceiling s.claimed) (λ i. (sym bound i, sym claimed i)) (fewer s.bound.sources source s.claimed within above)
 
--- a claim, and then two looks at most at each row
-pub few_claimed : (n : ℕ) (s t : SeatView) (place was now : ℕ) → t.claimed ≡ s.claimed ++ place ∷ [] → LooksWithinClaims n s was → now ≤ was + 2 * n → LooksWithinClaims n t now
-few_claimed n s t place was now claimed few more =
-    let long : length t.claimed ≡ length s.claimed + 1 = ap length claimed ∙ length-append s.claimed (place ∷ []) in
-    subst (λ k. now ≤ k * (2 * n)) (sym long) (omega (arith, few, more, add-mul (length s.claimed) 1 (2 * n)))
+-- a claim, and the looks of a search from what was claimed
+pub looks_claimed : (n : ℕ) (rows : List (List ℕ)) (sources : List ℕ) (s t : SeatView) (place was now : ℕ) (sets : Sets) (answer : Option ℕ) → t.claimed ≡ s.claimed ++ place ∷ [] → t.low ≤ s.low
+    → AreLooksOfClaims n rows sources s was → HasLooked n rows (slice_index sources place) t.low sets answer was now → AreLooksOfClaims n rows sources t now
+looks_claimed n rows sources s t place was now sets answer claimed less are more = (
+  are.0 + more.0,
+  subst (λ xs. AreCountsAt n rows t.low sources xs (are.0 + more.0)) (sym claimed)
+      (counts-append n rows t.low sources s.claimed (place ∷ []) are.0 more.0 (counts-lower n rows s.low t.low sources s.claimed are.0 less are.1) (counts-one n rows t.low sources place sets answer more.0 more.1)),
+  looked-more are.0 more.0 0 was now are.2 more.2,
+)
 
 -- the looks of two seats together
-pub few_taken_in : (n : ℕ) (s o t : SeatView) (mine others all : ℕ) → t.claimed ≡ s.claimed ++ o.claimed → LooksWithinClaims n s mine → LooksWithinClaims n o others → all ≤ mine + others
-    → LooksWithinClaims n t all
-few_taken_in n s o t mine others all claimed few more sum =
-    let long : length t.claimed ≡ length s.claimed + length o.claimed = ap length claimed ∙ length-append s.claimed o.claimed in
-    subst (λ k. all ≤ k * (2 * n)) (sym long) (omega (arith, few, more, sum, add-mul (length s.claimed) (length o.claimed) (2 * n)))
+pub looks_taken_in : (n : ℕ) (rows : List (List ℕ)) (sources : List ℕ) (s o t : SeatView) (mine others all : ℕ) → t.claimed ≡ s.claimed ++ o.claimed → t.low ≤ s.low → t.low ≤ o.low
+    → AreLooksOfClaims n rows sources s mine → AreLooksOfClaims n rows sources o others → all ≡ min (mine + others) 18446744073709551615 → AreLooksOfClaims n rows sources t all
+looks_taken_in n rows sources s o t mine others all claimed less less' are are' sum = (
+  are.0 + are'.0,
+  subst (λ xs. AreCountsAt n rows t.low sources xs (are.0 + are'.0)) (sym claimed)
+      (counts-append n rows t.low sources s.claimed o.claimed are.0 are'.0 (counts-lower n rows s.low t.low sources s.claimed are.0 less are.1) (counts-lower n rows o.low t.low sources o.claimed are'.0 less' are'.1)),
+  counted-together are.0 are'.0 mine others all are.2 are'.2 sum,
+)
 
 -- the last look, which finds no place
 pub finished : (rows : List (List ℕ)) (sources : List ℕ) (s t : SeatView) → t ≡ record s { done = true } → Honest rows sources s → Honest rows sources t
@@ -187,10 +197,10 @@ front_at (y ∷ ys) x (suc k) d less = front_at ys x k d (omega arith)
 -- what is known of the worker with the first seat and of the others, once all work is done
 abbrev pub IsFirst : BoundView → Responses → List ℕ → ℕ → Worker → Type 0
 IsFirst b v sources m w =
-    (w.seat.bound ≡ b) × (w.seat.is_first ≡ true) × (w.seat.out ≡ m) × (w.seat.done ≡ true) × Honest (lists_of v) sources w.seat × LooksWithinClaims (length v.elements) w.seat w.looked
+    (w.seat.bound ≡ b) × (w.seat.is_first ≡ true) × (w.seat.out ≡ m) × (w.seat.done ≡ true) × Honest (lists_of v) sources w.seat × AreLooksOfClaims (length v.elements) (lists_of v) sources w.seat w.looked
 
 abbrev pub IsOther : BoundView → Responses → List ℕ → Worker → Type 0
-IsOther b v sources w = (w.seat.bound ≡ b) × (w.seat.is_first ≡ false) × Honest (lists_of v) sources w.seat × LooksWithinClaims (length v.elements) w.seat w.looked
+IsOther b v sources w = (w.seat.bound ≡ b) × (w.seat.is_first ≡ false) × Honest (lists_of v) sources w.seat × AreLooksOfClaims (length v.elements) (lists_of v) sources w.seat w.looked
 
 -- the last of a team that is done, and the others
 pub last_of_team : (b : BoundView) (v : Responses) (sources : List ℕ) (m : ℕ) (old front : List Worker) (first : Worker) → IsTeam b v sources m old → HaveWorked v sources old (front ++ first ∷ [])
@@ -204,11 +214,11 @@ last_of_team b v sources m old front first t worked =
     let at : AtPlace b v sources m (length front) first = at_place b v sources m (length front) (get_or old (length front) first) first (t.1 (length front) first (omega arith)) done in
     let mine = at.first (omega arith) in
     let out = mine.1 in (
-      (at.bound, mine.0, omega arith, done.done, at.ready.honest, at.ready.few),
+      (at.bound, mine.0, omega arith, done.done, at.ready.honest, at.ready.looked),
       λ k d less. (
           let did : HasWorked v sources (get_or old k d) (get_or front k d) = subst (λ (w : Worker). HasWorked v sources (get_or old k d) w) (front_at front first k d less) (worked.1 k d (omega arith)) in
           let p : AtPlace b v sources m k (get_or front k d) = at_place b v sources m k (get_or old k d) (get_or front k d) (t.1 k d (omega arith)) did in
-          (p.bound, (p.other (omega arith)).0, p.ready.honest, p.ready.few)
+          (p.bound, (p.other (omega arith)).0, p.ready.honest, p.ready.looked)
           ),
     )
 

@@ -1,5 +1,5 @@
 -- What a search of the core has found, and the least conflict.
-use Rattle.std.specs.Prelude.{◌≡◌, ℕ, ◌+◌, Option, Some, None, length}
+use Rattle.std.specs.Prelude.{◌≡◌, ℕ, ◌+◌, ◌*◌, ◌≤◌, Option, Some, None, List, length}
 use Rattle.specification.specs.Responses.{Responses, AreProper, place_count}
 use Rattle.specification.specs.Conflict.{AreLeastSteps, HasConflictNumber, HasNoConflict}
 use Rattle.specification.specs.LayerRule.{narrowed}
@@ -11,9 +11,17 @@ use Rattle.level_search.specs.Team.{AreLooksOf, IsLeastLength}
 use Rattle.level_search.specs.declared.conflict.Conflict.{Conflict}
 use Rattle.level_search.specs.declared.conflict.Found.{Found}
 
--- so many looks as some searches make, from no more elements than there are, each of which makes at most one for each place and for each element
+-- so many looks at most as a search from each element would make that makes at most one for each place and for each element
 abbrev pub IsWithinSearches : Responses → ℕ → Type 0
-IsWithinSearches v looked = AreLooksOf (length v.elements) (place_count v + length v.elements) looked
+IsWithinSearches v looked = looked ≤ length v.elements * (place_count v + length v.elements)
+
+-- just the looks of searches in a core of these responses, under bounds of no less than `least`
+pub record AreLooksIn (v : Responses) (least looked : ℕ) : Type 0 where
+  pub numbers : List ℕ
+  pub core : IsCoreOf v numbers
+  pub part : Responses
+  pub is_part : part ≡ narrowed v (names_at v.elements numbers)
+  pub looks : AreLooksOf (length part.elements) (lists_of part) least looked
 
 -- the core is one of these responses, the table is the core's, and the length that of a shortest cycle there
 pub record IsFound (v : Responses) (s : Found) : Type 0 where
@@ -23,7 +31,8 @@ pub record IsFound (v : Responses) (s : Found) : Type 0 where
   pub part_proper : AreProper s.core.graph
   pub table : IsShownTable (length s.core.graph.elements) (lists_of s.core.graph) s.table
   pub least : IsLeastLength s.core.graph s.least
-  pub looked : IsWithinSearches v s.looked
+  pub looked : AreLooksOf (length s.core.graph.elements) (lists_of s.core.graph) s.least s.looked
+  pub few : IsWithinSearches v s.looked
 
 -- the conflict number and the steps of the least cycle, as many; none where there is no conflict
 abbrev pub IsLeastConflict : Responses → Option Conflict → Type 0

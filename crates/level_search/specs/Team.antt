@@ -1,11 +1,15 @@
 -- What workers that search for cycles over one bound have found, and teams of them.
-use Rattle.std.specs.Prelude.{◌≡◌, ℕ, ◌+◌, ◌*◌, ◌<◌, ◌≤◌, ◌⊎◌, max, true, false, List, [], ◌∷◌, length, slice_index, slice_index_or, All}
+use Rattle.std.specs.Prelude.{◌≡◌, ℕ, ◌+◌, ◌*◌, ◌<◌, ◌≤◌, ◌⊎◌, max, true, false, List, [], ◌∷◌, length, slice_index, slice_index_or, IsPermutation, All}
+use Rattle.std.specs.List.{range_with_len}
 use Rattle.shared_bound.specs.Seats.{BoundView, SeatView}
 use Rattle.shared_bound.specs.declared.TheConstants.{NO_OFFER}
 use Rattle.specification.specs.Responses.{Responses}
 use Rattle.specification.specs.Search.{IsShortestLength, HasNoCycle}
 use Rattle.order_graph.specs.Lists.{lists_of}
 use Rattle.level_search.specs.Balls.{FitsSets}
+use Rattle.level_search.specs.LayerSizes.{counted}
+use Rattle.level_search.specs.Looks.{AreCountsAt}
+use Rattle.level_search.specs.Sources.{MeetsCycles}
 use Rattle.level_search.specs.Walks.{HasCycle, NoneShorter}
 use Rattle.level_search.specs.declared.workers.worker.Worker.{Worker}
 
@@ -23,15 +27,15 @@ pub record Honest (rows : List (List ℕ)) (sources : List ℕ) (s : SeatView) :
   pub offers : All (IsLength rows) s.offered
   pub claims : All (IsSearchedAt rows sources s.low) s.claimed
 
--- at most two looks at the row of each of n elements, for each source that the seat was given
-abbrev pub LooksWithinClaims : ℕ → SeatView → ℕ → Type 0
-LooksWithinClaims n s looked = looked ≤ length s.claimed * (2 * n)
+-- a count of just the looks of a search from each source that the seat was given
+abbrev pub AreLooksOfClaims : ℕ → List (List ℕ) → List ℕ → SeatView → ℕ → Type 0
+AreLooksOfClaims n rows sources s looked = (count : ℕ) × AreCountsAt n rows s.low sources s.claimed count × (looked ≡ counted count 0)
 
 -- a worker may search this graph from these sources
 pub record IsReady (v : Responses) (sources : List ℕ) (w : Worker) : Type 0 where
   pub honest : Honest (lists_of v) sources w.seat
   pub fits : FitsSets (length v.elements) w.sets
-  pub few : LooksWithinClaims (length v.elements) w.seat w.looked
+  pub looked : AreLooksOfClaims (length v.elements) (lists_of v) sources w.seat w.looked
 
 -- what no worker changes
 abbrev pub SameSeat : SeatView → SeatView → Type 0
@@ -76,11 +80,18 @@ IsTeam b v sources m team = (length team ≡ m + 1) × ((k : ℕ) (d : Worker) �
 abbrev pub IsDoneTeam : BoundView → Responses → List ℕ → ℕ → List Worker → Type 0
 IsDoneTeam b v sources m team = IsTeam b v sources m team × All (λ w. w.seat.done ≡ true) team
 
--- looks of some searches, from no more elements than there are, at no more than `most` rows each
-pub record AreLooksOf (elements most looked : ℕ) : Type 0 where
-  pub searches : ℕ
-  pub known : searches ≤ elements
-  pub within : looked ≤ searches * most
+-- Just the looks of one search from each of some elements: of n elements at most, through which all cycles lead. No search was under a bound
+-- of less than `least`.
+pub record AreLooksOf (n : ℕ) (rows : List (List ℕ)) (least looked : ℕ) : Type 0 where
+  pub sources : List ℕ
+  pub known : All (λ s. s < n) sources
+  pub few : length sources ≤ n
+  pub met : MeetsCycles rows n sources
+  pub places : List ℕ
+  pub once : IsPermutation (range_with_len 0 (length sources)) places
+  pub count : ℕ
+  pub counts : AreCountsAt n rows least sources places count
+  pub looked_is : looked ≡ counted count 0
 
 -- m is the length of a shortest cycle, or `NO_OFFER` where there is none
 abbrev pub IsLeastLength : Responses → ℕ → Type 0

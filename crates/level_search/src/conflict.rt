@@ -2,7 +2,7 @@
 
 ghost use Rattle.std.specs.Prelude.{◌≡◌, ◌⊎◌, ◌↔◌, ◌<◌, IfOk, IfSome, IsErrOf};
 ghost use Rattle.specification.specs.Conflict.{IsConflictNumber};
-ghost use Rattle.level_search.specs.Conflicts.{IsFound, IsLeastConflict, IsWithinSearches};
+ghost use Rattle.level_search.specs.Conflicts.{AreLooksIn, IsFound, IsLeastConflict, IsWithinSearches};
 
 use super::MOST_WORKERS;
 use super::cycle_core::Core;
@@ -109,7 +109,8 @@ pub fn least_conflict<H: Threads + Sync, G: Gate>(
     gate: &G,
 ) -> Result<Option<Conflict>, SearchFault>
     ensures conflict { IfOk result (IsLeastConflict graph.now) }
-    ensures looked { IfOk result (λ found. IfSome found (λ c. IsWithinSearches graph.now c.looked)) }
+    ensures looked { IfOk result (λ found. IfSome found (λ c. AreLooksIn graph.now c.k c.looked)) }
+    ensures few { IfOk result (λ found. IfSome found (λ c. IsWithinSearches graph.now c.looked)) }
     ensures workers { IsErrOf result SearchFault.Workers ↔ ((workers < 1) ⊎ (MOST_WORKERS < workers)) }
 {
     let found = search_core(rt, alloc, graph, workers, gate)?;

@@ -67,8 +67,8 @@ pub fn search_by_table<B: BoundSource>(
     ensures reads { B.reads source.old source.new }
     ensures fits { FitsSets (length graph.now.elements) sets.new }
     ensures looked { looked.new ≤ looked.old + 2 * length graph.now.elements }
-    ensures looks { HasLooked (length graph.now.elements) (lists_of graph.now) element sets.new result looked.old
-        looked.new }
+    ensures looks { HasLooked (length graph.now.elements) (lists_of graph.now) element (B.last source.new) sets.new
+        result looked.old looked.new }
 {
     // Its contract has that the responses are proper.
     let _ = graph.elements();

@@ -1,13 +1,14 @@
 //! The workers of one search for the conflict number, in threads.
 
-ghost use Rattle.std.specs.Prelude.{◌≡◌, ℕ, ◌+◌, ◌-◌, ◌*◌, ◌<◌, ◌≤◌, true, false, length, IfOk, All, vec_len};
+ghost use Rattle.std.specs.Prelude.{◌≡◌, ℕ, ◌+◌, ◌-◌, ◌*◌, ◌<◌, ◌≤◌, true, false, length, IfOk, IsPermutation, All, vec_len};
+ghost use Rattle.std.specs.List.{range_with_len};
 ghost use Rattle.order_graph.specs.Lists.{lists_of};
 ghost use Rattle.specification.specs.Responses.{AreProper};
 ghost use Rattle.shared_bound.specs.Seats.{fresh_seat};
 ghost use Rattle.shown_table.specs.Tables.{IsShownTable};
 ghost use Rattle.level_search.specs.Sources.{MeetsCycles};
-ghost use Rattle.level_search.specs.Team.{AreLooksOf, CanWork, HasWorked, HaveWorked, Honest, IsLeastLength};
-ghost use Rattle.level_search.specs.Team.{IsTeam, LooksWithinClaims};
+ghost use Rattle.level_search.specs.Team.{AreLooksOf, AreLooksOfClaims, CanWork, HasWorked, HaveWorked, Honest};
+ghost use Rattle.level_search.specs.Team.{IsLeastLength, IsTeam};
 
 pub mod bound_seat;
 mod worker;
@@ -87,14 +88,14 @@ fn gathered(
     requires first { (first.bound ≡ bound.now) × (first.is_first ≡ true) × (first.out ≡ vec_len others)
         × (first.done ≡ true) }
     requires honest { Honest (lists_of graph.now) sources.now first }
-    requires looked { LooksWithinClaims (length graph.now.elements) first looked }
+    requires looked { AreLooksOfClaims (length graph.now.elements) (lists_of graph.now) sources.now first looked }
     requires others { All (λ w. (w.seat.bound ≡ bound.now) × (w.seat.is_first ≡ false)
         × Honest (lists_of graph.now) sources.now w.seat
-        × LooksWithinClaims (length graph.now.elements) w.seat w.looked) others.items }
+        × AreLooksOfClaims (length graph.now.elements) (lists_of graph.now) sources.now w.seat w.looked) others.items }
     ensures first { (result.0.bound ≡ bound.now) × (result.0.is_first ≡ true) × (result.0.out ≡ 0)
         × (result.0.done ≡ true) }
     ensures honest { Honest (lists_of graph.now) sources.now result.0 }
-    ensures looked { LooksWithinClaims (length graph.now.elements) result.0 result.1 }
+    ensures looked { AreLooksOfClaims (length graph.now.elements) (lists_of graph.now) sources.now result.0 result.1 }
 {
     while let Some(other) = others.pop() {
         let (seat, looks) = other.into_seat();
@@ -112,7 +113,8 @@ fn closed(bound: Bound, graph: &OrderGraph, sources: &[u32], first: Seat) -> u32
     requires first { (first.bound ≡ bound) × (first.is_first ≡ true) × (first.out ≡ 0) × (first.done ≡ true) }
     requires honest { Honest (lists_of graph.now) sources.now first }
     ensures least { IsLeastLength graph.now result }
-    ensures claimed { length first.claimed ≡ length sources.now }
+    ensures low { result ≤ first.low }
+    ensures claimed { IsPermutation (range_with_len 0 (length sources.now)) first.claimed }
 {
     bound.close(first)
 }
@@ -138,7 +140,7 @@ pub fn least_length<H: Threads + Sync, G: Gate>(
     requires workers { (1 ≤ workers) × (workers ≤ MOST_WORKERS) }
     requires proper { AreProper graph.now }
     ensures least { IfOk result (λ s. IsLeastLength graph.now s.least) }
-    ensures looked { IfOk result (λ s. AreLooksOf (length graph.now.elements) (2 * length graph.now.elements)
+    ensures looked { IfOk result (λ s. AreLooksOf (length graph.now.elements) (lists_of graph.now) s.least
         s.looked) }
 {
     let sources = feedback_vertex_set(alloc, graph, table)?;

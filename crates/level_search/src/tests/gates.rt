@@ -103,7 +103,7 @@ const TURNS: u32 = 50_000_000;
 /// Holds up the first search until so many have begun and so many have ended, or for `TURNS` turns, and
 /// notes whether it saw them. It counts the searches that each of two workers has begun.
 #[derive(Drop)]
-struct Hold {
+pub struct Hold {
     until_begun: u64,
     until_ended: u64,
     begun: AtomicU64,
@@ -114,7 +114,7 @@ struct Hold {
 }
 
 impl Hold {
-    fn until(begun: u64, ended: u64) -> Hold {
+    pub fn until(begun: u64, ended: u64) -> Hold {
         Hold {
             until_begun: begun,
             until_ended: ended,
@@ -127,7 +127,7 @@ impl Hold {
     }
 
     /// Whether the first search saw the others, and both workers have begun some.
-    fn saw_both(&self) -> bool {
+    pub fn saw_both(&self) -> bool {
         self.seen.load(Ordering::SeqCst) == 1
             && self.by_first.load(Ordering::SeqCst) > 0
             && self.by_second.load(Ordering::SeqCst) > 0

@@ -3,8 +3,9 @@ ghost use Rattle.std.specs.Prelude.{IfOk};
 ghost use Rattle.specification.specs.Search.{IsShortestLength};
 
 use super::conflicts::{PAIR_APART, number_of};
+use super::gates::Hold;
 use super::graphs::ask_of;
-use crate::{Conflict, NoGate, SearchFault, Step, Steps, least_conflict, least_cycle};
+use crate::{Conflict, Gate, NoGate, SearchFault, Step, Steps, least_conflict, least_cycle};
 use events::{Memory, Name, OpName};
 use order_graph::OrderGraph;
 use sample_recordings::{OPPOSITE_PAIR, RING_OF_FOUR, THREE_WAY_CYCLE, recording};
@@ -43,9 +44,10 @@ fn conflict_of(
     alloc: Global,
     graph: &OrderGraph,
     workers: u32,
+    gate: &impl Gate,
 ) -> Result<Option<Conflict>, SearchFault> {
-    match least_conflict(rt, alloc, graph, workers, &NoGate) {
-        Err(SearchFault::Memory) => least_conflict(rt, alloc, graph, workers, &NoGate),
+    match least_conflict(rt, alloc, graph, workers, gate) {
+        Err(SearchFault::Memory) => least_conflict(rt, alloc, graph, workers, gate),
         found => found,
     }
 }
@@ -135,7 +137,7 @@ fn steps_of_worked_recordings(rt: HostRuntime) -> Result<(), Fail> {
 fn conflicts_of_worked_recordings(rt: HostRuntime) -> Result<(), Fail> {
     for (text, expected) in WORKED.iter().copied() {
         let found = ask_of(&rt, rt.alloc(), &recording(rt.alloc(), text)?, |graph| {
-            Ok(conflict_of(&rt, rt.alloc(), graph, 2)?)
+            Ok(conflict_of(&rt, rt.alloc(), graph, 2, &NoGate)?)
         })?;
         assert!(rt; are(counted(found), expected)?, "at {text}");
     }
@@ -150,16 +152,33 @@ fn looks_of(conflict: Option<Conflict>) -> Option<u64> {
     }
 }
 
+/// How many looks so many workers took for the ring of four.
+fn looks_in_the_ring_of_four(
+    rt: &(impl Threads + Sync),
+    alloc: Global,
+    workers: u32,
+    gate: &impl Gate,
+) -> Result<Option<u64>, Fail> {
+    let recording = recording(alloc, RING_OF_FOUR)?;
+    ask_of(rt, alloc, &recording, |graph| {
+        Ok(looks_of(conflict_of(rt, alloc, graph, workers, gate)?))
+    })
+}
+
 /// The first search finds the cycle of four in seven looks. Then the bound is 4, and each of the three others looks twice in
 /// two layers and once in the third, since a fourth could only give a cycle that is no shorter: five looks.
 #[test]
 fn looks_of_all_searches_of_the_ring_of_four(rt: HostRuntime) -> Result<(), Fail> {
-    let found = ask_of(
-        &rt,
-        rt.alloc(),
-        &recording(rt.alloc(), RING_OF_FOUR)?,
-        |graph| Ok(conflict_of(&rt, rt.alloc(), graph, 1)?),
-    )?;
-    assert_eq!(rt; looks_of(found), Some(22));
+    assert_eq!(rt; looks_in_the_ring_of_four(&rt, rt.alloc(), 1, &NoGate)?, Some(22));
+    Ok(())
+}
+
+/// One worker's search is held until the other has ended three, of which the first finds the cycle: seven looks and five of
+/// each other, whoever made them.
+#[test]
+fn looks_of_two_workers_are_added(rt: HostRuntime) -> Result<(), Fail> {
+    let hold = Hold::until(0, 3);
+    assert_eq!(rt; looks_in_the_ring_of_four(&rt, rt.alloc(), 2, &hold)?, Some(22));
+    assert!(rt; hold.saw_both());
     Ok(())
 }

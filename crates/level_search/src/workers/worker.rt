@@ -90,7 +90,7 @@ fn search_from<G: Gate>(
         → All (IsLength (lists_of graph.now)) worker.new.seat.offered }
     ensures looked { worker.new.looked ≤ worker.old.looked + 2 * length graph.now.elements }
     ensures looks { (answer : Option ℕ) × HasLooked (length graph.now.elements) (lists_of graph.now) source
-        worker.new.sets answer worker.old.looked worker.new.looked }
+        worker.new.seat.low worker.new.sets answer worker.old.looked worker.new.looked }
 {
     gate.before(worker.number, source);
     if let Some(length) = search_by_table(

@@ -14,3 +14,17 @@ returns-clause-conflict g c =
     let is = c.in_ok-found.ensures.least in
     let made = c.in_ok-steps.ensures in
     (some_conflict c.args.graph.now c.in_ok-found.found is c.if-found.false, least_steps c.args.graph.now c.in_ok-found.found is c.in_ok-steps.steps made.0, made.1)
+
+pub returns-clause-looked : goal.returns-clause-looked
+returns-clause-looked g c =
+    let is = c.in_ok-found.ensures.least in
+    record {
+      numbers = c.in_ok-found.found.core.elements.items;
+      core = is.core;
+      part = c.in_ok-found.found.core.graph;
+      is_part = is.part;
+      looks = is.looked;
+    }
+
+pub returns-clause-few : goal.returns-clause-few
+returns-clause-few g c = c.in_ok-found.ensures.least.few

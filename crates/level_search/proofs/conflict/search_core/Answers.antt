@@ -4,6 +4,7 @@ use Rattle.std.proofs.lemmas.List.{length-map}
 use Rattle.specification.specs.Responses.{Responses, place_count}
 use Rattle.specification.specs.LayerRule.{narrowed}
 use Rattle.order_graph.specs.Kept.{names_at}
+use Rattle.order_graph.specs.Lists.{lists_of}
 use Rattle.level_search.proofs.Joining.{name}
 use Rattle.level_search.proofs.Placed.{within-searches}
 use Rattle.level_search.proofs.conflict.search_core.Goals as goal
@@ -22,5 +23,6 @@ returns-clause-least g c =
       part_proper = c.elements-2.ensures.proper;
       table = c.in_ok-table.ensures;
       least = c.in_ok-searched.ensures.least;
-      looked = within-searches v (length whole.elements) c.in_ok-searched.searched.looked (subst (λ n. n ≤ length v.elements) (sym size) core.few.0) (subst (λ n. n ≤ place_count v) (sym size) core.few.1) c.in_ok-searched.ensures.looked;
+      looked = c.in_ok-searched.ensures.looked;
+      few = within-searches v (length whole.elements) (lists_of whole) c.in_ok-searched.searched.least c.in_ok-searched.searched.looked (subst (λ n. n ≤ length v.elements) (sym size) core.few.0) (subst (λ n. n ≤ place_count v) (sym size) core.few.1) c.in_ok-searched.ensures.looked;
     }

@@ -1,5 +1,5 @@
 -- From level to level.
-use Rattle.std.proofs.Common.{◌≡◌, ℕ, ◌+◌, ◌*◌, ◌<◌, ◌≤◌, ◌⊎◌, None, Some, List, length, ◌∙◌, inl, inr, refl, sym, subst, arith}
+use Rattle.std.proofs.Common.{◌≡◌, ℕ, ◌+◌, ◌*◌, ◌<◌, ◌≤◌, ◌⊎◌, Option, None, Some, List, length, ◌∙◌, inl, inr, refl, sym, subst, arith}
 use Rattle.std.specs.Prelude.{◌↔◌}
 use Rattle.bit_tables.specs.Sets.{Has}
 use Rattle.order_graph.specs.Lists.{lists_of}
@@ -9,7 +9,8 @@ use Rattle.level_search.specs.LayerSizes.{counted, layer_size, set_size}
 use Rattle.level_search.specs.Looks.{HasLooked}
 use Rattle.level_search.specs.Rings.{Reaches}
 use Rattle.level_search.specs.declared.tabled.sets.Sets.{Sets}
-use Rattle.level_search.proofs.LayerSizes.{looked-as, looked-more, looked-within, near-next, near-none, sizes-within, layer-up}
+use Rattle.level_search.proofs.Counts.{count-most}
+use Rattle.level_search.proofs.LayerSizes.{looked-as, looked-more, looked-within, near-next, near-none}
 use Rattle.level_search.proofs.tabled.search_by_table.Goals as goal
 use Rattle.level_search.proofs.tabled.search_by_table.Goals.{then-bound-level-2-via-then-bound-level-2, then-bound-level-2-via-else-bound-level-2+then-not-next_layer}
 
@@ -96,58 +97,43 @@ loop-level-preserved g c =
       read = λ some. omega arith;
     }
 
--- within the bound on the looks, whatever the part of the layer
-few : (n k : ℕ) (sets : Sets) (old new : ℕ) → new ≡ counted (2 * set_size n sets.near + k) old → k ≤ layer_size n sets → new ≤ old + 2 * n
-few n k sets old new is part = looked-within (2 * set_size n sets.near + k) (2 * n) old new is (omega (arith, part, sizes-within n sets))
-
-part-within : (n : ℕ) (sets : Sets) (part : ℕ) → (part ≡ 0) ⊎ (part ≡ layer_size n sets) → part ≤ layer_size n sets
-part-within n sets part (inl e) = omega (arith, e)
-part-within n sets part (inr e) = omega (arith, e)
-
 none-of : (n : ℕ) (sets : Sets) (old new : ℕ) → new ≡ counted (2 * set_size n sets.near) old → new ≡ counted (2 * set_size n sets.near + 0) old
 none-of n sets old new is = looked-as _ _ old new is (omega arith)
-
-pub returns-then-bound-level-clause-looked : goal.returns-then-bound-level-clause-looked
-returns-then-bound-level-clause-looked g c =
-    let n : ℕ = length c.args.graph.now.elements in
-    few n 0 c.loop-level.sets c.args.looked.now c.loop-level.looked (none-of n c.loop-level.sets c.args.looked.now c.loop-level.looked c.loop-level.invariant.looked) (omega arith)
 
 pub returns-then-bound-level-clause-looks : goal.returns-then-bound-level-clause-looks
 returns-then-bound-level-clause-looks g c =
     let n : ℕ = length c.args.graph.now.elements in
     let at = c.loop-level.invariant.at in
-    record {
-      level = c.loop-level.level;
-      near = at.near;
-      reached = at.reached;
-      part = 0;
-      is_part = inl refl;
-      looks = none-of n c.loop-level.sets c.args.looked.now c.loop-level.looked c.loop-level.invariant.looked;
-    }
+    let last = c.best-bound.ensures.answer in
+    let low = c.if-bound-level.true in (
+      _,
+      record {
+        level = c.loop-level.level;
+        near = at.near;
+        reached = at.reached;
+        part = 0;
+        is_part = inl (refl, inl (omega (arith, last, low)));
+        is_sum = refl;
+      },
+      none-of n c.loop-level.sets c.args.looked.now c.loop-level.looked c.loop-level.invariant.looked,
+    )
 
 pub returns-then-closes-clause-looks : goal.returns-then-closes-clause-looks
 returns-then-closes-clause-looks g c =
     let n : ℕ = length c.args.graph.now.elements in
     let at = c.loop-level.invariant.at in
-    let found = c.if-closes.ensures.found refl in
-    record {
-      level = c.loop-level.level;
-      near = at.near;
-      reached = at.reached;
-      part = layer_size (found.0 + 1) c.loop-level.sets;
-      is_part = (refl, found.0, found.1, refl);
-      looks = looked-more (2 * set_size n c.loop-level.sets.near) (layer_size (found.0 + 1) c.loop-level.sets) c.args.looked.now c.loop-level.looked c.closes.new.looked c.loop-level.invariant.looked found.2;
-    }
-
-pub returns-then-closes-clause-looked : goal.returns-then-closes-clause-looked
-returns-then-closes-clause-looked g c =
-    let n : ℕ = length c.args.graph.now.elements in
-    let found = c.if-closes.ensures.found refl in
-    let known = found.1.here.known in
-    let part = layer_size (found.0 + 1) c.loop-level.sets in
-    few n part c.loop-level.sets c.args.looked.now c.closes.new.looked
-    (looked-more (2 * set_size n c.loop-level.sets.near) part c.args.looked.now c.loop-level.looked c.closes.new.looked c.loop-level.invariant.looked found.2)
-    (layer-up c.loop-level.sets (found.0 + 1) n (omega (arith, known)))
+    let found = c.if-closes.ensures.found refl in (
+      _,
+      record {
+        level = c.loop-level.level;
+        near = at.near;
+        reached = at.reached;
+        part = layer_size (found.0 + 1) c.loop-level.sets;
+        is_part = (refl, found.0, found.1, refl);
+        is_sum = refl;
+      },
+      looked-more (2 * set_size n c.loop-level.sets.near) (layer_size (found.0 + 1) c.loop-level.sets) c.args.looked.now c.loop-level.looked c.closes.new.looked c.loop-level.invariant.looked found.2,
+    )
 
 pub returns-then-bound-level-2-clause-looks : goal.returns-then-bound-level-2-clause-looks
 returns-then-bound-level-2-clause-looks g c =
@@ -155,56 +141,72 @@ returns-then-bound-level-2-clause-looks g c =
     let n : ℕ = length v.elements in
     let at = c.loop-level.invariant.at in
     let missed = c.if-closes.ensures.missed refl in
-    let P : Sets × ℕ → Type 0 = λ z. HasLooked n (lists_of v) c.args.element z.0 None c.args.looked.now z.1 in
+    let last = c.best-bound.ensures.answer in
+    let P : Sets × ℕ → Type 0 = λ z. HasLooked n (lists_of v) c.args.element (g.B.BoundSource.last c.best-bound.new.source) z.0 None c.args.looked.now z.1 in
     elim c.then-bound-level-2.branch [
       | then-bound-level-2-via-then-bound-level-2 w ↦
+          let low = w.if-bound-level-2.true in
           subst P (λ i. (sym w.sets-is i, sym w.looked-is i))
           (
+          _,
           record {
             level = c.loop-level.level;
             near = at.near;
             reached = at.reached;
             part = layer_size n c.loop-level.sets;
-            is_part = inr refl;
-            looks = looked-more (2 * set_size n c.loop-level.sets.near) (layer_size n c.loop-level.sets) c.args.looked.now c.loop-level.looked c.closes.new.looked c.loop-level.invariant.looked (c.if-closes.ensures.looked refl);
-          }
+            is_part = inr (refl, omega (arith, last, low));
+            is_sum = refl;
+          },
+          looked-more (2 * set_size n c.loop-level.sets.near) (layer_size n c.loop-level.sets) c.args.looked.now c.loop-level.looked c.closes.new.looked c.loop-level.invariant.looked (c.if-closes.ensures.looked refl)
           )
       | then-bound-level-2-via-else-bound-level-2+then-not-next_layer w ↦
           let next = w.next_layer.ensures in
           let then = level_next n (lists_of v) c.args.table.now c.requires.table (before-known v c.elements.ensures.proper) c.args.element c.loop-level.level c.loop-level.sets w.next_layer.new.self at missed next.near next.reached in
           subst P (λ i. (sym w.sets-is i, sym w.looked-is i))
           (
+          _,
           record {
             level = c.loop-level.level + 1;
             near = then.near;
             reached = then.reached;
             part = 0;
-            is_part = inl refl;
-            looks = none-of n w.next_layer.new.self c.args.looked.now w.next_layer.new.looked (twice n c.loop-level.sets w.next_layer.new.self c.args.looked.now c.loop-level.looked c.closes.new.looked w.next_layer.new.looked c.loop-level.invariant.looked (c.if-closes.ensures.looked refl) next.looked next.near);
-          }
+            is_part = inl (refl, inr (λ x here. here.not_near (w.if-not-next_layer.ensures.last refl x here.reached)));
+            is_sum = refl;
+          },
+          none-of n w.next_layer.new.self c.args.looked.now w.next_layer.new.looked (twice n c.loop-level.sets w.next_layer.new.self c.args.looked.now c.loop-level.looked c.closes.new.looked w.next_layer.new.looked c.loop-level.invariant.looked (c.if-closes.ensures.looked refl) next.looked next.near)
           )
     ]
-
-pub returns-then-bound-level-2-clause-looked : goal.returns-then-bound-level-2-clause-looked
-returns-then-bound-level-2-clause-looked g c =
-    let n : ℕ = length c.args.graph.now.elements in
-    let looks = returns-then-bound-level-2-clause-looks g c in
-    few n looks.part c.then-bound-level-2.sets c.args.looked.now c.then-bound-level-2.looked looks.looks (part-within n c.then-bound-level-2.sets looks.part looks.is_part)
 
 pub returns-clause-looks : goal.returns-clause-looks
 returns-clause-looks g c =
     let n : ℕ = length c.args.graph.now.elements in
     let at = c.loop-level.invariant.at in
-    record {
-      level = c.loop-level.level;
-      near = at.near;
-      reached = at.reached;
-      part = 0;
-      is_part = inl refl;
-      looks = none-of n c.loop-level.sets c.args.looked.now c.loop-level.looked c.loop-level.invariant.looked;
-    }
+    let past = c.loop-level-test.false in
+    let read = c.loop-level.invariant.read (omega (arith, past)) in (
+      _,
+      record {
+        level = c.loop-level.level;
+        near = at.near;
+        reached = at.reached;
+        part = 0;
+        is_part = inl (refl, inl (omega (arith, past, read)));
+        is_sum = refl;
+      },
+      none-of n c.loop-level.sets c.args.looked.now c.loop-level.looked c.loop-level.invariant.looked,
+    )
+
+-- so many looks are no more than two at the row of each element
+few : (n : ℕ) (rows : List (List ℕ)) (s low : ℕ) (sets : Sets) (answer : Option ℕ) (old new : ℕ) → HasLooked n rows s low sets answer old new → new ≤ old + 2 * n
+few n rows s low sets answer old new is = looked-within is.0 (2 * n) old new is.2 (count-most n rows s low sets answer is.0 is.1)
+
+pub returns-then-bound-level-clause-looked : goal.returns-then-bound-level-clause-looked
+returns-then-bound-level-clause-looked g c = few _ _ _ _ _ _ _ _ (returns-then-bound-level-clause-looks g c)
+
+pub returns-then-closes-clause-looked : goal.returns-then-closes-clause-looked
+returns-then-closes-clause-looked g c = few _ _ _ _ _ _ _ _ (returns-then-closes-clause-looks g c)
+
+pub returns-then-bound-level-2-clause-looked : goal.returns-then-bound-level-2-clause-looked
+returns-then-bound-level-2-clause-looked g c = few _ _ _ _ _ _ _ _ (returns-then-bound-level-2-clause-looks g c)
 
 pub returns-clause-looked : goal.returns-clause-looked
-returns-clause-looked g c =
-    let n : ℕ = length c.args.graph.now.elements in
-    few n 0 c.loop-level.sets c.args.looked.now c.loop-level.looked (none-of n c.loop-level.sets c.args.looked.now c.loop-level.looked c.loop-level.invariant.looked) (omega arith)
+returns-clause-looked g c = few _ _ _ _ _ _ _ _ (returns-clause-looks g c)

@@ -1,6 +1,4 @@
-use Rattle.std.proofs.Common.{◌≡◌, length, subst, sym, ℕ, ◌∙◌, IsPermutation}
-use Rattle.std.proofs.lemmas.List.FromFn.{length-range_with_len}
-use Rattle.std.proofs.lemmas.List.Sorted.{length_permutation}
+use Rattle.std.proofs.Common.{◌≡◌, subst, ℕ, ◌∙◌, IsPermutation}
 use Rattle.std.specs.List.{range_with_len}
 use Rattle.shared_bound.specs.Bound.{IsRun}
 use Rattle.level_search.proofs.Teams.{settled}
@@ -19,4 +17,4 @@ returns-clause-least c =
 pub returns-clause-claimed : goal.returns-clause-claimed
 returns-clause-claimed c =
     let claimed = c.close.ensures.claimed in
-    length_permutation (range_with_len 0 claimed.0) c.args.first.claimed claimed.2 ∙ length-range_with_len 0 claimed.0 ∙ (claimed.3 c.requires.first.3 ∙ c.requires.count)
+    subst (λ (n : ℕ). IsPermutation (range_with_len 0 n) c.args.first.claimed) (claimed.3 c.requires.first.3 ∙ c.requires.count) claimed.2

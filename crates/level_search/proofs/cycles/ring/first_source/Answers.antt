@@ -2,7 +2,7 @@ use Rattle.std.proofs.Common.{◌≡◌, ℕ, ◌+◌, ◌*◌, ◌<◌, ◌≤�
 use Rattle.std.proofs.lemmas.Bool.{cases_lt}
 use Rattle.std.proofs.Math.Nat.{add-mul}
 use Rattle.order_graph.specs.Lists.{lists_of}
-use Rattle.level_search.specs.Looks.{HaveLooked}
+use Rattle.level_search.specs.Looks.{HasLooked, HaveLooked}
 use Rattle.level_search.specs.Walks.{HasCycle}
 use Rattle.level_search.proofs.Joining.{found-here, none-here, shortest_of_all}
 use Rattle.level_search.proofs.ShortestFew.{shortest-fits}
@@ -37,8 +37,8 @@ loop-element-preserved c =
     record {
       fits = search.fits;
       looked = omega (arith, inv.looked, search.looked, add-mul s 1 (2 * n));
-      looks = subst (λ k. HaveLooked n (lists_of v) k c.args.looked.now c.search_by_table.new.looked) (sym (add-one s))
-          (c.loop-element.looked, inv.looks, c.search_by_table.new.sets, c.search_by_table.result, search.looks);
+      looks = subst (λ k. HaveLooked n (lists_of v) (c.args.k + 1) k c.args.looked.now c.search_by_table.new.looked) (sym (add-one s))
+          (c.loop-element.looked, inv.looks, c.search_by_table.new.sets, c.search_by_table.result, subst (λ low. HasLooked n (lists_of v) s low c.search_by_table.new.sets c.search_by_table.result c.loop-element.looked c.search_by_table.new.looked) search.reads search.looks);
       none = λ t low. elim (cases_lt t s) [
         | inl less ↦ inv.none t less
         | inr more ↦ λ cycle.
@@ -52,5 +52,6 @@ pub returns-then-is_some-clause-looks : goal.returns-then-is_some-clause-looks
 returns-then-is_some-clause-looks c =
     let v = c.args.graph.now in
     let s : ℕ = c.loop-element.element in
-    subst (λ k. HaveLooked (length v.elements) (lists_of v) k c.args.looked.now c.search_by_table.new.looked) (sym (add-one s))
-    (c.loop-element.looked, c.loop-element.invariant.looks, c.search_by_table.new.sets, c.search_by_table.result, c.search_by_table.ensures.looks)
+    let search = c.search_by_table.ensures in
+    subst (λ k. HaveLooked (length v.elements) (lists_of v) (c.args.k + 1) k c.args.looked.now c.search_by_table.new.looked) (sym (add-one s))
+    (c.loop-element.looked, c.loop-element.invariant.looks, c.search_by_table.new.sets, c.search_by_table.result, subst (λ low. HasLooked (length v.elements) (lists_of v) s low c.search_by_table.new.sets c.search_by_table.result c.loop-element.looked c.search_by_table.new.looked) search.reads search.looks)

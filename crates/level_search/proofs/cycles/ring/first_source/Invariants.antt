@@ -9,6 +9,6 @@ abbrev pub invariant-loop-element : goal.invariant-loop-element
 invariant-loop-element l = record {
   fits : FitsSets (length l.graph.elements) l.sets;
   looked : l.looked ≤ l.fn.looked + l.element * (2 * length l.graph.elements);
-  looks : HaveLooked (length l.graph.elements) (lists_of l.graph) l.element l.fn.looked l.looked;
+  looks : HaveLooked (length l.graph.elements) (lists_of l.graph) (l.k + 1) l.element l.fn.looked l.looked;
   none : (t : ℕ) → t < l.element → ¬ HasCycle (lists_of l.graph) t l.k;
 }

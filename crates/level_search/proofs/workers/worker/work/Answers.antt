@@ -1,8 +1,8 @@
 use Rattle.std.proofs.Common.{ℕ, ◌≤◌, length, sym, subst, ◌∙◌, All}
 use Rattle.order_graph.specs.Lists.{lists_of}
 use Rattle.shared_bound.specs.Seats.{SeatView}
-use Rattle.level_search.specs.Team.{IsLength, LooksWithinClaims}
-use Rattle.level_search.proofs.Teams.{claimed_one, claimed_then, few_claimed, fewer_left, finished}
+use Rattle.level_search.specs.Team.{IsLength, AreLooksOfClaims}
+use Rattle.level_search.proofs.Teams.{claimed_one, claimed_then, fewer_left, finished, looks_claimed}
 use Rattle.level_search.proofs.workers.worker.work.Goals as goal
 
 pub loop-place-smaller : goal.loop-place-smaller
@@ -23,7 +23,8 @@ loop-place-preserved g c =
       record {
         honest = claimed_one (lists_of c.args.graph.now) c.args.sources.now c.loop-place.worker.seat c.search_from.new.worker.seat c.in-Some.place inv.0.honest then.0 offers low found.searched;
         fits = found.fits;
-        few = few_claimed (length c.args.graph.now.elements) c.loop-place.worker.seat c.search_from.new.worker.seat c.in-Some.place c.loop-place.worker.looked c.search_from.new.worker.looked then.0 inv.0.few found.looked;
+        looked = looks_claimed (length c.args.graph.now.elements) (lists_of c.args.graph.now) c.args.sources.now c.loop-place.worker.seat c.search_from.new.worker.seat c.in-Some.place c.loop-place.worker.looked c.search_from.new.worker.looked
+            c.search_from.new.worker.sets found.looks.0 then.0 low inv.0.looked found.looks.1;
       },
       (then.3.0 ∙ inv.1.0, then.3.1 ∙ inv.1.1, then.3.2 ∙ inv.1.2),
       found.number ∙ inv.2,
@@ -35,5 +36,5 @@ returns-clause-ready g c =
     record {
       honest = finished (lists_of c.args.graph.now) c.args.sources.now c.loop-place.worker.seat c.claim.new.self c.in_default.ensures.none inv.0.honest;
       fits = inv.0.fits;
-      few = subst (λ (s : SeatView). LooksWithinClaims (length c.args.graph.now.elements) s c.loop-place.worker.looked) (sym c.in_default.ensures.none) inv.0.few;
+      looked = subst (λ (s : SeatView). AreLooksOfClaims (length c.args.graph.now.elements) (lists_of c.args.graph.now) c.args.sources.now s c.loop-place.worker.looked) (sym c.in_default.ensures.none) inv.0.looked;
     }
