@@ -20,8 +20,8 @@ use Rattle.specification.proofs.Narrowed.{narrowed-shows, narrowed_shows-from}
 use Rattle.specification.proofs.Shown.{ShowsIn-from_Shows, Shows-from_ShowsIn, elements-once}
 use Rattle.order_graph.specs.Kept.{names_at}
 use Rattle.order_graph.specs.Lists.{lists_of, row}
-use Rattle.level_search.specs.Graph.{Before}
-use Rattle.level_search.proofs.Joining.{name, number-name, stands-names, stands-numbers, before-known}
+use Rattle.list_search.specs.Graph.{Before}
+use Rattle.list_search.proofs.Joining.{name, number-name, stands-names, stands-numbers, before-known}
 use Rattle.bit_tables.specs.Lists.{HasInOrder, IsShown}
 use Rattle.bit_tables.specs.Rule.{layer_at}
 use Rattle.bit_tables.specs.Ways.{IsStep, Way, IsDistance, IsLayerAt}

@@ -5,13 +5,13 @@ use Rattle.std.proofs.lemmas.Bool.{cases_lt}
 use Rattle.bit_tables.specs.Sets.{Has}
 use Rattle.bit_tables.proofs.SetLemmas.{Has-either}
 use Rattle.bit_tables.specs.Lists.{row_of}
-use Rattle.shown_table.specs.Tables.{IsShown, IsShownTable}
+use Rattle.level_search.specs.Tables.{IsShown, IsShownTable}
 use Rattle.level_search.specs.Balls.{IsAtLevel, IsInLayer}
-use Rattle.level_search.specs.Graph.{Before}
-use Rattle.level_search.specs.Rings.{Reaches}
-use Rattle.level_search.specs.Walks.{HasCycle}
+use Rattle.list_search.specs.Graph.{Before}
+use Rattle.list_search.specs.Rings.{Reaches}
+use Rattle.list_search.specs.Walks.{HasCycle}
 use Rattle.level_search.specs.declared.tabled.sets.Sets.{Sets}
-use Rattle.level_search.proofs.Firsts.{reaches_walk, walk_reaches}
+use Rattle.list_search.proofs.Firsts.{reaches_walk, walk_reaches}
 
 -- what stands before what, told by either crate
 pub before_shown : (rows : List (List ℕ)) (a b : ℕ) → Before rows a b → IsShown rows a b

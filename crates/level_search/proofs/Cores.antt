@@ -26,12 +26,12 @@ use Rattle.element_numbers.proofs.NameNumbers.{number-some}
 use Rattle.level_search.specs.Conflicts.{IsFound}
 use Rattle.level_search.specs.Cores.{IsCoreOf}
 use Rattle.level_search.specs.declared.conflict.Found.{Found}
-use Rattle.level_search.specs.Graph as by_number
+use Rattle.list_search.specs.Graph as by_number
 use Rattle.level_search.specs.Team.{IsLeastLength}
-use Rattle.level_search.specs.Walks.{HasCycle, Walk}
-use Rattle.level_search.proofs.Joining.{name, ring_of_cycle}
+use Rattle.list_search.specs.Walks.{HasCycle, Walk}
+use Rattle.list_search.proofs.Joining.{name, ring_of_cycle}
 use Rattle.level_search.proofs.Lengths.{none, some}
-use Rattle.level_search.proofs.RingWalks.{ring_through}
+use Rattle.list_search.proofs.RingWalks.{ring_through}
 
 -- a pair of a ring has two of its elements
 ring_from-members : (first last : NameBytes) (rest : List NameBytes) (p : NameBytes × NameBytes) → In p (ring_from first last rest)

@@ -1,25 +1,17 @@
--- Lemmas on the search: parts of it, one more element reached, places read, layers, distances.
-pub mod Growth
-pub mod Reach
-pub mod Places
-pub mod Placed
-pub mod Levelled
-pub mod Layers
-pub mod Depths
--- Lemmas on cycles: walks and rings, the first ring, and the joins of numbers with names.
-pub mod Firsts
-pub mod RingWalks
-pub mod Joining
+-- Lemmas on the table: sets of bits, and the places of lists that are noted.
+pub mod Noting
 pub mod TableRows
+-- Lemmas on the search over it, and on counts of its looks.
+pub mod BallLemmas
+pub mod LayerSizes
+pub mod Counts
+pub mod Placed
+-- Lemmas on cores and cycles.
 pub mod StepsRound
 pub mod Cores
 pub mod ShortestFew
 pub mod Lengths
 pub mod Rising
--- Lemmas on the search over a table.
-pub mod BallLemmas
 -- Lemmas on the workers.
 pub mod Teams
 pub mod LeastOffer
-pub mod LayerSizes
-pub mod Counts

@@ -4,15 +4,15 @@ use Rattle.std.specs.Prelude.{◌↔◌, Contains}
 use Rattle.std.proofs.lemmas.Bool.{cases_lt, cases_eq}
 use Rattle.std.proofs.lemmas.List.Elements.{Contains-append_left, Contains-append_right}
 use Rattle.specification.proofs.Members.{Contains-from_In}
-use Rattle.level_search.specs.Graph.{Before}
-use Rattle.level_search.specs.Walks.{HasCycle}
-use Rattle.level_search.specs.Rings.{IsRing, Leads}
+use Rattle.list_search.specs.Graph.{Before}
+use Rattle.list_search.specs.Walks.{HasCycle}
+use Rattle.list_search.specs.Rings.{IsRing, Leads}
 use Rattle.level_search.specs.Sources.{UNRANKED, IsRanked, AreRanked, Rises}
 use Rattle.bit_tables.specs.Sets.{Has}
 use Rattle.bit_tables.specs.Lists.{row_of}
-use Rattle.shown_table.specs.Tables.{IsShownTable}
+use Rattle.level_search.specs.Tables.{IsShownTable}
 use Rattle.level_search.proofs.BallLemmas.{before_shown}
-use Rattle.level_search.proofs.RingWalks.{ring_through, cycle_ring}
+use Rattle.list_search.proofs.RingWalks.{ring_through, cycle_ring}
 
 -- nothing is ranked where all have no rank
 pub ranked-none : (table : List (List ℕ)) (taken ranks : List ℕ) → ((x : ℕ) → x < length ranks → slice_index ranks x ≡ UNRANKED) → AreRanked table 0 taken ranks

@@ -10,10 +10,10 @@ use Rattle.specification.specs.Conflict.{AreLeastSteps, IsLeastCycle, Step, ring
 use Rattle.specification.specs.Search.{IsShortestLength}
 use Rattle.order_graph.specs.Kept.{names_at}
 use Rattle.order_graph.specs.Lists.{lists_of}
-use Rattle.level_search.specs.Graph.{Before}
-use Rattle.level_search.specs.Rings.{IsFirstRing, IsRing, Leads}
+use Rattle.list_search.specs.Graph.{Before}
+use Rattle.list_search.specs.Rings.{IsFirstRing, IsRing, Leads}
 use Rattle.level_search.specs.Steps.{AreStepsOf, IsStepBetween, next_in}
-use Rattle.level_search.proofs.Joining.{name, before-shown, names-shown, numbers-shown, least_cycle_of_ring}
+use Rattle.list_search.proofs.Joining.{name, before-shown, names-shown, numbers-shown, least_cycle_of_ring}
 
 -- each element of a ring stands before the one after it
 leads-next : (rows : List (List ℕ)) (a : ℕ) (path : List ℕ) (z j : ℕ) → Leads rows a path z → j < suc (length path)

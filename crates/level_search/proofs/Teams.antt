@@ -13,7 +13,7 @@ use Rattle.shared_bound.specs.Bound.{BoundState, BoundCall, IsRun, offers}
 use Rattle.specification.specs.Search.{IsCycleLength}
 use Rattle.specification.specs.Responses.{Responses, AreProper}
 use Rattle.order_graph.specs.Lists.{lists_of}
-use Rattle.level_search.specs.Walks.{IsSearchAnswer, NoneShorter}
+use Rattle.list_search.specs.Walks.{IsSearchAnswer, NoneShorter}
 use Rattle.level_search.specs.BoundLaw.{CoversAllSources, IsAsLongThrough, MeetEachCycle}
 use Rattle.level_search.proofs.LeastOffer.{least_offer_is_shortest}
 use Rattle.level_search.proofs.Counts.{counted-together, counts-append, counts-lower, counts-one}
@@ -23,7 +23,7 @@ use Rattle.level_search.specs.Team.{AreNumbered, IsSearchedAt, IsLength, Honest,
 use Rattle.level_search.specs.Looks.{AreCountsAt, HasLooked}
 use Rattle.level_search.specs.declared.tabled.sets.Sets.{Sets}
 use Rattle.level_search.specs.declared.workers.worker.Worker.{Worker}
-use Rattle.level_search.proofs.Joining.{cycle-known, first-walk, names_of_walk, walk_of_names}
+use Rattle.list_search.proofs.Joining.{cycle-known, first-walk, names_of_walk, walk_of_names}
 
 ceiling-append : (xs : List ℕ) (y : ℕ) → ceiling (xs ++ y ∷ []) ≡ max (y + 1) (ceiling xs)
 ceiling-append [] y = omega arith

@@ -1,8 +1,8 @@
 -- The elements that a search over a table has reached: those from which fewer steps than some number lead to the source.
 use Rattle.std.specs.Prelude.{◌≡◌, ℕ, ◌+◌, ◌/◌, ◌<◌, ◌↔◌, List, length}
 use Rattle.bit_tables.specs.Sets.{Has}
-use Rattle.level_search.specs.Rings.{Reaches}
-use Rattle.level_search.specs.Walks.{HasCycle}
+use Rattle.list_search.specs.Rings.{Reaches}
+use Rattle.list_search.specs.Walks.{HasCycle}
 use Rattle.level_search.specs.declared.tabled.sets.Sets.{Sets}
 
 -- the set has the elements from which fewer than n steps lead to s

@@ -5,7 +5,7 @@ use Rattle.specification.specs.Conflict.{AreLeastSteps, HasConflictNumber, HasNo
 use Rattle.specification.specs.LayerRule.{narrowed}
 use Rattle.order_graph.specs.Kept.{names_at}
 use Rattle.order_graph.specs.Lists.{lists_of}
-use Rattle.shown_table.specs.Tables.{IsShownTable}
+use Rattle.level_search.specs.Tables.{IsShownTable}
 use Rattle.level_search.specs.Cores.{IsCoreOf}
 use Rattle.level_search.specs.Team.{AreLooksOf, IsLeastLength}
 use Rattle.level_search.specs.declared.conflict.Conflict.{Conflict}

@@ -1,12 +1,10 @@
-pub mod Graph
-pub mod Walks
-pub mod Distances
-pub mod Rings
-pub mod Progress
+-- What contracts of this crate see: tables of what stands before each element; searches over them, and how much these looked at;
+-- cores, workers and least cycles.
+pub mod Tables
+pub mod Fronts
 pub mod Balls
 pub mod LayerSizes
 pub mod Looks
-pub mod ScratchView
 pub mod Steps
 pub mod Cores
 pub mod Conflicts

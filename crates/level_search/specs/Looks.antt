@@ -1,7 +1,7 @@
 -- How many rows of its table a search has looked at.
 use Rattle.std.specs.Prelude.{◌≡◌, ℕ, zero, suc, ◌+◌, ◌*◌, ◌<◌, ◌≤◌, ◌⊎◌, Option, Some, None, List, [], ◌∷◌, slice_index}
 use Rattle.level_search.specs.Balls.{IsBall, IsInLayer}
-use Rattle.level_search.specs.Graph.{Before}
+use Rattle.list_search.specs.Graph.{Before}
 use Rattle.level_search.specs.LayerSizes.{counted, layer_size, set_size}
 use Rattle.level_search.specs.declared.tabled.sets.Sets.{Sets}
 

@@ -3,7 +3,7 @@ use Rattle.std.specs.Prelude.{◌≢◌, ℕ, ◌<◌, List, length, slice_index
 use Rattle.bit_tables.specs.Sets.{Has}
 use Rattle.bit_tables.specs.Lists.{row_of}
 use Rattle.order_graph.specs.Lists.{Stands}
-use Rattle.level_search.specs.Walks.{HasCycle}
+use Rattle.list_search.specs.Walks.{HasCycle}
 
 -- the rank of an element that is left out of the order
 abbrev pub UNRANKED : ℕ

@@ -10,7 +10,7 @@ use Rattle.level_search.specs.Balls.{FitsSets}
 use Rattle.level_search.specs.LayerSizes.{counted}
 use Rattle.level_search.specs.Looks.{AreCountsAt}
 use Rattle.level_search.specs.Sources.{MeetsCycles}
-use Rattle.level_search.specs.Walks.{HasCycle, NoneShorter}
+use Rattle.list_search.specs.Walks.{HasCycle, NoneShorter}
 use Rattle.level_search.specs.declared.workers.worker.Worker.{Worker}
 
 -- some cycle has this length

@@ -12,7 +12,7 @@ use super::search_fault::SearchFault;
 use super::workers::least_length;
 use order_graph::OrderGraph;
 use shared_bound::NO_OFFER;
-use shown_table::ShownTable;
+use crate::shown_table::ShownTable;
 use std::alloc::Global;
 use std::thread::Threads;
 use witnesses::Steps;

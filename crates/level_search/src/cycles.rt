@@ -4,7 +4,7 @@ ghost use Rattle.std.specs.Prelude.{◌≡◌, IfOk, length};
 ghost use Rattle.specification.specs.Conflict.{AreLeastSteps};
 ghost use Rattle.specification.specs.Search.{IsShortestLength};
 ghost use Rattle.order_graph.specs.Lists.{lists_of};
-ghost use Rattle.shown_table.specs.Tables.{IsShownTable};
+ghost use Rattle.level_search.specs.Tables.{IsShownTable};
 
 mod back;
 mod choose;
@@ -16,7 +16,7 @@ use super::cycle_core::Core;
 use events::Memory;
 use order_graph::OrderGraph;
 use ring::least_ring;
-use shown_table::ShownTable;
+use crate::shown_table::ShownTable;
 use std::alloc::Global;
 use steps::steps_of;
 use witnesses::Steps;

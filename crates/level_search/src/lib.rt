@@ -1,4 +1,6 @@
-//! The search by levels for a shortest cycle, distances, the conflict number, and the least cycle.
+//! The conflict number and the least cycle, by searches over a table of bits, with workers in threads.
+//!
+//! `search` and `distances`, over lists, are those of `list_search`: the searches here are compared with them.
 #![tactic(auto)]
 
 mod conflict;
@@ -7,7 +9,7 @@ mod cycles;
 mod gate;
 mod laws;
 mod search_fault;
-mod searching;
+mod shown_table;
 mod sources;
 mod tabled;
 mod workers;
@@ -16,9 +18,9 @@ pub use conflict::{Conflict, conflict_number, least_conflict};
 pub use cycles::least_cycle;
 pub use gate::{Gate, NoGate};
 pub use laws::{least_offer_is_shortest, most_workers_is_the_number};
+pub use list_search::{BoundSource, PlainBound, Scratch, distances, search};
 pub use order_graph::Looked;
 pub use search_fault::SearchFault;
-pub use searching::{BoundSource, PlainBound, Scratch, distances, search};
 pub use shown_table::ShownTable;
 pub use tabled::{Sets, search_by_table};
 pub use witnesses::{Step, Steps};

@@ -3,7 +3,7 @@
 ghost use Rattle.std.specs.Prelude.{◌≡◌, ◌+◌, ◌/◌, ◌<◌, ◌≤◌, ℕ, All, AllPairs, Contains, IfOk, length};
 ghost use Rattle.std.specs.Prelude.{slice_index};
 ghost use Rattle.order_graph.specs.Lists.{lists_of};
-ghost use Rattle.shown_table.specs.Tables.{IsShownTable};
+ghost use Rattle.level_search.specs.Tables.{IsShownTable};
 ghost use Rattle.level_search.specs.Sources.{AreRanked, MeetsCycles, Rises};
 
 mod peeling;
@@ -12,7 +12,7 @@ use bit_tables::BitSet;
 use events::Memory;
 use order_graph::OrderGraph;
 use peeling::order_taken;
-use shown_table::ShownTable;
+use crate::shown_table::ShownTable;
 use std::alloc::Global;
 
 /// The rank of an element that is out of place, or that was not taken.

@@ -4,18 +4,18 @@ ghost use Rattle.std.specs.Prelude.{◌≡◌, ℕ, ◌+◌, ◌*◌, ◌<◌, �
 ghost use Rattle.order_graph.specs.Lists.{lists_of};
 ghost use Rattle.bit_tables.specs.Sets.{Has};
 ghost use Rattle.bit_tables.specs.Lists.{row_of};
-ghost use Rattle.shown_table.specs.Tables.{IsShownTable};
+ghost use Rattle.level_search.specs.Tables.{IsShownTable};
 ghost use Rattle.level_search.specs.Balls.{FitsSets, IsBall, IsInLayer};
 ghost use Rattle.level_search.specs.LayerSizes.{counted, layer_size};
 ghost use Rattle.level_search.specs.Looks.{HasLooked, IsFirstBehind};
-ghost use Rattle.level_search.specs.Walks.{IsSearchAnswer};
+ghost use Rattle.list_search.specs.Walks.{IsSearchAnswer};
 
 mod sets;
 
-use crate::searching::BoundSource;
+use list_search::BoundSource;
 use order_graph::{Looked, OrderGraph};
 pub use sets::Sets;
-use shown_table::ShownTable;
+use crate::shown_table::ShownTable;
 
 /// Whether the element stands before one of the layer. It looks once at the row of each, up to the first.
 fn closes(

@@ -6,6 +6,7 @@ mod graphs;
 mod many;
 mod plain;
 mod searches;
+mod shown;
 mod sources;
 mod steps;
 mod tables;

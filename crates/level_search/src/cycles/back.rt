@@ -2,8 +2,8 @@
 
 ghost use Rattle.std.specs.Prelude.{◌≡◌, ◌⊎◌, ℕ, ◌<◌, ◌≤◌, true, false, length, replicate, slice_index_or};
 ghost use Rattle.order_graph.specs.Lists.{lists_of, Stands};
-ghost use Rattle.level_search.specs.Graph.{Before};
-ghost use Rattle.level_search.specs.Rings.{IsLed, IsMarkedFrom};
+ghost use Rattle.list_search.specs.Graph.{Before};
+ghost use Rattle.list_search.specs.Rings.{IsLed, IsMarkedFrom};
 
 use order_graph::{Looked, OrderGraph};
 

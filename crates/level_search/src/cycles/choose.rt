@@ -5,9 +5,9 @@ ghost use Rattle.std.specs.Prelude.{slice_index_or};
 ghost use Rattle.order_graph.specs.Lists.{lists_of, row, Stands};
 ghost use Rattle.order_graph.specs.Spots.{spots_of};
 ghost use Rattle.order_graph.specs.declared.spot.Spot.{Spot};
-ghost use Rattle.level_search.specs.Graph.{Before, graph_of};
-ghost use Rattle.level_search.specs.Progress.{IsAfter};
-ghost use Rattle.level_search.specs.Rings.{IsLeastNext, IsTableOf, Reaches};
+ghost use Rattle.list_search.specs.Graph.{Before, graph_of};
+ghost use Rattle.list_search.specs.Progress.{IsAfter};
+ghost use Rattle.list_search.specs.Rings.{IsLeastNext, IsTableOf, Reaches};
 
 use order_graph::{Looked, OrderGraph, Spot};
 

@@ -4,19 +4,19 @@ ghost use Rattle.std.specs.Prelude.{◌≡◌, ℕ, ◌+◌, ◌-◌, ◌*◌, �
 ghost use Rattle.specification.specs.Responses.{AreProper};
 ghost use Rattle.specification.specs.Search.{IsShortestLength};
 ghost use Rattle.order_graph.specs.Lists.{lists_of};
-ghost use Rattle.level_search.specs.Rings.{IsFirstRing, IsLeastNext};
-ghost use Rattle.shown_table.specs.Tables.{IsShownTable};
+ghost use Rattle.list_search.specs.Rings.{IsFirstRing, IsLeastNext};
+ghost use Rattle.level_search.specs.Tables.{IsShownTable};
 ghost use Rattle.level_search.specs.Balls.{FitsSets};
 ghost use Rattle.level_search.specs.Looks.{HaveLooked};
-ghost use Rattle.level_search.specs.Walks.{HasCycle};
+ghost use Rattle.list_search.specs.Walks.{HasCycle};
 
 use super::choose::next_of_ring;
 use super::tables::tables;
-use crate::searching::PlainBound;
+use list_search::PlainBound;
 use crate::tabled::{Sets, search_by_table};
 use events::Memory;
 use order_graph::{Looked, OrderGraph};
-use shown_table::ShownTable;
+use crate::shown_table::ShownTable;
 use std::alloc::Global;
 
 /// The least element through which a shortest cycle leads.

@@ -3,8 +3,8 @@
 ghost use Rattle.std.specs.Prelude.{◌≡◌, ◌<◌, IfOk, length};
 ghost use Rattle.specification.specs.Responses.{AreProper};
 ghost use Rattle.order_graph.specs.Lists.{lists_of};
-ghost use Rattle.level_search.specs.Graph.{Before};
-ghost use Rattle.level_search.specs.Rings.{IsRing};
+ghost use Rattle.list_search.specs.Graph.{Before};
+ghost use Rattle.list_search.specs.Rings.{IsRing};
 ghost use Rattle.level_search.specs.Steps.{IsStepBetween, AreStepsOf, next_in};
 
 use events::Memory;

@@ -2,8 +2,8 @@
 
 ghost use Rattle.std.specs.Prelude.{◌≡◌, ℕ, ◌+◌, ◌<◌, [], IfOk, length, map, slice_index_or, vec_len};
 ghost use Rattle.order_graph.specs.Lists.{lists_of};
-ghost use Rattle.level_search.specs.Graph.{graph_of};
-ghost use Rattle.level_search.specs.Rings.{IsTable, IsTableOf};
+ghost use Rattle.list_search.specs.Graph.{graph_of};
+ghost use Rattle.list_search.specs.Rings.{IsTable, IsTableOf};
 
 use super::back::back_layer;
 use events::Memory;

@@ -6,7 +6,7 @@ ghost use Rattle.std.specs.Prelude.{◌≡◌, length};
 use bit_tables::BitSet;
 use events::Memory;
 use order_graph::OrderGraph;
-use shown_table::ShownTable;
+use crate::shown_table::ShownTable;
 use std::alloc::Global;
 
 /// No element, and the walk of an element that no walk has come to.

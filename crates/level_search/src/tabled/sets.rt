@@ -4,14 +4,14 @@ ghost use Rattle.std.specs.Prelude.{◌≡◌, ℕ, ◌+◌, ◌*◌, ◌<◌, �
 ghost use Rattle.order_graph.specs.Lists.{lists_of};
 ghost use Rattle.bit_tables.specs.Sets.{Has};
 ghost use Rattle.bit_tables.specs.Lists.{row_of};
-ghost use Rattle.shown_table.specs.Tables.{IsShownTable};
+ghost use Rattle.level_search.specs.Tables.{IsShownTable};
 ghost use Rattle.level_search.specs.Balls.{FitsSets, IsInLayer};
 ghost use Rattle.level_search.specs.LayerSizes.{counted, layer_size};
 
 use bit_tables::BitSet;
 use events::Memory;
 use order_graph::{Looked, OrderGraph};
-use shown_table::ShownTable;
+use crate::shown_table::ShownTable;
 use std::alloc::Global;
 
 /// Where a search over a table is, so that it takes no memory itself: `reached` has the elements from which no more steps than the level lead

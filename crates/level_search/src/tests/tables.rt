@@ -2,7 +2,7 @@
 
 ghost use Rattle.std.specs.Prelude.{◌≡◌, ◌<◌, true, IfOk, length};
 ghost use Rattle.order_graph.specs.Lists.{lists_of};
-ghost use Rattle.shown_table.specs.Tables.{IsShownTable};
+ghost use Rattle.level_search.specs.Tables.{IsShownTable};
 ghost use Rattle.shared_bound.specs.Seats.{fresh_seat};
 ghost use Rattle.level_search.specs.Balls.{FitsSets};
 
@@ -15,7 +15,7 @@ use events::Memory;
 use order_graph::{Looked, OrderGraph};
 use sample_recordings::{RING_OF_FOUR, recording};
 use shared_bound::{Bound, NO_OFFER, Seat};
-use shown_table::ShownTable;
+use crate::shown_table::ShownTable;
 use std::alloc::Global;
 use std::sync::atomic::{AtomicU64, Ordering};
 use std::test::Fail;

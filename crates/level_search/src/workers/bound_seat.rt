@@ -2,7 +2,7 @@
 
 ghost use Rattle.std.specs.Prelude.{◌≡◌, ◌<◌, ◌≤◌, min, true, [], ◌∷◌, ◌++◌, IfSome, IfNone, All};
 
-use crate::searching::BoundSource;
+use list_search::BoundSource;
 use shared_bound::{Bound, NO_OFFER, Seat};
 use std::marker::Model;
 

@@ -2,11 +2,11 @@
 
 ghost use Rattle.std.specs.Prelude.{◌≡◌, ℕ, ◌+◌, ◌*◌, Option, List, ◌<◌, ◌≤◌, true, [], length, IfOk, All};
 ghost use Rattle.order_graph.specs.Lists.{lists_of};
-ghost use Rattle.shown_table.specs.Tables.{IsShownTable};
+ghost use Rattle.level_search.specs.Tables.{IsShownTable};
 ghost use Rattle.level_search.specs.Balls.{FitsSets};
 ghost use Rattle.level_search.specs.Looks.{HasLooked};
 ghost use Rattle.level_search.specs.Team.{IsLength, IsReady, SameSeat};
-ghost use Rattle.level_search.specs.Walks.{NoneShorter};
+ghost use Rattle.list_search.specs.Walks.{NoneShorter};
 
 use super::bound_seat::BoundSeat;
 use crate::gate::Gate;
@@ -14,7 +14,7 @@ use crate::tabled::{Sets, search_by_table};
 use events::Memory;
 use order_graph::{Looked, OrderGraph};
 use shared_bound::{Bound, NO_OFFER, Seat};
-use shown_table::ShownTable;
+use crate::shown_table::ShownTable;
 use std::alloc::Global;
 
 /// One of those who search for the conflict number: its number, its seat at the shared bound, what its searches write

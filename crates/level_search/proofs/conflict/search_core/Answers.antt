@@ -5,7 +5,7 @@ use Rattle.specification.specs.Responses.{Responses, place_count}
 use Rattle.specification.specs.LayerRule.{narrowed}
 use Rattle.order_graph.specs.Kept.{names_at}
 use Rattle.order_graph.specs.Lists.{lists_of}
-use Rattle.level_search.proofs.Joining.{name}
+use Rattle.list_search.proofs.Joining.{name}
 use Rattle.level_search.proofs.Placed.{within-searches}
 use Rattle.level_search.proofs.conflict.search_core.Goals as goal
 

@@ -1,5 +1,5 @@
 use Rattle.order_graph.specs.Lists.{lists_of}
-use Rattle.level_search.proofs.Joining.{before-known}
+use Rattle.list_search.proofs.Joining.{before-known}
 use Rattle.level_search.proofs.Rising.{ranked-rise}
 use Rattle.std.proofs.Common.{length}
 use Rattle.level_search.proofs.sources.ranks_along.Goals as goal

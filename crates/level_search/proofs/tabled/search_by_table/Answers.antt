@@ -4,10 +4,10 @@ use Rattle.std.specs.Prelude.{◌↔◌}
 use Rattle.bit_tables.specs.Sets.{Has}
 use Rattle.order_graph.specs.Lists.{lists_of}
 use Rattle.level_search.proofs.BallLemmas.{before_shown, cycle_closes, cycle_longer, level_next, no_cycle_left}
-use Rattle.level_search.proofs.Joining.{before-known}
+use Rattle.list_search.proofs.Joining.{before-known}
 use Rattle.level_search.specs.LayerSizes.{counted, layer_size, set_size}
 use Rattle.level_search.specs.Looks.{HasLooked}
-use Rattle.level_search.specs.Rings.{Reaches}
+use Rattle.list_search.specs.Rings.{Reaches}
 use Rattle.level_search.specs.declared.tabled.sets.Sets.{Sets}
 use Rattle.level_search.proofs.Counts.{count-most}
 use Rattle.level_search.proofs.LayerSizes.{looked-as, looked-more, looked-within, near-next, near-none}

@@ -1,6 +1,6 @@
 use Rattle.std.proofs.Common.{◌≡◌, ℕ, ◌<◌, true, false, slice_index_or}
 use Rattle.order_graph.specs.Lists.{lists_of, Stands}
-use Rattle.level_search.specs.Rings.{IsLed}
+use Rattle.list_search.specs.Rings.{IsLed}
 use Rattle.level_search.proofs.cycles.back.back_layer.Given as goal
 
 abbrev pub invariant-loop-l : goal.invariant-loop-l

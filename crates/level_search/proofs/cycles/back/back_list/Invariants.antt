@@ -1,6 +1,6 @@
 use Rattle.std.proofs.Common.{◌≡◌, ◌⊎◌, ℕ, ◌<◌, ◌≤◌, true, false, slice_index_or}
 use Rattle.order_graph.specs.Lists.{lists_of, Stands}
-use Rattle.level_search.specs.Rings.{IsLed, IsMarkedFrom}
+use Rattle.list_search.specs.Rings.{IsLed, IsMarkedFrom}
 use Rattle.level_search.proofs.cycles.back.back_list.Given as goal
 
 abbrev pub invariant-places : goal.invariant-places

@@ -2,7 +2,7 @@ use Rattle.std.proofs.Common.{◌≡◌, ◌⊎◌, ℕ, ◌<◌, Some, true, fa
 use Rattle.std.proofs.lemmas.Bool.{cases_eq}
 use Rattle.std.proofs.lemmas.Option.{slice_get_within}
 use Rattle.order_graph.specs.Lists.{lists_of, Stands}
-use Rattle.level_search.specs.Graph.{Before}
+use Rattle.list_search.specs.Graph.{Before}
 use Rattle.order_graph.specs.Spots.{spots_of}
 use Rattle.order_graph.proofs.AllSpots.{spots_complete}
 use Rattle.level_search.proofs.cycles.choose.least_next.Goals as goal

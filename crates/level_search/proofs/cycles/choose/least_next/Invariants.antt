@@ -1,7 +1,7 @@
 use Rattle.std.proofs.Common.{◌≡◌, ◌⊎◌, ℕ, ◌<◌, ◌≤◌, Some, true, false, length, slice_get, slice_index_or}
-use Rattle.level_search.specs.Graph.{Before}
+use Rattle.list_search.specs.Graph.{Before}
 use Rattle.order_graph.specs.Lists.{lists_of}
-use Rattle.level_search.specs.Progress.{IsAfter}
+use Rattle.list_search.specs.Progress.{IsAfter}
 use Rattle.order_graph.specs.Spots.{spots_of}
 use Rattle.order_graph.specs.declared.spot.Spot.{Spot}
 use Rattle.level_search.proofs.cycles.choose.least_next.Given as goal

@@ -1,6 +1,6 @@
 use Rattle.std.proofs.Common.{◌≡◌, ◌⊎◌, ℕ, ◌<◌, ◌≤◌, true, false, slice_index_or}
 use Rattle.order_graph.specs.Lists.{lists_of, Stands}
-use Rattle.level_search.specs.Progress.{IsAfter}
+use Rattle.list_search.specs.Progress.{IsAfter}
 use Rattle.level_search.proofs.cycles.choose.less_behind.Given as goal
 
 abbrev pub invariant-loop-j : goal.invariant-loop-j

@@ -1,6 +1,6 @@
 use Rattle.std.proofs.Common.{sym, inl, inr}
 use Rattle.order_graph.specs.Lists.{lists_of, Stands}
-use Rattle.level_search.specs.Progress.{IsAfter}
+use Rattle.list_search.specs.Progress.{IsAfter}
 use Rattle.order_graph.proofs.AllSpots.{spots_sound}
 use Rattle.level_search.proofs.cycles.choose.less_behind_spot.Goals as goal
 

@@ -3,8 +3,8 @@ use Rattle.std.proofs.lemmas.Bool.{cases_lt}
 use Rattle.std.proofs.Math.Nat.{add-mul}
 use Rattle.order_graph.specs.Lists.{lists_of}
 use Rattle.level_search.specs.Looks.{HasLooked, HaveLooked}
-use Rattle.level_search.specs.Walks.{HasCycle}
-use Rattle.level_search.proofs.Joining.{found-here, none-here, shortest_of_all}
+use Rattle.list_search.specs.Walks.{HasCycle}
+use Rattle.list_search.proofs.Joining.{found-here, none-here, shortest_of_all}
 use Rattle.level_search.proofs.ShortestFew.{shortest-fits}
 use Rattle.level_search.proofs.cycles.ring.first_source.Goals as goal
 

@@ -2,7 +2,7 @@ use Rattle.std.proofs.Common.{ℕ, ◌+◌, ◌*◌, ◌<◌, ◌≤◌, length}
 use Rattle.order_graph.specs.Lists.{lists_of}
 use Rattle.level_search.specs.Balls.{FitsSets}
 use Rattle.level_search.specs.Looks.{HaveLooked}
-use Rattle.level_search.specs.Walks.{HasCycle}
+use Rattle.list_search.specs.Walks.{HasCycle}
 use Rattle.level_search.proofs.cycles.ring.first_source.Given as goal
 
 abbrev pub invariant-loop-element : goal.invariant-loop-element

@@ -1,6 +1,6 @@
-use Rattle.level_search.specs.Graph.{graph_of}
-use Rattle.level_search.proofs.Firsts.{ring_is_first}
-use Rattle.level_search.proofs.Joining.{cycle-known}
+use Rattle.list_search.specs.Graph.{graph_of}
+use Rattle.list_search.proofs.Firsts.{ring_is_first}
+use Rattle.list_search.proofs.Joining.{cycle-known}
 use Rattle.level_search.proofs.cycles.ring.least_ring.Goals as goal
 
 pub returns-clause-first : goal.returns-clause-first

@@ -1,6 +1,6 @@
 use Rattle.std.proofs.Common.{◌≡◌, ℕ, ◌+◌, ◌-◌, ◌<◌, length, slice_index}
 use Rattle.order_graph.specs.Lists.{lists_of}
-use Rattle.level_search.specs.Rings.{IsLeastNext, Reaches}
+use Rattle.list_search.specs.Rings.{IsLeastNext, Reaches}
 use Rattle.level_search.proofs.cycles.ring.ring_from.Given as goal
 
 abbrev pub invariant-loop-i : goal.invariant-loop-i

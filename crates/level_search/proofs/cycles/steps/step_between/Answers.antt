@@ -1,6 +1,6 @@
 use Rattle.std.proofs.Common.{sym, ◌∙◌}
 use Rattle.specification.specs.Conflict.{Step}
-use Rattle.level_search.proofs.Joining.{before-shown}
+use Rattle.list_search.proofs.Joining.{before-shown}
 use Rattle.level_search.proofs.StepsRound.{no_name, step_is_between}
 use Rattle.level_search.proofs.cycles.steps.step_between.Goals as goal
 

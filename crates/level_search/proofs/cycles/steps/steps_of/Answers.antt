@@ -3,7 +3,7 @@ use Rattle.std.proofs.lemmas.Grind.{common_steps}
 use Rattle.std.proofs.lemmas.List.{length_push}
 use Rattle.specification.specs.Conflict.{Step}
 use Rattle.order_graph.specs.Lists.{lists_of}
-use Rattle.level_search.specs.Graph.{Before}
+use Rattle.list_search.specs.Graph.{Before}
 use Rattle.level_search.specs.Steps.{AreStepsOf, IsStepBetween, next_in}
 use Rattle.level_search.proofs.StepsRound.{ring-next, steps-push}
 use Rattle.level_search.proofs.cycles.steps.steps_of.Goals as goal

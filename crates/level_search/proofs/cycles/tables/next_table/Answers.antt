@@ -1,8 +1,8 @@
 use Rattle.std.proofs.Common.{◌≡◌, ◌+◌, Bool, List, length, drop, subst, sym, arith}
 use Rattle.std.proofs.lemmas.List.{take_at}
 use Rattle.order_graph.specs.Lists.{lists_of}
-use Rattle.level_search.specs.Rings.{IsTable}
-use Rattle.level_search.proofs.Firsts.{table_next}
+use Rattle.list_search.specs.Rings.{IsTable}
+use Rattle.list_search.proofs.Firsts.{table_next}
 use Rattle.level_search.proofs.cycles.tables.next_table.Goals as goal
 
 pub returns-clause-table : goal.returns-clause-table

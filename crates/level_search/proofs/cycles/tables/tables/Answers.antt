@@ -2,8 +2,8 @@ use Rattle.std.proofs.Common.{◌≡◌, ℕ, ◌+◌, ◌-◌, ◌++◌, [], �
 use Rattle.std.proofs.lemmas.Bool.{cases_eq}
 use Rattle.std.proofs.lemmas.Grind.{common_steps}
 use Rattle.order_graph.specs.Lists.{lists_of}
-use Rattle.level_search.specs.Graph.{graph_of}
-use Rattle.level_search.specs.Rings.{IsTable, IsTableOf}
+use Rattle.list_search.specs.Graph.{graph_of}
+use Rattle.list_search.specs.Rings.{IsTable, IsTableOf}
 use Rattle.level_search.proofs.TableRows.{bits_of, push_before, push_last, last_table}
 use Rattle.level_search.proofs.cycles.tables.tables.Goals as goal
 

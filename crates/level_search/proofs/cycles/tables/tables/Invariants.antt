@@ -1,6 +1,6 @@
 use Rattle.std.proofs.Common.{◌≡◌, ℕ, ◌<◌, [], map, slice_index_or, vec_len}
-use Rattle.level_search.specs.Graph.{graph_of}
-use Rattle.level_search.specs.Rings.{IsTableOf}
+use Rattle.list_search.specs.Graph.{graph_of}
+use Rattle.list_search.specs.Rings.{IsTableOf}
 use Rattle.level_search.proofs.cycles.tables.tables.Given as goal
 
 abbrev pub invariant-loop-n : goal.invariant-loop-n

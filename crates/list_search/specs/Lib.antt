@@ -1,0 +1,7 @@
+-- What contracts of this crate see: steps, walks and rings; distances; and how far a search has come.
+pub mod Graph
+pub mod Walks
+pub mod Distances
+pub mod Rings
+pub mod Progress
+pub mod ScratchView

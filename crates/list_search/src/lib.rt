@@ -1,0 +1,10 @@
+//! The search by levels for a shortest cycle, and distances, over the lists of an order graph.
+//!
+//! A search looks at each place of a list once. The searches for the conflict number go over a table of bits
+//! (`level_search`); these are compared with them in tests.
+#![tactic(auto)]
+
+mod searching;
+
+pub use order_graph::Looked;
+pub use searching::{BoundSource, PlainBound, Scratch, distances, search};

@@ -1,0 +1,183 @@
+//! Searches by levels from one element: for a shortest cycle, and for distances.
+
+ghost use Rattle.std.specs.Prelude.{◌≡◌, ◌↔◌, ℕ, ◌<◌, ◌≤◌, IfOk, IfNone, IsTrue, List, None, length};
+ghost use Rattle.order_graph.specs.Lists.{lists_of};
+ghost use Rattle.events.specs.Names.{NameBytes};
+ghost use Rattle.specification.specs.Search.{IsCycleThrough, IsSearchAnswer};
+ghost use Rattle.list_search.specs.Distances.{AreDistances};
+ghost use Rattle.list_search.specs.Walks as by_number;
+
+mod bound_source;
+mod distance;
+mod expand;
+mod levels;
+mod plain_bound;
+mod start;
+mod state;
+mod sweep;
+
+pub use bound_source::BoundSource;
+use distance::distances_in;
+use events::Memory;
+use levels::search_in;
+use order_graph::{Looked, OrderGraph};
+pub use plain_bound::PlainBound;
+use state::State;
+use std::alloc::Global;
+use std::marker::Model;
+
+/// What a search writes on, so that it takes no memory itself.
+///
+/// It serves the graphs with as many elements and as many lists as the one that it was made for, one search
+/// after another; nothing is kept from one search to the next.
+#[derive(Drop)]
+pub struct Scratch {
+    state: State,
+    looked: Looked,
+}
+
+impl Model for Scratch {
+    ghost use Rattle.std.specs.Prelude.{◌≡◌, vec_len};
+    ghost use Rattle.list_search.specs.ScratchView.{ScratchView};
+
+    ghost Value = { ScratchView };
+
+    ghost view = { λ a. record {
+      elements = vec_len a.state.seen;
+      lists = vec_len a.state.marks;
+      looked = a.looked;
+    } };
+
+    ghost invariant = { λ a. vec_len a.state.queue ≡ vec_len a.state.seen };
+}
+
+impl Scratch {
+    ghost use Rattle.list_search.specs.ScratchView.{Fits};
+
+    /// A scratch for this graph. It takes memory linear in the elements and the lists.
+    pub fn new(alloc: Global, graph: &OrderGraph) -> Result<Scratch, Memory>
+        ensures fits { IfOk result (λ s. Fits s graph.now) }
+        ensures looked { IfOk result (λ s. s.looked ≡ 0) }
+    {
+        let elements = graph.elements() as usize;
+        let marks = Vec::from_elem(alloc, 0, graph.lists() as usize)?;
+        let seen = Vec::from_elem(alloc, false, elements)?;
+        let queue = Vec::from_elem(alloc, 0, elements)?;
+        let state = State {
+            marks,
+            seen,
+            queue,
+            tail: 0,
+            found: false,
+        };
+        Ok(Scratch {
+            state,
+            looked: Looked::new(),
+        })
+    }
+
+    /// Whether searches of this graph may write on it: it was made for as many elements and lists.
+    pub fn fits(&self, graph: &OrderGraph) -> bool
+        ensures { IsTrue result ↔ Fits self.now graph.now }
+    {
+        self.state.seen.len() == graph.elements() as usize
+            && self.state.marks.len() == graph.lists() as usize
+    }
+
+    /// How many places the last search read, and elements it expanded, together; 0 before the first. The
+    /// count stays at 18446744073709551615 once it is there.
+    pub fn looked(&self) -> u64
+        ensures { result ≡ self.now.looked }
+    {
+        self.looked.count()
+    }
+}
+
+ghost use Rattle.list_search.specs.ScratchView.{Fits, LooksWithin};
+
+/// As `search`, with cycles told by the elements' numbers.
+pub fn search_by_number<B: BoundSource>(
+    graph: &OrderGraph,
+    element: u32,
+    scratch: &mut Scratch,
+    source: &mut B,
+) -> Option<u32>
+    requires element { element < length graph.now.elements }
+    requires fits { Fits scratch.old graph.now }
+    ensures answer { by_number.IsSearchAnswer (lists_of graph.now) element (B.last source.new) result }
+    ensures bound { B.last source.new ≤ B.last source.old }
+    ensures reads { B.reads source.old source.new }
+    ensures none { IfNone result (length graph.now.elements < B.last source.new → (n : ℕ)
+        → ¬ by_number.HasCycle (lists_of graph.now) element n) }
+    ensures fits { Fits scratch.new graph.now }
+    ensures looked { LooksWithin graph.now scratch.new.looked result }
+    ensures expanded { IfNone result (1 < B.last source.new → 0 < scratch.new.looked) }
+{
+    search_in(
+        graph,
+        element,
+        &mut scratch.state,
+        &mut scratch.looked,
+        source,
+    )
+}
+
+/// Searches by levels for the shortest cycle through the element with this number.
+///
+/// It reads the bound at least once, and again before each layer. `Some` is the length of the shortest
+/// cycle, where it is below the bound last read; `None` says that no cycle through the element is shorter
+/// than that bound, and where it is above the number of elements, that there is none at all.
+///
+/// It takes no memory. It sets back a mark for each list and element, and then looks at no more places and
+/// elements, together, than there are; at one at least, where the bound last read was above 1.
+pub fn search<B: BoundSource>(
+    graph: &OrderGraph,
+    element: u32,
+    scratch: &mut Scratch,
+    source: &mut B,
+) -> Option<u32>
+    requires element { element < length graph.now.elements }
+    requires fits { Fits scratch.old graph.now }
+    ensures answer { IsSearchAnswer graph.now element (B.last source.new) result }
+    ensures bound { B.last source.new ≤ B.last source.old }
+    ensures reads { B.reads source.old source.new }
+    ensures none { IfNone result (length graph.now.elements < B.last source.new → (cycle : List NameBytes)
+        → ¬ IsCycleThrough graph.now element cycle) }
+    ensures fits { Fits scratch.new graph.now }
+    ensures looked { LooksWithin graph.now scratch.new.looked result }
+    ensures expanded { IfNone result (1 < B.last source.new → 0 < scratch.new.looked) }
+{
+    let elements = graph.elements();
+    prove!(element < elements);
+    search_by_number(graph, element, scratch, source)
+}
+
+/// Writes at each element's number how many steps lead to it from the element, at the least, each step from
+/// an element to one that some response shows after it; the limit, where so few steps don't lead to it.
+///
+/// It takes no memory. It sets back a mark for each list and element, and then looks at no more places and
+/// elements, together, than there are.
+pub fn distances(
+    graph: &OrderGraph,
+    element: u32,
+    limit: u32,
+    scratch: &mut Scratch,
+    depths: &mut [u32],
+)
+    requires element { element < length graph.now.elements }
+    requires fits { Fits scratch.old graph.now }
+    requires places { length depths.old ≡ length graph.now.elements }
+    ensures distances { AreDistances (lists_of graph.now) element limit depths.new }
+    ensures fits { Fits scratch.new graph.now }
+    ensures looked { LooksWithin graph.now scratch.new.looked None }
+    ensures expanded { 1 < limit → 0 < scratch.new.looked }
+{
+    distances_in(
+        graph,
+        element,
+        limit,
+        &mut scratch.state,
+        &mut scratch.looked,
+        depths,
+    )
+}

@@ -1,0 +1,53 @@
+//! The search by levels for a shortest cycle.
+
+ghost use Rattle.std.specs.Prelude.{ℕ, ◌<◌, ◌≤◌, length, IfNone};
+ghost use Rattle.order_graph.specs.Lists.{lists_of};
+ghost use Rattle.list_search.specs.Graph.{graph_of};
+ghost use Rattle.list_search.specs.Progress.{FitsState};
+ghost use Rattle.list_search.specs.ScratchView.{LooksWithin};
+ghost use Rattle.list_search.specs.Walks.{HasCycle, IsSearchAnswer};
+
+use super::bound_source::BoundSource;
+use super::expand::layer;
+use super::start::start;
+use super::state::State;
+use order_graph::{Looked, OrderGraph};
+
+/// Searches by levels for the shortest cycle through an element, below the bound last read.
+pub fn search_in<B: BoundSource>(
+    graph: &OrderGraph,
+    element: u32,
+    state: &mut State,
+    looked: &mut Looked,
+    source: &mut B,
+) -> Option<u32>
+    requires element { element < length graph.now.elements }
+    requires fits { FitsState (graph_of graph.now) state.old }
+    ensures answer { IsSearchAnswer (lists_of graph.now) element (B.last source.new) result }
+    ensures bound { B.last source.new ≤ B.last source.old }
+    ensures fits { FitsState (graph_of graph.now) state.new }
+    ensures reads { B.reads source.old source.new }
+    ensures none { IfNone result (length graph.now.elements < B.last source.new → (n : ℕ)
+        → ¬ HasCycle (lists_of graph.now) element n) }
+    ensures looked { LooksWithin graph.now looked.new result }
+    ensures expanded { IfNone result (1 < B.last source.new → 0 < looked.new) }
+{
+    *looked = Looked::new();
+    start(graph, element, state);
+    let mut head = 0;
+    let mut level: u32 = 0;
+    'levels: while head < state.tail {
+        let bound = source.best();
+        if bound <= level + 1 {
+            return None;
+        }
+        let end = state.tail;
+        layer(graph, element, head, end, state, looked);
+        if state.found {
+            return Some(level + 1);
+        }
+        head = end;
+        level += 1;
+    }
+    None
+}

@@ -1,2 +1,0 @@
--- Lemmas on sets of bits, and on the places of lists that are noted.
-pub mod Noting

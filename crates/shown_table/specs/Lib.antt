@@ -1,3 +1,0 @@
--- What contracts of this crate see: tables of what stands before each element.
-pub mod Tables
-pub mod Fronts
