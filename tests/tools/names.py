@@ -1,9 +1,13 @@
 #!/usr/bin/env python3
-"""names.py: is docs/names.md, which says where each name stands, what the sources say? With --write it is written anew.
+"""names.py: docs/names.md, which has the words of the field with their names in the code, must be what the sources say.
 
-A name is a function, method, type, variant, trait or constant of a crate that has the word `pub`, a method of such a trait, a
-function of a program's main file, a test, or a definition of the crate's specs. Before the names stand the words of the
-documents, the crates with their files of definitions and lemmas, and the scripts by folder. No word, or --write."""
+    names.py            checks the page
+    names.py --write    writes it anew
+    names.py NAME       prints which files have a name: a function, method, type, variant, trait, constant, test or definition
+    names.py --list     prints where each name stands
+
+A name is one of a crate that has the word `pub`, a method of such a trait, a function of a program's main file, a test, or a
+definition of the crate's specs."""
 import re
 import sys
 from pathlib import Path
@@ -11,122 +15,96 @@ from pathlib import Path
 ROOT = Path(__file__).resolve().parents[2]
 PAGE = ROOT / "docs" / "names.md"
 
-HEAD = """# Where each name stands
+HEAD = """# The words of the field, and their names in the code
 
-Search this page for a word of the documents, or for a name: a definition, a law, a crate, a file of definitions or \
-lemmas, a script, a public function or type, a method as `Certificate::read`, a variant as `Refusal::NotYet`. The file \
-stands in the same line. Where a document writes `certificate::judge`, search for `judge`: functions stand under the \
-heading of their crate. Functions without `pub` are not listed, but for the methods of a public trait, those of a \
-`main.rt`, and tests. What the definitions mean is in [definitions.md](definitions.md), what the calls promise in \
-[proved.md](proved.md), what each script tries in [tests/README.md](../tests/README.md). `tests/tools/names.py --write` \
-makes this page from the sources.
+For who reads the code or the pages. Each word has its meaning, and the names that stand for it. `tests/tools/names.py NAME` \
+prints in which file a name stands, and without a word of its own checks this page; [definitions.md](definitions.md) says \
+what definitions mean. `tests/tools/names.py --write` makes this page.
 
-## Words
+| word | meaning | names |
+|---|---|---|
 """
 
-# By word: the crate and the names that it stands for.
+# By word: its meaning, the crate, and the names that stand for it.
 WORDS = {
-    "recording": ("events", "History Recording"),
-    "operation": ("events", "Operation Body OpName"),
-    "entry": ("events", "Entry"),
-    "stream of a replica": ("events", "stream SameStreams Recording::stream"),
-    "receipt": ("events", "received Body::Recv"),
-    "name of an element": ("events", "NameBytes Name"),
-    "response": ("events", "Response"),
-    "refused entry, and its words on the error line, as `not yet, have H`, `entries full` or `places full`":
-        ("events", "Refusal Recording::record"),
-    "limits of a recording": ("events", "KeepsLimits MOST_REPLICAS MOST_ENTRIES MOST_INSERTS MOST_NAMES MOST_PLACES MOST_BYTES"),
-    "legal recording": ("events", "IsLegal"),
-    "element number": ("specification", "elements number_in"),
-    "view": ("specification", "IsView"),
-    "visible": ("specification", "Visible IsSightOf"),
-    "first fault": ("specification", "IsFirstFault"),
-    "right contents, right position": ("specification", "HasRightContents HasRightPosition"),
-    "doubled name": ("specification", "IsDoubled"),
-    "sound": ("specification", "IsSound"),
-    "total order, least order": ("specification", "IsLeastOrder HasNoOrder"),
-    "dictionary order": ("specification", "dictionary_lt ComesFirst"),
-    "follows": ("specification", "FollowsAll IsFollowingOrder FollowsSet"),
-    "strong and weak specification": ("specification", "MeetsStrong MeetsWeak DecidesSpecifications"),
-    "opposite pair": ("specification", "HasOppositePair"),
-    "conflict number": ("specification", "IsConflictNumber HasConflictNumber"),
-    "least cycle": ("specification", "IsLeastCycle AreLeastSteps"),
-    "layer rule": ("specification", "MeetsLayerRule MeetsRuleOf RowsMeetRule"),
-    "limit of reads, 268,435,456": ("byte_streams", "READS IsClosed"),
-    "row of a certificate, the line `layers x / b`": ("specification", "Row IsExactRow row_line"),
-    "the line `layers x / b`, written": ("certificate_text", "push_row"),
-    "verdict": ("specification", "Verdict IsVerdict"),
-    "the finder, what makes verdicts": ("certificate", "judge judge_and_write"),
-    "the function `finder`, the program in any world": ("finder_cli", "finder World"),
-    "valid certificate": ("specification", "IsValid"),
-    "certificate of a verdict": ("specification", "IsCertificateOf"),
-    "what a trace spells": ("specification", "Spells"),
-    "version of a trace, version of a certificate": ("specification", "Version IsOfVersion header_line version_line"),
-    "faulty line of a trace": ("specification", "IsFirstLineFault"),
-    "cause of a faulty line, and its words on the error line, as `header`, `shape` or `cut`": ("trace_text", "Cause LineFault"),
-    "what a certificate's text spells": ("specification", "SpellsCertificate"),
-    "outline of a certificate": ("certificate_text", "Outlines Outline"),
-    "report": ("specification", "report_text"),
-    "step line, of the report and of a certificate": ("specification", "report_step step_line"),
-    "report as JSON": ("report", "report_json json"),
-    "135,398 bytes kept of a line": ("trace_text", "IsKeptOf KeptLine"),
-    "kept responses, covering responses": ("contents_check", "AreCovering Covering"),
-    "core": ("level_search", "IsCoreOf Core"),
-    "worker, seat": ("shared_bound", "Seat Bound"),
-    "gate round a search": ("level_search", "Gate"),
-    "the checker's answer": ("cert_check", "IsAnswer Answer check check_recording"),
-    "the checker's line, as `yes refused`, `no text` or `no followed E`": ("finder_cli", "answer_line line_of"),
-    "session, pass, observer": ("sessions", "Session Pass Observer"),
-    "session of one thread": ("events", "reply after"),
-    "turn of a session": ("sessions", "Free Busy"),
-    "registry": ("sessions", "Registry Registered"),
-    "the command `verdict`": ("finder_cli", "run"),
-    "the command `cert`": ("finder_cli", "run_cert"),
-    "the command `verify`": ("finder_cli", "run_verify"),
-    "the command `live`": ("finder_cli", "live"),
-    "the options `--workers` and `--json`": ("command_line", "read_words workers_rule json_rule WORKERS MOST_WORKERS"),
-    "`--version`, `--help`": ("command_line", "finder_app WordsFault"),
-    "standard input `-`, the file that a word names": ("finder_cli", "Machine World::open"),
-    "out of memory": ("events", "Memory"),
-    "line that takes memory": ("trace_text", "TakesMemory"),
-    "exit status": ("finder_cli", "Status ProgramFault"),
-    "line on standard error, as `finder: cannot write`": ("finder_cli", "ProgramFault World::complain"),
+    "recording, trace": ("what the replicas of an editor did, in one order; its text", "events", "History Recording"),
+    "operation": ("an insert, a delete, a read or a view of one replica; `r.n` is the n-th of replica r", "events",
+                  "Operation Body OpName"),
+    "entry": ("an operation, or a receipt, of a replica", "events", "Entry"),
+    "stream": ("the entries of one replica, in order", "events", "stream SameStreams Recording::stream"),
+    "receipt": ("says that an operation of another replica, and all that this had seen, has arrived", "events", "received Body::Recv"),
+    "element, name": ("what is inserted, known by 1 to 32 bytes", "events", "NameBytes Name"),
+    "response": ("the list that an operation answered", "events", "Response"),
+    "view": ("an operation that answers a part of the list", "specification", "IsView"),
+    "refusal": ("why an entry is not recorded, as `not yet, have H`", "events", "Refusal Recording::record"),
+    "limits": ("16 replicas, and of each 16,384 entries, 4,096 inserts, 262,144 names", "events",
+               "KeepsLimits MOST_REPLICAS MOST_ENTRIES MOST_INSERTS MOST_NAMES MOST_PLACES MOST_BYTES"),
+    "legal": ("within the limits, each receipt after what it names", "events", "IsLegal"),
+    "visible": ("by the replica's own order and receipts, and so on", "specification", "Visible IsSightOf"),
+    "first fault": ("a doubled name, else the least operation with wrong contents or a wrong position", "specification",
+                    "IsFirstFault IsDoubled HasRightContents HasRightPosition"),
+    "sound": ("without a fault", "specification", "IsSound"),
+    "element number": ("the place of its insert among all inserts", "specification", "elements number_in"),
+    "follows": ("a response's elements stand in the order in the same sequence", "specification",
+                "FollowsAll IsFollowingOrder FollowsSet"),
+    "least order": ("of those that follow every response the first in dictionary order", "specification",
+                    "IsLeastOrder HasNoOrder dictionary_lt ComesFirst"),
+    "strong, weak specification": ("one order of all elements explains every response; one relation does, which is an order on each", "specification",
+                                   "MeetsStrong MeetsWeak DecidesSpecifications"),
+    "opposite pair": ("two responses show two elements in opposite orders", "specification", "HasOppositePair"),
+    "conflict number": ("the least number of responses that no order follows together", "specification",
+                        "IsConflictNumber HasConflictNumber"),
+    "least cycle": ("of the shortest cycles of elements, each shown before the next, the first", "specification",
+                    "IsLeastCycle AreLeastSteps"),
+    "verdict": ("a fault, an order, or a number with steps", "specification", "Verdict IsVerdict"),
+    "finder": ("what makes verdicts", "certificate", "judge judge_and_write"),
+    "the function `finder`": ("the program in any world", "finder_cli", "finder World"),
+    "certificate": ("a text that shows why a verdict is right", "specification", "IsCertificateOf IsValid SpellsCertificate"),
+    "row, layer": ("of a certificate: elements by how many steps they are away from a source", "specification",
+                   "Row IsExactRow row_line MeetsLayerRule MeetsRuleOf RowsMeetRule"),
+    "outline": ("a certificate of which the long parts stay text", "certificate_text", "Outlines Outline"),
+    "checker": ("what says whether a certificate is valid", "cert_check", "IsAnswer Answer check check_recording"),
+    "the checker's line": ("as `yes refused`, `no text` or `no followed E`", "finder_cli", "answer_line line_of"),
+    "spells": ("the text is that of the recording's lines", "specification", "Spells IsFirstLineFault"),
+    "version": ("of a trace, of a certificate: one or two", "specification", "Version IsOfVersion header_line version_line"),
+    "cause": ("what is wrong with a line, as `header`, `shape` or `cut`", "trace_text", "Cause LineFault"),
+    "kept of a line": ("at most 135,398 bytes of one that a piece cuts", "trace_text", "IsKeptOf KeptLine"),
+    "report": ("what `verdict` and `live` print", "specification", "report_text report_step"),
+    "report as JSON": ("the same with `--json`", "report", "report_json json"),
+    "covering responses": ("those that are kept: each other is a subsequence of one", "contents_check", "AreCovering Covering"),
+    "core": ("the elements through which cycles may lead", "level_search", "IsCoreOf Core"),
+    "source": ("an element that a search starts from", "level_search", "MeetsCycles"),
+    "look, step of a search": ("a look at an element's row of the table", "level_search", "IsCountOf HasLooked"),
+    "worker, seat": ("a thread that searches, and its place at the bound that all share", "shared_bound", "Seat Bound"),
+    "gate": ("what is called round a search, or a replay", "level_search", "Gate"),
+    "session, pass, observer": ("a recording that threads make; who records a replica; who looks on", "sessions",
+                                "Session Pass Observer"),
+    "session of one thread": ("the replies that a list of calls has", "events", "reply after"),
+    "turn": ("who has it may change the recording", "sessions", "Free Busy"),
+    "registry": ("at most 64 sessions by name", "sessions", "Registry Registered"),
+    "commands": ("`verdict`, `cert`, `verify`, `live`", "finder_cli", "run run_cert run_verify live"),
+    "options": ("`--workers`, `--json`, `--version`, `--help`", "command_line",
+                "read_words workers_rule json_rule WORKERS MOST_WORKERS finder_app WordsFault"),
+    "limit of reads": ("268,435,456 of a stream", "byte_streams", "READS IsClosed"),
+    "out of memory": ("one name for it", "events", "Memory"),
+    "line that takes memory": ("where reading may answer so", "trace_text", "TakesMemory"),
+    "exit status": ("0 to 3", "finder_cli", "Status ProgramFault"),
 }
 
-# By word: the files or folders that it stands for. A star stands for what varies.
+# By word: its meaning, and files or folders that stand for it. A star stands for what varies.
 FILES = {
-    "closed walk": "crates/specification/proofs/Walks.antt",
-    "turn, in the code": "crates/sessions/src/token.rt",
-    "gate of the repository, every check": ".ci/run tests/every_check",
-    "handles, `Threads` and `Wait`": "HANDLES",
-    "what each crate stands on, `may_wait`": "crates.txt",
-    "recorder of a language, with its calls `insert`, `delete`, `read`, `view`, `received`, `save` and `judge()`":
-        "recorders/domepeeler.py recorders/domepeeler.mjs recorders/domepeeler.rs recorders/domepeeler.h "
-        "recorders/domepeeler.el",
-    "logs of several machines": "recorders/merge.py",
-    "environment variable `DOMEPEELER`": "tools/explaining/programs.py recorders/domepeeler.py",
-    "property-based tests": "recorders/properties",
-    "random sessions of real editors, how they are shrunk": "recorders/engines recorders/engines/record.py",
-    "gallery, recordings of real editors": "docs/gallery.md examples",
-    "recorder thread, its 1,000,000 tries": "crates/rehearsal/src/recorder.rt",
-    "watcher, its four snapshots": "crates/rehearsal/src/watcher.rt",
-    "wrong body, must-fail edit": "crates/*/must-fail tests/proofs/wrong_bodies tests/proofs/wrong_bodies.py",
-    "changed definition": "tests/proofs/changed_definitions.py",
-    "vectors": "tests/vectors",
-    "`finder_gets_yes`, the proof that what the finder writes gets yes": "crates/cert_check/proofs/FinderGetsYes.antt",
-    "lines of the report, as `replicas R operations N inserts M`, `refused k`, `contents E`, `position E`, `doubled F G`, `strong no`, `weak yes`":
-        "crates/specification/specs/ReportText.antt crates/report/src/lines.rt crates/format_words/src/verdicts.rt",
-    "requests for memory refused": "tests/memory/refused_memory.py tests/memory/refused_calls.py "
-                                   "tests/memory/refused_memory_of_tests.py tests/memory/refused_sessions.py",
-    "slow reader, reference checker": "tests/reference/traces.py tests/reference/verdicts.py tests/reference/checker.py",
-    "generator of traces near the limits, XL": "tests/shared/traces.py",
-    "`explain`, installed as `domepeeler-explain`": "tools/explain tools/explaining/words.py tools/explaining/evidence.py",
-    "`judge_many`, installed as `domepeeler-judge-many`": "tools/judge_many",
-    "small trace, `--small`": "tools/explaining/small.py",
-    "page, `--html`": "tools/explaining/page.py tools/explaining/session_picture.py",
-    "picture of a cycle, `--svg`": "tools/explaining/cycle_picture.py",
-    "man page, completions": "tools/installed",
-    "example of a program that records live": "crates/live_example/src/main.rt",
+    "recorder": ("a file of an editor's language that writes traces", "recorders/domepeeler.py recorders/domepeeler.mjs "
+                 "recorders/domepeeler.rs recorders/domepeeler.h recorders/domepeeler.el"),
+    "engine": ("what keeps an editor's list; also `run`, `run_cert`, `run_verify`, `live`",
+               "recorders/engines crates/finder_cli/src/engine.rt"),
+    "recorder thread, watcher": ("of a rehearsal", "crates/rehearsal/src/recorder.rt crates/rehearsal/src/watcher.rt"),
+    "wrong body, must-fail edit": ("a planted mistake that a proof must refuse",
+                                   "crates/*/must-fail tests/proofs/wrong_bodies"),
+    "changed definition": ("another one that a proof must refuse", "tests/proofs/changed_definitions.py"),
+    "slow reader": ("of the definitions, in Python, to compare with", "tests/reference"),
+    "vectors": ("recordings with expected reports by an independent reference", "tests/vectors"),
+    "handles": ("what functions may ask of the machine", "HANDLES"),
+    "small trace": ("a part of a trace that has the same verdict", "tools/explaining/small.py"),
 }
 
 # The folders whose scripts are listed by name, and what their files may end with; one without an ending is listed where its first
@@ -191,23 +169,20 @@ def sources(crate: Path) -> list[Path]:
             *(path for path in code if is_of_tests(path))]
 
 
-def row_of_word(word: str, crate: str, names: list[str], rows: dict[str, list]) -> str:
-    """The word, and where each of its names stands; a name that no file of the crate has is a fault of this script."""
-    places = []
-    for name in names:
-        files = [path for path, found in rows[crate] if name in found]
-        if not files:
-            raise SystemExit(f"names.py: {crate} has no {name}")
-        places.append(f"`{name}` in `{files[0].relative_to(ROOT)}`")
-    return f"- {word}: {', '.join(places)}"
+def row_of_word(word: str, meaning: str, crate: str, names: list[str], rows: dict[str, list]) -> str:
+    """The word, its meaning and its names; a name that no file of the crate has is a fault of this script."""
+    missing = [name for name in names if not any(name in found for _, found in rows[crate])]
+    if missing:
+        raise SystemExit(f"names.py: {crate} has no {' '.join(missing)}")
+    return f"| {word} | {meaning} | {', '.join(f'`{name}`' for name in names)} (`{crate}`) |"
 
 
-def row_of_files(word: str, paths: list[str]) -> str:
-    """The word, and its files or folders; one that is not there is a fault of this script."""
+def row_of_files(word: str, meaning: str, paths: list[str]) -> str:
+    """The word, its meaning, and its files or folders; one that is not there is a fault of this script."""
     missing = [path for path in paths if not any(ROOT.glob(path))]
     if missing:
         raise SystemExit(f"names.py: there is no {' '.join(missing)}")
-    return f"- {word}: {', '.join(f'`{path}`' for path in paths)}"
+    return f"| {word} | {meaning} | {', '.join(f'`{path}`' for path in paths)} |"
 
 
 def row_of_crate(crate: Path) -> str:
@@ -241,24 +216,43 @@ def row_of_scripts(folder: str) -> str:
     return f"- scripts in `{folder}/`: {', '.join(f'`{name}`' for name in scripts)}"
 
 
+def crate_folders() -> list[Path]:
+    return sorted(path for path in (ROOT / "crates").iterdir() if (path / "src").is_dir())
+
+
 def page() -> str:
-    crates = sorted(path for path in (ROOT / "crates").iterdir() if path.is_dir())
-    rows = {crate.name: [(path, names_in(path)) for path in sources(crate)] for crate in crates}
-    lines = [HEAD, *(row_of_word(word, crate, names.split(), rows) for word, (crate, names) in WORDS.items()),
-             *(row_of_files(word, paths.split()) for word, paths in FILES.items()), "",
-             "## Crates and files\n", *(row_of_crate(crate) for crate in crates), row_of_tools(),
-             *(row_of_scripts(folder) for folder in SCRIPTS.split()), ""]
-    for crate, files in rows.items():
-        listed = [f"- `{path.relative_to(ROOT)}`: {', '.join(f'`{name}`' for name in names)}" for path, names in files if names]
-        if listed:
-            lines += [f"## {crate}\n", *listed, ""]
+    rows = {crate.name: [(path, names_in(path)) for path in sources(crate)] for crate in crate_folders()}
+    lines = [*(row_of_word(word, meaning, crate, names.split(), rows) for word, (meaning, crate, names) in WORDS.items()),
+             *(row_of_files(word, meaning, paths.split()) for word, (meaning, paths) in FILES.items()), ""]
+    return HEAD + "\n".join(lines)
+
+
+def listed() -> str:
+    """Where each name stands, crate by crate, and the scripts by folder."""
+    crates = crate_folders()
+    lines = [*(row_of_crate(crate) for crate in crates), row_of_tools(), *(row_of_scripts(folder) for folder in SCRIPTS.split())]
+    lines += [f"- `{path.relative_to(ROOT)}`: {', '.join(f'`{name}`' for name in names)}"
+              for crate in crates for path in sources(crate) if (names := names_in(path))]
     return "\n".join(lines)
+
+
+def found(word: str) -> list[str]:
+    """The files that have a name, or a method or variant of it."""
+    return [f"{path.relative_to(ROOT)}: {name}" for crate in crate_folders() for path in sources(crate) for name in names_in(path)
+            if word in (name, name.split("::")[-1])]
 
 
 def main() -> int:
     if sys.argv[1:] == ["--write"]:
         PAGE.write_text(page(), encoding="utf-8")
         return 0
+    if sys.argv[1:] == ["--list"]:
+        print(listed())
+        return 0
+    if sys.argv[1:]:
+        places = found(sys.argv[1])
+        print("\n".join(places) if places else f"names.py: no name is {sys.argv[1]}")
+        return 0 if places else 1
     if PAGE.read_text(encoding="utf-8") == page():
         print("1 passed, 0 failed")
         return 0

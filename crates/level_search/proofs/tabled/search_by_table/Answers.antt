@@ -142,7 +142,7 @@ returns-then-bound-level-2-clause-looks g c =
     let at = c.loop-level.invariant.at in
     let missed = c.if-closes.ensures.missed refl in
     let last = c.best-bound.ensures.answer in
-    let P : Sets × ℕ → Type 0 = λ z. HasLooked n (lists_of v) c.args.element (g.B.BoundSource.last c.best-bound.new.source) z.0 None c.args.looked.now z.1 in
+    let P : Sets × ℕ → Type 0 = λ z. HasLooked n (lists_of v) c.args.element (g.B.BoundSource.last c.best-bound.new.self) z.0 None c.args.looked.now z.1 in
     elim c.then-bound-level-2.branch [
       | then-bound-level-2-via-then-bound-level-2 w ↦
           let low = w.if-bound-level-2.true in
