@@ -1,4 +1,3 @@
-pub mod Refusals
 pub mod Copies
 pub mod TableWays
 pub mod ExactRows

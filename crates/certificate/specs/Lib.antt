@@ -1,3 +1,2 @@
-pub mod VerdictOf
 pub mod AfterTables
 pub mod ByRows

@@ -11,10 +11,10 @@ ghost use Rattle.specification.specs.Versions.{two};
 ghost use Rattle.order_graph.specs.Covers.{IsCoveredBy};
 ghost use Rattle.certificate_text.specs.CertificateOf.{certificate_of};
 ghost use Rattle.certificate.specs.ByRows.{HasNoRows, HasRows, certificate_with};
-ghost use Rattle.certificate.specs.VerdictOf.{verdict_of};
+ghost use Rattle.verdict.specs.VerdictOf.{verdict_of};
 
 use super::rows::rows_of_layers;
-use super::verdict::Verdict;
+use verdict::Verdict;
 use certificate_text::{Certificate, Layers, Row};
 use contents_check::{Checked, check_in_turn};
 use events::{Memory, Recording};

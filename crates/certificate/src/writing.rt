@@ -8,12 +8,12 @@ ghost use Rattle.specification.specs.Verdict.{IsVerdict};
 ghost use Rattle.specification.specs.Versions.{two};
 ghost use Rattle.order_graph.specs.Covers.{IsCoveredBy};
 ghost use Rattle.certificate.specs.ByRows.{IsTextOfCertificate, certificate_with, joined};
-ghost use Rattle.certificate.specs.VerdictOf.{verdict_of};
+ghost use Rattle.verdict.specs.VerdictOf.{verdict_of};
 
 use super::certifying::{covering_graph, number_with_rows, with_rows};
-use super::judging::{Judged, verdict_and_graph};
+use verdict::{Judged, verdict_and_graph};
 use super::pieces::{push_rows_by, row_maker};
-use super::verdict::Verdict;
+use verdict::Verdict;
 use certificate_text::Version;
 use events::{Memory, Recording};
 use level_search::{Gate, MOST_WORKERS, SearchFault};

@@ -4,7 +4,7 @@ ghost use Rattle.std.specs.Prelude.{◌≡◌, ◌≢◌, true, false, IfOk, IfE
 ghost use Rattle.std.specs.Io.KnownBytes.{IsAtEnd};
 ghost use Rattle.byte_streams.specs.Streams.{IsClosed};
 ghost use Rattle.certificate.specs.ByRows.{joined};
-ghost use Rattle.certificate.specs.VerdictOf.{verdict_of};
+ghost use Rattle.verdict.specs.VerdictOf.{verdict_of};
 ghost use Rattle.finder_cli.specs.Runs.{NamesFirstFault, IsOfRun, status_of};
 ghost use Rattle.finder_cli.specs.Certified.{IsCertificateFor, Certifies, CertifiesFront};
 ghost use Rattle.finder_cli.specs.OutOfMemory.{RunsOut};

@@ -4,7 +4,7 @@ ghost use Rattle.std.specs.Prelude.{◌≡◌, ◌≤◌, true, false, IfOk, IfE
 ghost use Rattle.std.specs.Io.KnownBytes.{Appends, Consumes, IsAtEnd};
 ghost use Rattle.specification.specs.Verdict.{IsVerdict};
 ghost use Rattle.certificate.specs.ByRows.{joined};
-ghost use Rattle.certificate.specs.VerdictOf.{verdict_of};
+ghost use Rattle.verdict.specs.VerdictOf.{verdict_of};
 ghost use Rattle.byte_streams.specs.Streams.{AppendsFront, IsClosed};
 ghost use Rattle.finder_cli.specs.Runs.{IsOfReading, status_of};
 ghost use Rattle.finder_cli.specs.OutOfMemory.{HasBytes};

@@ -2,7 +2,7 @@
 
 ghost use Rattle.std.specs.Prelude.{◌≡◌, ◌≢◌, ◌↔◌, ◌≤◌, true, false, IfOk, IfErr, IfSome, OnOk, IsErrOf};
 ghost use Rattle.std.specs.Io.KnownBytes.{IsAtEnd};
-ghost use Rattle.certificate.specs.VerdictOf.{verdict_of};
+ghost use Rattle.verdict.specs.VerdictOf.{verdict_of};
 ghost use Rattle.byte_streams.specs.Streams.{IsClosed};
 ghost use Rattle.finder_cli.specs.Runs.{report_of, IsReportOn, Reports, ReportsFront, NamesFirstFault};
 ghost use Rattle.finder_cli.specs.Runs.{IsOfRun, IsNoWorkers};

@@ -4,7 +4,7 @@ use Rattle.std.specs.Prelude.{Result, Ok, Err, IfOk, IfErr}
 use mathlib.Core.Logic.{dite}
 use native.Mathlib.Decide.{ℕ_discrete}
 use Rattle.events.specs.History.{History}
-use Rattle.certificate.specs.declared.verdict.Verdict.{Verdict}
+use Rattle.verdict.specs.declared.verdict.Verdict.{Verdict}
 use Rattle.level_search.specs.declared.search_fault.SearchFault.{SearchFault}
 use Rattle.sessions.specs.Prefixes.{HasPrefix}
 use Rattle.sessions.specs.Shown.{ObserverShown, PassShown, Which}

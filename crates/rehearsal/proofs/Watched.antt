@@ -1,6 +1,6 @@
 -- What a watch that was made with an observer says of it.
 use Rattle.std.proofs.Common.{◌≡◌, ◌<◌, ◌≤◌, ◌⊎◌, ◌↔◌, inl, inr, ℕ, List, length, Result, Ok, Err, IfOk, IfErr, IsErrOf, ap, subst, sym, arith}
-use Rattle.certificate.specs.declared.verdict.Verdict.{Verdict}
+use Rattle.verdict.specs.declared.verdict.Verdict.{Verdict}
 use Rattle.level_search.specs.declared.search_fault.SearchFault.{SearchFault}
 use Rattle.level_search.specs.declared.search_fault.SearchFault.TheVariants as search
 use Rattle.sessions.specs.Shown.{ObserverShown, Which}

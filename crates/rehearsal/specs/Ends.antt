@@ -1,7 +1,7 @@
 -- Which fault a rehearsal ends with.
 use Rattle.std.specs.Prelude.{◌≡◌, nat_eq, Some, Result, List, map, length}
 use Rattle.events.specs.History.{History}
-use Rattle.certificate.specs.declared.verdict.Verdict.{Verdict}
+use Rattle.verdict.specs.declared.verdict.Verdict.{Verdict}
 use Rattle.level_search.specs.declared.search_fault.SearchFault.{SearchFault}
 use Rattle.sessions.specs.Prefixes.{HasPrefix}
 use Rattle.sessions.specs.Shown.{Which, PassShown}

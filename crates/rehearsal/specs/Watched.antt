@@ -2,7 +2,7 @@
 use Rattle.std.specs.Prelude.{◌≡◌, ◌≢◌, ℕ, List, [], length, IfOk, IfErr}
 use Rattle.events.specs.History.{History}
 use Rattle.events.specs.declared.recording.Entry.{Entry}
-use Rattle.certificate.specs.declared.verdict.Verdict.{Verdict}
+use Rattle.verdict.specs.declared.verdict.Verdict.{Verdict}
 use Rattle.level_search.specs.declared.search_fault.SearchFault.TheVariants as search
 use Rattle.sessions.specs.Prefixes.{HasPrefix}
 use Rattle.sessions.specs.Shown.{ObserverShown}

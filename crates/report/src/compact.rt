@@ -2,12 +2,12 @@
 
 ghost use Rattle.std.specs.Prelude.{◌≡◌, IfOk, string_bytes};
 ghost use Rattle.serde_json.specs.Written.{compact_text};
-ghost use Rattle.certificate.specs.VerdictOf.{verdict_of};
+ghost use Rattle.verdict.specs.VerdictOf.{verdict_of};
 ghost use Rattle.report.specs.JsonReport.{report_data, report_json};
 
 use super::counts::counts_of;
 use super::object::object_of;
-use certificate::Verdict;
+use verdict::Verdict;
 use events::{Memory, Recording};
 use std::alloc::Global;
 

@@ -6,11 +6,11 @@ ghost use Rattle.specification.specs.Lines.{text_of, names_text};
 ghost use Rattle.specification.specs.ReportText.{fault_lines, report_step, report_text, verdict_lines};
 ghost use Rattle.specification.specs.ReportText.{weak_line};
 ghost use Rattle.specification.specs.Faults as spec;
-ghost use Rattle.certificate.specs.VerdictOf.{verdict_of};
+ghost use Rattle.verdict.specs.VerdictOf.{verdict_of};
 ghost use Rattle.report.specs.Texts.{counts_text, faulty_text, accepted_text, refused_text};
 
 use super::counts::{Counts, counts_of};
-use certificate::{Order, Step, Steps, Verdict};
+use verdict::{Order, Step, Steps, Verdict};
 use events::{Memory, OpName, Recording};
 use format_words::{push_doubled, push_faulty, push_names, push_number, push_order, push_shown};
 use std::alloc::Global;

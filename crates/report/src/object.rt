@@ -3,14 +3,14 @@
 ghost use Rattle.std.specs.Prelude.{◌≡◌, IfOk};
 ghost use Rattle.serde_json.specs.Data.{array};
 ghost use Rattle.serde_json.specs.View.{view};
-ghost use Rattle.certificate.specs.VerdictOf.{verdict_of};
+ghost use Rattle.verdict.specs.VerdictOf.{verdict_of};
 ghost use Rattle.report.specs.JsonReport.{step_json, steps_json};
 ghost use Rattle.report.specs.Objects.{doubled_object, faulty_object, accepted_object, refused_object};
 ghost use Rattle.report.specs.Objects.{step_object, verdict_object};
 
 use super::counts::Counts;
 use super::words::{name_value, operation_value, order_value, returned_value};
-use certificate::{Step, Steps, Verdict};
+use verdict::{Step, Steps, Verdict};
 use events::{Memory, Recording};
 use serde_json::{Value, json};
 use std::alloc::{AllocError, Global};

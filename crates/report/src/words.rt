@@ -6,7 +6,7 @@ ghost use Rattle.serde_json.specs.View.{view};
 ghost use Rattle.events.specs.Operations.{response};
 ghost use Rattle.report.specs.JsonReport.{operation_json, names_json};
 
-use certificate::Order;
+use verdict::Order;
 use events::{Memory, Name, OpName, Recording, Response};
 use serde_json::Value;
 use std::alloc::Global;

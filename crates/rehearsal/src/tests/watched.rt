@@ -1,6 +1,6 @@
 //! That the watcher judges what the recorders record, while they do.
 use crate::rehearsing::rehearse_watched;
-use certificate::Verdict;
+use verdict::Verdict;
 use events::{Body, Entry, Name, Recording, Response};
 use level_search::NoGate;
 use std::alloc::Global;

@@ -5,7 +5,7 @@ use super::observing::judged;
 use super::replayed::record_copy;
 use super::{opened, three_way};
 use crate::{Pass, SearchFault, Session, Verdict, Verdicts};
-use certificate::Order;
+use verdict::Order;
 use events::Recording;
 use std::ops::Range;
 use std::sync::Wait;

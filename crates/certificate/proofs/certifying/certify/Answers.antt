@@ -3,7 +3,7 @@ use Rattle.std.proofs.lemmas.Result.{IfOk-weaker}
 use Rattle.specification.specs.Versions.{two}
 use Rattle.certificate_text.specs.CertificateOf.{certificate_of}
 use Rattle.certificate_text.proofs.VerdictCertificates.{certificates_are_valid}
-use Rattle.certificate.specs.VerdictOf.{verdict_of}
+use Rattle.verdict.specs.VerdictOf.{verdict_of}
 use Rattle.certificate.proofs.certifying.certify.Goals as goal
 
 pub returns-clause-valid : goal.returns-clause-valid

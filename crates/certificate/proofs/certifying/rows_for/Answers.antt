@@ -6,7 +6,7 @@ use Rattle.specification.specs.Responses.{responses_of}
 use Rattle.specification.specs.Verdict.{Verdict}
 use Rattle.specification.specs.Versions.{two}
 use Rattle.certificate.specs.ByRows.{certificate_with}
-use Rattle.certificate.specs.VerdictOf.{verdict_of}
+use Rattle.verdict.specs.VerdictOf.{verdict_of}
 use Rattle.certificate.proofs.ByRows.{with_exact_rows, without_rows}
 use Rattle.certificate.proofs.CoveredRows.{covered-rows}
 use Rattle.certificate.proofs.certifying.rows_for.Goals as goal

@@ -5,7 +5,7 @@ use Rattle.specification.specs.Verdict.{Verdict}
 use Rattle.specification.specs.Versions.{two}
 use Rattle.certificate_text.specs.CertificateOf.{certificate_of}
 use Rattle.certificate.specs.ByRows.{certificate_with}
-use Rattle.certificate.specs.VerdictOf.{verdict_of}
+use Rattle.verdict.specs.VerdictOf.{verdict_of}
 use Rattle.certificate.proofs.ByRows.{spellable_without_rows}
 use Rattle.certificate.proofs.writing.text_without_rows.Goals as goal
 

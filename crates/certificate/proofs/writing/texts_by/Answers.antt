@@ -1,6 +1,6 @@
 use Rattle.std.proofs.Common.{◌≡◌, ◌∙◌}
 use Rattle.certificate.specs.ByRows.{joined}
-use Rattle.certificate.specs.VerdictOf.{verdict_of}
+use Rattle.verdict.specs.VerdictOf.{verdict_of}
 use Rattle.certificate.proofs.ByRows.{is_text_with, is_text_without}
 use Rattle.certificate.proofs.RowLines.{joined_one}
 use Rattle.certificate.proofs.writing.texts_by.Goals as goal

@@ -1,7 +1,7 @@
 use Rattle.std.proofs.Common.{subst}
 use Rattle.specification.specs.Responses.{Responses}
 use Rattle.certificate.specs.ByRows.{AppendsRows}
-use Rattle.certificate.specs.VerdictOf.{verdict_of}
+use Rattle.verdict.specs.VerdictOf.{verdict_of}
 use Rattle.certificate.proofs.ByRows.{is_text_with, is_text_without}
 use Rattle.certificate.proofs.writing.write_certificate.Goals as goal
 

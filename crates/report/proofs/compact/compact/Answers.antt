@@ -4,7 +4,7 @@ use Rattle.serde_json.specs.View.{view}
 use Rattle.serde_json.specs.Written.{compact_text, has_float}
 use Rattle.events.specs.History.{History}
 use Rattle.specification.specs.Verdict.{Verdict}
-use Rattle.certificate.specs.VerdictOf.{verdict_of}
+use Rattle.verdict.specs.VerdictOf.{verdict_of}
 use Rattle.report.specs.JsonReport.{report_data}
 use Rattle.report.proofs.Listed.{report-plain, counted}
 use Rattle.report.proofs.compact.compact.Goals as goal

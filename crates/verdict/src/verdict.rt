@@ -27,7 +27,7 @@ impl Verdict {
     ghost use Rattle.std.specs.Prelude.{◌≡◌};
     ghost use Rattle.specification.specs.Verdict.{faulty};
     ghost use Rattle.contents_check.specs.FaultOf.{fault_of};
-    ghost use Rattle.certificate.specs.VerdictOf.{verdict_of};
+    ghost use Rattle.verdict.specs.VerdictOf.{verdict_of};
 
     /// The verdict that a recording has this first fault.
     pub fn of_fault(fault: Fault) -> Verdict

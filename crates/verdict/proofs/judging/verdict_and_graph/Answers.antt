@@ -2,7 +2,7 @@ use Rattle.std.proofs.Common.{subst}
 use Rattle.std.specs.Prelude.{MatchOption}
 use Rattle.specification.specs.Orders.{HasNoOrder, IsLeastOrder}
 use Rattle.specification.specs.Responses.{Responses}
-use Rattle.certificate.proofs.judging.verdict_and_graph.Goals as goal
+use Rattle.verdict.proofs.judging.verdict_and_graph.Goals as goal
 
 pub accepted-requires-clause-least : goal.accepted-requires-clause-least
 accepted-requires-clause-least g c =

@@ -2,8 +2,8 @@
 use Rattle.std.proofs.Common.{subst}
 use Rattle.level_search.specs.Conflicts.{IsLeastConflict}
 use Rattle.specification.proofs.SoundResponses.{sound_responses_are_proper}
-use Rattle.certificate.proofs.Refusals.{refusal-covers, some_conflict}
-use Rattle.certificate.proofs.judging.refused.Goals as goal
+use Rattle.verdict.proofs.Refusals.{refusal-covers, some_conflict}
+use Rattle.verdict.proofs.judging.refused.Goals as goal
 
 pub unreachable-requires : goal.unreachable-requires
 unreachable-requires c = some_conflict c.args.graph.now c.elements.ensures.proper c.requires.disordered (subst (IsLeastConflict c.args.graph.now) c.in-None.is c.requires.found)

@@ -1,8 +1,8 @@
 -- The public verdicts as the definitions' verdicts.
 use Rattle.specification.specs.Faults as fault
 use Rattle.specification.specs.Verdict as spec
-use Rattle.certificate.specs.declared.verdict.Verdict.{Verdict}
-use Rattle.certificate.specs.declared.verdict.Verdict.TheVariants.{Doubled, Contents, Position, Accepted, Refused}
+use Rattle.verdict.specs.declared.verdict.Verdict.{Verdict}
+use Rattle.verdict.specs.declared.verdict.Verdict.TheVariants.{Doubled, Contents, Position, Accepted, Refused}
 
 abbrev pub verdict_of : Verdict → spec.Verdict
 verdict_of (Doubled first again) = spec.faulty (fault.doubled first again)

@@ -1,8 +1,8 @@
 -- What the verdict says of the specifications, and what it proves of itself, follows from its being the verdict.
 use Rattle.specification.proofs.VerdictsDecide.{verdicts_decide}
 use Rattle.specification.proofs.VerdictsProveThemselves.{verdicts_prove_themselves}
-use Rattle.certificate.specs.VerdictOf.{verdict_of}
-use Rattle.certificate.proofs.judging.judge.Goals as goal
+use Rattle.verdict.specs.VerdictOf.{verdict_of}
+use Rattle.verdict.proofs.judging.judge.Goals as goal
 
 pub returns-clause-specifications : goal.returns-clause-specifications
 returns-clause-specifications g c =

@@ -7,7 +7,7 @@ ghost use Rattle.specification.specs.Responses.{responses_of};
 ghost use Rattle.specification.specs.Verdict.{IsVerdict, DecidesSpecifications, ProvesItself};
 ghost use Rattle.order_graph.specs.Covers.{IsCoveredBy};
 ghost use Rattle.level_search.specs.Conflicts.{IsLeastConflict};
-ghost use Rattle.certificate.specs.VerdictOf.{verdict_of};
+ghost use Rattle.verdict.specs.VerdictOf.{verdict_of};
 
 use super::verdict::Verdict;
 use contents_check::{Checked, check};

@@ -1,0 +1,13 @@
+//! The verdict on a recording.
+//!
+//! `judge` looks for the first fault, then for the least order that every response follows, and only where
+//! there is none for the conflict number and the least cycle.
+#![tactic(auto)]
+
+mod judging;
+mod verdict;
+
+pub use judging::{Judged, judge, verdict_and_graph};
+pub use level_search::{Gate, NoGate, SearchFault};
+pub use verdict::Verdict;
+pub use witnesses::{Order, Step, Steps};
