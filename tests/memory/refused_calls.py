@@ -6,8 +6,13 @@ refused, then with its second, and so on until a run meets no refusal; a test th
 told otherwise, is cut short, and fails. A call that only an engine of the program has is tried by the program's command, on three
 vectors. A test passes where its calls answer out of memory, or what they must, and again what they must when memory is there. The
 table of calls is printed, and with --write it is put into docs/testing.md, where nothing failed. A call without a line there fails, and so does one
-whose test is gone. It needs what `rt ci` has built in this repository, and a C compiler (`cc`); it is no part of the gate."""
+whose test is gone.
+
+Such a call is a public function of a crate's surface, or a method of a type of it, whose answer has a place for out of memory: the
+sources are asked which they are. Those that never give it are named below, with what says so. It needs what `rt ci` has built in
+this repository, and a C compiler (`cc`); it is no part of the gate."""
 import argparse
+import re
 import sys
 import tempfile
 from concurrent.futures import ThreadPoolExecutor
@@ -25,25 +30,45 @@ BEGIN, END = "<!-- refused memory: made by tests/memory/refused_calls.py -->", "
 VECTORS = [ROOT / "tests" / "vectors" / f"{name}.trace" for name in ("all-three-way-cycle", "all-opposite-pair", "all-contents")]
 MOST = 20_000
 
-# Every call that can answer out of memory, by its name in docs/names.md; the list is kept by hand.
-CALLS = """Response::push, Response::push_names, Recording::new, Recording::record, Recording::copy, trace_text::read,
-trace_text::write, Reader::feed, Sight::of, first_fault, contents_check::check, check_in_turn, Covering::add,
-Covering::append, Rows::push_row, AfterTable::note_included, BitSet::outside_from, OrderGraph::of, Scratch::new, Bound::new,
-conflict_number, least_cycle, least_conflict, judge, report::text, report::json, OrderGraph::narrowed, taken, order, certify,
-write_certificate, judge_and_write, Certificate::write, certificate_text::push_row, Certificate::read, cert_check::check,
-check_recording, Session::open, Session::record, snapshot, watch_snapshot, watch, replay, replay_with, Registry::add,
-Registry::names, rehearse, run, run_cert, run_verify, live, read_words"""
+# The calls of the program alone, which are no crate's surface; the list is kept by hand.
+ENGINES = ("run", "run_cert", "run_verify", "live")
+# The calls whose answer has a place for out of memory that they never give, and how that is known.
+NEVER = {
+    "Recording::room": "takes no memory, and its clause tells the answer, memory apart",
+    "Outline::read": "takes no memory, and its clause `memory` says so",
+}
+# Crates whose calls are made by tests alone.
+OF_TESTS = ("sample_recordings",)
 
 # By call: the crate and its tests, or the program's command.
 TESTS = {
     "Response::push": ("events", "responses_are_lists"),
     "Response::push_names": ("events", "names_of_texts_are_put", "at_most_64_names_are_put_at_once"),
+    "Response::push_run": ("events", "texts_go_on_with_names"),
+    "Response::push_bytes": ("events", "responses_are_put_together_from_bytes"),
+    "Response::with_room": ("events", "responses_are_put_together_from_bytes"),
+    "Response::copy": ("events", "responses_are_copied"),
+    "Body::copy": ("events", "copies_are_equal_and_go_on_alone"),
+    "Entry::copy": ("events", "copies_are_equal_and_go_on_alone"),
     "Recording::new": ("events", "a_recording_has_one_to_sixteen_replicas"),
     "Recording::record": ("events", "entries_are_taken_or_refused", "a_refused_entry_is_handed_back"),
     "Recording::copy": ("events", "a_full_recording_is_copied", "copies_are_equal_and_go_on_alone"),
+    "Recording::operations": ("contents_check", "one_thread_finds_the_same_fault"),
+    "format_words::push_number": ("format_words", "words_stand_behind_each_other"),
+    "format_words::push_operation": ("format_words", "words_stand_behind_each_other"),
+    "format_words::push_name": ("format_words", "words_stand_behind_each_other"),
+    "format_words::push_names": ("format_words", "words_stand_behind_each_other"),
+    "format_words::names": ("format_words", "names_are_read_to_the_end"),
+    "format_words::response": ("format_words", "a_response_is_read_to_the_end", "a_long_response_is_read_along_another"),
+    "push_list": ("certificate_text", "certificates_are_read_and_written_again"),
+    "push_faulty": ("certificate_text", "certificates_are_read_and_written_again"),
+    "push_order": ("certificate_text", "certificates_are_read_and_written_again"),
+    "push_doubled": ("certificate_text", "certificates_are_read_and_written_again"),
+    "push_shown": ("certificate_text", "certificates_are_read_and_written_again"),
     "trace_text::read": ("trace_text", "a_text_gives_its_entries", "plain_texts_are_read_and_written_again"),
     "trace_text::write": ("trace_text", "plain_texts_are_read_and_written_again", "views_are_read_and_written_again"),
     "Reader::feed": ("trace_text", "a_text_in_two_pieces", "faults_of_texts_in_pieces"),
+    "Reader::end": ("trace_text", "texts_byte_by_byte"),
     "Sight::of": ("visibility", "a_chain_of_receipts_is_seen", "a_receipt_tells_what_comes_after_it"),
     "first_fault": ("contents_check", "contents_are_those_that_are_visible", "doubled_names_come_first"),
     "contents_check::check": ("contents_check", "sound_recordings_have_no_fault", "inserts_stand_where_they_were_asked_for"),
@@ -51,20 +76,36 @@ TESTS = {
     "Covering::add": ("contents_check", "one_thread_finds_the_same_fault"),
     "Covering::append": ("contents_check", "sound_recordings_have_no_fault"),
     "Rows::push_row": ("contents_check", "one_thread_finds_the_same_fault"),
-    "AfterTable::note_included": ("bit_tables", "rows_that_the_row_before_has"),
+    "Rows::end_row": ("order_graph", "an_element_that_no_response_shows", "two_none_and_all_of_the_ring_of_four"),
+    "inserted_names": ("order_graph", "steps_of_worked_recordings"),
+    "numbers_of": ("order_graph", "steps_of_worked_recordings"),
+    "places_of": ("order_graph", "steps_of_worked_recordings"),
+    "BitSet::new": ("bit_tables", "unions_and_subsets"),
+    "BitSet::outside": ("bit_tables", "the_numbers_that_another_set_lacks"),
     "BitSet::outside_from": ("bit_tables", "layers_of_numbers"),
+    "empty_lists": ("bit_tables", "the_rule_from_a_number_on"),
+    "empty_rows": ("bit_tables", "what_stands_after_what"),
+    "Noter::new": ("bit_tables", "what_stands_after_what"),
+    "AfterTable::new": ("bit_tables", "what_stands_after_what"),
+    "AfterTable::add": ("bit_tables", "lists_beside_the_one_before"),
+    "AfterTable::note_included": ("bit_tables", "rows_that_the_row_before_has"),
+    "are_deep": ("bit_tables", "the_rule_from_a_number_on", "depths_that_lie_far_apart"),
+    "bit_tables::meets_rule": ("bit_tables", "the_rule_from_a_number_on"),
+    "layers_from": ("bit_tables", "layers_of_numbers"),
     "OrderGraph::of": ("order_graph", "steps_of_worked_recordings", "marks_of_the_ring_of_four"),
+    "ShownTable::of": ("level_search", "rows_that_a_search_of_the_ring_of_four_looks_at"),
+    "Sets::new": ("level_search", "rows_that_a_search_of_the_ring_of_four_looks_at"),
     "Scratch::new": ("level_search", "a_scratch_fits_its_graph_alone"),
     "Bound::new": ("shared_bound", "two_seats_share_three_sources"),
     "conflict_number": ("level_search", "worked_recordings_for_any_number_of_workers"),
     "least_cycle": ("level_search", "steps_of_worked_recordings"),
     "least_conflict": ("level_search", "conflicts_of_worked_recordings"),
-    "judge": ("certificate", "verdicts_of_worked_recordings", "any_number_of_workers"),
+    "certificate::judge": ("certificate", "verdicts_of_worked_recordings", "any_number_of_workers"),
     "report::text": ("finder_cli", "worked_recordings"),
     "report::json": ("finder_cli", "reports_as_json"),
     "OrderGraph::narrowed": ("order_graph", "two_none_and_all_of_the_ring_of_four"),
-    "taken": ("witness_order", "neither_a_cycle_nor_what_stands_after_it_is_taken"),
-    "order": ("witness_order", "the_least_of_several_orders"),
+    "witness_order::taken": ("witness_order", "neither_a_cycle_nor_what_stands_after_it_is_taken"),
+    "witness_order::order": ("witness_order", "the_least_of_several_orders"),
     "certify": ("certificate", "certificates_of_worked_recordings"),
     "write_certificate": ("certificate", "certificates_written_row_by_row"),
     "judge_and_write": ("certificate", "certificates_with_their_verdicts"),
@@ -87,8 +128,20 @@ TESTS = {
     "run_cert": ("program", "cert"),
     "run_verify": ("program", "verify"),
     "live": ("program", "live"),
+    "Source::whole": ("program", "verify"),
+    "Word::new": ("command_line", "words_of_a_command_line"),
     "read_words": ("command_line", "words_of_a_command_line", "words_of_certificates"),
 }
+
+
+FUNCTION = re.compile(r"( *)pub fn (\w+)")
+IMPL = re.compile(r"impl(?:<.*?>)? (?:[\w:]+(?:<.*>)? for )?(\w+)")
+TYPE = re.compile(r"^(?:pub )?(?:enum|struct) (\w+)[^;{(]*(?:\{\n(.*?)^\}|\((.*?)\);)", re.MULTILINE | re.DOTALL)
+USE = re.compile(r"^pub use ([^;]*);", re.MULTILINE)
+# What ends the head of a function.
+BODY = re.compile(r"\s*(?:requires|ensures|ghost|//|\{)")
+# The type of an answer's error: what stands behind the last comma outside of brackets.
+ERROR = re.compile(r"-> Result<.*, ([^,<>()]+)>")
 
 
 class Line(NamedTuple):
@@ -103,8 +156,73 @@ class Line(NamedTuple):
         return f"| `{self.call}` | `{self.test}` | {self.refused:,} | {self.seen} |"
 
 
-def names_of(calls: str) -> list:
-    return [call.strip() for call in calls.replace("\n", " ").split(",")]
+def words_in(text: str) -> set:
+    return set(re.findall(r"\w+", text))
+
+
+def code_of(crate: Path) -> list[Path]:
+    """The files of a crate's code, without its tests."""
+    return [path for path in sorted(crate.glob("src/**/*.rt")) if "tests" not in (*path.parts[len(ROOT.parts):], path.stem)]
+
+
+def memory_types() -> set:
+    """The types that have a place for out of memory: some part of them is `Memory`, or of such a type."""
+    parts = {}
+    for crate in (ROOT / "crates").iterdir():
+        for path in code_of(crate):
+            for name, body, tuple_body in TYPE.findall(path.read_text()):
+                parts.setdefault(name, set()).update(words_in(re.sub(r"//.*", "", body + tuple_body)))
+    found = {"Memory", "AllocError"}
+    while more := {name for name, words in parts.items() if name not in found and words & found}:
+        found |= more
+    return found
+
+
+def calls_in(path: Path, shown: set, types: set):
+    """The calls of a file that are of the surface and may be out of memory, a method with its type."""
+    owner, lines = "", path.read_text().splitlines()
+    for place, line in enumerate(lines):
+        if line.startswith("}"):
+            owner = ""
+        elif impl := IMPL.match(line):
+            owner = impl[1]
+        elif function := FUNCTION.match(line):
+            head = line
+            for more in lines[place + 1:]:
+                if "{" in head or BODY.match(more):
+                    break
+                head += " " + more.strip()
+            error = ERROR.search(head)
+            is_shown = owner in shown if function[1] else function[2] in shown or path.stem == "lib"
+            if is_shown and error and words_in(error[1]) & types:
+                yield f"{owner}::{function[2]}" if function[1] else function[2]
+
+
+def surface() -> list[str]:
+    """The calls of all crates that may be out of memory, each with its crate before it."""
+    types, calls = memory_types(), []
+    for root in sorted((ROOT / "crates").glob("*/src/lib.rt")):
+        crate = root.parent.parent
+        shown = words_in(" ".join(USE.findall(root.read_text())))
+        if crate.name not in OF_TESTS:
+            calls += [f"{crate.name}::{call}" for path in code_of(crate) for call in calls_in(path, shown, types)]
+    return calls
+
+
+def named(name: str, calls: list[str]) -> list[str]:
+    """The calls that a name stands for, which may leave out their crate and their type."""
+    return [call for call in calls if f"::{call}".endswith(f"::{name}")]
+
+
+def check_names(tally: Tally) -> None:
+    """Each call of the surface has one name in the lists here, and each name stands for one call."""
+    calls, names = surface(), [name for name in (*TESTS, *NEVER) if name not in ENGINES]
+    for call in calls:
+        tally.check(f"{call} has a test, or a reason to have none", sum(call in named(name, [call]) for name in names) == 1)
+    for name in names:
+        tally.check(f"{name} is a call of the surface", len(named(name, calls)) == 1, named(name, calls))
+    for name in ENGINES:
+        tally.check(f"{name} has a test", name in TESTS)
 
 
 def refuse_in_test(tally: Tally, call: str, test: Test, name: str, most: int) -> Line:
@@ -151,9 +269,7 @@ def line_of(tally: Tally, library: str, folder: str, program: str, most: int, ca
 
 def lines(tally: Tally, library: str, folder: str, given: argparse.Namespace, program: str) -> list[Line]:
     """A line for each call and test, so many of them at a time as were asked for."""
-    for call in names_of(CALLS):
-        tally.check(f"{call} has a test", len(TESTS.get(call, ())) > 1)
-    pairs = [(call, crate, name) for call in names_of(CALLS) for crate, *names in [TESTS.get(call, ("",))] for name in names]
+    pairs = [(call, crate, name) for call, (crate, *names) in TESTS.items() for name in names]
     made = []
     with ThreadPoolExecutor(given.processes) as asking:
         for line in asking.map(lambda pair: line_of(tally, library, folder, program, given.most, *pair), pairs):
@@ -178,9 +294,10 @@ def main() -> None:
     given = words.parse_args()
     program = program_of([sys.argv[0], given.program])
     tally = Tally()
+    check_names(tally)
     with tempfile.TemporaryDirectory() as folder:
         made = lines(tally, shim(folder), folder, given, program)
-    missing = set(names_of(CALLS)) - {one.call for one in made}
+    missing = set(TESTS) - {one.call for one in made}
     tally.check("each call has a line", not missing, missing)
     if given.write and not tally.failed:
         put("\n".join(["| call | test | requests refused | seen |", "|---|---|---|---|", *(one.text() for one in made), ""]))
