@@ -214,7 +214,7 @@ impl OrderGraph {
     }
 
     /// How many spots an element has; 0 past the last element. Where spots are not listed it goes through all places
-    /// for each of them.
+    /// once.
     pub fn spots(&self, x: u32) -> u32
         ensures { result ≡ length (spots_of (lists_of self.now) x) }
     {
@@ -237,7 +237,7 @@ impl OrderGraph {
 
     /// The least operation whose response shows element a before element b; none where no response does.
     /// It reads the places after each spot of a, at most those of all responses together. Where spots are not
-    /// listed it reads all places twice more for each spot.
+    /// listed it reads all places once more, and again for each spot.
     pub fn before(&self, a: u32, b: u32) -> Option<OpName>
         ensures { IsLeastShowing self.now a b result }
     {
