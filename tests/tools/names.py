@@ -70,7 +70,7 @@ WORDS = {
     "step line, of the report and of a certificate": ("specification", "report_step step_line"),
     "report as JSON": ("report", "report_json json"),
     "135,398 bytes kept of a line": ("trace_text", "IsKeptOf KeptLine"),
-    "kept responses, covering responses": ("contents_check", "AreCovering Covering"),
+    "kept responses, covering responses": ("element_numbers", "AreCovering Covering"),
     "core": ("level_search", "IsCoreOf Core"),
     "worker, seat": ("shared_bound", "Seat Bound"),
     "gate round a search": ("level_search", "Gate"),

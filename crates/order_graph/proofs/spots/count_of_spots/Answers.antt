@@ -19,7 +19,10 @@ one-more places l x count more here within is counted found =
     let rows : List (List ℕ) = rows_of places in
     let lists : l < length rows = omega (arith, within, length-cut 0 places.ends.items places.items.items) in
     omega (
-      arith, counted, found, ap (λ (r : List ℕ). length (spots_in l 0 r x)) is,
+      arith,
+      counted,
+      found,
+      ap (λ (r : List ℕ). length (spots_in l 0 r x)) is,
       length-append (spots_from 0 (take l rows) x) (spots_in l 0 (row rows l) x),
       ap (λ (s : List Spot). length s) (one_more_list rows l x lists),
     )
@@ -33,8 +36,10 @@ overflow_add-count c =
     let l : ℕ = c.loop-list.list in
     let x : ℕ = c.args.x in
     omega (
-      arith, one-more t l x c.loop-list.count c.count_in-count.result c.row.result.now (omega (arith, c.loop-list-test.true, c.len-list-end.ensures)) c.row.ensures c.loop-list.invariant (c.count_in-count.ensures l),
-      front-few (rows_of t) (l + 1) x, c.requires.count,
+      arith,
+      one-more t l x c.loop-list.count c.count_in-count.result c.row.result.now (omega (arith, c.loop-list-test.true, c.len-list-end.ensures)) c.row.ensures c.loop-list.invariant (c.count_in-count.ensures l),
+      front-few (rows_of t) (l + 1) x,
+      c.requires.count,
     )
 
 pub loop-list-preserved : goal.loop-list-preserved
