@@ -72,7 +72,7 @@ WORDS = {
     "kept of a line": ("at most 135,398 bytes of one that a piece cuts", "trace_text", "IsKeptOf KeptLine"),
     "report": ("what `verdict` and `live` print", "specification", "report_text report_step"),
     "report as JSON": ("the same with `--json`", "report", "report_json json"),
-    "covering responses": ("those that are kept: each other is a subsequence of one", "contents_check", "AreCovering Covering"),
+    "covering responses": ("those that are kept: each other is a subsequence of one", "element_numbers", "AreCovering Covering"),
     "core": ("the elements through which cycles may lead", "level_search", "IsCoreOf Core"),
     "source": ("an element that a search starts from", "level_search", "MeetsCycles"),
     "look, step of a search": ("a look at an element's row of the table", "level_search", "IsCountOf HasLooked"),

@@ -2,7 +2,7 @@
 use Rattle.std.proofs.Common.{inl, inr, List, [], ◌∷◌, ◌∙◌, sym, subst}
 use Rattle.specification.proofs.Members.{In}
 use Rattle.specification.proofs.OperationNames.{Rising}
-use Rattle.contents_check.specs.Covering.{IsPart}
+use Rattle.element_numbers.specs.Covering.{IsPart}
 
 module _ {X : Type 0} where
   pub In-part : (x : X) (xs ys : List X) → IsPart xs ys → In x xs → In x ys

@@ -10,7 +10,7 @@ use Rattle.specification.specs.Elements.{elements, number_in, numbers_in}
 use Rattle.specification.specs.Members.{Once}
 use Rattle.specification.specs.Versions.{Version, one, two}
 use Rattle.element_numbers.specs.Cuts.{rows_of, IsCut}
-use Rattle.contents_check.specs.Covering.{AreCovering}
+use Rattle.element_numbers.specs.Covering.{AreCovering}
 use Rattle.cert_check.specs.Values.{IsGradualFrom, IsDeepFrom}
 use Rattle.cert_check.specs.declared.numbered.Numbered.{Numbered}
 

@@ -9,7 +9,7 @@ ghost use Rattle.specification.specs.LayerRule.{Row};
 ghost use Rattle.specification.specs.Lines.{text_of};
 ghost use Rattle.specification.specs.CertificateText.{gives_cycle, row_line, step_line, IsSpellable};
 ghost use Rattle.certificate_text.specs.CertificateOf.{version_in};
-ghost use Rattle.contents_check.specs.Covering.{IsNumbered};
+ghost use Rattle.element_numbers.specs.Covering.{IsNumbered};
 ghost use Rattle.cert_check.specs.Judged.{IsJudged};
 
 use super::answer::{Answer, Kind, Reason};
@@ -17,6 +17,7 @@ use super::numbered::Numbered;
 use super::rows::rows_fault;
 use super::steps::first_wrong_step;
 use certificate_text::Version;
+use element_numbers::NumberedElements;
 use events::{Memory, Recording};
 use std::alloc::Global;
 
@@ -26,7 +27,7 @@ use std::alloc::Global;
 pub fn judge_cycle(
     alloc: Global,
     recording: &Recording,
-    found: contents_check::Numbered,
+    found: NumberedElements,
     version: Version,
     k: u32,
     steps: &[u8],

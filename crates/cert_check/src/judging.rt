@@ -7,7 +7,7 @@ ghost use Rattle.specification.specs.Faults.{IsSound};
 ghost use Rattle.specification.specs.CertificateText.{Certificate, IsSpellable};
 ghost use Rattle.certificate_text.specs.CertificateOf.{version_in};
 ghost use Rattle.certificate_text.specs.Outlines.{Outlines};
-ghost use Rattle.contents_check.specs.Covering.{IsNumbered};
+ghost use Rattle.element_numbers.specs.Covering.{IsNumbered};
 ghost use Rattle.cert_check.specs.Judged.{IsJudged};
 
 use super::answer::{Answer, Reason};
@@ -16,6 +16,7 @@ use super::faults::judge_fault;
 use super::order::judge_order;
 use certificate_text::{Outline, Version};
 use contents_check::{Checked, check};
+use element_numbers::NumberedElements;
 use events::{Memory, Recording};
 use std::alloc::Global;
 use std::thread::Threads;
@@ -45,7 +46,7 @@ pub fn judge<H: Threads + Sync>(
 fn judge_sound(
     alloc: Global,
     recording: &Recording,
-    found: contents_check::Numbered,
+    found: NumberedElements,
     version: Version,
     outline: &Outline<'_>,
 ) -> Result<Answer, Memory>

@@ -2,8 +2,7 @@
 
 use super::row_depths::RowDepths;
 use super::values::is_rising;
-use contents_check::Covering;
-use element_numbers::{NameNumbers, Rows};
+use element_numbers::{Covering, NameNumbers, NumberedElements, Rows};
 use events::{Memory, Name, OpName, Recording};
 use format_words::{name_of, next_word};
 use std::alloc::Global;
@@ -38,7 +37,7 @@ ghost use Rattle.specification.specs.Faults.{IsSound};
 ghost use Rattle.bit_tables.specs.Rule.{HaveDepths};
 ghost use Rattle.format_words.specs.Words.{words_behind};
 ghost use Rattle.element_numbers.specs.Cuts.{IsCut};
-ghost use Rattle.contents_check.specs.Covering.{IsNumbered};
+ghost use Rattle.element_numbers.specs.Covering.{IsNumbered};
 ghost use Rattle.cert_check.specs.Numbering.{IsNumbering, IsOf, AreWithin, lists_of, places_at};
 ghost use Rattle.cert_check.specs.Noted.{Noted, Holds, CanBeNoted, placed_from};
 ghost use Rattle.cert_check.specs.RowDepths.{IsUnset, IsWritten};
@@ -47,14 +46,14 @@ ghost use Rattle.cert_check.specs.Values.{IsRising};
 
 impl Numbered {
     /// The elements of a recording that has no fault, and the places of operations that cover all, as they were found.
-    pub fn of(recording: &Recording, found: contents_check::Numbered) -> Numbered
+    pub fn of(recording: &Recording, found: NumberedElements) -> Numbered
         requires sound { IsSound recording.now }
         requires found { IsNumbered recording.now found }
         ensures { IsOf recording.now result }
     {
         // Its contract has that the recording is legal.
         let _ = recording.replicas();
-        let contents_check::Numbered {
+        let NumberedElements {
             names,
             numbers,
             covering,

@@ -8,7 +8,7 @@ ghost use Rattle.specification.specs.Faults.{IsSound};
 ghost use Rattle.specification.specs.Lines.{names_text};
 ghost use Rattle.specification.specs.Versions.{Version};
 ghost use Rattle.specification.specs.CertificateText.{gives_order};
-ghost use Rattle.contents_check.specs.Covering.{IsNumbered};
+ghost use Rattle.element_numbers.specs.Covering.{IsNumbered};
 ghost use Rattle.cert_check.specs.Judged.{IsJudged};
 ghost use Rattle.cert_check.specs.Noted.{Holds, placed_from};
 ghost use Rattle.element_numbers.specs.Cuts.{IsCut};
@@ -16,6 +16,7 @@ ghost use Rattle.cert_check.specs.Numbering.{IsOf, AreWithin, lists_of};
 
 use super::answer::{Answer, Kind, Reason};
 use super::numbered::Numbered;
+use element_numbers::NumberedElements;
 use events::{Memory, Recording};
 use std::alloc::Global;
 
@@ -27,7 +28,7 @@ use std::alloc::Global;
 pub fn judge_order(
     alloc: Global,
     recording: &Recording,
-    found: contents_check::Numbered,
+    found: NumberedElements,
     names: &[u8],
 ) -> Result<Answer, Memory>
     requires sound { IsSound recording.now }

@@ -6,7 +6,7 @@ use Rattle.events.specs.History.{History}
 use Rattle.events.specs.Operations.{response}
 use Rattle.specification.specs.Orders.{IsSubsequence}
 use Rattle.specification.proofs.Members.{In, In-append_left, In-append_right, In-append_cases, In-from_Contains, Contains-from_In}
-use Rattle.contents_check.specs.Covering.{IsPart, AreCovering}
+use Rattle.element_numbers.specs.Covering.{IsPart, AreCovering}
 
 module _ {X : Type 0} where
   part-later : (y : X) (zs ws : List X) → IsPart zs ws → IsPart zs (y ∷ ws)

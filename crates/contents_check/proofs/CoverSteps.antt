@@ -8,8 +8,10 @@ use Rattle.events.specs.History.{History}
 use Rattle.events.specs.Operations.{response}
 use Rattle.specification.specs.Orders.{IsSubsequence}
 use Rattle.specification.proofs.Members.{In, Before, In-append_left, In-append_right, In-append_cases, In-from_Contains, Contains-from_In, AllPairs-Before}
-use Rattle.contents_check.specs.Covering.{AreCovering, AreKeptOf, IsFoundIn}
-use Rattle.contents_check.proofs.Parts.{In-part, part-skip, part-keep}
+use Rattle.element_numbers.specs.Covering.{AreCovering}
+use Rattle.contents_check.specs.Covering.{AreKeptOf, IsFoundIn}
+use Rattle.element_numbers.proofs.Parts.{In-part}
+use Rattle.contents_check.proofs.Parts.{part-skip, part-keep}
 
 -- the same names in the same order
 pub subsequence-refl : (w : List NameBytes) → IsSubsequence w w

@@ -14,7 +14,8 @@ use Rattle.contents_check.specs.declared.fault.Fault.{Fault}
 use Rattle.contents_check.specs.declared.turns.OnTheWay.{OnTheWay}
 use Rattle.contents_check.specs.declared.walk.Walk.{Walk}
 use Rattle.contents_check.specs.declared.walk.Walked.TheVariants.{Right}
-use Rattle.contents_check.specs.Covering.{first_operations, AreCovering, AreKeptOf, IsWalked}
+use Rattle.element_numbers.specs.Covering.{AreCovering}
+use Rattle.contents_check.specs.Covering.{first_operations, AreKeptOf, IsWalked}
 use Rattle.contents_check.specs.Known.{element_names}
 use Rattle.contents_check.specs.Replicas.{IsRightReplica}
 use Rattle.contents_check.specs.Turns.{AreOnTheWay, IsJudgedTo, IsOnTheWay}

@@ -10,7 +10,7 @@ use Rattle.specification.specs.Elements.{numbers_in}
 use Rattle.specification.specs.Orders.{IsSubsequence}
 use Rattle.specification.proofs.Members.{In, In-append_right, In-from_Contains}
 use Rattle.element_numbers.specs.Cuts.{rows_of, IsCut}
-use Rattle.contents_check.specs.declared.covering.Covering.{Covering}
+use Rattle.element_numbers.specs.declared.covering.Covering.{Covering}
 use Rattle.contents_check.specs.Covering.{first_operations, AreKeptOf, IsFoundIn}
 use Rattle.contents_check.specs.Walk.{response_before, IsKept}
 use Rattle.contents_check.proofs.CoverSteps.{one_kept, one_left_out, subsequence-trans}

@@ -16,13 +16,14 @@ use Rattle.specification.proofs.Members.{In, In-append_cases, All-member, All-fr
 use Rattle.specification.proofs.OperationNames.{AllPairs-from_Rising, In-numbers_from, Rising, Rising-map, numbers_from-bounds}
 use Rattle.element_numbers.specs.Cuts.{rows_of, IsCut}
 use Rattle.visibility.proofs.Lanes.{replica_known}
-use Rattle.contents_check.specs.declared.covering.Covering.{Covering}
+use Rattle.element_numbers.specs.declared.covering.Covering.{Covering}
 use Rattle.contents_check.specs.declared.elements.Elements.{Elements as Kept}
 use Rattle.contents_check.specs.declared.fault.Fault.{Fault}
 use Rattle.contents_check.specs.declared.fault.Fault.TheVariants.{Doubled, Contents, Position}
 use Rattle.contents_check.specs.declared.walk.Walked.TheVariants.{Right}
 use Rattle.contents_check.specs.declared.first.Checked.TheVariants.{Faulty, Sound}
-use Rattle.contents_check.specs.Covering.{first_operations, operations_of, AreCovering, Covers, IsChecked, IsFaultAt, IsFirstFaultAmong, IsWalked}
+use Rattle.element_numbers.specs.Covering.{AreCovering, Covers}
+use Rattle.contents_check.specs.Covering.{first_operations, operations_of, IsChecked, IsFaultAt, IsFirstFaultAmong, IsWalked}
 use Rattle.contents_check.specs.FaultOf.{fault_of}
 use Rattle.contents_check.specs.Known.{element_names, AreElementsOf}
 use Rattle.contents_check.specs.Replicas.{IsRightReplica}

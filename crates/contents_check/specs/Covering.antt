@@ -1,21 +1,15 @@
--- Operations whose responses cover those of others: what these show, they show, by the same operation or one that comes
--- before; and the rows of numbers that are their responses.
-use Rattle.std.specs.Prelude.{◌≡◌, ◌==◌, ◌⊎◌, ℕ, ◌*◌, ◌<◌, ⊤, List, [], ◌∷◌, ◌++◌, map, flat_map, take, drop, length, slice_index_or, All, Contains, IfOk, Result}
-use Rattle.std.specs.Cmp.Lexicographic.{pointwise}
-use Rattle.indexmap.specs.IndexMap.{get}
+-- What replicas are found to be, and what is kept on the way: operations whose responses cover those so far.
+use Rattle.std.specs.Prelude.{◌≡◌, ◌⊎◌, ℕ, ◌*◌, ◌<◌, List, ◌∷◌, ◌++◌, map, flat_map, take, drop, length, slice_index_or, All, IfOk, Result}
 use Rattle.events.specs.Names.{NameBytes}
 use Rattle.events.specs.declared.memory.Memory.{Memory}
-use Rattle.events.specs.Operation.{Operation, ComesBefore}
+use Rattle.events.specs.Operation.{Operation}
 use Rattle.events.specs.History.{History}
 use Rattle.events.specs.Operations.{count, numbers_from, operation_names, response}
-use Rattle.specification.specs.Elements.{elements, number_in, numbers_in}
+use Rattle.specification.specs.Elements.{elements}
 use Rattle.specification.specs.Faults.{HasRightContents, HasRightPosition, IsFirstFault, IsSound}
 use Rattle.specification.specs.Members.{In, Before}
 use Rattle.specification.specs.Orders.{IsSubsequence}
-use Rattle.element_numbers.specs.Cuts.{rows_of, IsCut}
-use Rattle.element_numbers.specs.declared.rows.Rows.{Rows}
-use Rattle.contents_check.specs.declared.covering.Covering.{Covering}
-use Rattle.contents_check.specs.declared.numbered.Numbered.{Numbered}
+use Rattle.element_numbers.specs.Covering.{Covers, IsNumbered, IsPart}
 use Rattle.contents_check.specs.declared.first.Checked.{Checked}
 use Rattle.contents_check.specs.declared.first.Checked.TheVariants.{Faulty, Sound}
 use Rattle.contents_check.specs.declared.fault.Fault.{Fault}
@@ -25,18 +19,6 @@ use Rattle.contents_check.specs.declared.walk.Walked.TheVariants.{Wrong, Right}
 use Rattle.contents_check.specs.FaultOf.{fault_of}
 use Rattle.contents_check.specs.Replicas.{IsRightReplica, IsFirstWrongIn}
 
--- the members of the first list stand in the second in the same order, others perhaps between them
-abbrev pub IsPart : {X : Type 0} → List X → List X → Type 0
-IsPart [] ys = ⊤
-IsPart (x ∷ xs) [] = ⊥
-IsPart (x ∷ xs) (y ∷ ys) = ((x ≡ y) × IsPart xs ys) ⊎ IsPart (x ∷ xs) ys
-
--- some of the operations, in order, whose responses cover those of all
-pub record AreCovering (h : History) (all some : List Operation) : Type 0 where
-  pub part : IsPart some all
-  pub covered : (o : Operation) → Contains all o
-      → (p : Operation) × Contains some p × ((p ≡ o) ⊎ ComesBefore p o) × IsSubsequence (response h o) (response h p)
-
 -- an operation of these that covers this one: itself, or one that stands before it
 abbrev pub IsFoundIn : History → List Operation → List Operation → Operation → Type 0
 IsFoundIn h all some o = (p : Operation) × In p some × ((p ≡ o) ⊎ Before p o all) × IsSubsequence (response h o) (response h p)
@@ -45,16 +27,6 @@ IsFoundIn h all some o = (p : Operation) × In p some × ((p ≡ o) ⊎ Before p
 pub record AreKeptOf (h : History) (all some : List Operation) : Type 0 where
   pub part : IsPart some all
   pub covered : (o : Operation) → In o all → IsFoundIn h all some o
-
--- the rows are the responses of these operations, each name as its number among these names
-pub record AreRowsOf (h : History) (names : List NameBytes) (operations : List Operation) (rows : Rows ℕ) : Type 0 where
-  pub cut : IsCut rows
-  pub rows_are : rows_of rows ≡ map (λ o. numbers_in names (response h o)) operations
-
--- some of these operations cover all of them, and these are the rows of their responses
-pub record Covers (h : History) (names : List NameBytes) (all : List Operation) (covering : Covering) : Type 0 where
-  pub operations : AreCovering h all covering.operations.items
-  pub rows : AreRowsOf h names covering.operations.items covering.rows
 
 -- the names of a replica's first operations, so many, in order
 abbrev pub first_operations : ℕ → ℕ → List Operation
@@ -91,12 +63,6 @@ IsWalked h names replicas (Right covering) = All (IsRightReplica h) replicas × 
 abbrev pub ArePieces : History → List NameBytes → ℕ → List ℕ → List (Result Walked Memory) → Type 0
 ArePieces h names size replicas pieces =
     (n : ℕ) (d : Result Walked Memory) → n < length pieces → IfOk (slice_index_or pieces n d) (IsWalked h names (take size (drop (n * size) replicas)))
-
--- the elements of a recording with their numbers, and operations that cover all
-pub record IsNumbered (h : History) (numbered : Numbered) : Type 0 where
-  pub names : numbered.names.items ≡ elements h
-  pub numbers : (a : NameBytes) → get (pointwise ◌==◌) numbered.numbers a ≡ number_in (elements h) a
-  pub covers : Covers h (elements h) (operation_names h) numbered.covering
 
 -- the first fault; or there is none, and these are its elements
 abbrev pub IsChecked : History → Checked → Type 0

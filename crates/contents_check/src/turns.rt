@@ -9,10 +9,10 @@ ghost use Rattle.contents_check.specs.Replicas.{CanJudge};
 ghost use Rattle.contents_check.specs.Turns.{AreOnTheWay, GoesOn, IsAtTheEnd, IsOnTheWay};
 
 use super::changes::Changes;
-use super::covering::Covering;
 use super::elements::Elements;
 use super::fault::Fault;
 use super::walk::{Walk, Walked};
+use element_numbers::Covering;
 use events::{Body, Memory, OpName, Recording};
 use std::alloc::Global;
 use visibility::Sight;

@@ -17,9 +17,9 @@ use Rattle.specification.proofs.OperationNames.{In_map-from}
 use Rattle.specification.proofs.Dictionary.{IsBefore, IsBefore-from, ComesBefore-from}
 use Rattle.specification.proofs.Subsequences.{Before-subsequence}
 use Rattle.specification.proofs.ConflictNumber.{conflict_number_is_shortest_cycle}
-use Rattle.contents_check.specs.Covering.{AreCovering}
+use Rattle.element_numbers.specs.Covering.{AreCovering}
 use Rattle.order_graph.specs.Covers.{IsCoveredBy, responses_on}
-use Rattle.order_graph.proofs.Parts.{In-part}
+use Rattle.element_numbers.proofs.Parts.{In-part}
 
 pub subsequence-trans : (a b c : List NameBytes) → IsSubsequence a b → IsSubsequence b c → IsSubsequence a c
 subsequence-trans [] b c s t = tt

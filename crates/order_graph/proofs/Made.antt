@@ -14,11 +14,12 @@ use Rattle.specification.proofs.Members.{All-from_members, All-member}
 use Rattle.specification.proofs.OperationNames.{listed-operation, operation_names-rise, Rising-map, AllPairs-from_Rising}
 use Rattle.specification.proofs.SoundResponses.{sound_responses_are_proper, response-elements}
 use Rattle.specification.proofs.Shown.{elements-once}
-use Rattle.contents_check.specs.Covering.{IsPart}
+use Rattle.element_numbers.specs.Covering.{IsPart}
 use Rattle.order_graph.specs.Covers.{responses_on}
 use Rattle.order_graph.specs.Lists.{lists_of, row, AreFew}
 use Rattle.order_graph.specs.Kept.{responses_kept}
-use Rattle.order_graph.proofs.Parts.{In-part, Rising-part, sum-part, length-part, part-map}
+use Rattle.element_numbers.proofs.Parts.{In-part, Rising-part}
+use Rattle.order_graph.proofs.Parts.{sum-part, length-part, part-map}
 use Rattle.order_graph.proofs.Shown.{known-numbers, row-le, lists-total}
 use Rattle.order_graph.proofs.Totals.{few-responses, returned-back}
 

@@ -1,6 +1,6 @@
--- The spots of an element in two lists one after the other, and one of them by its place.
-use Rattle.std.proofs.Common.{◌≡◌, ℕ, zero, suc, ◌+◌, ◌<◌, Bool, true, false, cond, eqb, Some, List, [], ◌∷◌, ◌++◌, length, take, drop, get_or, slice_get, refl, sym, ap, ◌∙◌, subst, arith, append_assoc, eq-eqb}
-use Rattle.std.proofs.lemmas.List.{take_more, take-append-drop, length-take-le}
+-- The spots of an element in two lists one after the other, how many they are, and one of them by its place.
+use Rattle.std.proofs.Common.{◌≡◌, ℕ, zero, suc, ◌+◌, ◌<◌, ◌≤◌, Bool, true, false, cond, eqb, Some, List, [], ◌∷◌, ◌++◌, length, take, drop, get_or, slice_get, refl, sym, ap, ◌∙◌, subst, arith, append_assoc, length-append, eq-eqb}
+use Rattle.std.proofs.lemmas.List.{take_more, take-append-drop, length-take-le, append-nil}
 use Rattle.events.proofs.Places.{slice_get-first, slice_get-last}
 use Rattle.order_graph.specs.Lists.{row}
 use Rattle.order_graph.specs.Spots.{spots_in, spots_from, spots_of}
@@ -40,6 +40,23 @@ one-more_place list r j x low =
     ∙ ap (λ n. spots_in list 0 (take j r) x ++ cond {A = List Spot} (eqb (get_or r j 0) x) ((record { list = list; place = n }) ∷ []) [])
     (let e : 0 + length (take j r) ≡ j = omega (arith, length-take-le j r, low) in e)
 
+-- how many spots there are with one place more
+pub count-more : (list : ℕ) (row : List ℕ) (j x : ℕ) → j < length row → get_or row j 0 ≡ x
+    → length (spots_in list 0 (take (j + 1) row) x) ≡ length (spots_in list 0 (take j row) x) + 1
+count-more list row j x low here =
+    let spot : Spot = record { list = list; place = j } in
+    let more : spots_in list 0 (take (j + 1) row) x ≡ spots_in list 0 (take j row) x ++ spot ∷ [] =
+    one-more_place list row j x low ∙ ap (λ b. spots_in list 0 (take j row) x ++ cond {A = List Spot} b (spot ∷ []) []) (eq-eqb (get_or row j 0) x here) in
+    ap (λ (l : List Spot). length l) more ∙ length-append (spots_in list 0 (take j row) x) (spot ∷ [])
+
+pub count-same : (list : ℕ) (row : List ℕ) (j x : ℕ) → j < length row → eqb (get_or row j 0) x ≡ false
+    → length (spots_in list 0 (take (j + 1) row) x) ≡ length (spots_in list 0 (take j row) x)
+count-same list row j x low other =
+    let spot : Spot = record { list = list; place = j } in
+    let more : spots_in list 0 (take (j + 1) row) x ≡ spots_in list 0 (take j row) x ++ [] =
+    one-more_place list row j x low ∙ ap (λ b. spots_in list 0 (take j row) x ++ cond {A = List Spot} b (spot ∷ []) []) other in
+    ap (λ (l : List Spot). length l) (more ∙ append-nil (spots_in list 0 (take j row) x))
+
 -- x stands at place j of the row: its spot has as many before it as stand before that place
 pub spot-there : (list : ℕ) (r : List ℕ) (j x : ℕ) → j < length r → get_or r j 0 ≡ x
     → slice_get (spots_in list 0 r x) (length (spots_in list 0 (take j r) x)) ≡ Some (record { list = list; place = j })
@@ -66,3 +83,12 @@ spot-of_list rows l x left spot within got =
     ∙ ap (λ s. s ++ rest) (sym (one_more_list rows l x within)) in
     ap (λ s. slice_get s (length before + left)) whole
     ∙ slice_get-first (before ++ here) rest (length before + left) spot (get-behind before here left ∙ got)
+
+-- the first lists have no more spots than all
+pub front-few : (rows : List (List ℕ)) (n x : ℕ) → length (spots_from 0 (take n rows) x) ≤ length (spots_of rows x)
+front-few rows n x =
+    let front : List Spot = spots_from 0 (take n rows) x in
+    let rest : List Spot = spots_from (0 + length (take n rows)) (drop n rows) x in
+    let whole : spots_of rows x ≡ front ++ rest =
+    ap (λ rs. spots_from 0 rs x) (sym (take-append-drop n rows)) ∙ from-append 0 (take n rows) (drop n rows) x in
+    omega (arith, ap (λ (l : List Spot). length l) whole, length-append front rest)

@@ -13,8 +13,7 @@ use super::narrowing::{names_kept, new_numbers, number_of, places_left};
 use super::pairs::stands_behind;
 use super::spot::Spot;
 use super::spots::{all_spots, count_of_spots, spot_among, spot_at, spots_at};
-use contents_check::{Covering, Numbered};
-use element_numbers::{Rows, inserted_names, numbers_of, places_of};
+use element_numbers::{Covering, NumberedElements, Rows, inserted_names, numbers_of, places_of};
 use events::{Memory, Name, OpName, Recording};
 use std::alloc::Global;
 use std::marker::Model;
@@ -50,7 +49,7 @@ impl Model for OrderGraph {
 }
 
 impl OrderGraph {
-    ghost use Rattle.contents_check.specs.Covering.{IsNumbered, IsPart};
+    ghost use Rattle.element_numbers.specs.Covering.{IsNumbered, IsPart};
     ghost use Rattle.order_graph.specs.Covers.{IsCoveredBy, responses_on};
     ghost use Rattle.order_graph.specs.Lists.{lists_of, row, ticked, AreFew, BeforeIn, IsLeastList};
     ghost use Rattle.element_numbers.specs.Cuts.{rows_of};
@@ -74,14 +73,14 @@ impl OrderGraph {
     /// It has the same orders and cycles as the graph of all responses, and the same least operations that show
     /// one element before another; it has fewer lists and places. It keeps names and rows as they are: it takes
     /// no memory and constant time.
-    pub fn of_covering(recording: &Recording, numbered: Numbered) -> OrderGraph
+    pub fn of_covering(recording: &Recording, numbered: NumberedElements) -> OrderGraph
         requires sound { IsSound recording.now }
         requires numbered { IsNumbered recording.now numbered }
         ensures { IsCoveredBy (responses_of recording.now) result }
     {
         // Its contract has that the recording is legal.
         let _ = recording.replicas();
-        let Numbered {
+        let NumberedElements {
             names,
             numbers: _,
             covering,
@@ -214,7 +213,7 @@ impl OrderGraph {
     }
 
     /// How many spots an element has; 0 past the last element. Where spots are not listed it goes through all places
-    /// for each of them.
+    /// once.
     pub fn spots(&self, x: u32) -> u32
         ensures { result ≡ length (spots_of (lists_of self.now) x) }
     {
@@ -237,7 +236,7 @@ impl OrderGraph {
 
     /// The least operation whose response shows element a before element b; none where no response does.
     /// It reads the places after each spot of a, at most those of all responses together. Where spots are not
-    /// listed it reads all places twice more for each spot.
+    /// listed it reads all places once more, and again for each spot.
     pub fn before(&self, a: u32, b: u32) -> Option<OpName>
         ensures { IsLeastShowing self.now a b result }
     {

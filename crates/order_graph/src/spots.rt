@@ -133,18 +133,30 @@ pub fn spot_among(places: &Rows<u32>, x: u32, i: u32) -> Option<Spot>
     None
 }
 
-/// How many spots an element has. It looks for each of them among all places.
+/// How often an element stands in one list.
+fn count_in(row: &[u32], x: u32) -> u32
+    requires { length row.now < 2 ^ 32 }
+    ensures { (list : ℕ) → result ≡ length (spots_in list 0 row.now x) }
+{
+    let mut count = 0;
+    for y in row {
+        if *y == x {
+            count += 1;
+        }
+    }
+    count
+}
+
+/// How many spots an element has. It goes through all places once.
 pub fn count_of_spots(places: &Rows<u32>, x: u32) -> u32
     requires whole { IsCut places.now }
-    requires few { length (rows_of places.now) < 2 ^ 32 }
     requires short { (l : ℕ) → length (row (rows_of places.now) l) < 2 ^ 32 }
     requires count { length (spots_of (rows_of places.now) x) < 2 ^ 32 }
     ensures { result ≡ length (spots_of (rows_of places.now) x) }
 {
-    for count in 0..u32::MAX {
-        if spot_among(places, x, count).is_none() {
-            return count;
-        }
+    let mut count = 0;
+    for list in 0..places.ends.len() {
+        count += count_in(places.row(list), x);
     }
-    u32::MAX
+    count
 }

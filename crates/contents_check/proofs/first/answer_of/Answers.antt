@@ -6,9 +6,10 @@ use Rattle.events.specs.Names.{NameBytes}
 use Rattle.events.specs.Operations.{numbers_from, operation_names}
 use Rattle.specification.specs.Elements.{number_in}
 use Rattle.specification.specs.Elements as named
-use Rattle.contents_check.specs.Covering.{IsWalked, Covers, IsNumbered}
+use Rattle.element_numbers.specs.Covering.{Covers, IsNumbered}
+use Rattle.contents_check.specs.Covering.{IsWalked}
 use Rattle.contents_check.specs.Known.{element_names}
-use Rattle.contents_check.specs.declared.covering.Covering.{Covering}
+use Rattle.element_numbers.specs.declared.covering.Covering.{Covering}
 use Rattle.contents_check.proofs.Handed.{numbers-are}
 use Rattle.contents_check.proofs.Walked.{right-sound, wrong-checked}
 use Rattle.contents_check.proofs.first.answer_of.Goals as goal

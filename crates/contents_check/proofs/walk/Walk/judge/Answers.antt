@@ -4,9 +4,10 @@ use Rattle.events.specs.Names.{NameBytes}
 use Rattle.events.specs.Operations.{response}
 use Rattle.specification.specs.Elements.{numbers_in}
 use Rattle.specification.specs.Faults.{HasRightContents}
-use Rattle.contents_check.specs.declared.covering.Covering.{Covering}
+use Rattle.element_numbers.specs.declared.covering.Covering.{Covering}
 use Rattle.contents_check.specs.declared.standings.Standings.{Standings}
-use Rattle.contents_check.specs.Covering.{first_operations, AreKeptOf, AreRowsOf}
+use Rattle.element_numbers.specs.Covering.{AreRowsOf}
+use Rattle.contents_check.specs.Covering.{first_operations, AreKeptOf}
 use Rattle.contents_check.specs.Known.{element_names}
 use Rattle.contents_check.specs.Shown.{IsNoted, IsShowing, ShowJust}
 use Rattle.contents_check.specs.Standings.{AreBehind, IsSeenFrom}

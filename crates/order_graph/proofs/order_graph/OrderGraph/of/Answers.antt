@@ -2,8 +2,8 @@
 use Rattle.std.proofs.Common.{List, sym, subst}
 use Rattle.events.specs.Operation.{Operation}
 use Rattle.events.specs.Operations.{operation_names}
-use Rattle.contents_check.specs.Covering.{IsPart}
-use Rattle.order_graph.proofs.Parts.{part-all}
+use Rattle.element_numbers.specs.Covering.{IsPart}
+use Rattle.element_numbers.proofs.Parts.{part-all}
 use Rattle.order_graph.proofs.order_graph.OrderGraph.of.Goals as goal
 
 pub on-requires-clause-part : goal.on-requires-clause-part

@@ -1,6 +1,6 @@
 use Rattle.std.proofs.Common.{◌-◌, ◌≤◌, drop, length}
 use Rattle.specification.specs.Orders.{IsSubsequence}
-use Rattle.contents_check.proofs.covering.stands_in.Given as goal
+use Rattle.contents_check.proofs.covered.stands_in.Given as goal
 
 -- what is left of the response is in what is left of the other only where the whole is in the whole
 abbrev pub invariant-runs : goal.invariant-runs

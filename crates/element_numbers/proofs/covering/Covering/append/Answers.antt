@@ -3,7 +3,7 @@ use Rattle.std.proofs.Common.{◌<◌, ◌≤◌, ℕ, ◌∷◌, ◌++◌, [], 
 use Rattle.std.proofs.lemmas.List.{take_all, take_more}
 use Rattle.element_numbers.specs.Cuts.{rows_of}
 use Rattle.element_numbers.proofs.Cuts.{length-cut}
-use Rattle.contents_check.proofs.covering.Covering.append.Goals as goal
+use Rattle.element_numbers.proofs.covering.Covering.append.Goals as goal
 
 pub loop-k-preserved : goal.loop-k-preserved
 loop-k-preserved c =

@@ -1,6 +1,6 @@
 use Rattle.std.proofs.Common.{◌≡◌, ◌++◌, take}
 use Rattle.element_numbers.specs.Cuts.{rows_of, IsCut}
-use Rattle.contents_check.proofs.covering.Covering.append.Given as goal
+use Rattle.element_numbers.proofs.covering.Covering.append.Given as goal
 
 abbrev pub invariant-loop-k : goal.invariant-loop-k
 invariant-loop-k l = record {

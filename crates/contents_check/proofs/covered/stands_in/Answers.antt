@@ -2,7 +2,7 @@
 use Rattle.std.proofs.Common.{List, arith, length-drop}
 use Rattle.events.specs.Names.{NameBytes}
 use Rattle.contents_check.proofs.CoverSteps.{goes_on_alike, passes}
-use Rattle.contents_check.proofs.covering.stands_in.Goals as goal
+use Rattle.contents_check.proofs.covered.stands_in.Goals as goal
 
 pub runs-preserved-then-j-len : goal.runs-preserved-then-j-len
 runs-preserved-then-j-len c =
