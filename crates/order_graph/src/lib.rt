@@ -15,6 +15,3 @@ mod spots;
 pub use looked::Looked;
 pub use order_graph::OrderGraph;
 pub use spot::Spot;
-
-#[cfg(test)]
-mod tests;

@@ -2,8 +2,8 @@
 
 use super::graphs::{Kept, ask};
 use super::plain::{agrees, tells_the_same};
-use crate::{Looked, OrderGraph, Spot};
 use events::{Name, OpName};
+use order_graph::{Looked, OrderGraph, Spot};
 use sample_recordings::{EMPTY, OPPOSITE_PAIR, RING_OF_FOUR, THREE_WAY_CYCLE, recording};
 use std::alloc::Global;
 use std::test::Fail;

@@ -2,9 +2,9 @@
 //! test that holds no graph of its own is proved with far less work.
 ghost use Rattle.specification.specs.Faults.{IsSound};
 
-use crate::OrderGraph;
 use contents_check::{Checked, check};
 use events::{Memory, Recording};
+use order_graph::OrderGraph;
 use sample_recordings::check_sound;
 use std::alloc::Global;
 use std::test::Fail;

@@ -1,6 +1,6 @@
 //! Plain, slow programs that look through every response, and the comparison of a graph with them.
-use crate::{Looked, OrderGraph, Spot};
 use events::{Body, Name, OpName, Recording, Response};
+use order_graph::{Looked, OrderGraph, Spot};
 use sample_recordings::place_of;
 
 /// The name of an operation by its place in the order of names.

@@ -3,8 +3,8 @@ ghost use Rattle.std.specs.Prelude.{◌<◌, All, AllPairs, length};
 
 use super::graphs::{Kept, ask};
 use super::plain::agrees;
-use crate::{Looked, OrderGraph};
 use events::{Memory, Name, Recording};
+use order_graph::{Looked, OrderGraph};
 use sample_recordings::{RING_OF_FOUR, recording};
 use std::alloc::Global;
 use std::test::Fail;

@@ -1,7 +1,0 @@
-//! Tests of the order graph.
-
-mod generated;
-mod graphs;
-mod narrowed;
-mod plain;
-mod worked;
