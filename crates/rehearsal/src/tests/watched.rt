@@ -1,5 +1,5 @@
 //! That the watcher judges what the recorders record, while they do.
-use crate::rehearsing::rehearse_watched;
+use crate::rehearse_watched;
 use certificate::Verdict;
 use events::{Body, Entry, Name, Recording, Response};
 use level_search::NoGate;
