@@ -100,7 +100,7 @@ TESTS = {
     "conflict_number": ("level_search", "worked_recordings_for_any_number_of_workers"),
     "least_cycle": ("level_search", "steps_of_worked_recordings"),
     "least_conflict": ("level_search", "conflicts_of_worked_recordings"),
-    "certificate::judge": ("certificate", "verdicts_of_worked_recordings", "any_number_of_workers"),
+    "verdict::judge": ("certificate", "verdicts_of_worked_recordings", "any_number_of_workers"),
     "report::text": ("finder_cli", "worked_recordings"),
     "report::json": ("finder_cli", "reports_as_json"),
     "OrderGraph::narrowed": ("graph_tests", "two_none_and_all_of_the_ring_of_four"),

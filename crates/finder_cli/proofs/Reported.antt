@@ -1,5 +1,5 @@
 -- What was written, as an output on the text that was read.
-use Rattle.std.proofs.Common.{◌≡◌, ℕ, Bool, true, List, Option, Some, None, Result, Ok, Err, IfSome, IfOk, IfErr, subst, sym}
+use Rattle.std.proofs.Common.{◌≡◌, ℕ, Bool, true, List, Option, Some, None, Result, Ok, Err, IfSome, IfOk, IfErr, refl, subst, sym}
 use Rattle.std.specs.Io.KnownBytes.{Appends, Consumes, IsAtEnd}
 use Rattle.std.proofs.KnownBytes.{Consumes-whole}
 use Rattle.byte_streams.specs.Streams.{AppendsFront}
@@ -10,7 +10,12 @@ use Rattle.command_line.specs.declared.task.Form.{Form}
 use Rattle.events.specs.History.{History}
 use Rattle.specification.specs.TraceText.{Spells}
 use Rattle.finder_cli.specs.Certified.{IsCertificateFor, IsCertificateOn}
-use Rattle.finder_cli.specs.Runs.{IsOfSession, IsReportOf, IsReportOn, NamesFirstFault}
+use Rattle.finder_cli.specs.Endings.{fault_of_rehearsal}
+use Rattle.finder_cli.specs.Runs.{HasStalledOn, IsOfSession, IsReportOf, IsReportOn, NamesFirstFault}
+use Rattle.rehearsal.specs.Ends.{HasEnded, IsEndOf}
+use Rattle.rehearsal.specs.Replays.{HasStalled}
+use Rattle.rehearsal.specs.declared.fault.RehearsalFault.{RehearsalFault}
+use Rattle.rehearsal.specs.declared.fault.RehearsalFault.TheVariants as rehearsal
 
 -- the bytes of the text, as they were read and as they were handed on
 pub record WasRead (before after : Option (List ℕ)) (text read : List ℕ) : Type 0 where
@@ -54,6 +59,19 @@ names-none (Some t) (Trace fault) h = absurd h
 names-none (Some t) Workers h = absurd h
 names-none (Some t) Read h = absurd h
 names-none (Some t) Write h = absurd h
+
+-- where the fault for that of a rehearsal is that a recorder gave up, so is that of the rehearsal
+pub stalled-rehearsed : (h : History) (why : RehearsalFault) → IsEndOf h why → (why ≡ rehearsal.Stalled → HasStalled h) → fault_of_rehearsal why ≡ Stalled
+    → HasStalled h × HasEnded h rehearsal.Stalled
+stalled-rehearsed h rehearsal.Workers ended stalled e = absurd cc
+stalled-rehearsed h rehearsal.Thread ended stalled e = absurd cc
+stalled-rehearsed h rehearsal.Stalled ended stalled e = (stalled refl, ended)
+stalled-rehearsed h rehearsal.Memory ended stalled e = absurd cc
+
+-- the recording that a text spells has stalled
+pub stalled-on : (before : Option (List ℕ)) (h : History) → IfSome before (λ t. Spells t h) → HasStalled h × HasEnded h rehearsal.Stalled → IfSome before HasStalledOn
+stalled-on None h spells stalled = tt
+stalled-on (Some t) h spells stalled = (h, spells, stalled.0, stalled.1)
 
 -- what is so of each text of which this was read, and of this certificate's text, is so of both texts where they are known
 pub of-both : (Was : List ℕ → Type 0) (Q : List ℕ → List ℕ → List ℕ → Status → Type 0) (before before_2 after_2 : Option (List ℕ)) (text_2 read_2 bytes : List ℕ) (status : Status)

@@ -6,7 +6,7 @@ use Rattle.command_line.specs.declared.task.Form.{Form}
 use Rattle.command_line.specs.declared.task.Form.TheVariants.{Text}
 use Rattle.finder_cli.specs.declared.engine.Engine.{Engine}
 use Rattle.finder_cli.specs.declared.engine.Engine.TheVariants as engine
-use Rattle.finder_cli.specs.Runs.{Reports, ReportsFront, NamesFirstFault, IsNoWorkers, IsOfRun, IsOfVerifying}
+use Rattle.finder_cli.specs.Runs.{Reports, ReportsFront, NamesFirstFault, HasStalledOn, IsNoWorkers, IsOfRun, IsOfVerifying}
 use Rattle.finder_cli.specs.Certified.{Certifies, CertifiesFront, Verifies, VerifiesFront}
 use Rattle.finder_cli.specs.OutOfMemory.{RunsOut, RunsOutVerifying}
 use Rattle.finder_cli.specs.declared.status.Status.{Status}
@@ -35,6 +35,11 @@ abbrev pub JudgesAlone : ℕ → Form → SourceState → SourceState → SinkSt
 JudgesAlone count form before after old new answer = Judges count form before after old new answer
     × IfErr answer IsOfRun
 
+-- the same by way of a session: that a recorder gave up is answered only where the recording can stall
+abbrev pub JudgesLive : ℕ → SourceState → SourceState → SinkState → SinkState → Result Status RunFault → Type 0
+JudgesLive count before after old new answer = Judges count Text before after old new answer
+    × IfErr answer (λ fault. fault ≡ run.Stalled → IfSome before.bytes HasStalledOn)
+
 -- the certificate of the verdict on the recording that the source spells
 pub record Shows (before after : SourceState) (old new : SinkState)
     (answer : Result Status RunFault) : Type 0 where
@@ -55,7 +60,7 @@ pub record Shows (before after : SourceState) (old new : SinkState)
 abbrev pub RunsAs : Engine → SourceState → SourceState → SinkState → SinkState → Result Status RunFault → Type 0
 RunsAs (engine.Verdict count form) before after old new answer = JudgesAlone count form before after old new answer
 RunsAs engine.Cert before after old new answer = Shows before after old new answer
-RunsAs (engine.Live count) before after old new answer = Judges count Text before after old new answer
+RunsAs (engine.Live count) before after old new answer = JudgesLive count before after old new answer
 
 -- the checker's line on the trace and the certificate
 pub record Checks (trace trace_after cert cert_after : SourceState) (old new : SinkState)

@@ -11,6 +11,9 @@ use Rattle.byte_streams.specs.Streams.{AppendsFront}
 use Rattle.report.specs.JsonReport.{report_json}
 use Rattle.command_line.specs.declared.task.Form.{Form}
 use Rattle.command_line.specs.declared.task.Form.TheVariants.{Text, Json}
+use Rattle.rehearsal.specs.Ends.{HasEnded}
+use Rattle.rehearsal.specs.Replays.{HasStalled}
+use Rattle.rehearsal.specs.declared.fault.RehearsalFault.TheVariants as rehearsal
 use Rattle.finder_cli.specs.declared.status.Status.{Status}
 use Rattle.finder_cli.specs.declared.status.Status.TheVariants.{Good, Bad}
 use Rattle.finder_cli.specs.declared.status.RunFault.{RunFault}
@@ -52,6 +55,10 @@ IsLineFaultOf text fault = (cause : Cause) × (cause_of fault.cause ≡ Some cau
 abbrev pub NamesFirstFault : List ℕ → RunFault → Type 0
 NamesFirstFault text (run.Trace fault) = IsLineFaultOf text fault
 NamesFirstFault text _ = Unit {0}
+
+-- the text spells a recording that has stalled, and that is the foremost fault in some account of what all threads told
+abbrev pub HasStalledOn : List ℕ → Type 0
+HasStalledOn text = (h : History) × Spells text h × HasStalled h × HasEnded h rehearsal.Stalled
 
 -- no fault but the text's own and out of memory
 abbrev pub IsOfText : RunFault → Type 0

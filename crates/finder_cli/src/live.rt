@@ -4,7 +4,9 @@ ghost use Rattle.std.specs.Prelude.{◌≡◌, ◌≢◌, ◌↔◌, ◌≤◌, 
 ghost use Rattle.std.specs.Io.KnownBytes.{IsAtEnd};
 ghost use Rattle.byte_streams.specs.Streams.{IsClosed};
 ghost use Rattle.command_line.specs.declared.task.Form.TheVariants.{Text};
-ghost use Rattle.finder_cli.specs.Runs.{IsReportOn, Reports, ReportsFront, NamesFirstFault, IsOfSession};
+ghost use Rattle.rehearsal.specs.Ends.{HasEnded};
+ghost use Rattle.rehearsal.specs.Replays.{HasStalled};
+ghost use Rattle.finder_cli.specs.Runs.{IsReportOn, Reports, ReportsFront, NamesFirstFault, HasStalledOn, IsOfSession};
 ghost use Rattle.finder_cli.specs.Runs.{IsNoWorkers};
 ghost use Rattle.finder_cli.specs.OutOfMemory.{RunsOut};
 
@@ -48,6 +50,7 @@ pub fn live<H: Threads + Wait + Sync, R: Reader + Drop, W: Writer + Drop, G: Gat
     // line; or behind the whole text.
     ensures place { IfErr result (λ fault. fault ≡ RunFault.Memory → RunsOut source.old source.new) }
     ensures trace { IfErr result (λ fault. IfSome source.old.bytes (λ text. NamesFirstFault text fault)) }
+    ensures stalled { IfErr result (λ fault. fault ≡ RunFault.Stalled → IfSome source.old.bytes HasStalledOn) }
     ensures write { IfErr result (λ fault. fault ≡ RunFault.Write → (sink.new.failed ≡ true)
         × IfSome source.old.bytes (λ text. ReportsFront text Text sink.old.bytes sink.new.bytes)) }
     ensures unwritten { IfErr result (λ fault. fault ≢ RunFault.Write → sink.new ≡ sink.old) }
@@ -71,6 +74,8 @@ fn rehearsed_report<H: Threads + Wait + Sync, G: Gate>(
     requires workers { (1 ≤ workers) × (workers ≤ MOST_WORKERS) }
     ensures ok { IfOk result (λ report. IsReportOn recording.now Text report.bytes.items report.status) }
     ensures fault { IfErr result IsOfSession }
+    ensures stalled { IfErr result (λ fault. fault ≡ RunFault.Stalled
+        → HasStalled recording.now × HasEnded recording.now RehearsalFault.Stalled) }
 {
     let closed = rehearse(rt, alloc, recording, workers, gate)?;
     let verdict = verdict_on(rt, alloc, &closed, workers)?;

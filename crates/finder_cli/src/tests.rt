@@ -1,5 +1,6 @@
 //! What no clause says: worked recordings, streams that fail, texts of faults.
 
+mod live_sessions;
 mod long_streams;
 mod pages;
 mod recordings;

@@ -1,6 +1,7 @@
 -- How a rehearsal ends, from what its threads told.
-use Rattle.std.proofs.Common.{◌≡◌, ℕ, ◌<◌, ◌+◌, nat_eq, Bool, true, false, Option, Some, None, List, [], ◌∷◌, ◌++◌, map, length, refl, sym, ap, subst, ◌∙◌, append-nil, length-append, arith, true≢false, ne_eqb}
-use Rattle.std.specs.Prelude.{Result, Ok, Err, IfOk, IfErr}
+use Rattle.std.proofs.Common.{◌≡◌, ℕ, ◌<◌, ◌+◌, nat_eq, Bool, true, false, Option, Some, None, List, [], ◌∷◌, ◌++◌, map, length, refl, sym, ap, subst, ◌∙◌, append-nil, length-append, arith, All, true≢false, ne_eqb}
+use Rattle.std.specs.Prelude.{Result, Ok, Err, IfOk, IfErr, IsErrOf}
+use Rattle.std.proofs.lemmas.List.Elements.{All-nil, All-cons, All-head, All-tail}
 use mathlib.Core.Logic.{dite}
 use native.Mathlib.Decide.{ℕ_discrete}
 use Rattle.events.specs.History.{History}
@@ -22,7 +23,7 @@ use Rattle.rehearsal.specs.declared.recorder.Told.{Told}
 use Rattle.rehearsal.specs.declared.rehearsing.Returns.{Returns}
 use Rattle.rehearsal.specs.declared.team.Back.{Back}
 use Rattle.rehearsal.specs.declared.watcher.Watched.{Watched}
-use Rattle.rehearsal.proofs.Joined.{end-none, end-stalled, end-workers, joined-replayed, joined-workers, stalled-among}
+use Rattle.rehearsal.proofs.Joined.{IsFresh, end-none, end-stalled, end-workers, joined-replayed, joined-workers, stalled-among}
 
 -- a prefix that is as long as the whole
 pub prefix-whole : {X : Type 0} (xs ys : List X) → HasPrefix xs ys → length ys ≡ length xs → ys ≡ xs
@@ -69,19 +70,35 @@ module _ (h : History) (before : List PassShown) where
 -- what may end the threads ends the rehearsal
 pub end-of : (h : History) (session : Which) (before : List PassShown) (f : RehearsalFault) → session.replicas ≡ h.replicas → AreOpened session before → MayEnd h before f → IsEndOf h f
 end-of h session before fault.Workers replicas opened ends = absurd ends
-end-of h session before fault.Thread replicas opened ends = record { session = session; replicas = replicas; before = before; opened = opened; ends = ends }
+end-of h session before fault.Thread replicas opened ends = tt
 end-of h session before fault.Stalled replicas opened ends = record { session = session; replicas = replicas; before = before; opened = opened; ends = ends }
 end-of h session before fault.Memory replicas opened ends = tt
 
+all-front : {X : Type 0} (P : X → Type 0) (xs ys : List X) → All P (xs ++ ys) → All P xs
+all-front P [] ys all = All-nil P
+all-front P (x ∷ xs) ys all = All-cons P x xs (All-head P x (xs ++ ys) all) (all-front P xs ys (All-tail P x (xs ++ ys) all))
+
+-- the passes that recorders were started with
+begun-of : (h : History) (session : Which) (before passes : List PassShown) → session.replicas ≡ h.replicas → AreOpened session before → HasPrefix before passes → All (IsFresh h) passes
+begun-of h session before passes replicas opened first =
+    all-front (IsFresh h) passes first.0 (subst (All (IsFresh h)) (sym first.1) (λ k d less. (ap (λ (s : Which). s.replicas) (opened.of_session k d less) ∙ replicas, opened.fresh k d less)))
+
 -- where it is that one stalled, a recorder's replay has
-pub end-stalled-of : (h : History) (f : RehearsalFault) → IsEndOf h f → f ≡ fault.Stalled → HasStalled h
+end-stalled-of : (h : History) (f : RehearsalFault) → IsEndOf h f → f ≡ fault.Stalled → HasStalled h
 end-stalled-of h fault.Workers ends e = absurd cc
 end-stalled-of h fault.Thread ends e = absurd cc
 end-stalled-of h fault.Stalled ends e =
     let w = ends.ends in
-    stalled-among h w.passes w.tolds w.told
+    stalled-among h w.passes w.tolds (begun-of h ends.session ends.before w.passes ends.replicas ends.opened w.started) w.told
     (end-stalled (foremost_of_all (map (λ (t : Told). replay_fault t.answer) w.tolds)) w.watch (nat_eq (length w.passes) (length ends.before)) w.foremost)
 end-stalled-of h fault.Memory ends e = absurd cc
+
+-- the same, where that fault is answered
+pub stalled-of-end : {A : Type 0} (h : History) (session : Which) (before : List PassShown) (r : Result A RehearsalFault) (f : RehearsalFault) → session.replicas ≡ h.replicas
+    → AreOpened session before → MayEnd h before f → r ≡ Err f → IsErrOf r fault.Stalled → HasStalled h
+stalled-of-end h session before r f replicas opened ends is stalled =
+    let same : f ≡ fault.Stalled = cc in
+    end-stalled-of h f (end-of h session before f replicas opened ends) same
 
 same-of : (a b : ℕ) → nat_eq a b ≡ true → a ≡ b
 same-of a b e = dite (ℕ_discrete a b) (λ same. same) (λ other. absurd (true≢false (sym e ∙ ne_eqb a b other)))

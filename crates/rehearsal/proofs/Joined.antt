@@ -1,11 +1,12 @@
 -- What recorders that were joined one after the other told, and what follows from the fault that is answered.
-use Rattle.std.proofs.Common.{◌≡◌, ℕ, inl, inr, Bool, true, false, Option, Some, None, List, [], ◌∷◌, ◌++◌, map, refl, sym, ap, ◌∙◌, subst}
+use Rattle.std.proofs.Common.{◌≡◌, ℕ, inl, inr, All, Bool, true, false, Option, Some, None, List, [], ◌∷◌, ◌++◌, map, refl, sym, ap, ◌∙◌, subst}
 use Rattle.std.specs.Prelude.{◌⊎◌, IsOk, Result, Ok, Err}
 use Rattle.std.specs.List.{AllZip}
 use Rattle.std.proofs.lemmas.List.{map-append}
+use Rattle.std.proofs.lemmas.List.Elements.{All-head, All-tail}
 use Rattle.events.specs.History.{History}
 use Rattle.events.specs.declared.refusal.Refusal.TheVariants.{NoReplica, OwnReceipt, NotYet, EntriesFull, InsertsFull, LongResponse, PlacesFull, Memory}
-use Rattle.sessions.specs.Shown.{PassShown}
+use Rattle.sessions.specs.Shown.{PassShown, mine}
 use Rattle.sessions.specs.declared.replaying.ReplayFault.{ReplayFault}
 use Rattle.sessions.specs.declared.replaying.ReplayFault.TheVariants.{Stalled, Refused}
 use Rattle.level_search.specs.declared.search_fault.SearchFault.{SearchFault}
@@ -43,6 +44,10 @@ never-workers (Err (Refused at InsertsFull)) e = cc
 never-workers (Err (Refused at LongResponse)) e = cc
 never-workers (Err (Refused at PlacesFull)) e = cc
 never-workers (Err (Refused at Memory)) e = cc
+
+-- nothing is recorded by the pass, and its session has the recording's replicas
+abbrev pub IsFresh : History → PassShown → Type 0
+IsFresh h p = (p.session.replicas ≡ h.replicas) × (mine p ≡ [])
 
 module _ (h : History) where
   zip-more : (ps : List PassShown) (ts : List Told) (p : PassShown) (t : Told) → HaveTold h ps ts → HasReplayed h p t → HaveTold h (ps ++ p ∷ []) (ts ++ t ∷ [])
@@ -82,16 +87,18 @@ module _ (h : History) where
       subst (AreReplayed h ps) (sym j.passes_are)
       (all-replayed ps j.tolds j.told (foremost-of-none (map (λ (t : Told). replay_fault t.answer) j.tolds) (sym j.fault_is ∙ none)))
 
-  stalled-in : (ps : List PassShown) (ts : List Told) → HaveTold h ps ts → In (Some fault.Stalled) (map (λ (t : Told). replay_fault t.answer) ts) → HasStalled h
-  stalled-in [] [] z i = absurd i
-  stalled-in [] (t ∷ ts) z i = absurd z
-  stalled-in (p ∷ ps) [] z i = absurd z
-  stalled-in (p ∷ ps) (t ∷ ts) z (inl e) = record { old = p; told = t; replayed = z.0; is_stalled = sym e }
-  stalled-in (p ∷ ps) (t ∷ ts) z (inr i) = stalled-in ps ts z.1 i
+  stalled-in : (ps : List PassShown) (ts : List Told) → All (IsFresh h) ps → HaveTold h ps ts → In (Some fault.Stalled) (map (λ (t : Told). replay_fault t.answer) ts) → HasStalled h
+  stalled-in [] [] all z i = absurd i
+  stalled-in [] (t ∷ ts) all z i = absurd z
+  stalled-in (p ∷ ps) [] all z i = absurd z
+  stalled-in (p ∷ ps) (t ∷ ts) all z (inl e) =
+      let fresh = All-head (IsFresh h) p ps all in
+      record { old = p; told = t; replicas = fresh.0; fresh = fresh.1; replayed = z.0; is_stalled = sym e }
+  stalled-in (p ∷ ps) (t ∷ ts) all z (inr i) = stalled-in ps ts (All-tail (IsFresh h) p ps all) z.1 i
 
   -- and where it is that one stalled, one has
-  pub stalled-among : (ps : List PassShown) (ts : List Told) → HaveTold h ps ts → foremost_of_all (map (λ (t : Told). replay_fault t.answer) ts) ≡ Some fault.Stalled → HasStalled h
-  stalled-among ps ts told e = stalled-in ps ts told (foremost-among (map (λ (t : Told). replay_fault t.answer) ts) fault.Stalled e)
+  pub stalled-among : (ps : List PassShown) (ts : List Told) → All (IsFresh h) ps → HaveTold h ps ts → foremost_of_all (map (λ (t : Told). replay_fault t.answer) ts) ≡ Some fault.Stalled → HasStalled h
+  stalled-among ps ts all told e = stalled-in ps ts all told (foremost-among (map (λ (t : Told). replay_fault t.answer) ts) fault.Stalled e)
 
   no-workers : (ts : List Told) → In (Some fault.Workers) (map (λ (t : Told). replay_fault t.answer) ts) → ⊥
   no-workers [] i = i

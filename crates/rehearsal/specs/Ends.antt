@@ -23,7 +23,8 @@ pub record EndsWith (h : History) (before : List PassShown) (fault : RehearsalFa
   pub foremost :
       fault_of_all (foremost_of_all (map (λ t. replay_fault t.answer) tolds)) watch (nat_eq (length passes) (length before)) ≡ Some fault
 
--- the same, of the passes of a session that has the recording's replicas
+-- the same, of the passes of a session that has the recording's replicas. No value tells which threads ran, and the passes may
+-- have seen any entries of other replicas: so, of a legal recording, that one stalled holds exactly where it has a receipt
 pub record HasEnded (h : History) (fault : RehearsalFault) : Type 0 where
   pub session : Which
   pub replicas : session.replicas ≡ h.replicas
@@ -31,10 +32,11 @@ pub record HasEnded (h : History) (fault : RehearsalFault) : Type 0 where
   pub opened : AreOpened session before
   pub ends : EndsWith h before fault
 
--- what a rehearsal of this recording may end with; no clause can say when memory runs out
+-- what a rehearsal of this recording may end with. No clause can say that memory ran out or that a thread was not started: no value
+-- shows either
 abbrev pub IsEndOf : History → RehearsalFault → Type 0
 IsEndOf h fault.Workers = Unit {0}
-IsEndOf h fault.Thread = HasEnded h fault.Thread
+IsEndOf h fault.Thread = Unit {0}
 IsEndOf h fault.Stalled = HasEnded h fault.Stalled
 IsEndOf h fault.Memory = Unit {0}
 

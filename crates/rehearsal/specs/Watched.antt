@@ -28,6 +28,3 @@ pub record WasWatched (closed : History) (verdicts : List Verdict) : Type 0 wher
   pub count : length verdicts ≡ 4
   pub verdicts_are : AreVerdicts closed.replicas [] verdicts last
   pub begins : HasPrefix closed.entries last
-
-abbrev pub IsWatched : History → Type 0
-IsWatched closed = (verdicts : List Verdict) × WasWatched closed verdicts

@@ -11,7 +11,7 @@ mod team;
 mod watcher;
 
 pub use fault::RehearsalFault;
-pub use rehearsing::rehearse;
+pub use rehearsing::{Rehearsed, rehearse, rehearse_watched};
 
 #[cfg(test)]
 mod tests;

@@ -8,7 +8,7 @@ ghost use Rattle.rehearsal.specs.Ends.{IsEndOf, MayEnd};
 ghost use Rattle.rehearsal.specs.Faults.{fault_of_all};
 ghost use Rattle.rehearsal.specs.Opened.{AreOpened};
 ghost use Rattle.rehearsal.specs.Replays.{AreReplayed, HasStalled, HaveActed};
-ghost use Rattle.rehearsal.specs.Watched.{HasWatched, IsWatched, WasWatched};
+ghost use Rattle.rehearsal.specs.Watched.{HasWatched, WasWatched};
 
 use super::board::Board;
 use super::fault::{RehearsalFault, foremost, of_watch};
@@ -63,15 +63,11 @@ pub fn rehearse<H: Threads + Wait + Sync, G: Gate>(
     gate: &G,
 ) -> Result<Recording, RehearsalFault>
     ensures streams { IfOk result (λ closed. SameStreams recording.now closed) }
-    ensures watched { IfOk result IsWatched }
     ensures workers { IsErrOf result RehearsalFault.Workers ↔ ((workers < 1) ⊎ (MOST_WORKERS < workers)) }
     // `Stalled` is the foremost of what recorders may tell of such replays; no clause ties it to those that ran.
     ensures ended { IfErr result (IsEndOf recording.now) }
     ensures stalled { IsErrOf result RehearsalFault.Stalled → HasStalled recording.now }
 {
-    if workers == 0 || workers > MOST_WORKERS {
-        return Err(RehearsalFault::Workers);
-    }
     let rehearsed = match rehearse_watched(rt, alloc, recording, workers, gate) {
         Ok(rehearsed) => rehearsed,
         Err(fault) => return Err(fault),
@@ -83,7 +79,8 @@ pub fn rehearse<H: Threads + Wait + Sync, G: Gate>(
     Ok(closed)
 }
 
-/// The same, with the watcher's verdicts.
+/// As `rehearse`, and hands back the watcher's verdicts too: each is on a list of entries of which the list before is a
+/// prefix, and the last list is a prefix of what the session has in the end. The lists may be empty.
 pub fn rehearse_watched<H: Threads + Wait + Sync, G: Gate>(
     rt: &H,
     alloc: Global,
@@ -91,12 +88,15 @@ pub fn rehearse_watched<H: Threads + Wait + Sync, G: Gate>(
     workers: u32,
     gate: &G,
 ) -> Result<Rehearsed, RehearsalFault>
-    requires workers { (1 ≤ workers) × (workers ≤ MOST_WORKERS) }
     ensures streams { IfOk result (λ rehearsed. SameStreams recording.now rehearsed.recording) }
     ensures watched { IfOk result (λ rehearsed. WasWatched rehearsed.recording rehearsed.verdicts) }
-    ensures workers { ¬ IsErrOf result RehearsalFault.Workers }
+    ensures workers { IsErrOf result RehearsalFault.Workers ↔ ((workers < 1) ⊎ (MOST_WORKERS < workers)) }
     ensures ended { IfErr result (IsEndOf recording.now) }
+    ensures stalled { IsErrOf result RehearsalFault.Stalled → HasStalled recording.now }
 {
+    if workers == 0 || workers > MOST_WORKERS {
+        return Err(RehearsalFault::Workers);
+    }
     let Opened {
         session,
         passes,

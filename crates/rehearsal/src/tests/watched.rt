@@ -1,11 +1,11 @@
 //! That the watcher judges what the recorders record, while they do.
-use crate::rehearsing::rehearse_watched;
-use verdict::Verdict;
+use crate::rehearse_watched;
 use events::{Body, Entry, Name, Recording, Response};
 use level_search::NoGate;
 use std::alloc::Global;
 use std::sync::Wait;
 use std::thread::Threads;
+use verdict::Verdict;
 
 /// How often the recording is rehearsed at most.
 const TIMES: u32 = 400;

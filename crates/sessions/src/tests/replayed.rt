@@ -8,7 +8,7 @@ use std::alloc::Global;
 use std::sync::Wait;
 
 /// A session of three replicas and its passes.
-fn team(alloc: Global) -> Option<(Session, Pass, Pass, Pass)>
+pub fn team(alloc: Global) -> Option<(Session, Pass, Pass, Pass)>
     ensures first { IfSome result (λ s. s.1.session ≡ s.0) }
     ensures others { IfSome result (λ s. (s.2.session ≡ s.0) × (s.3.session ≡ s.0)) }
 {
@@ -69,7 +69,7 @@ fn resumed<H: AllocGlobal + Wait>(
 }
 
 /// What a replay answers; where it finds no memory for an entry, it goes on from there.
-fn replayed<H: AllocGlobal + Wait>(
+pub fn replayed<H: AllocGlobal + Wait>(
     rt: &H,
     session: &Session,
     pass: &mut Pass,

@@ -1,7 +1,7 @@
 use Rattle.std.proofs.Common.{inl, inr}
 use Rattle.std.proofs.lemmas.Result.{err_from_is_err_and}
 use Rattle.command_line.specs.declared.task.Form.TheVariants.{Text}
-use Rattle.finder_cli.proofs.Reported.{written-on, front-on, report-on}
+use Rattle.finder_cli.proofs.Reported.{written-on, front-on, report-on, stalled-on}
 use Rattle.finder_cli.specs.Runs.{IsReportOf}
 use Rattle.finder_cli.proofs.live.live.Goals as goal
 
@@ -27,3 +27,8 @@ returns-in_err-report-clause-place g c =
     let p = err_from_is_err_and c.from_residual-in_err-report.result c.from_residual-in_err-report.ensures.1 in
     let end = c.in_ok-recording.ensures.end in
     rw (p.1, p.2) (λ _. inr (c.in_ok-recording.recording, end.2, end.0, c.in_ok-recording.ensures.ok))
+
+pub returns-in_err-report-clause-stalled : goal.returns-in_err-report-clause-stalled
+returns-in_err-report-clause-stalled g c =
+    let p = err_from_is_err_and c.from_residual-in_err-report.result c.from_residual-in_err-report.ensures.1 in
+    rw (p.1, p.2) (λ e. stalled-on c.args.source.now.bytes c.in_ok-recording.recording c.in_ok-recording.ensures.ok (c.in_err-report.ensures.stalled e))
