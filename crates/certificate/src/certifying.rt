@@ -14,12 +14,12 @@ ghost use Rattle.certificate.specs.ByRows.{HasNoRows, HasRows, certificate_with}
 ghost use Rattle.verdict.specs.VerdictOf.{verdict_of};
 
 use super::rows::rows_of_layers;
-use verdict::Verdict;
 use certificate_text::{Certificate, Layers, Row};
 use contents_check::{Checked, check_in_turn};
 use events::{Memory, Recording};
 use order_graph::OrderGraph;
 use std::alloc::Global;
+use verdict::Verdict;
 use visibility::Sight;
 use witnesses::{Order, Steps};
 

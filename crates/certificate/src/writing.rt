@@ -11,15 +11,14 @@ ghost use Rattle.certificate.specs.ByRows.{IsTextOfCertificate, certificate_with
 ghost use Rattle.verdict.specs.VerdictOf.{verdict_of};
 
 use super::certifying::{covering_graph, number_with_rows, with_rows};
-use verdict::{Judged, verdict_and_graph};
 use super::pieces::{push_rows_by, row_maker};
-use verdict::Verdict;
 use certificate_text::Version;
 use events::{Memory, Recording};
 use level_search::{Gate, MOST_WORKERS, SearchFault};
 use order_graph::OrderGraph;
 use std::alloc::Global;
 use std::thread::Threads;
+use verdict::{Judged, Verdict, verdict_and_graph};
 
 /// The text of the certificate of a verdict, in version two: the same bytes as `certify` and then
 /// `Certificate::write` give, in less memory.

@@ -13,10 +13,10 @@ mod steps;
 mod tables;
 
 use super::cycle_core::Core;
+use crate::shown_table::ShownTable;
 use events::Memory;
 use order_graph::OrderGraph;
 use ring::least_ring;
-use crate::shown_table::ShownTable;
 use std::alloc::Global;
 use steps::steps_of;
 use witnesses::Steps;

@@ -8,11 +8,11 @@ ghost use Rattle.level_search.specs.Sources.{AreRanked, MeetsCycles, Rises};
 
 mod peeling;
 
+use crate::shown_table::ShownTable;
 use bit_tables::BitSet;
 use events::Memory;
 use order_graph::OrderGraph;
 use peeling::order_taken;
-use crate::shown_table::ShownTable;
 use std::alloc::Global;
 
 /// The rank of an element that is out of place, or that was not taken.

@@ -12,10 +12,10 @@ ghost use Rattle.list_search.specs.Walks.{IsSearchAnswer};
 
 mod sets;
 
+use crate::shown_table::ShownTable;
 use list_search::BoundSource;
 use order_graph::{Looked, OrderGraph};
 pub use sets::Sets;
-use crate::shown_table::ShownTable;
 
 /// Whether the element stands before one of the layer. It looks once at the row of each, up to the first.
 fn closes(

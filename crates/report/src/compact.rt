@@ -7,9 +7,9 @@ ghost use Rattle.report.specs.JsonReport.{report_data, report_json};
 
 use super::counts::counts_of;
 use super::object::object_of;
-use verdict::Verdict;
 use events::{Memory, Recording};
 use std::alloc::Global;
+use verdict::Verdict;
 
 /// The report of a recording's verdict as one JSON object, compact and with its keys in byte order, and one
 /// LF. It says what the report as text says; operations' names are texts `r.n`, counts are numbers. It trusts

@@ -10,10 +10,10 @@ ghost use Rattle.verdict.specs.VerdictOf.{verdict_of};
 ghost use Rattle.report.specs.Texts.{counts_text, faulty_text, accepted_text, refused_text};
 
 use super::counts::{Counts, counts_of};
-use verdict::{Order, Step, Steps, Verdict};
 use events::{Memory, OpName, Recording};
 use format_words::{push_doubled, push_faulty, push_names, push_number, push_order, push_shown};
 use std::alloc::Global;
+use verdict::{Order, Step, Steps, Verdict};
 
 /// The report of a recording's verdict, as lines that each end with one LF: the counts, and then what the
 /// verdict is, whether the strong and the weak list specification hold, and the order or the steps. It trusts

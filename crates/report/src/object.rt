@@ -10,10 +10,10 @@ ghost use Rattle.report.specs.Objects.{step_object, verdict_object};
 
 use super::counts::Counts;
 use super::words::{name_value, operation_value, order_value, returned_value};
-use verdict::{Step, Steps, Verdict};
 use events::{Memory, Recording};
 use serde_json::{Value, json};
 use std::alloc::{AllocError, Global};
+use verdict::{Step, Steps, Verdict};
 
 /// The object of a recording's verdict.
 pub fn object_of(

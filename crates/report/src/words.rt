@@ -6,10 +6,10 @@ ghost use Rattle.serde_json.specs.View.{view};
 ghost use Rattle.events.specs.Operations.{response};
 ghost use Rattle.report.specs.JsonReport.{operation_json, names_json};
 
-use verdict::Order;
 use events::{Memory, Name, OpName, Recording, Response};
 use serde_json::Value;
 use std::alloc::Global;
+use verdict::Order;
 
 /// An operation's name, as the text `r.n`.
 pub fn operation_value(alloc: Global, name: OpName) -> Result<Value, Memory>

@@ -12,11 +12,11 @@ ghost use Rattle.list_search.specs.Walks.{HasCycle};
 
 use super::choose::next_of_ring;
 use super::tables::tables;
-use list_search::PlainBound;
+use crate::shown_table::ShownTable;
 use crate::tabled::{Sets, search_by_table};
 use events::Memory;
+use list_search::PlainBound;
 use order_graph::{Looked, OrderGraph};
-use crate::shown_table::ShownTable;
 use std::alloc::Global;
 
 /// The least element through which a shortest cycle leads.

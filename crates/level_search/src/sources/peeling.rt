@@ -3,10 +3,10 @@
 
 ghost use Rattle.std.specs.Prelude.{◌≡◌, length};
 
+use crate::shown_table::ShownTable;
 use bit_tables::BitSet;
 use events::Memory;
 use order_graph::OrderGraph;
-use crate::shown_table::ShownTable;
 use std::alloc::Global;
 
 /// No element, and the walk of an element that no walk has come to.

@@ -8,10 +8,10 @@ ghost use Rattle.level_search.specs.Tables.{IsShownTable};
 ghost use Rattle.level_search.specs.Balls.{FitsSets, IsInLayer};
 ghost use Rattle.level_search.specs.LayerSizes.{counted, layer_size};
 
+use crate::shown_table::ShownTable;
 use bit_tables::BitSet;
 use events::Memory;
 use order_graph::{Looked, OrderGraph};
-use crate::shown_table::ShownTable;
 use std::alloc::Global;
 
 /// Where a search over a table is, so that it takes no memory itself: `reached` has the elements from which no more steps than the level lead

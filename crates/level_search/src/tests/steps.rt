@@ -169,7 +169,10 @@ fn looks_in_the_ring_of_four(
 /// two layers and once in the third, since a fourth could only give a cycle that is no shorter: five looks.
 #[test]
 fn looks_of_all_searches_of_the_ring_of_four(rt: HostRuntime) -> Result<(), Fail> {
-    assert_eq!(rt; looks_in_the_ring_of_four(&rt, rt.alloc(), 1, &NoGate)?, Some(22));
+    assert_eq!(rt;
+        looks_in_the_ring_of_four(&rt, rt.alloc(), 1, &NoGate)?,
+        Some(22)
+    );
     Ok(())
 }
 
@@ -178,7 +181,10 @@ fn looks_of_all_searches_of_the_ring_of_four(rt: HostRuntime) -> Result<(), Fail
 #[test]
 fn looks_of_two_workers_are_added(rt: HostRuntime) -> Result<(), Fail> {
     let hold = Hold::until(0, 3);
-    assert_eq!(rt; looks_in_the_ring_of_four(&rt, rt.alloc(), 2, &hold)?, Some(22));
+    assert_eq!(rt;
+        looks_in_the_ring_of_four(&rt, rt.alloc(), 2, &hold)?,
+        Some(22)
+    );
     assert!(rt; hold.saw_both());
     Ok(())
 }

@@ -8,6 +8,7 @@ ghost use Rattle.level_search.specs.Balls.{FitsSets};
 
 use super::graphs::ask_of;
 use super::sources::FallingBound;
+use crate::shown_table::ShownTable;
 use crate::tabled::{Sets, search_by_table};
 use crate::workers::bound_seat::BoundSeat;
 use crate::{BoundSource, PlainBound};
@@ -15,7 +16,6 @@ use events::Memory;
 use order_graph::{Looked, OrderGraph};
 use sample_recordings::{RING_OF_FOUR, recording};
 use shared_bound::{Bound, NO_OFFER, Seat};
-use crate::shown_table::ShownTable;
 use std::alloc::Global;
 use std::sync::atomic::{AtomicU64, Ordering};
 use std::test::Fail;

@@ -10,11 +10,11 @@ ghost use Rattle.list_search.specs.Walks.{NoneShorter};
 
 use super::bound_seat::BoundSeat;
 use crate::gate::Gate;
+use crate::shown_table::ShownTable;
 use crate::tabled::{Sets, search_by_table};
 use events::Memory;
 use order_graph::{Looked, OrderGraph};
 use shared_bound::{Bound, NO_OFFER, Seat};
-use crate::shown_table::ShownTable;
 use std::alloc::Global;
 
 /// One of those who search for the conflict number: its number, its seat at the shared bound, what its searches write

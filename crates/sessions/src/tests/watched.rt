@@ -5,10 +5,10 @@ use super::observing::judged;
 use super::replayed::record_copy;
 use super::{opened, three_way};
 use crate::{Pass, SearchFault, Session, Verdict, Verdicts};
-use verdict::Order;
 use events::Recording;
 use std::ops::Range;
 use std::sync::Wait;
+use verdict::Order;
 
 /// Whether the entries at these places are recorded in their order, each by its replica's pass.
 fn hand_in<H: AllocGlobal + Wait>(

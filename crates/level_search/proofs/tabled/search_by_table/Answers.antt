@@ -146,34 +146,32 @@ returns-then-bound-level-2-clause-looks g c =
     elim c.then-bound-level-2.branch [
       | then-bound-level-2-via-then-bound-level-2 w ↦
           let low = w.if-bound-level-2.true in
-          subst P (λ i. (sym w.sets-is i, sym w.looked-is i))
-          (
-          _,
-          record {
-            level = c.loop-level.level;
-            near = at.near;
-            reached = at.reached;
-            part = layer_size n c.loop-level.sets;
-            is_part = inr (refl, omega (arith, last, low));
-            is_sum = refl;
-          },
-          looked-more (2 * set_size n c.loop-level.sets.near) (layer_size n c.loop-level.sets) c.args.looked.now c.loop-level.looked c.closes.new.looked c.loop-level.invariant.looked (c.if-closes.ensures.looked refl)
+          subst P (λ i. (sym w.sets-is i, sym w.looked-is i)) (
+            _,
+            record {
+              level = c.loop-level.level;
+              near = at.near;
+              reached = at.reached;
+              part = layer_size n c.loop-level.sets;
+              is_part = inr (refl, omega (arith, last, low));
+              is_sum = refl;
+            },
+            looked-more (2 * set_size n c.loop-level.sets.near) (layer_size n c.loop-level.sets) c.args.looked.now c.loop-level.looked c.closes.new.looked c.loop-level.invariant.looked (c.if-closes.ensures.looked refl),
           )
       | then-bound-level-2-via-else-bound-level-2+then-not-next_layer w ↦
           let next = w.next_layer.ensures in
           let then = level_next n (lists_of v) c.args.table.now c.requires.table (before-known v c.elements.ensures.proper) c.args.element c.loop-level.level c.loop-level.sets w.next_layer.new.self at missed next.near next.reached in
-          subst P (λ i. (sym w.sets-is i, sym w.looked-is i))
-          (
-          _,
-          record {
-            level = c.loop-level.level + 1;
-            near = then.near;
-            reached = then.reached;
-            part = 0;
-            is_part = inl (refl, inr (λ x here. here.not_near (w.if-not-next_layer.ensures.last refl x here.reached)));
-            is_sum = refl;
-          },
-          none-of n w.next_layer.new.self c.args.looked.now w.next_layer.new.looked (twice n c.loop-level.sets w.next_layer.new.self c.args.looked.now c.loop-level.looked c.closes.new.looked w.next_layer.new.looked c.loop-level.invariant.looked (c.if-closes.ensures.looked refl) next.looked next.near)
+          subst P (λ i. (sym w.sets-is i, sym w.looked-is i)) (
+            _,
+            record {
+              level = c.loop-level.level + 1;
+              near = then.near;
+              reached = then.reached;
+              part = 0;
+              is_part = inl (refl, inr (λ x here. here.not_near (w.if-not-next_layer.ensures.last refl x here.reached)));
+              is_sum = refl;
+            },
+            none-of n w.next_layer.new.self c.args.looked.now w.next_layer.new.looked (twice n c.loop-level.sets w.next_layer.new.self c.args.looked.now c.loop-level.looked c.closes.new.looked w.next_layer.new.looked c.loop-level.invariant.looked (c.if-closes.ensures.looked refl) next.looked next.near),
           )
     ]
 
