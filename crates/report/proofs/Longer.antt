@@ -1,8 +1,8 @@
 -- A text with one step more, and a count with one operation more.
-use Rattle.std.proofs.Common.{◌≡◌, ℕ, ◌+◌, ◌<◌, Option, Some, List, [], ◌∷◌, ◌++◌, length, map, take, get_or, slice_get, sym, ap, ◌∙◌, length-append}
+use Rattle.std.proofs.Common.{◌≡◌, ℕ, ◌+◌, Option, Some, List, [], ◌∷◌, ◌++◌, length, map, take, slice_get, sym, ap, ◌∙◌, length-append}
 use Rattle.std.specs.Prelude.{filter_map}
 use Rattle.std.specs.List.{cons_option}
-use Rattle.std.proofs.lemmas.List.{map_push, flat_map_more, take_more}
+use Rattle.std.proofs.lemmas.List.{map_push, flat_map_more}
 use Rattle.std.proofs.lemmas.List.Elements.{filter_map-append}
 use Rattle.events.specs.History.{History}
 use Rattle.specification.specs.Lines.{Line, text_of}
@@ -18,9 +18,5 @@ step-more h start text steps i step is at =
     ∙ ap (λ (ls : List Line). start ++ text_of ls) (sym (map_push (report_step h) (take i steps) step) ∙ ap (map (report_step h)) (sym (front-more steps i step at)))
 
 -- one more in the list of what some have
-pub one-more : {X Y : Type 0} (f : X → Option Y) (xs : List X) (k : ℕ) (x : X) → k < length xs → x ≡ get_or xs k x
-    → length (filter_map f (take (k + 1) xs)) ≡ length (filter_map f (take k xs)) + length (cons_option (f x) [])
-one-more f xs k x lt is =
-    ap (λ l. length (filter_map f l)) (take_more xs k x lt ∙ ap (λ y. take k xs ++ y ∷ []) (sym is))
-    ∙ ap length (filter_map-append f (take k xs) (x ∷ []))
-    ∙ length-append (filter_map f (take k xs)) (cons_option (f x) [])
+pub one-more : {X Y : Type 0} (f : X → Option Y) (xs : List X) (x : X) → length (filter_map f (xs ++ x ∷ [])) ≡ length (filter_map f xs) + length (cons_option (f x) [])
+one-more f xs x = ap length (filter_map-append f xs (x ∷ [])) ∙ length-append (filter_map f xs) (cons_option (f x) [])

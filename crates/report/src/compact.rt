@@ -15,7 +15,7 @@ use verdict::Verdict;
 /// LF. It says what the report as text says; operations' names are texts `r.n`, counts are numbers. It trusts
 /// the verdict, as `text` does.
 ///
-/// It takes memory and time in proportion to the text, and to the number of operations.
+/// It takes memory in proportion to the text, and time to the text and the number of operations.
 pub fn json(alloc: Global, recording: &Recording, verdict: &Verdict) -> Result<Vec<u8>, Memory>
     ensures { IfOk result (λ bytes. bytes.items ≡ report_json recording.now (verdict_of verdict.now)) }
 {
@@ -30,7 +30,7 @@ fn compact(alloc: Global, recording: &Recording, verdict: &Verdict) -> Result<St
     ensures { IfOk result (λ text. string_bytes text
         ≡ compact_text (report_data recording.now (verdict_of verdict.now))) }
 {
-    let counts = counts_of(alloc, recording)?;
+    let counts = counts_of(recording);
     let object = object_of(alloc, recording, counts, verdict)?;
     let text = object.to_string(alloc)?;
     Ok(text)

@@ -1,13 +1,13 @@
 //! What a report counts.
 
-ghost use Rattle.std.specs.Prelude.{◌≡◌, ◌<◌, ◌^◌, IfOk, is_some, option_and_then, length};
+ghost use Rattle.std.specs.Prelude.{◌≡◌, ◌≤◌, is_some, option_and_then, length};
 ghost use Rattle.events.specs.History.{inserted_name};
 ghost use Rattle.events.specs.Operations.{operation};
 ghost use Rattle.specification.specs.ReportText.{operation_count, insert_count};
+ghost use Rattle.contents_check.specs.Covering.{first_operations};
 ghost use Rattle.report.specs.Counts.{inserted_by};
 
-use events::{Body, Memory, OpName, Recording};
-use std::alloc::Global;
+use events::{Body, OpName, Recording};
 
 /// How many operations a recording has, and how many of them are inserts.
 #[derive(Clone, Copy)]
@@ -16,26 +16,36 @@ pub struct Counts {
     pub inserts: u32,
 }
 
-/// Counts the operations. It takes memory for their names.
-pub fn counts_of(alloc: Global, recording: &Recording) -> Result<Counts, Memory>
-    ensures operations { IfOk result (λ c. c.operations ≡ operation_count recording.now) }
-    ensures inserts { IfOk result (λ c. c.inserts ≡ insert_count recording.now) }
+/// Counts the operations, replica by replica. It takes no memory.
+pub fn counts_of(recording: &Recording) -> Counts
+    ensures operations { result.operations ≡ operation_count recording.now }
+    ensures inserts { result.inserts ≡ insert_count recording.now }
 {
-    let names = recording.operations(alloc)?;
-    Ok(Counts {
-        operations: names.len() as u32,
-        inserts: inserts_among(recording, &names),
-    })
+    let mut operations = 0;
+    let mut inserts = 0;
+    for r in 0..recording.replicas() {
+        let count = recording.count(r);
+        inserts += inserts_among(recording, r, count);
+        operations += count;
+    }
+    Counts {
+        operations,
+        inserts,
+    }
 }
 
-/// How many of these operations are inserts.
-fn inserts_among(recording: &Recording, names: &[OpName]) -> u32
-    requires few { length names.now < 2 ^ 32 }
-    ensures { result ≡ length (inserted_by recording.now names.now) }
+/// How many of a replica's first operations, so many, are inserts.
+fn inserts_among(recording: &Recording, r: u32, count: u32) -> u32
+    ensures inserts { result ≡ length (inserted_by recording.now (first_operations r count)) }
+    ensures few { result ≤ count }
 {
     let mut inserts = 0;
-    for name in names {
-        if is_insert(recording, *name) {
+    for i in 0..count {
+        let name = OpName {
+            replica: r,
+            n: i + 1,
+        };
+        if is_insert(recording, name) {
             inserts += 1;
         }
     }

@@ -19,11 +19,11 @@ use verdict::{Order, Step, Steps, Verdict};
 /// verdict is, whether the strong and the weak list specification hold, and the order or the steps. It trusts
 /// the verdict: of another recording's it makes the report that the verdict would have here.
 ///
-/// It takes memory and time in proportion to the text, and to the number of operations.
+/// It takes memory in proportion to the text, and time to the text and the number of operations.
 pub fn text(alloc: Global, recording: &Recording, verdict: &Verdict) -> Result<Vec<u8>, Memory>
     ensures { IfOk result (λ bytes. bytes.items ≡ report_text recording.now (verdict_of verdict.now)) }
 {
-    let counts = counts_of(alloc, recording)?;
+    let counts = counts_of(recording);
     let mut text = head(alloc, recording.replicas(), counts)?;
     push_verdict(alloc, &mut text, recording, verdict)?;
     Ok(text)
