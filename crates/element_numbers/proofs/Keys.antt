@@ -1,5 +1,5 @@
 -- The key of no names, and of a list with more names behind it.
-use Rattle.std.proofs.Common.{◌≡◌, List, [], ◌∷◌, ◌++◌, refl}
+use Rattle.std.proofs.Common.{◌≡◌, List, [], ◌++◌, refl}
 use Rattle.std.specs.Prelude.{fold}
 use Rattle.std.proofs.lemmas.List.Sums.{fold-append}
 use Rattle.events.specs.Names.{NameBytes}

@@ -1,7 +1,7 @@
 -- Responses that cover others have the same orders and cycles, and the same least operations that show one element
 -- before another.
-use Rattle.std.proofs.Common.{◌≡◌, ℕ, ◌≤◌, ◌⊎◌, inl, inr, List, [], ◌∷◌, length, map, refl, sym, ◌∙◌, ap, subst, arith}
-use Rattle.std.specs.Prelude.{All, Contains, IsTrue, IsPermutation}
+use Rattle.std.proofs.Common.{◌≡◌, ℕ, ◌⊎◌, inl, inr, List, [], ◌∷◌, map, refl, sym, ◌∙◌, ap, subst, arith}
+use Rattle.std.specs.Prelude.{IsTrue, IsPermutation}
 use Rattle.std.proofs.lemmas.List.Elements.{All-weaker}
 use Rattle.events.specs.Names.{NameBytes}
 use Rattle.events.specs.Operation.{Operation, ComesBefore, IsLeast}

@@ -1,7 +1,7 @@
 -- What is kept of a part of a sound recording's operations reads as their responses, so all that holds of these holds
 -- of it.
-use Rattle.std.proofs.Common.{◌≡◌, ◌≢◌, ℕ, ◌<◌, ◌^◌, List, [], ◌∷◌, length, map, refl, sym, ◌∙◌, ap, subst, arith}
-use Rattle.std.specs.Prelude.{All, AllPairs, Contains, sum_by}
+use Rattle.std.proofs.Common.{◌≡◌, ◌≢◌, ℕ, List, [], ◌∷◌, length, map, refl, sym, ◌∙◌, ap, subst, arith}
+use Rattle.std.specs.Prelude.{All, AllPairs, Contains}
 use Rattle.std.proofs.lemmas.List.{length-map}
 use Rattle.events.specs.Names.{NameBytes}
 use Rattle.events.specs.Operation.{Operation, ComesBefore}
@@ -9,18 +9,17 @@ use Rattle.events.specs.History.{History, IsLegal}
 use Rattle.events.specs.Operations.{operation_names, response}
 use Rattle.specification.specs.Faults.{IsSound}
 use Rattle.specification.specs.Elements.{elements, numbers_in}
-use Rattle.specification.specs.Responses.{Returned, responses_of, AreProper, place_count}
+use Rattle.specification.specs.Responses.{Returned, responses_of, AreProper}
 use Rattle.specification.proofs.Members.{All-from_members, All-member}
 use Rattle.specification.proofs.OperationNames.{listed-operation, operation_names-rise, Rising-map, AllPairs-from_Rising}
 use Rattle.specification.proofs.SoundResponses.{sound_responses_are_proper, response-elements}
 use Rattle.specification.proofs.Shown.{elements-once}
 use Rattle.element_numbers.specs.Covering.{IsPart}
 use Rattle.order_graph.specs.Covers.{responses_on}
-use Rattle.order_graph.specs.Lists.{lists_of, row, AreFew}
+use Rattle.order_graph.specs.Lists.{lists_of, AreFew}
 use Rattle.order_graph.specs.Kept.{responses_kept}
 use Rattle.element_numbers.proofs.Parts.{In-part, Rising-part}
 use Rattle.order_graph.proofs.Parts.{sum-part, length-part, part-map}
-use Rattle.order_graph.proofs.Shown.{known-numbers, row-le, lists-total}
 use Rattle.order_graph.proofs.Totals.{few-responses, returned-back}
 
 map-twice : {X Y Z : Type 0} (g : Y → Z) (f : X → Y) (xs : List X) → map g (map f xs) ≡ map (λ x. g (f x)) xs

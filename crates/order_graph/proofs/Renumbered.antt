@@ -1,5 +1,5 @@
 -- What is kept of some elements alone reads as what is left of the responses, so it is proper and few where these are.
-use Rattle.std.proofs.Common.{◌≡◌, ◌≢◌, ℕ, ◌<◌, ◌≤◌, ◌^◌, inl, inr, Bool, true, false, cond, Option, None, List, [], ◌∷◌, length, map, filter, get_or, refl, sym, ◌∙◌, ap, subst, arith}
+use Rattle.std.proofs.Common.{◌≡◌, ◌≢◌, ℕ, ◌<◌, ◌≤◌, inl, inr, Bool, true, false, cond, Option, None, List, [], ◌∷◌, length, map, filter, get_or, refl, sym, ◌∙◌, ap, subst, arith}
 use Rattle.std.specs.Prelude.{All, AllPairs, bytes_eq, unwrap_or, sum_by}
 use Rattle.std.specs.List.{cons_option, list_any}
 use Rattle.std.proofs.lemmas.Bool.{false≢true}
@@ -11,7 +11,7 @@ use Rattle.events.specs.Names.{NameBytes}
 use Rattle.events.specs.Operation.{Operation}
 use Rattle.specification.specs.Elements.{number_in, numbers_in}
 use Rattle.specification.specs.LayerRule.{narrowed}
-use Rattle.specification.specs.Responses.{Responses, Returned, AreProper, place_count}
+use Rattle.specification.specs.Responses.{Responses, Returned, AreProper}
 use Rattle.specification.proofs.Members.{In, Once, Once-bounded, Once-from_AllPairs, In-from_place, place_of_In, All-member}
 use Rattle.specification.proofs.Narrowed.{narrowed-proper}
 use Rattle.specification.proofs.OperationNames.{In_map-from}
@@ -21,7 +21,7 @@ use Rattle.order_graph.specs.Kept.{names_at, returned_of, responses_kept}
 use Rattle.order_graph.specs.Lists.{lists_of, row, AreFew}
 use Rattle.order_graph.specs.Renumbered.{numbers_left}
 use Rattle.order_graph.proofs.ReadBack.{read-back}
-use Rattle.order_graph.proofs.Shown.{known-numbers, row-le, lists-total}
+use Rattle.order_graph.proofs.Shown.{known-numbers}
 
 -- names at numbers that rise differ where the names do, and are among them
 module _ (names : List NameBytes) (distinct : AllPairs (λ a b. a ≢ b) names) (kept : List ℕ) (rising : AllPairs (λ x y. x < y) kept) (known : All (λ x. x < length names) kept) where

@@ -1,5 +1,5 @@
 -- Each place where the element stands is one spot more.
-use Rattle.std.proofs.Common.{◌≡◌, ℕ, List, length, take, get_or, inl, inr, sym, ◌∙◌, ap, arith}
+use Rattle.std.proofs.Common.{ℕ, List, length, get_or, inl, inr, ◌∙◌, ap, arith}
 use Rattle.std.proofs.lemmas.Bool.Decides.{eqb_tells}
 use Rattle.std.proofs.lemmas.List.{take_all}
 use Rattle.order_graph.specs.Spots.{spots_in}

@@ -5,7 +5,7 @@ use Rattle.element_numbers.specs.Cuts.{rows_of}
 use Rattle.element_numbers.specs.declared.rows.Rows.{Rows}
 use Rattle.element_numbers.proofs.Cuts.{length-cut}
 use Rattle.order_graph.specs.Lists.{row}
-use Rattle.order_graph.specs.Spots.{spots_in, spots_from, spots_of}
+use Rattle.order_graph.specs.Spots.{spots_in, spots_from}
 use Rattle.order_graph.specs.declared.spot.Spot.{Spot}
 use Rattle.order_graph.proofs.Adding.{one_more_list}
 use Rattle.order_graph.proofs.OneSpot.{front-few}

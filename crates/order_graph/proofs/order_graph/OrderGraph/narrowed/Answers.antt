@@ -1,12 +1,11 @@
 -- What is kept of some of the elements reads as what is left of the responses.
-use Rattle.std.proofs.Common.{◌≡◌, ◌≢◌, ℕ, ◌<◌, ◌≤◌, Option, List, length, map, refl, sym, ◌∙◌, ap, subst, arith}
+use Rattle.std.proofs.Common.{◌≡◌, ◌≢◌, ℕ, ◌<◌, Option, List, length, map, refl, sym, ◌∙◌, ap, subst, arith}
 use Rattle.std.specs.Prelude.{All, AllPairs}
 use Rattle.std.proofs.lemmas.List.{length-map}
 use Rattle.std.proofs.lemmas.Result.{IfOk-weaker}
 use Rattle.events.specs.Names.{NameBytes}
 use Rattle.events.specs.Operation.{Operation}
 use Rattle.specification.specs.Elements.{number_in}
-use Rattle.specification.specs.LayerRule.{narrowed}
 use Rattle.specification.specs.Responses.{Responses}
 use Rattle.element_numbers.specs.Cuts.{rows_of}
 use Rattle.element_numbers.specs.declared.rows.Rows.{Rows}

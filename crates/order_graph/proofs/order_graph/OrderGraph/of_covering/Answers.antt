@@ -7,7 +7,7 @@ use Rattle.specification.specs.Elements.{elements}
 use Rattle.specification.specs.Responses.{Responses, responses_of}
 use Rattle.element_numbers.specs.Cuts.{rows_of}
 use Rattle.order_graph.specs.Covers.{IsCoveredBy}
-use Rattle.order_graph.specs.Kept.{responses_kept, AreListed}
+use Rattle.order_graph.specs.Kept.{AreListed}
 use Rattle.order_graph.proofs.Covers.{covers-all}
 use Rattle.order_graph.proofs.Made.{answers, kept-is, kept-lists, kept-proper, kept-few, kept-count}
 use Rattle.order_graph.proofs.order_graph.OrderGraph.of_covering.Goals as goal

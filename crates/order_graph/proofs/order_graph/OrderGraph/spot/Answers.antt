@@ -1,5 +1,5 @@
 -- The spots are those of the lists, and the lists are short.
-use Rattle.std.proofs.Common.{◌≡◌, ℕ, [], Option, List, Vec, Global, map, get_or, slice_get, sym, ◌∙◌, ap, subst}
+use Rattle.std.proofs.Common.{ℕ, [], Option, List, Vec, Global, map, get_or, slice_get, sym, ◌∙◌, ap, subst}
 use Rattle.std.specs.Prelude.{IfSome}
 use Rattle.element_numbers.specs.Cuts.{rows_of}
 use Rattle.specification.specs.Responses.{Responses}
