@@ -121,14 +121,14 @@ fn names_of_texts_are_put(rt: HostRuntime) {
     assert!(rt; begins_with_names(alloc, more, &["a"], 2));
 }
 
-/// Whether of a text of so many names, all `a`, so many are put at once.
-fn puts_so_many(alloc: Global, names: usize, put: usize) -> Option<bool> {
-    let mut text = Vec::new(alloc);
-    for _ in 0..names {
-        text.extend_from_slice(b" a").ok()?;
+/// Whether of a text of so many names, all `a`, so many are put at once; of more than 65 names it says nothing.
+fn puts_so_many(alloc: Global, names: u8, put: usize) -> Option<bool> {
+    let mut text = [b'a'; 130];
+    for i in 0..65 {
+        text[2 * i] = b' ';
     }
     let mut made = Response::new(alloc);
-    let run = put_names(&mut made, &text)?;
+    let run = put_names(&mut made, text.get(..2 * usize::from(names))?)?;
     Some(run.names == put && made.len() == put && made.text_len() == run.bytes)
 }
 
@@ -142,10 +142,9 @@ fn at_most_64_names_are_put_at_once(rt: HostRuntime) {
 /// How many names there are in a word of 18 bytes that has this byte at a place, and is followed by another one: both,
 /// or none where the byte may not stand in a name.
 fn names_with(alloc: Global, byte: u8, place: usize) -> Option<usize> {
-    let mut text = Vec::new(alloc);
-    text.extend_from_slice(b" eighteen_letters_x b").ok()?;
+    let mut text = *b" eighteen_letters_x b";
     if place < 18 {
-        *text.get_mut(place + 1)? = byte;
+        text[place + 1] = byte;
     }
     let mut made = Response::new(alloc);
     Some(put_names(&mut made, &text)?.names)
