@@ -5,7 +5,7 @@ Of each such call it takes a test of the crates that makes it and compares what 
 refused, then with its second, and so on until a run meets no refusal; a test that would take more than --most runs, 20,000 unless
 told otherwise, is cut short, and fails. A call that only an engine of the program has is tried by the program's command, on three
 vectors. A test passes where its calls answer out of memory, or what they must, and again what they must when memory is there. The
-table of calls is printed, and with --write it is put into docs/testing.md, where nothing failed. A call without a line there fails, and so does one
+table of calls is printed, and with --write it is put into refused_calls.md, where nothing failed. A call without a line there fails, and so does one
 whose test is gone.
 
 Such a call is a public function of a crate's surface, or a method of a type of it, whose answer has a place for out of memory: the
@@ -25,7 +25,7 @@ from memory.refused_memory import refuse_each, shim  # noqa: E402
 from memory.refused_memory_of_tests import Test, tests_of  # noqa: E402
 from shared.program import Tally, program_of  # noqa: E402
 
-PAGE = ROOT / "docs" / "testing.md"
+PAGE = ROOT / "tests" / "memory" / "refused_calls.md"
 BEGIN, END = "<!-- refused memory: made by tests/memory/refused_calls.py -->", "<!-- end of refused memory -->"
 VECTORS = [ROOT / "tests" / "vectors" / f"{name}.trace" for name in ("all-three-way-cycle", "all-opposite-pair", "all-contents")]
 MOST = 20_000
@@ -288,7 +288,7 @@ def put(table: str) -> None:
 def main() -> None:
     words = argparse.ArgumentParser(description=__doc__)
     words.add_argument("program")
-    words.add_argument("--write", action="store_true", help="put the table into docs/testing.md")
+    words.add_argument("--write", action="store_true", help="put the table into refused_calls.md")
     words.add_argument("--most", type=int, default=MOST, help="how many runs of a test at most")
     words.add_argument("--processes", type=int, default=1, help="how many tests are tried at a time")
     given = words.parse_args()
