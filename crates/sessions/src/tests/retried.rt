@@ -74,7 +74,30 @@ fn replays<H: AllocGlobal + Wait>(
     Some(replayed(rt, session, &mut second, recording, u32::MAX))
 }
 
-/// What the replay answers beside the recorder; none where they don't meet, or memory runs out.
+/// What the replay answers beside the recorder; none where they don't meet.
+fn both_act<H: AllocGlobal + Threads + Wait + Sync>(
+    rt: &H,
+    session: &Session,
+    first: Pass,
+    second: Pass,
+    recording: &Recording,
+    meeting: &Meeting,
+) -> Option<Result<u32, ReplayFault>>
+    requires { (first.session ≡ session.now) × (second.session ≡ session.now) }
+{
+    let (_, answer) = thread::join(
+        rt,
+        || -> bool
+            requires { IsSync H.row × (first.session ≡ session.now) }
+        { records_late(rt, session, first, recording, meeting) },
+        || -> Option<Result<u32, ReplayFault>>
+            requires { IsSync H.row × (second.session ≡ session.now) }
+        { replays(rt, session, second, recording, meeting) },
+    );
+    answer
+}
+
+/// The same in a session of its own; none also where memory runs out.
 fn replayed_beside<H: AllocGlobal + Threads + Wait + Sync>(
     rt: &H,
 ) -> Option<Result<u32, ReplayFault>> {
@@ -84,16 +107,7 @@ fn replayed_beside<H: AllocGlobal + Threads + Wait + Sync>(
         recorder: AtomicU64::new(0),
         replayer: AtomicU64::new(0),
     };
-    let (_, answer) = thread::join(
-        rt,
-        || -> bool
-            requires { IsSync H.row × (first.session ≡ session.now) }
-        { records_late(rt, &session, first, &recording, &meeting) },
-        || -> Option<Result<u32, ReplayFault>>
-            requires { IsSync H.row × (second.session ≡ session.now) }
-        { replays(rt, &session, second, &recording, &meeting) },
-    );
-    answer
+    both_act(rt, &session, first, second, &recording, &meeting)
 }
 
 #[test]
