@@ -48,10 +48,11 @@ fn records_late<H: AllocGlobal + Wait>(
     requires { first.session ≡ session.now }
 {
     let mut first = first;
-    let mut turns = 0;
     if meets(&meeting.recorder, &meeting.replayer) {
-        while turns < MORE && meeting.replayer.load(Ordering::SeqCst) == 1 {
-            turns += 1;
+        for _ in 0..MORE {
+            if meeting.replayer.load(Ordering::SeqCst) != 1 {
+                break;
+            }
         }
     }
     record_copy(rt, session, &mut first, recording.stream(0, 0)) == Ok(1)
