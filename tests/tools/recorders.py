@@ -888,13 +888,13 @@ def blocks(page: Path) -> list:
 
 def check_guide(tally: Tally, program: str, folder: Path) -> None:
     """The guide's editor and its window print what the guide says, in a folder that has what the guide's commands put there; its
-    test leaves a file that can be explained; and its traces have the reports beside them."""
+    test leaves a file that can be explained; its traces have the verdicts beside them; and its line for the debugger stops once."""
     shown = blocks(ROOT / "docs" / "recording.md")
     code = [block for block in shown if block.startswith("from ")]
     surroundings = {**os.environ, "DOMEPEELER": program, "DOMEPEELER_EXPLAIN": EXPLAIN, "PYTHONDONTWRITEBYTECODE": "1", "HOME": str(folder)}
     copying = re.findall(r"^\$ (.*)$", "".join(block for block in shown if "$ cp recorders/" in block), re.MULTILINE)
     done = subprocess.run(["sh", "-ec", "\n".join(copying)], cwd=ROOT, capture_output=True, env=surroundings)
-    tally.check("guide: what is copied", len(copying) == 4 and done.returncode == 0, done)
+    tally.check("guide: what is copied", len(copying) == 2 and done.returncode == 0, done)
     place = folder / "editor"
     place.mkdir(exist_ok=True)
 
@@ -909,7 +909,7 @@ def check_guide(tally: Tally, program: str, folder: Path) -> None:
     refused = [block for block in shown if block.startswith("not causal: ")]
     tally.check("guide: the clocks", [clocks.stdout.decode()] == refused, clocks)
     judged = [block.split("\n\n") for block in traces if block not in printed]
-    tally.check("guide: has traces with reports", len(judged) == 4, judged)
+    tally.check("guide: has traces with verdicts", len(judged) == 4, judged)
     tally.check("guide: the window", [trace + "\n" for trace, _ in judged if " view :" in trace] == [window.stdout.decode()], window)
     test = [block for block in shown if block.startswith("report = recording.judge()")]
     failed = ended("failed.py", "\n".join([LOST, *test]))
@@ -919,7 +919,12 @@ def check_guide(tally: Tally, program: str, folder: Path) -> None:
     tally.check("guide: its file is explained", explained.returncode == 1 and explained.stdout.startswith("contents 0.2: "), explained)
     for trace, wanted in judged:
         got = run(program, ["verdict", "-"], trace.encode() + b"\n")
-        tally.check(f"guide: {trace}", got.out == wanted.encode(), got)
+        tally.check(f"guide: {trace}", got.out.decode().split("\n")[1:2] == [wanted.rstrip("\n")], got)
+    stops = [block for block in shown if "breakpoint()" in block]
+    surroundings["PYTHONBREAKPOINT"] = "builtins.print"
+    reads = [line for number in range(1, 7) for line in [*stops, f"print({number}, recording.read(0, []))"]]
+    stopped = ended("stopped.py", "\n".join(["from domepeeler import Recording", "recording = Recording(1)", *reads]))
+    tally.check("guide: stops before line 6", len(stops) == 1 and stopped.stdout == b"1 1\n2 2\n3 3\n\n4 4\n5 5\n6 6\n", stopped)
 
 
 # How README's examples begin, what runs them in the folder of the one file that they import, and that file.
