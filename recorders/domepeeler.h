@@ -12,6 +12,8 @@
  *     domepeeler_save(recording, "session.trace");                   // the trace as a file, for tools/explain
  *     char *report = domepeeler_judge(recording, NULL);              // asks the program: its report as JSON, or NULL
  *     free(report);
+ *     char *words = domepeeler_explain(recording, NULL);             // what that means, in words, or NULL
+ *     free(words);
  *     domepeeler_free(recording);
  *
  * Each call that a trace can't say answers 0 and leaves the recording as it was; domepeeler_why() then says why, and
@@ -25,6 +27,7 @@
 #define _POSIX_C_SOURCE 200809L
 #endif
 
+#include <ctype.h>
 #include <errno.h>
 #include <stdarg.h>
 #include <stdio.h>
@@ -518,14 +521,15 @@ static inline char *domepeeler_whole(FILE *file) {
     return text;
 }
 
-/* Runs the program with these three files as its streams; answers its exit status, or 127 where it could not run. */
-static inline int domepeeler_run(const char *program, FILE *in, FILE *out, FILE *err) {
+/* Runs the words, the first of which is the program, with these three files as its streams; answers its exit status, or 127 where it
+ * could not run. */
+static inline int domepeeler_run(const char *const *words, FILE *in, FILE *out, FILE *err) {
     fflush(NULL); /* or the child would write once more what is still in a buffer */
     pid_t child = fork();
     if (child < 0) return 127;
     if (child == 0) {
         if (dup2(fileno(in), 0) == 0 && dup2(fileno(out), 1) == 1 && dup2(fileno(err), 2) == 2)
-            execlp(program, program, "verdict", "--json", "-", (char *)NULL);
+            execvp(words[0], (char *const *)words);
         _exit(127);
     }
     int status;
@@ -533,30 +537,28 @@ static inline int domepeeler_run(const char *program, FILE *in, FILE *out, FILE 
     return WEXITSTATUS(status);
 }
 
-/* The report, as JSON, of the program on this recording; free() it. NULL where there is none. The program is that of the
- * environment's DOMEPEELER, or domepeeler, where NULL is given. */
-static inline char *domepeeler_judge(struct domepeeler *d, const char *program) {
+/* What the words print for this recording; free() it. NULL where they print nothing, or nothing that begins with this letter, if there
+ * is one; `named` says what to do where they can't be run. */
+static inline char *domepeeler_ask(struct domepeeler *d, const char *const *words, const char *named, char first) {
     if (d->only >= 0) {
         domepeeler_refuse(d, 0, "one replica's log is no recording: merge the logs first");
         return NULL;
     }
-    if (!program) program = getenv("DOMEPEELER");
-    if (!program || !*program) program = "domepeeler";
     FILE *in = tmpfile(), *out = tmpfile(), *err = tmpfile();
-    char *report = NULL;
+    char *printed = NULL;
     if (in && out && err && fwrite(d->text, 1, d->length, in) == d->length && !fflush(in)) {
         rewind(in);
-        int status = domepeeler_run(program, in, out, err);
-        if (status == 0 || status == 1) report = domepeeler_whole(out);
-        if (!report || *report != '{') {
-            free(report);
-            report = NULL;
+        int status = domepeeler_run(words, in, out, err);
+        if (status == 0 || status == 1) printed = domepeeler_whole(out);
+        if (!printed || !*printed || (first && *printed != first)) {
+            free(printed);
+            printed = NULL;
             char *why = domepeeler_whole(err);
             if (why) why[strcspn(why, "\n")] = 0;
             if (status == 127)
-                domepeeler_refuse(d, 0, "%s cannot be run: name the program's path in DOMEPEELER", program);
+                domepeeler_refuse(d, 0, "%s cannot be run: name %s", words[0], named);
             else
-                domepeeler_refuse(d, 0, "%s ended with status %d: %.160s", program, status, why ? why : "");
+                domepeeler_refuse(d, 0, "%s ended with status %d: %.160s", words[0], status, why ? why : "");
             free(why);
         }
     } else {
@@ -565,7 +567,67 @@ static inline char *domepeeler_judge(struct domepeeler *d, const char *program) 
     if (in) fclose(in);
     if (out) fclose(out);
     if (err) fclose(err);
-    return report;
+    return printed;
+}
+
+/* The report, as JSON, of the program on this recording; free() it. NULL where there is none. The program is that of the
+ * environment's DOMEPEELER, or domepeeler, where NULL is given. */
+static inline char *domepeeler_judge(struct domepeeler *d, const char *program) {
+    if (!program) program = getenv("DOMEPEELER");
+    if (!program || !*program) program = "domepeeler";
+    const char *words[] = {program, "verdict", "--json", "-", NULL};
+    return domepeeler_ask(d, words, "the program's path in DOMEPEELER", '{');
+}
+
+/* The path, put into this room, of domepeeler-explain where it lies beside the program of the environment's DOMEPEELER; else the
+ * command. */
+static inline const char *domepeeler_beside_program(char *path, size_t room) {
+    const char *command = "domepeeler-explain", *program = getenv("DOMEPEELER"), *slash = program ? strrchr(program, '/') : NULL;
+    size_t folder = slash ? (size_t)(slash + 1 - program) : 0;
+    struct stat about;
+    if (!slash || folder + strlen(command) >= room) return command;
+    memcpy(path, program, folder);
+    strcpy(path + folder, command);
+    return !stat(path, &about) && S_ISREG(about.st_mode) && !access(path, X_OK) ? path : command;
+}
+
+/* Whether what is said has this id's name, where that is a numbered one, as a word. */
+static inline int domepeeler_is_told(const char *said, const struct domepeeler_id *one) {
+    if (strcmp(one->id, one->name) == 0 || strncmp(one->name, "long", 4)) return 0;
+    for (const char *at = strstr(said, one->name); at; at = strstr(at + 1, one->name)) {
+        unsigned char before = at == said ? ' ' : (unsigned char)at[-1], behind = (unsigned char)at[strlen(one->name)];
+        if (!isalnum(before) && !isalnum(behind)) return 1;
+    }
+    return 0;
+}
+
+/* What is said, and behind it the ids of the numbered names in it. */
+static inline char *domepeeler_with_ids(struct domepeeler *d, char *said) {
+    const char *title = "\nIds that were too long for a name\n";
+    size_t length = strlen(said), room = length + strlen(title) + 1, end = length;
+    for (size_t i = 0; i < d->known; i++) room += strlen(d->ids[i]->id) + DOMEPEELER_BYTES + sizeof "  : ";
+    char *whole = (char *)malloc(room);
+    if (whole) memcpy(whole, said, length + 1);
+    else domepeeler_refuse(d, 0, "no memory");
+    for (size_t i = 0; whole && i < d->known; i++) {
+        const struct domepeeler_id *one = d->ids[i];
+        if (domepeeler_is_told(said, one))
+            end += (size_t)snprintf(whole + end, room - end, "%s  %s: %s\n", end == length ? title : "", one->name, one->id);
+    }
+    free(said);
+    return whole;
+}
+
+/* What the report on this recording means, in words, and at the end the ids of the numbered names; free() it. NULL where there is none.
+ * The tool is that of the environment's DOMEPEELER_EXPLAIN, or domepeeler-explain, beside the program of DOMEPEELER or on the PATH,
+ * where NULL is given. */
+static inline char *domepeeler_explain(struct domepeeler *d, const char *explainer) {
+    char path[4096];
+    if (!explainer) explainer = getenv("DOMEPEELER_EXPLAIN");
+    if (!explainer || !*explainer) explainer = domepeeler_beside_program(path, sizeof path);
+    const char *words[] = {explainer, "-", NULL};
+    char *said = domepeeler_ask(d, words, "the tool's path in DOMEPEELER_EXPLAIN", 0);
+    return said ? domepeeler_with_ids(d, said) : NULL;
 }
 
 #endif

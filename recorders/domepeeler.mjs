@@ -442,10 +442,10 @@ function stackHere() {
   }
 }
 
-// The nearest callers in a stack that are your code, each as its file and line.
+// The nearest callers in a stack that are your code, each as its file and line; one line once where it calls itself.
 function callersIn(stack) {
   const places = stack.split("\n").map((line) => FRAME.exec(line)?.[1]).filter((place) => place && isYours(place))
-  return places.slice(0, MOST_CALLERS)
+  return places.filter((place, at) => place !== places[at - 1]).slice(0, MOST_CALLERS)
 }
 
 // Whether a place is neither in this file or its helper, nor in an installed package (Debian's among them), nor in a text that was

@@ -222,7 +222,7 @@ class Recording:
         try:
             return words[0], subprocess.run([*words, *more], input=self.text().encode(), capture_output=True)
         except OSError as why:
-            raise RuntimeError(f"{words[0]} cannot be run ({why.strerror}): name {whose} path in {variable}") from why
+            raise RuntimeError(f"{words[0]} cannot be run ({why.strerror}): name {whose} path in {variable}") from None
 
     def _known(self, replica: int) -> None:
         if not _whole(replica, 0, len(self._replicas) - 1):
@@ -400,12 +400,13 @@ class Recording:
 
 
 def _callers() -> Callers:
-    """The nearest callers that are your code, each as its file and line."""
+    """The nearest callers that are your code, each as its file and line; one line once where it calls itself."""
     found: List[Tuple[str, int]] = []
     frame = sys._getframe(1)
     for _ in range(MOST_FRAMES):
-        if _is_yours(frame.f_code.co_filename):
-            found.append((frame.f_code.co_filename, frame.f_lineno))
+        place = frame.f_code.co_filename, frame.f_lineno
+        if _is_yours(frame.f_code.co_filename) and place not in found[-1:]:
+            found.append(place)
         if len(found) == MOST_CALLERS or frame.f_back is None:
             break
         frame = frame.f_back

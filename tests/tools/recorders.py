@@ -488,8 +488,9 @@ def check_lines(tally: Tally, recorder: Recorder, folder: Path) -> None:
                     and full.read_bytes() == b"trace 1\nreplicas 1\n" + b"0 read :\n" * 40, (got, beside(full)))
 
 
-# Languages whose recorder remembers where each line was recorded.
+# Languages whose recorder remembers where each line was recorded, and those whose `explain` has no more than the tool's words.
 PLACING = ["py", "mjs", "rs"]
+EXPLAINING = ["c", "el"]
 
 
 def check_places(tally: Tally, recorder: Recorder, folder: Path) -> None:
@@ -545,7 +546,7 @@ os.chdir("gone")
 os.rmdir("../gone")
 recording.save(whole)
 ''', ["3 {place}tests/editor.py:9, called from {place}tests/editor.py:17",
-     "5 {place}tests/editor.py:14, called from {place}tests/editor.py:13, called from {place}tests/editor.py:13"]),
+     "5 {place}tests/editor.py:14, called from {place}tests/editor.py:13, called from {place}tests/editor.py:21"]),
     "editor.mjs": (f'''import {{ mkdirSync, rmdirSync }} from "node:fs"
 import {{ Recording }} from "{(ROOT / 'recorders').as_uri()}/domepeeler.mjs"
 import {{ call }} from "other"
@@ -572,7 +573,7 @@ process.chdir("gone")
 rmdirSync("../gone")
 await recording.save(whole)
 ''', ["3 {place}tests/editor.mjs:6, called from {place}tests/editor.mjs:15",
-     "5 {place}tests/editor.mjs:11, called from {place}tests/editor.mjs:10, called from {place}tests/editor.mjs:10"]),
+     "5 {place}tests/editor.mjs:11, called from {place}tests/editor.mjs:10, called from {place}tests/editor.mjs:18"]),
     "editor.rs": (f'''#[path = "{ROOT / 'recorders'}/domepeeler.rs"]
 mod domepeeler;
 use domepeeler::Recording;
@@ -749,7 +750,7 @@ def check_judge(tally: Tally, recorder: Recorder, folder: Path) -> None:
 
 
 def check_explain(tally: Tally, recorder: Recorder, folder: Path) -> None:
-    """What `explain` answers in Emacs Lisp is what the tool says of the text, and the ids of numbered names; and what is said where there
+    """What `explain` answers is what the tool says of the text, and the ids of numbered names that it names; and what is said where there
     is no tool. The tool is that of the variable, or the one beside the program."""
     calls = [fields(line.split(" -> ")[0]) for line in CYCLE.split("\n")[:-1]]
     long = ["new 2", f"insert 0 {LETTERS32}x 0 {LETTERS32}x", f"delete 0 {LETTERS32}x", f"insert 0 4@{LETTERS32} 0 4@{LETTERS32}",
@@ -763,10 +764,10 @@ def check_explain(tally: Tally, recorder: Recorder, folder: Path) -> None:
         said = "".join(line[2:] + "\n" for line in got[at + 1:-1])
         tally.check(f"{recorder.language}: explain {name}", told and said == told + more and got[-1] == "ok", got)
     got = recorder.answers(["new\t3\t1", "explain"], DOMEPEELER_EXPLAIN=EXPLAIN)[-1]
-    tally.check(f"{recorder.language}: explain one log", got == f"refused {ONE_LOG}", got)
-    for absent, why in (str(folder / "nowhere"), "cannot be run ("), ("/bin/false", "ended with status 1: "):
+    tally.check(f"{recorder.language}: explain one log", got.split(" ", 1)[1:] == [ONE_LOG], got)
+    for absent, why in (str(folder / "nowhere"), "cannot be run"), ("/bin/false", "ended with status 1: "):
         got = recorder.answers(["new\t1", "explain"], DOMEPEELER_EXPLAIN=absent)[-1]
-        is_named = why.startswith("ended") or got.endswith("): name the tool's path in DOMEPEELER_EXPLAIN")
+        is_named = why.startswith("ended") or got.endswith(": name the tool's path in DOMEPEELER_EXPLAIN")
         tally.check(f"{recorder.language}: explain by {absent}", got.startswith(f"failed {absent} {why}") and is_named, got)
     tool = folder / "path" / "domepeeler-explain"
     tool.write_text("#!/bin/sh\ncat > /dev/null\necho the tool beside it\n")
@@ -887,13 +888,13 @@ def blocks(page: Path) -> list:
 
 def check_guide(tally: Tally, program: str, folder: Path) -> None:
     """The guide's editor and its window print what the guide says, in a folder that has what the guide's commands put there; its
-    test leaves a file that can be explained; and its traces have the reports beside them."""
+    test leaves a file that can be explained; its traces have the verdicts beside them; and its line for the debugger stops once."""
     shown = blocks(ROOT / "docs" / "recording.md")
     code = [block for block in shown if block.startswith("from ")]
     surroundings = {**os.environ, "DOMEPEELER": program, "DOMEPEELER_EXPLAIN": EXPLAIN, "PYTHONDONTWRITEBYTECODE": "1", "HOME": str(folder)}
     copying = re.findall(r"^\$ (.*)$", "".join(block for block in shown if "$ cp recorders/" in block), re.MULTILINE)
     done = subprocess.run(["sh", "-ec", "\n".join(copying)], cwd=ROOT, capture_output=True, env=surroundings)
-    tally.check("guide: what is copied", len(copying) == 4 and done.returncode == 0, done)
+    tally.check("guide: what is copied", len(copying) == 2 and done.returncode == 0, done)
     place = folder / "editor"
     place.mkdir(exist_ok=True)
 
@@ -908,7 +909,7 @@ def check_guide(tally: Tally, program: str, folder: Path) -> None:
     refused = [block for block in shown if block.startswith("not causal: ")]
     tally.check("guide: the clocks", [clocks.stdout.decode()] == refused, clocks)
     judged = [block.split("\n\n") for block in traces if block not in printed]
-    tally.check("guide: has traces with reports", len(judged) == 4, judged)
+    tally.check("guide: has traces with verdicts", len(judged) == 4, judged)
     tally.check("guide: the window", [trace + "\n" for trace, _ in judged if " view :" in trace] == [window.stdout.decode()], window)
     test = [block for block in shown if block.startswith("report = recording.judge()")]
     failed = ended("failed.py", "\n".join([LOST, *test]))
@@ -918,7 +919,12 @@ def check_guide(tally: Tally, program: str, folder: Path) -> None:
     tally.check("guide: its file is explained", explained.returncode == 1 and explained.stdout.startswith("contents 0.2: "), explained)
     for trace, wanted in judged:
         got = run(program, ["verdict", "-"], trace.encode() + b"\n")
-        tally.check(f"guide: {trace}", got.out == wanted.encode(), got)
+        tally.check(f"guide: {trace}", got.out.decode().split("\n")[1:2] == [wanted.rstrip("\n")], got)
+    stops = [block for block in shown if "breakpoint()" in block]
+    surroundings["PYTHONBREAKPOINT"] = "builtins.print"
+    reads = [line for number in range(1, 7) for line in [*stops, f"print({number}, recording.read(0, []))"]]
+    stopped = ended("stopped.py", "\n".join(["from domepeeler import Recording", "recording = Recording(1)", *reads]))
+    tally.check("guide: stops before line 6", len(stops) == 1 and stopped.stdout == b"1 1\n2 2\n3 3\n\n4 4\n5 5\n6 6\n", stopped)
 
 
 # How README's examples begin, what runs them in the folder of the one file that they import, and that file.
@@ -1000,7 +1006,7 @@ def main() -> None:
             if language in PLACING:
                 check_places(tally, recorder, folder)
             check_judge(tally, recorder, folder)
-            if language == "el":
+            if language in EXPLAINING:
                 check_explain(tally, recorder, folder)
         check_users(tally, program, folder)
         check_frames(tally, folder)

@@ -59,6 +59,13 @@ static void show(const char *text) {
     puts("ok");
 }
 
+static void explain(struct domepeeler *d) {
+    char *words = domepeeler_explain(d, NULL);
+    if (words) show(words);
+    else printf("failed %s\n", domepeeler_why(d));
+    free(words);
+}
+
 static struct domepeeler *begin(struct domepeeler *old) {
     struct domepeeler *d = domepeeler_new_only(atoi(words[1]), count > 2 ? atoi(words[2]) : -1);
     puts(d ? "ok" : "refused");
@@ -86,6 +93,7 @@ int main(void) {
         if (is("id_of")) printf(domepeeler_id_of(d, words[1]) ? "ok %s\n" : "none\n", domepeeler_id_of(d, words[1]));
         if (is("save")) save(d);
         if (is("judge")) judge(d);
+        if (is("explain")) explain(d);
         if (is("text")) show(domepeeler_text(d));
     }
     domepeeler_free(d);
