@@ -52,36 +52,12 @@ Has-set words n word within read x =
           (λ h. inl (sym kept ∙ h), λ h. elim h [ inl old ↦ kept ∙ old | inr here ↦ absurd (other here) ])
     ]
 
--- words that are joined
-pub Has-join : (old new other : List ℕ) → length old ≡ length other → length new ≡ length old
-    → ((k : ℕ) → k < length old → get_or new k 0 ≡ bit_or (get_or old k 0) (get_or other k 0))
-    → (x : ℕ) → Has new x ↔ (Has old x ⊎ Has other x)
-unfolding Has
-Has-join old new other len same each x =
-    elim (cases_lt (x / 64) (length old)) [
-      | inl within ↦
-          let a : ℕ = bit_at (get_or old (x / 64) 0) (x % 64) in
-          let b : ℕ = bit_at (get_or other (x / 64) 0) (x % 64) in
-          let at : bit_at (get_or new (x / 64) 0) (x % 64) ≡ max a b =
-          ap (λ w. bit_at w (x % 64)) (each (x / 64) within) ∙ bit_at_or _ _ (x % 64) in
-          let small_a : a < 2 = bit_at-lt _ _ in
-          let small_b : b < 2 = bit_at-lt _ _ in (
-            λ h. elim (cases_eq a 1) [ inl one ↦ inl one | inr none ↦ inr (omega (arith, at, h)) ],
-            λ h. elim h [ inl one ↦ omega (arith, at, one) | inr one ↦ omega (arith, at, one) ],
-          )
-      | inr past ↦
-          let none_new : ¬ Has new x = Has-zero new x (get_or_past new (x / 64) 0 (omega arith)) in
-          let none_old : ¬ Has old x = Has-zero old x (get_or_past old (x / 64) 0 (omega arith)) in
-          let none_other : ¬ Has other x = Has-zero other x (get_or_past other (x / 64) 0 (omega arith)) in
-          (λ h. absurd (none_new h), λ h. elim h [ inl a ↦ absurd (none_old a) | inr b ↦ absurd (none_other b) ])
-    ]
-
--- words that are joined from one on
-pub Has-join_from : (old new other : List ℕ) (first : ℕ) → length old ≡ length other → length new ≡ length old
+-- words of which those from one on are joined
+pub Has-or_words : (old new other : List ℕ) (first : ℕ) → length old ≡ length other → length new ≡ length old
     → ((k : ℕ) → first / 64 ≤ k → k < length old → get_or new k 0 ≡ bit_or (get_or old k 0) (get_or other k 0))
     → (x : ℕ) → first ≤ x → Has new x ↔ (Has old x ⊎ Has other x)
 unfolding Has
-Has-join_from old new other first len same each x from =
+Has-or_words old new other first len same each x from =
     elim (cases_lt (x / 64) (length old)) [
       | inl within ↦
           let a : ℕ = bit_at (get_or old (x / 64) 0) (x % 64) in

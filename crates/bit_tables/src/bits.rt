@@ -5,7 +5,7 @@ ghost use Rattle.std.specs.Prelude.{IsTrue, true, List, length, slice_index};
 ghost use Rattle.bit_tables.specs.Sets.{Has, room};
 ghost use Rattle.bit_tables.specs.Ways.{AreThoseBelow};
 
-use super::words::{empty, fill, is_within, join, join_from};
+use super::words::{empty, fill, is_within, or_words};
 use std::alloc::{AllocError, Global};
 use std::marker::Model;
 
@@ -80,16 +80,16 @@ impl BitSet {
         ensures len { length self.new ≡ length self.old }
         ensures has { (x : ℕ) → Has self.new x ↔ (Has self.old x ⊎ Has other.now x) }
     {
-        join(&mut self.words, &other.words);
+        self.union_from(other, 0);
     }
 
-    /// Adds what the other set has from a number on. What it has of lesser numbers may be other than before.
+    /// Adds what the other set has from a number on. Below that number nothing is promised of the set.
     pub fn union_from(&mut self, other: &BitSet, first: usize)
         requires { length self.old ≡ length other.now }
         ensures len { length self.new ≡ length self.old }
         ensures has { (x : ℕ) → first ≤ x → Has self.new x ↔ (Has self.old x ⊎ Has other.now x) }
     {
-        join_from(&mut self.words, &other.words, first / 64);
+        or_words(&mut self.words, &other.words, first / 64);
     }
 
     /// Whether the other set has all that this one has.
@@ -116,7 +116,7 @@ impl BitSet {
     }
 
     /// The greatest number below `n` that this set has and the other has not.
-    pub fn last_outside(&self, other: &BitSet, n: u32) -> Option<u32>
+    pub fn last_of_difference(&self, other: &BitSet, n: u32) -> Option<u32>
         ensures some { IfSome result (λ x. (x < n) × Has self.now x × (¬ Has other.now x)) }
         ensures last { IfSome result (λ x. (y : ℕ) → x < y → y < n → Has self.now y → Has other.now y) }
         ensures none { IfNone result ((y : ℕ) → y < n → Has self.now y → Has other.now y) }
@@ -170,7 +170,7 @@ impl BitSet {
 impl BitSet {
     /// The least number from `from` on and below `n` that this set has and the other has not. It takes a step for each
     /// word that it passes over.
-    pub fn first_outside(&self, other: &BitSet, from: u32, n: u32) -> Option<u32>
+    pub fn first_of_difference(&self, other: &BitSet, from: u32, n: u32) -> Option<u32>
         ensures some { IfSome result (λ x. (from ≤ x) × (x < n) × Has self.now x × (¬ Has other.now x)) }
         ensures first { IfSome result (λ x. (y : ℕ) → from ≤ y → y < x → Has self.now y → Has other.now y) }
         ensures none { IfNone result ((y : ℕ) → from ≤ y → y < n → Has self.now y → Has other.now y) }
@@ -210,14 +210,14 @@ impl BitSet {
 
     /// The numbers below `n` that this set has and the other has not, in rising order. It takes a step for
     /// each word and one for each of them.
-    pub fn outside(&self, alloc: Global, other: &BitSet, n: u32) -> Result<Vec<u32>, AllocError>
+    pub fn difference(&self, alloc: Global, other: &BitSet, n: u32) -> Result<Vec<u32>, AllocError>
         ensures { IfOk result (λ v. AreThoseBelow (λ x. Has self.now x × (¬ Has other.now x)) n v.items) }
     {
-        self.outside_from(alloc, other, 0, n)
+        self.difference_from(alloc, other, 0, n)
     }
 
     /// The same, where the other set has what this one has of the numbers below `first`, which are not looked at.
-    pub fn outside_from(
+    pub fn difference_from(
         &self,
         alloc: Global,
         other: &BitSet,
@@ -230,7 +230,7 @@ impl BitSet {
     {
         let mut numbers = Vec::new(alloc);
         let mut from = first;
-        'numbers: while let Some(x) = self.first_outside(other, from, n) {
+        'numbers: while let Some(x) = self.first_of_difference(other, from, n) {
             numbers.push(x)?;
             from = x + 1;
         }

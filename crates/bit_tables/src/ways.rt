@@ -72,7 +72,7 @@ pub fn layers_from(
     shown.insert(source as usize);
     let mut layers = Vec::new(alloc);
     for d in 0..count {
-        let layer = shown.outside_from(alloc, &reached, first, n)?;
+        let layer = shown.difference_from(alloc, &reached, first, n)?;
         add_layer(&mut reached, layer.as_slice());
         add_unless_last(&mut shown, table, layer.as_slice(), first, d, count);
         layers.push(layer)?;

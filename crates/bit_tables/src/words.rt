@@ -3,27 +3,15 @@
 ghost use Rattle.std.specs.Prelude.{◌≡◌, ◌<◌, ◌≤◌, ◌-◌, ◌^◌, ◌↔◌, ℕ, IsTrue, bit_or, length, slice_index};
 ghost use Rattle.bit_tables.specs.Sets.{Has};
 
-/// Adds the bits of `from` to those of `into`, word by word.
-pub fn join(into: &mut [u64], from: &[u64])
-    requires { length into.old ≡ length from.now }
-    ensures len { length into.new ≡ length into.old }
-    ensures joined { (k : ℕ) → k < length into.old →
-        slice_index into.new k ≡ bit_or (slice_index into.old k) (slice_index from.now k) }
-{
-    'words: for k in 0..from.len() {
-        into[k] |= from[k];
-    }
-}
-
-/// Adds the bits of `from` to those of `into`, word by word from this one on.
-pub fn join_from(into: &mut [u64], from: &[u64], first: usize)
-    requires { length into.old ≡ length from.now }
+/// Adds the bits of `other` to those of `into`, word by word from the word `first` on.
+pub fn or_words(into: &mut [u64], other: &[u64], first: usize)
+    requires { length into.old ≡ length other.now }
     ensures len { length into.new ≡ length into.old }
     ensures joined { (k : ℕ) → first ≤ k → k < length into.old →
-        slice_index into.new k ≡ bit_or (slice_index into.old k) (slice_index from.now k) }
+        slice_index into.new k ≡ bit_or (slice_index into.old k) (slice_index other.now k) }
 {
-    'words: for k in first..from.len() {
-        into[k] |= from[k];
+    'words: for k in first..other.len() {
+        into[k] |= other[k];
     }
 }
 

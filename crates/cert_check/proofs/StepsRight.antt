@@ -1,7 +1,7 @@
 -- Steps that are right, and steps that are not.
 use Rattle.std.proofs.Common.{◌≡◌, ℕ, zero, suc, ◌<◌, Option, Some, None, List, [], ◌∷◌, map, length, refl, sym, ◌∙◌, ap, subst, arith}
 use Rattle.std.specs.Prelude.{slice_get, unwrap_or, option_map, IsSome}
-use Rattle.events.specs.declared.recording.Body.{Body}
+use Rattle.events.specs.declared.entry.Body.{Body}
 use Rattle.std.proofs.lemmas.List.{length-map}
 use Rattle.events.specs.Names.{NameBytes}
 use Rattle.events.specs.Operation.{Operation}

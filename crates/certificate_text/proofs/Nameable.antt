@@ -10,9 +10,9 @@ use Rattle.events.specs.Operation.{Operation}
 use Rattle.events.specs.History.{History, IsLegal, IsWellFormed, stream, is_operation, inserted_name}
 use Rattle.events.specs.Operations.{operations, count, nth, operation, IsOperation, numbers_from, operation_names, response}
 use Rattle.events.specs.declared.TheConstants.{MOST_REPLICAS, MOST_ENTRIES}
-use Rattle.events.specs.declared.recording.Entry.{Entry}
-use Rattle.events.specs.declared.recording.Body.{Body}
-use Rattle.events.specs.declared.recording.Body.TheVariants.{Ins, Del, Read, View, Recv}
+use Rattle.events.specs.declared.entry.Entry.{Entry}
+use Rattle.events.specs.declared.entry.Body.{Body}
+use Rattle.events.specs.declared.entry.Body.TheVariants.{Ins, Del, Read, View, Recv}
 use Rattle.specification.specs.Elements.{elements}
 use Rattle.specification.specs.Responses.{Returned, responses_of}
 use Rattle.specification.specs.Conflict.{HasConflictNumber}

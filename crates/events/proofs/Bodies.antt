@@ -4,7 +4,7 @@ use Rattle.std.specs.Prelude.{filter, slice_get}
 use Rattle.events.specs.Operation.{Operation}
 use Rattle.events.specs.History.{History, is_operation, stream}
 use Rattle.events.specs.Operations.{operation, operations, nth}
-use Rattle.events.specs.declared.recording.Body.{Body}
+use Rattle.events.specs.declared.entry.Body.{Body}
 
 -- an operation has a body that is no receipt
 filtered : {X : Type 0} (p : X → Bool) (xs : List X) (i : ℕ) (x : X) → slice_get (filter p xs) i ≡ Some x → p x ≡ true

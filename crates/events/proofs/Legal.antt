@@ -9,9 +9,9 @@ use Rattle.events.specs.Operation.{Operation}
 use Rattle.events.specs.History.{History, IsLegal, IsWellFormed, IsInOrder, KeepsLimits, response_of, is_insert, stream_of, count_of, with_entry}
 use Rattle.events.specs.Session.{received, passes, first_refusal}
 use Rattle.events.specs.declared.TheConstants.{MOST_ENTRIES, MOST_INSERTS, MOST_NAMES, MOST_PLACES}
-use Rattle.events.specs.declared.recording.Entry.{Entry}
-use Rattle.events.specs.declared.recording.Body.{Body}
-use Rattle.events.specs.declared.recording.Body.TheVariants.{Recv}
+use Rattle.events.specs.declared.entry.Entry.{Entry}
+use Rattle.events.specs.declared.entry.Body.{Body}
+use Rattle.events.specs.declared.entry.Body.TheVariants.{Recv}
 use Rattle.events.proofs.Streams.{stream_of-own, stream_of-other}
 use Rattle.events.proofs.Refusals.{IsTaken, is_taken}
 

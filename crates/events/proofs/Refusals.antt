@@ -4,7 +4,7 @@ use Rattle.std.specs.Prelude.{nat_lt, nat_le, count_by, sum_by, slice_get, if◌
 use Rattle.events.specs.History.{response_of, is_insert, stream_of, count_of}
 use Rattle.events.specs.Session.{received, passes, first_that_holds, refusals, first_refusal}
 use Rattle.events.specs.declared.TheConstants.{MOST_ENTRIES, MOST_INSERTS, MOST_NAMES, MOST_PLACES}
-use Rattle.events.specs.declared.recording.Entry.{Entry}
+use Rattle.events.specs.declared.entry.Entry.{Entry}
 use Rattle.events.specs.declared.refusal.Refusal.{Refusal}
 
 -- where no refusal is answered no test holds

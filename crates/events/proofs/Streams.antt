@@ -8,7 +8,7 @@ use Rattle.std.proofs.lemmas.List.{map-append, length-map}
 use Rattle.std.proofs.lemmas.List.Sums.{sum_by-cons, length-filter}
 use Rattle.events.specs.History.{History, IsLegal, stream_of}
 use Rattle.events.specs.declared.TheConstants.{MOST_REPLICAS, MOST_ENTRIES}
-use Rattle.events.specs.declared.recording.Entry.{Entry}
+use Rattle.events.specs.declared.entry.Entry.{Entry}
 
 pub stream_of-append : (r : ℕ) (xs ys : List Entry) → stream_of r (xs ++ ys) ≡ stream_of r xs ++ stream_of r ys
 stream_of-append r xs ys =

@@ -6,8 +6,8 @@ use Rattle.events.specs.declared.refusal.Refusal.{Refusal}
 use Rattle.events.specs.declared.refusal.Refusal.TheVariants.{EntriesFull, InsertsFull, LongResponse, PlacesFull}
 use Rattle.events.specs.declared.lane.Lane.{Lane}
 use Rattle.events.specs.declared.lane.Weight.{Weight}
-use Rattle.events.specs.declared.recording.Entry.{Entry}
-use Rattle.events.specs.declared.recording.Body.{Body}
+use Rattle.events.specs.declared.entry.Entry.{Entry}
+use Rattle.events.specs.declared.entry.Body.{Body}
 
 -- the body of the entry at a place
 abbrev pub body_at : List Entry → ℕ → Option Body

@@ -57,31 +57,31 @@ pub fn search_by_table<B: BoundSource>(
     element: u32,
     sets: &mut Sets,
     looked: &mut Looked,
-    source: &mut B,
+    bound: &mut B,
 ) -> Option<u32>
     requires element { element < length graph.now.elements }
     requires table { IsShownTable (length graph.now.elements) (lists_of graph.now) table.now }
     requires fits { FitsSets (length graph.now.elements) sets.old }
-    ensures answer { IsSearchAnswer (lists_of graph.now) element (B.last source.new) result }
-    ensures bound { B.last source.new ≤ B.last source.old }
-    ensures reads { B.reads source.old source.new }
+    ensures answer { IsSearchAnswer (lists_of graph.now) element (B.last bound.new) result }
+    ensures bound { B.last bound.new ≤ B.last bound.old }
+    ensures reads { B.reads bound.old bound.new }
     ensures fits { FitsSets (length graph.now.elements) sets.new }
     ensures looked { looked.new ≤ looked.old + 2 * length graph.now.elements }
-    ensures looks { HasLooked (length graph.now.elements) (lists_of graph.now) element (B.last source.new) sets.new
+    ensures looks { HasLooked (length graph.now.elements) (lists_of graph.now) element (B.last bound.new) sets.new
         result looked.old looked.new }
 {
     // Its contract has that the responses are proper.
     let _ = graph.elements();
     sets.begin(element);
     for level in 0..u32::MAX {
-        let bound = source.best();
-        if bound <= level + 1 {
+        let least = bound.best();
+        if least <= level + 1 {
             return None;
         }
         if closes(graph, table, element, sets, looked) {
             return Some(level + 1);
         }
-        if bound - 1 <= level + 1 || !sets.next_layer(graph, table, looked) {
+        if least - 1 <= level + 1 || !sets.next_layer(graph, table, looked) {
             return None;
         }
     }

@@ -100,25 +100,25 @@ pub fn search_by_number<B: BoundSource>(
     graph: &OrderGraph,
     element: u32,
     scratch: &mut Scratch,
-    source: &mut B,
+    bound: &mut B,
 ) -> Option<u32>
     requires element { element < length graph.now.elements }
     requires fits { Fits scratch.old graph.now }
-    ensures answer { by_number.IsSearchAnswer (lists_of graph.now) element (B.last source.new) result }
-    ensures bound { B.last source.new ≤ B.last source.old }
-    ensures reads { B.reads source.old source.new }
-    ensures none { IfNone result (length graph.now.elements < B.last source.new → (n : ℕ)
+    ensures answer { by_number.IsSearchAnswer (lists_of graph.now) element (B.last bound.new) result }
+    ensures bound { B.last bound.new ≤ B.last bound.old }
+    ensures reads { B.reads bound.old bound.new }
+    ensures none { IfNone result (length graph.now.elements < B.last bound.new → (n : ℕ)
         → ¬ by_number.HasCycle (lists_of graph.now) element n) }
     ensures fits { Fits scratch.new graph.now }
     ensures looked { LooksWithin graph.now scratch.new.looked result }
-    ensures expanded { IfNone result (1 < B.last source.new → 0 < scratch.new.looked) }
+    ensures expanded { IfNone result (1 < B.last bound.new → 0 < scratch.new.looked) }
 {
     search_in(
         graph,
         element,
         &mut scratch.state,
         &mut scratch.looked,
-        source,
+        bound,
     )
 }
 
@@ -134,22 +134,22 @@ pub fn search<B: BoundSource>(
     graph: &OrderGraph,
     element: u32,
     scratch: &mut Scratch,
-    source: &mut B,
+    bound: &mut B,
 ) -> Option<u32>
     requires element { element < length graph.now.elements }
     requires fits { Fits scratch.old graph.now }
-    ensures answer { IsSearchAnswer graph.now element (B.last source.new) result }
-    ensures bound { B.last source.new ≤ B.last source.old }
-    ensures reads { B.reads source.old source.new }
-    ensures none { IfNone result (length graph.now.elements < B.last source.new → (cycle : List NameBytes)
+    ensures answer { IsSearchAnswer graph.now element (B.last bound.new) result }
+    ensures bound { B.last bound.new ≤ B.last bound.old }
+    ensures reads { B.reads bound.old bound.new }
+    ensures none { IfNone result (length graph.now.elements < B.last bound.new → (cycle : List NameBytes)
         → ¬ IsCycleThrough graph.now element cycle) }
     ensures fits { Fits scratch.new graph.now }
     ensures looked { LooksWithin graph.now scratch.new.looked result }
-    ensures expanded { IfNone result (1 < B.last source.new → 0 < scratch.new.looked) }
+    ensures expanded { IfNone result (1 < B.last bound.new → 0 < scratch.new.looked) }
 {
     let elements = graph.elements();
     prove!(element < elements);
-    search_by_number(graph, element, scratch, source)
+    search_by_number(graph, element, scratch, bound)
 }
 
 /// Writes at each element's number how many steps lead to it from the element, at the least, each step from

@@ -8,7 +8,7 @@ use Rattle.events.specs.Operation.{Operation}
 use Rattle.events.specs.History.{History, IsLegal, KeepsLimits, stream, is_operation, response_of}
 use Rattle.events.specs.Operations.{operations, count, nth, response, numbers_from, operation_names}
 use Rattle.events.specs.declared.TheConstants.{MOST_REPLICAS, MOST_ENTRIES, MOST_PLACES}
-use Rattle.events.specs.declared.recording.Body.{Body}
+use Rattle.events.specs.declared.entry.Body.{Body}
 use Rattle.specification.specs.Elements.{numbers_in}
 use Rattle.specification.specs.Responses.{Returned, responses_of}
 use Rattle.specification.proofs.Members.{In, Once}

@@ -1,7 +1,7 @@
 -- What the watcher hands back, and what is known of its verdicts in the end.
 use Rattle.std.specs.Prelude.{◌≡◌, ◌≢◌, ℕ, List, [], length, IfOk, IfErr}
 use Rattle.events.specs.History.{History}
-use Rattle.events.specs.declared.recording.Entry.{Entry}
+use Rattle.events.specs.declared.entry.Entry.{Entry}
 use Rattle.verdict.specs.declared.verdict.Verdict.{Verdict}
 use Rattle.level_search.specs.declared.search_fault.SearchFault.TheVariants as search
 use Rattle.sessions.specs.Prefixes.{HasPrefix}

@@ -9,9 +9,9 @@ use Rattle.events.specs.Names.{NameBytes, IsName, is_name_byte}
 use Rattle.events.specs.History.{History, stream, count_of, is_insert, response_of, IsWellFormed, KeepsLimits, IsInOrder, IsLegal}
 use Rattle.events.specs.Operations.{numbers_from}
 use Rattle.events.specs.declared.TheConstants.{MOST_REPLICAS, MOST_ENTRIES, MOST_INSERTS, MOST_NAMES, MOST_PLACES}
-use Rattle.events.specs.declared.recording.Entry.{Entry}
-use Rattle.events.specs.declared.recording.Body.{Body}
-use Rattle.events.specs.declared.recording.Body.TheVariants.{Ins, Del, Read, View, Recv}
+use Rattle.events.specs.declared.entry.Entry.{Entry}
+use Rattle.events.specs.declared.entry.Body.{Body}
+use Rattle.events.specs.declared.entry.Body.TheVariants.{Ins, Del, Read, View, Recv}
 use Rattle.specification.proofs.Members.{All-from_members}
 use Rattle.specification.proofs.OperationNames.{In-numbers_from, stream_of-none}
 use Rattle.specification.proofs.Tests.{Decides-each}

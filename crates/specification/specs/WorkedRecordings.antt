@@ -19,8 +19,8 @@ use Rattle.specification.specs.TraceText.{trace_text}
 use Rattle.specification.specs.Versions.{one, two}
 use Rattle.specification.specs.Lines.{Line, text_of}
 use Rattle.specification.specs.Laws.{HasOppositePair}
-use Rattle.events.specs.declared.recording.Entry.{Entry}
-use Rattle.events.specs.declared.recording.Body.TheVariants.{Ins, Del, Read, View, Recv}
+use Rattle.events.specs.declared.entry.Entry.{Entry}
+use Rattle.events.specs.declared.entry.Body.TheVariants.{Ins, Del, Read, View, Recv}
 use Rattle.events.specs.declared.refusal.Refusal.TheVariants.{NotYet, OwnReceipt}
 
 -- how recordings and steps are written down here

@@ -8,9 +8,9 @@ use Rattle.events.specs.Operation.{Operation}
 use Rattle.events.specs.History.{History, IsLegal, KeepsLimits, IsInOrder, stream_of, count_of, response_of, is_insert}
 use Rattle.events.specs.Session.{first_refusal, received, passes}
 use Rattle.events.specs.declared.TheConstants.{MOST_ENTRIES, MOST_INSERTS, MOST_NAMES, MOST_PLACES}
-use Rattle.events.specs.declared.recording.Entry.{Entry}
-use Rattle.events.specs.declared.recording.Body.{Body}
-use Rattle.events.specs.declared.recording.Body.TheVariants.{Ins, Del, Read, View, Recv}
+use Rattle.events.specs.declared.entry.Entry.{Entry}
+use Rattle.events.specs.declared.entry.Body.{Body}
+use Rattle.events.specs.declared.entry.Body.TheVariants.{Ins, Del, Read, View, Recv}
 use Rattle.events.proofs.Streams.{stream_of-append, stream_of-own}
 
 passes-none : (test : Operation → Bool) (b : Body) → ((seen : Operation) → b ≡ Recv seen → test seen ≡ false) → passes test (received b) ≡ false

@@ -9,7 +9,7 @@ use Rattle.std.specs.Str.{bytes_eq}
 use Rattle.events.specs.History.{History, with_entry}
 use Rattle.events.specs.Session.{first_refusal}
 use Rattle.events.specs.declared.TheConstants.{MOST_REPLICAS}
-use Rattle.events.specs.declared.recording.Entry.{Entry}
+use Rattle.events.specs.declared.entry.Entry.{Entry}
 use Rattle.events.specs.declared.refusal.Refusal.{Refusal}
 use Rattle.specification.specs.Lines.{Line, text_of, IsOneLine}
 use Rattle.specification.specs.TraceText as format

@@ -12,8 +12,8 @@ use Rattle.trace_text.proofs.Spelled.{line-spells-none}
 use Rattle.events.specs.History.{History, IsLegal, IsWellFormed, with_entry, response_of}
 use Rattle.events.specs.Session.{first_refusal, reply_by}
 use Rattle.events.specs.declared.TheConstants.{MOST_REPLICAS, MOST_NAMES}
-use Rattle.events.specs.declared.recording.Entry.{Entry}
-use Rattle.events.specs.declared.recording.Body.{Body}
+use Rattle.events.specs.declared.entry.Entry.{Entry}
+use Rattle.events.specs.declared.entry.Body.{Body}
 use Rattle.events.specs.declared.refusal.Refusal.{Refusal}
 use Rattle.events.specs.declared.refusal.Refusal.TheVariants.{NoReplica, OwnReceipt, NotYet, EntriesFull, InsertsFull, LongResponse, PlacesFull, Memory}
 use Rattle.specification.specs.Lines.{Line}

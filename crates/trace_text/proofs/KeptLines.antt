@@ -9,7 +9,7 @@ use Rattle.std.proofs.lemmas.Fmt.{length-decimal-le, decimal_nonempty}
 use Rattle.events.specs.History.{History, response_of}
 use Rattle.events.specs.Names.{NameBytes, IsName}
 use Rattle.events.specs.declared.TheConstants.{MOST_REPLICAS, MOST_NAMES}
-use Rattle.events.specs.declared.recording.Entry.{Entry}
+use Rattle.events.specs.declared.entry.Entry.{Entry}
 use Rattle.events.proofs.Refusals.{is_taken}
 use Rattle.specification.specs.Lines.{Line}
 use Rattle.specification.specs.TraceText as format

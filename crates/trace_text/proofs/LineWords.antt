@@ -5,9 +5,9 @@ use Rattle.std.proofs.lemmas.List.{append_assoc}
 use Rattle.std.proofs.lemmas.List.Splits.{join_with_byte-slice_split}
 use Rattle.events.specs.History.{IsWellFormed}
 use Rattle.events.specs.Names.{NameBytes, IsName}
-use Rattle.events.specs.declared.recording.Entry.{Entry}
-use Rattle.events.specs.declared.recording.Body.{Body}
-use Rattle.events.specs.declared.recording.Body.TheVariants.{Ins, Del, Read, View, Recv}
+use Rattle.events.specs.declared.entry.Entry.{Entry}
+use Rattle.events.specs.declared.entry.Body.{Body}
+use Rattle.events.specs.declared.entry.Body.TheVariants.{Ins, Del, Read, View, Recv}
 use Rattle.specification.specs.Lines.{names_text}
 use Rattle.specification.specs.TraceText.{entry_line, body_text, IsEntry}
 use Rattle.specification.specs.Versions.{Version}

@@ -12,9 +12,9 @@ use Rattle.events.specs.History.{IsWellFormed, response_of, is_insert, is_view, 
 use Rattle.events.specs.Names.{NameBytes, IsName}
 use Rattle.events.specs.Session.{first_refusal, first_that_holds, received, passes, have_of}
 use Rattle.events.specs.declared.TheConstants.{MOST_ENTRIES, MOST_INSERTS, MOST_NAMES, MOST_PLACES}
-use Rattle.events.specs.declared.recording.Entry.{Entry}
-use Rattle.events.specs.declared.recording.Body.{Body}
-use Rattle.events.specs.declared.recording.Body.TheVariants.{Ins, Del, Read, View, Recv}
+use Rattle.events.specs.declared.entry.Entry.{Entry}
+use Rattle.events.specs.declared.entry.Body.{Body}
+use Rattle.events.specs.declared.entry.Body.TheVariants.{Ins, Del, Read, View, Recv}
 use Rattle.events.specs.declared.refusal.Refusal.{Refusal}
 use Rattle.events.specs.declared.refusal.Refusal.TheVariants.{NoReplica, OwnReceipt, NotYet, EntriesFull, InsertsFull, LongResponse, PlacesFull}
 use Rattle.specification.specs.Lines.{Line}

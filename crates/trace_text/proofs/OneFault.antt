@@ -5,7 +5,7 @@ use Rattle.std.proofs.lemmas.Option.{same_Some}
 use Rattle.events.specs.History.{History}
 use Rattle.events.specs.Session.{first_refusal}
 use Rattle.events.specs.declared.refusal.Refusal.{Refusal}
-use Rattle.events.specs.declared.recording.Entry.{Entry}
+use Rattle.events.specs.declared.entry.Entry.{Entry}
 use Rattle.specification.specs.Lines.{Line}
 use Rattle.specification.specs.TraceText as format
 use Rattle.specification.specs.TraceText.{header_line, entry_line, trace_lines, IsEntry, IsSpelledIn, IsFaultyLine, IsMissingLine, BeginsSpelling, HasWholeFault, IsCutAt, LacksLine, IsFirstLineFault}

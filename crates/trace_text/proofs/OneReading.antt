@@ -7,7 +7,7 @@ use Rattle.std.proofs.lemmas.List.Elements.{All-head, All-tail, All-cons, All-ni
 use Rattle.events.specs.History.{History, IsLegal}
 use Rattle.events.specs.Session.{first_refusal}
 use Rattle.events.specs.declared.refusal.Refusal.{Refusal}
-use Rattle.events.specs.declared.recording.Entry.{Entry}
+use Rattle.events.specs.declared.entry.Entry.{Entry}
 use Rattle.specification.specs.Lines.{Line, text_of, IsOneLine}
 use Rattle.specification.specs.TraceText as format
 use Rattle.specification.specs.TraceText.{header_line, entry_line, replicas_line, trace_lines, Spells, IsEntry, IsSpelledIn, IsFaultyLine, IsMissingLine, BeginsSpelling, HasWholeFault, IsCutAt, LacksLine, IsFirstLineFault}

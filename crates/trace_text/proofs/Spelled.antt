@@ -7,9 +7,9 @@ use Rattle.std.proofs.lemmas.Option.{same_Some, cond_some, none-some}
 use Rattle.std.proofs.lemmas.Bool.{leb-true, le-leb, and_parts, false≢true}
 use Rattle.events.specs.Names.{NameBytes, IsName}
 use Rattle.events.specs.History.{IsWellFormed, is_view}
-use Rattle.events.specs.declared.recording.Entry.{Entry}
-use Rattle.events.specs.declared.recording.Body.{Body}
-use Rattle.events.specs.declared.recording.Body.TheVariants.{Ins, Del, Read, View, Recv}
+use Rattle.events.specs.declared.entry.Entry.{Entry}
+use Rattle.events.specs.declared.entry.Body.{Body}
+use Rattle.events.specs.declared.entry.Body.TheVariants.{Ins, Del, Read, View, Recv}
 use Rattle.specification.specs.TraceText.{entry_line, IsEntry, IsOfVersion}
 use Rattle.specification.specs.Versions.{Version, one, two}
 use Rattle.format_words.specs.Words.{Word, words_of}

@@ -2,7 +2,7 @@
 use Rattle.std.proofs.Common.{◌≡◌, refl, ap, Option, Some, None, Result, Err, inl, inr}
 use Rattle.events.specs.History.{History}
 use Rattle.events.specs.Session.{first_refusal}
-use Rattle.events.specs.declared.recording.Entry.{Entry}
+use Rattle.events.specs.declared.entry.Entry.{Entry}
 use Rattle.events.specs.declared.refusal.Refusal.{Refusal}
 use Rattle.events.specs.declared.refusal.Refusal.TheVariants as refusal
 use Rattle.events.specs.declared.recording.NewFault.{NewFault}

@@ -3,9 +3,9 @@ use Rattle.std.proofs.Common.{◌≡◌, ◌==◌, false, List, ◌∷◌, ◌++
 use Rattle.std.specs.List.{All}
 use Rattle.std.proofs.lemmas.List.Elements.{All-cons, All-weaker, All-map}
 use Rattle.events.specs.History.{History, IsWellFormed}
-use Rattle.events.specs.declared.recording.Entry.{Entry}
-use Rattle.events.specs.declared.recording.Body.{Body}
-use Rattle.events.specs.declared.recording.Body.TheVariants.{Ins, Del, Read, View, Recv}
+use Rattle.events.specs.declared.entry.Entry.{Entry}
+use Rattle.events.specs.declared.entry.Body.{Body}
+use Rattle.events.specs.declared.entry.Body.TheVariants.{Ins, Del, Read, View, Recv}
 use Rattle.specification.specs.Lines.{Line, names_text}
 use Rattle.specification.specs.TraceText.{header_line, body_text, entry_line, replicas_line, trace_lines, IsEntry, IsSpelledIn, BeginsSpelling}
 use Rattle.specification.specs.Versions.{Version, one, two}

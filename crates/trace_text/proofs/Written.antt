@@ -6,7 +6,7 @@ use Rattle.std.specs.List.{All}
 use Rattle.std.proofs.lemmas.List.{map_push, flat_map_more}
 use Rattle.std.proofs.lemmas.List.Elements.{All-nil, All-cons}
 use Rattle.events.specs.History.{History, IsLegal, is_view}
-use Rattle.events.specs.declared.recording.Entry.{Entry}
+use Rattle.events.specs.declared.entry.Entry.{Entry}
 use Rattle.specification.specs.Lines.{Line, text_of}
 use Rattle.format_words.proofs.NameList.{front-more, not-past}
 use Rattle.specification.specs.TraceText.{header_line, replicas_line, entry_line, version_of, IsOfVersion, Spells, trace_text}

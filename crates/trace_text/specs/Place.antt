@@ -3,7 +3,7 @@ use Rattle.std.specs.Prelude.{◌≡◌, ℕ, ◌≤◌, ◌⊎◌, None, List, 
 use Rattle.events.specs.History.{History}
 use Rattle.events.specs.Session.{first_refusal}
 use Rattle.events.specs.declared.TheConstants.{MOST_REPLICAS}
-use Rattle.events.specs.declared.recording.Entry.{Entry}
+use Rattle.events.specs.declared.entry.Entry.{Entry}
 use Rattle.specification.specs.Lines.{Line}
 use Rattle.specification.specs.TraceText.{BeginsSpelling, IsEntry, IsSpelledIn, entry_line, replicas_line, trace_lines}
 use Rattle.specification.specs.Versions.{Version}

@@ -53,7 +53,7 @@ fn the_last_number_that_another_set_lacks(rt: HostRuntime) -> Result<(), Fail> {
     ];
     for (lacking, below, expected) in rows {
         let other = set_of(rt.alloc(), lacking)?;
-        assert_eq!(rt; set.last_outside(&other, below), expected);
+        assert_eq!(rt; set.last_of_difference(&other, below), expected);
     }
     Ok(())
 }
@@ -85,11 +85,11 @@ fn the_numbers_that_another_set_lacks(rt: HostRuntime) -> Result<(), Fail> {
     ];
     for (lacking, below, expected) in rows {
         let other = set_of(rt.alloc(), lacking)?;
-        let outside = match set.outside(rt.alloc(), &other, below) {
+        let difference = match set.difference(rt.alloc(), &other, below) {
             Ok(numbers) => numbers,
-            Err(_) => set.outside(rt.alloc(), &other, below)?,
+            Err(_) => set.difference(rt.alloc(), &other, below)?,
         };
-        assert!(rt; outside.as_slice() == expected);
+        assert!(rt; difference.as_slice() == expected);
     }
     Ok(())
 }
@@ -108,7 +108,7 @@ fn the_first_number_that_another_set_lacks(rt: HostRuntime) -> Result<(), Fail> 
     ];
     for (lacking, from, below, expected) in rows {
         let other = set_of(rt.alloc(), lacking)?;
-        assert_eq!(rt; set.first_outside(&other, from, below), expected);
+        assert_eq!(rt; set.first_of_difference(&other, from, below), expected);
     }
     Ok(())
 }

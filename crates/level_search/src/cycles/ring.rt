@@ -39,8 +39,8 @@ fn first_source(
     ensures looks { HaveLooked (length graph.now.elements) (lists_of graph.now) (k + 1) (result + 1) looked.old looked.new }
 {
     for element in 0..graph.elements() {
-        let mut source = PlainBound { least: k + 1 };
-        if search_by_table(graph, table, element, sets, looked, &mut source).is_some() {
+        let mut bound = PlainBound { least: k + 1 };
+        if search_by_table(graph, table, element, sets, looked, &mut bound).is_some() {
             return element;
         }
     }

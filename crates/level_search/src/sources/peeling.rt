@@ -97,7 +97,7 @@ impl Peeling {
             return Ok(());
         }
         let above = at(&self.awaited, x).min(elements);
-        match table.before(x).last_outside(&self.gone, above) {
+        match table.before(x).last_of_difference(&self.gone, above) {
             None => self.free.push(x)?,
             Some(y) => {
                 put(&mut self.awaited, x, y);

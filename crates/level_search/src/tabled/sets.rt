@@ -46,7 +46,7 @@ impl Sets {
             → Has self.now.near y) }
     {
         self.reached
-            .first_outside(&self.near, from, graph.elements())
+            .first_of_difference(&self.near, from, graph.elements())
     }
 
     /// Only the source is reached.

@@ -23,10 +23,10 @@ fn searched<B: BoundSource>(
     graph: &OrderGraph,
     s: u32,
     scratch: &mut Scratch,
-    source: &mut B,
+    bound: &mut B,
 ) -> Result<Option<u32>, Fail> {
     if s < graph.elements() && scratch.fits(graph) {
-        Ok(search(graph, s, scratch, source))
+        Ok(search(graph, s, scratch, bound))
     } else {
         Err("no element, or no scratch for this graph")?
     }

@@ -46,7 +46,7 @@ fn sets(alloc: Global, graph: &OrderGraph) -> Result<Sets, Fail>
 fn found_by_table<B: BoundSource>(
     alloc: Global,
     graph: &OrderGraph,
-    source: &mut B,
+    bound: &mut B,
 ) -> Result<(Option<u32>, u64), Fail> {
     if graph.elements() == 0 {
         Err("no element")?;
@@ -54,7 +54,7 @@ fn found_by_table<B: BoundSource>(
     let table = table(alloc, graph)?;
     let mut sets = sets(alloc, graph)?;
     let mut looked = Looked::new();
-    let found = search_by_table(graph, &table, 0, &mut sets, &mut looked, source);
+    let found = search_by_table(graph, &table, 0, &mut sets, &mut looked, bound);
     Ok((found, looked.count()))
 }
 

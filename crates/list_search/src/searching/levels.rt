@@ -19,26 +19,26 @@ pub fn search_in<B: BoundSource>(
     element: u32,
     state: &mut State,
     looked: &mut Looked,
-    source: &mut B,
+    bound: &mut B,
 ) -> Option<u32>
     requires element { element < length graph.now.elements }
     requires fits { FitsState (graph_of graph.now) state.old }
-    ensures answer { IsSearchAnswer (lists_of graph.now) element (B.last source.new) result }
-    ensures bound { B.last source.new ≤ B.last source.old }
+    ensures answer { IsSearchAnswer (lists_of graph.now) element (B.last bound.new) result }
+    ensures bound { B.last bound.new ≤ B.last bound.old }
     ensures fits { FitsState (graph_of graph.now) state.new }
-    ensures reads { B.reads source.old source.new }
-    ensures none { IfNone result (length graph.now.elements < B.last source.new → (n : ℕ)
+    ensures reads { B.reads bound.old bound.new }
+    ensures none { IfNone result (length graph.now.elements < B.last bound.new → (n : ℕ)
         → ¬ HasCycle (lists_of graph.now) element n) }
     ensures looked { LooksWithin graph.now looked.new result }
-    ensures expanded { IfNone result (1 < B.last source.new → 0 < looked.new) }
+    ensures expanded { IfNone result (1 < B.last bound.new → 0 < looked.new) }
 {
     *looked = Looked::new();
     start(graph, element, state);
     let mut head = 0;
     let mut level: u32 = 0;
     'levels: while head < state.tail {
-        let bound = source.best();
-        if bound <= level + 1 {
+        let least = bound.best();
+        if least <= level + 1 {
             return None;
         }
         let end = state.tail;

@@ -11,9 +11,9 @@ use Rattle.events.specs.History.{History, is_view}
 use Rattle.specification.specs.Lines.{Line, text_of, IsOneLine}
 use Rattle.specification.specs.TraceText.{header_line, trace_lines, body_text, entry_line, IsOfVersion, IsSpelledIn, IsFaultyLine, IsFirstLineFault, header, replicas, shape, cut, refused}
 use Rattle.specification.specs.Versions.{Version, one, two}
-use Rattle.events.specs.declared.recording.Entry.{Entry}
-use Rattle.events.specs.declared.recording.Body.{Body}
-use Rattle.events.specs.declared.recording.Body.TheVariants.{Ins, Del, Read, View, Recv}
+use Rattle.events.specs.declared.entry.Entry.{Entry}
+use Rattle.events.specs.declared.entry.Body.{Body}
+use Rattle.events.specs.declared.entry.Body.TheVariants.{Ins, Del, Read, View, Recv}
 use Rattle.events.specs.declared.refusal.Refusal.{Refusal}
 use Rattle.events.specs.declared.refusal.Refusal.TheVariants.{NoReplica, OwnReceipt, NotYet}
 use Rattle.specification.specs.WorkedRecordings.{recording, ins, read, recv, a}

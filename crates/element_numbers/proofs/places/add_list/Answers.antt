@@ -6,7 +6,7 @@ use Rattle.events.specs.Names.{NameBytes}
 use Rattle.events.specs.Operation.{Operation}
 use Rattle.events.specs.History.{History, response_of}
 use Rattle.events.specs.Operations.{operation, response, IsOperation}
-use Rattle.events.specs.declared.recording.Body.{Body}
+use Rattle.events.specs.declared.entry.Body.{Body}
 use Rattle.specification.specs.Elements.{numbers_in}
 use Rattle.element_numbers.proofs.Cuts.{row-ended}
 use Rattle.element_numbers.specs.Cuts.{rows_of}

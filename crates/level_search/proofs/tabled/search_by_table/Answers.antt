@@ -12,7 +12,7 @@ use Rattle.level_search.specs.declared.tabled.sets.Sets.{Sets}
 use Rattle.level_search.proofs.Counts.{count-most}
 use Rattle.level_search.proofs.LayerSizes.{looked-as, looked-more, looked-within, near-next, near-none}
 use Rattle.level_search.proofs.tabled.search_by_table.Goals as goal
-use Rattle.level_search.proofs.tabled.search_by_table.Goals.{then-bound-level-2-via-then-bound-level-2, then-bound-level-2-via-else-bound-level-2+then-not-next_layer}
+use Rattle.level_search.proofs.tabled.search_by_table.Goals.{then-least-level-2-via-then-least-level-2, then-least-level-2-via-else-least-level-2+then-not-next_layer}
 
 -- a layer is looked at for a cycle that closes there, and once more for the next one
 twice : (n : ℕ) (old new : Sets) (begun was closed now : ℕ) → was ≡ counted (2 * set_size n old.near) begun → closed ≡ counted (layer_size n old) was → now ≡ counted (layer_size n old) closed
@@ -27,8 +27,8 @@ returns-then-closes-clause-answer g c =
     let v = c.args.graph.now in
     let at = c.loop-level.invariant.at in
     let found = c.if-closes.ensures.found refl in
-    let last = c.best-bound.ensures.answer in
-    let bound = c.if-bound-level.false in (
+    let last = c.best-least.ensures.answer in
+    let bound = c.if-least-level.false in (
       record {
         cycle = cycle_closes (length v.elements) (lists_of v) c.args.table.now c.requires.table (before-known v c.elements.ensures.proper) c.args.element c.loop-level.level c.loop-level.sets at found.0 found.1.here ((c.requires.table.shown c.args.element found.0 found.1.here.known).1 (before_shown (lists_of v) c.args.element found.0 found.1.before));
         shortest = λ n cycle. let long = at.long n cycle in omega arith;
@@ -36,19 +36,19 @@ returns-then-closes-clause-answer g c =
       omega arith,
     )
 
-pub returns-then-bound-level-2-clause-answer : goal.returns-then-bound-level-2-clause-answer
-returns-then-bound-level-2-clause-answer g c n cycle =
+pub returns-then-least-level-2-clause-answer : goal.returns-then-least-level-2-clause-answer
+returns-then-least-level-2-clause-answer g c n cycle =
     let v = c.args.graph.now in
     let at = c.loop-level.invariant.at in
     let missed = c.if-closes.ensures.missed refl in
     let known = before-known v c.elements.ensures.proper in
-    let last = c.best-bound.ensures.answer in
-    elim c.then-bound-level-2.branch [
-      | then-bound-level-2-via-then-bound-level-2 w ↦
+    let last = c.best-least.ensures.answer in
+    elim c.then-least-level-2.branch [
+      | then-least-level-2-via-then-least-level-2 w ↦
           let long = cycle_longer (length v.elements) (lists_of v) c.args.table.now c.requires.table known c.args.element c.loop-level.level c.loop-level.sets at missed n cycle in
-          let low = w.if-bound-level-2.true in
+          let low = w.if-least-level-2.true in
           omega arith
-      | then-bound-level-2-via-else-bound-level-2+then-not-next_layer w ↦
+      | then-least-level-2-via-else-least-level-2+then-not-next_layer w ↦
           let next = w.next_layer.ensures in
           let then = level_next (length v.elements) (lists_of v) c.args.table.now c.requires.table known c.args.element c.loop-level.level c.loop-level.sets w.next_layer.new.self at missed next.near next.reached in
           absurd (no_cycle_left (length v.elements) (lists_of v) c.args.table.now c.requires.table known c.args.element (c.loop-level.level + 1) w.next_layer.new.self then (w.if-not-next_layer.ensures.last refl) n cycle)
@@ -86,13 +86,13 @@ loop-level-preserved g c =
     let inv = c.loop-level.invariant in
     let missed = c.if-closes.ensures.missed refl in
     let next = c.next_layer.ensures in
-    let last = c.best-bound.ensures.answer in
-    let falls = c.best-bound.ensures.falls in
+    let last = c.best-least.ensures.answer in
+    let falls = c.best-least.ensures.falls in
     record {
       at = level_next (length v.elements) (lists_of v) c.args.table.now c.requires.table (before-known v c.elements.ensures.proper) c.args.element c.loop-level.level c.loop-level.sets c.next_layer.new.self inv.at missed next.near next.reached;
       fits = next.fits;
       bound = omega (arith, falls, inv.bound);
-      reads = g.met.B.BoundSource.reads_more _ _ _ inv.reads c.best-bound.ensures.reads;
+      reads = g.met.B.BoundSource.reads_more _ _ _ inv.reads c.best-least.ensures.reads;
       looked = twice (length v.elements) c.loop-level.sets c.next_layer.new.self c.args.looked.now c.loop-level.looked c.closes.new.looked c.next_layer.new.looked inv.looked (c.if-closes.ensures.looked refl) next.looked next.near;
       read = λ some. omega arith;
     }
@@ -100,12 +100,12 @@ loop-level-preserved g c =
 none-of : (n : ℕ) (sets : Sets) (old new : ℕ) → new ≡ counted (2 * set_size n sets.near) old → new ≡ counted (2 * set_size n sets.near + 0) old
 none-of n sets old new is = looked-as _ _ old new is (omega arith)
 
-pub returns-then-bound-level-clause-looks : goal.returns-then-bound-level-clause-looks
-returns-then-bound-level-clause-looks g c =
+pub returns-then-least-level-clause-looks : goal.returns-then-least-level-clause-looks
+returns-then-least-level-clause-looks g c =
     let n : ℕ = length c.args.graph.now.elements in
     let at = c.loop-level.invariant.at in
-    let last = c.best-bound.ensures.answer in
-    let low = c.if-bound-level.true in (
+    let last = c.best-least.ensures.answer in
+    let low = c.if-least-level.true in (
       _,
       record {
         level = c.loop-level.level;
@@ -135,17 +135,17 @@ returns-then-closes-clause-looks g c =
       looked-more (2 * set_size n c.loop-level.sets.near) (layer_size (found.0 + 1) c.loop-level.sets) c.args.looked.now c.loop-level.looked c.closes.new.looked c.loop-level.invariant.looked found.2,
     )
 
-pub returns-then-bound-level-2-clause-looks : goal.returns-then-bound-level-2-clause-looks
-returns-then-bound-level-2-clause-looks g c =
+pub returns-then-least-level-2-clause-looks : goal.returns-then-least-level-2-clause-looks
+returns-then-least-level-2-clause-looks g c =
     let v = c.args.graph.now in
     let n : ℕ = length v.elements in
     let at = c.loop-level.invariant.at in
     let missed = c.if-closes.ensures.missed refl in
-    let last = c.best-bound.ensures.answer in
-    let P : Sets × ℕ → Type 0 = λ z. HasLooked n (lists_of v) c.args.element (g.B.BoundSource.last c.best-bound.new.self) z.0 None c.args.looked.now z.1 in
-    elim c.then-bound-level-2.branch [
-      | then-bound-level-2-via-then-bound-level-2 w ↦
-          let low = w.if-bound-level-2.true in
+    let last = c.best-least.ensures.answer in
+    let P : Sets × ℕ → Type 0 = λ z. HasLooked n (lists_of v) c.args.element (g.B.BoundSource.last c.best-least.new.self) z.0 None c.args.looked.now z.1 in
+    elim c.then-least-level-2.branch [
+      | then-least-level-2-via-then-least-level-2 w ↦
+          let low = w.if-least-level-2.true in
           subst P (λ i. (sym w.sets-is i, sym w.looked-is i)) (
             _,
             record {
@@ -158,7 +158,7 @@ returns-then-bound-level-2-clause-looks g c =
             },
             looked-more (2 * set_size n c.loop-level.sets.near) (layer_size n c.loop-level.sets) c.args.looked.now c.loop-level.looked c.closes.new.looked c.loop-level.invariant.looked (c.if-closes.ensures.looked refl),
           )
-      | then-bound-level-2-via-else-bound-level-2+then-not-next_layer w ↦
+      | then-least-level-2-via-else-least-level-2+then-not-next_layer w ↦
           let next = w.next_layer.ensures in
           let then = level_next n (lists_of v) c.args.table.now c.requires.table (before-known v c.elements.ensures.proper) c.args.element c.loop-level.level c.loop-level.sets w.next_layer.new.self at missed next.near next.reached in
           subst P (λ i. (sym w.sets-is i, sym w.looked-is i)) (
@@ -197,14 +197,14 @@ returns-clause-looks g c =
 few : (n : ℕ) (rows : List (List ℕ)) (s low : ℕ) (sets : Sets) (answer : Option ℕ) (old new : ℕ) → HasLooked n rows s low sets answer old new → new ≤ old + 2 * n
 few n rows s low sets answer old new is = looked-within is.0 (2 * n) old new is.2 (count-most n rows s low sets answer is.0 is.1)
 
-pub returns-then-bound-level-clause-looked : goal.returns-then-bound-level-clause-looked
-returns-then-bound-level-clause-looked g c = few _ _ _ _ _ _ _ _ (returns-then-bound-level-clause-looks g c)
+pub returns-then-least-level-clause-looked : goal.returns-then-least-level-clause-looked
+returns-then-least-level-clause-looked g c = few _ _ _ _ _ _ _ _ (returns-then-least-level-clause-looks g c)
 
 pub returns-then-closes-clause-looked : goal.returns-then-closes-clause-looked
 returns-then-closes-clause-looked g c = few _ _ _ _ _ _ _ _ (returns-then-closes-clause-looks g c)
 
-pub returns-then-bound-level-2-clause-looked : goal.returns-then-bound-level-2-clause-looked
-returns-then-bound-level-2-clause-looked g c = few _ _ _ _ _ _ _ _ (returns-then-bound-level-2-clause-looks g c)
+pub returns-then-least-level-2-clause-looked : goal.returns-then-least-level-2-clause-looked
+returns-then-least-level-2-clause-looked g c = few _ _ _ _ _ _ _ _ (returns-then-least-level-2-clause-looks g c)
 
 pub returns-clause-looked : goal.returns-clause-looked
 returns-clause-looked g c = few _ _ _ _ _ _ _ _ (returns-clause-looks g c)

@@ -8,8 +8,8 @@ abbrev pub invariant-loop-level : goal.invariant-loop-level
 invariant-loop-level g l = record {
   at : IsAtLevel (lists_of l.graph) l.element l.level l.sets;
   fits : FitsSets (length l.graph.elements) l.sets;
-  bound : g.B.BoundSource.last l.source ≤ g.B.BoundSource.last l.fn.source;
-  reads : g.B.BoundSource.reads l.fn.source l.source;
+  bound : g.B.BoundSource.last l.bound ≤ g.B.BoundSource.last l.fn.bound;
+  reads : g.B.BoundSource.reads l.fn.bound l.bound;
   looked : l.looked ≡ counted (2 * set_size (length l.graph.elements) l.sets.near) l.fn.looked;
-  read : 0 < l.level → g.B.BoundSource.last l.source < 2 ^ 32;
+  read : 0 < l.level → g.B.BoundSource.last l.bound < 2 ^ 32;
 }

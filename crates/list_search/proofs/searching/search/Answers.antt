@@ -10,7 +10,7 @@ use Rattle.list_search.proofs.searching.search.Goals as goal
 
 pub returns-clause-answer : goal.returns-clause-answer
 returns-clause-answer g c =
-    search_answer c.args.graph.now c.elements-elements.ensures.proper c.args.element (g.B.BoundSource.last c.search_by_number.new.source) c.search_by_number.result c.requires.element
+    search_answer c.args.graph.now c.elements-elements.ensures.proper c.args.element (g.B.BoundSource.last c.search_by_number.new.bound) c.search_by_number.result c.requires.element
     c.search_by_number.ensures.answer
 
 named-none : (v : Responses) → AreProper v → (s bound : ℕ) (r : Option ℕ)
@@ -20,5 +20,5 @@ named-none v proper s bound (Some m) none = none
 
 pub returns-clause-none : goal.returns-clause-none
 returns-clause-none g c =
-    named-none c.args.graph.now c.elements-elements.ensures.proper c.args.element (g.B.BoundSource.last c.search_by_number.new.source) c.search_by_number.result
+    named-none c.args.graph.now c.elements-elements.ensures.proper c.args.element (g.B.BoundSource.last c.search_by_number.new.bound) c.search_by_number.result
     c.search_by_number.ensures.none

@@ -1,5 +1,5 @@
 use Rattle.std.proofs.Common.{rules, ◌≡◌, ◌≤◌, ◌<◌, ℕ, List, [], All, ◌+◌, ap, ◌∙◌, sym, arith, length, slice_set}
-use Rattle.events.specs.declared.recording.Entry.{Entry}
+use Rattle.events.specs.declared.entry.Entry.{Entry}
 use Rattle.sessions.specs.Shown.{PassShown, new_pass}
 use Rattle.rehearsal.proofs.Passes.{opened_of}
 use Rattle.rehearsal.proofs.rehearsing.open.Goals as goal

@@ -5,7 +5,7 @@ use Rattle.events.specs.History.{History, response_of}
 use Rattle.events.specs.Lanes.{IsKept}
 use Rattle.events.specs.Session.{first_refusal}
 use Rattle.events.specs.declared.TheConstants.{MOST_NAMES}
-use Rattle.events.specs.declared.recording.Entry.{Entry}
+use Rattle.events.specs.declared.entry.Entry.{Entry}
 use Rattle.events.proofs.Lanes.{lane_fits}
 use Rattle.events.proofs.Legal.{legal_more}
 use Rattle.events.proofs.Refusals.{is_taken}

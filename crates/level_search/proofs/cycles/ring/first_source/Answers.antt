@@ -8,15 +8,15 @@ use Rattle.list_search.proofs.Joining.{found-here, none-here, shortest_of_all}
 use Rattle.level_search.proofs.ShortestFew.{shortest-fits}
 use Rattle.level_search.proofs.cycles.ring.first_source.Goals as goal
 
-pub overflow_add-source : goal.overflow_add-source
-overflow_add-source c = omega (arith, shortest-fits c.args.graph.now c.elements-element-end.ensures.proper c.args.k c.requires.least)
+pub overflow_add-bound : goal.overflow_add-bound
+overflow_add-bound c = omega (arith, shortest-fits c.args.graph.now c.elements-element-end.ensures.proper c.args.k c.requires.least)
 
 pub returns-then-is_some-clause-cycle : goal.returns-then-is_some-clause-cycle
 returns-then-is_some-clause-cycle c =
     let v = c.args.graph.now in
     let count = c.elements-element-end.ensures.value in
     let below : c.loop-element.element < length v.elements = let low = c.loop-element-test.true in omega arith in
-    found-here v c.elements-element-end.ensures.proper c.args.k c.loop-element.element c.search_by_table.new.source.least c.search_by_table.result c.requires.least below
+    found-here v c.elements-element-end.ensures.proper c.args.k c.loop-element.element c.search_by_table.new.bound.least c.search_by_table.result c.requires.least below
     c.search_by_table.ensures.reads c.search_by_table.ensures.answer c.if-is_some.ensures
 
 pub unreachable-requires : goal.unreachable-requires
@@ -43,7 +43,7 @@ loop-element-preserved c =
         | inl less ↦ inv.none t less
         | inr more ↦ λ cycle.
             let e : t ≡ s = omega (arith, low, more) in
-            none-here v c.elements-element-end.ensures.proper c.args.k s c.search_by_table.new.source.least c.search_by_table.result search.reads search.answer c.if-is_some.ensures
+            none-here v c.elements-element-end.ensures.proper c.args.k s c.search_by_table.new.bound.least c.search_by_table.result search.reads search.answer c.if-is_some.ensures
             (subst (λ x. HasCycle (lists_of v) x c.args.k) e cycle)
       ];
     }

@@ -13,16 +13,16 @@ use Rattle.level_search.proofs.workers.worker.search_from.Goals.{in-Some, in_def
 pub returns-clause-offers : goal.returns-clause-offers
 returns-clause-offers g c =
     let P : ℕ → Type 0 = IsLength (lists_of c.args.graph.now) in
-    let read : c.search_by_table.new.source.offered ≡ c.args.worker.now.seat.offered = ap (λ (s : SeatView). s.offered) c.search_by_table.ensures.reads in
+    let read : c.search_by_table.new.bound.offered ≡ c.args.worker.now.seat.offered = ap (λ (s : SeatView). s.offered) c.search_by_table.ensures.reads in
     λ all. (
     elim c.match-search_by_table.branch [
       | in-Some w ↦ (
-          let told : w.offer.new.self.offered ≡ c.search_by_table.new.source.offered ++ w.in-Some.length ∷ [] = ap (λ (s : SeatView). s.offered) w.offer.ensures.seat in
+          let told : w.offer.new.self.offered ≡ c.search_by_table.new.bound.offered ++ w.in-Some.length ∷ [] = ap (λ (s : SeatView). s.offered) w.offer.ensures.seat in
           let here : c.match-search_by_table.worker.seat.offered ≡ w.offer.new.self.offered = ap (λ (k : Worker). k.seat.offered) w.worker-is in
           subst (All P) (sym (here ∙ (told ∙ ap (λ (l : List ℕ). l ++ w.in-Some.length ∷ []) read))) (All-push P _ w.in-Some.length all (c.args.source, w.in-Some.ensures.answer.0.cycle))
           )
       | in_default w ↦ (
-          let here : c.match-search_by_table.worker.seat.offered ≡ c.search_by_table.new.source.offered = ap (λ (k : Worker). k.seat.offered) w.worker-is in
+          let here : c.match-search_by_table.worker.seat.offered ≡ c.search_by_table.new.bound.offered = ap (λ (k : Worker). k.seat.offered) w.worker-is in
           subst (All P) (sym (here ∙ read)) all
           )
     ]
@@ -34,7 +34,7 @@ returns-clause-looks g c =
     let n : ℕ = length c.args.graph.now.elements in
     let rows : List (List ℕ) = lists_of c.args.graph.now in
     let old : ℕ = c.args.worker.now.looked in
-    let low : ℕ = c.search_by_table.new.source.low in
+    let low : ℕ = c.search_by_table.new.bound.low in
     let sets : Sets = c.search_by_table.new.sets in
     let new : ℕ = c.search_by_table.new.looked in
     let looks = c.search_by_table.ensures.looks in

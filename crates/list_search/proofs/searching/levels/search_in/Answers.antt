@@ -4,16 +4,16 @@ use Rattle.list_search.proofs.Layers.{cycle_found, cycle_long, layered_next, no_
 use Rattle.list_search.proofs.searching.levels.search_in.Goals as goal
 
 -- the bound is not above the least length that is left
-pub returns-then-bound-level-clause-answer : goal.returns-then-bound-level-clause-answer
-returns-then-bound-level-clause-answer g c = λ n cycle.
+pub returns-then-least-level-clause-answer : goal.returns-then-least-level-clause-answer
+returns-then-least-level-clause-answer g c = λ n cycle.
     let long = cycle_long (graph_of c.args.graph.now) c.args.element c.levels.head c.levels.level c.levels.state c.levels.invariant.layered n cycle in
-    let last = c.best-bound.ensures.answer in
+    let last = c.best-least.ensures.answer in
     omega (arith, last)
 
 pub returns-then-state-clause-answer : goal.returns-then-state-clause-answer
 returns-then-state-clause-answer g c =
     let layered = c.levels.invariant.layered in
-    let last = c.best-bound.ensures.answer in (
+    let last = c.best-least.ensures.answer in (
       record {
         cycle = cycle_found (graph_of c.args.graph.now) c.args.element c.levels.head c.levels.level c.levels.state c.layer.new.state layered c.layer.ensures.grows c.if-state.true;
         shortest = λ n cycle. cycle_long (graph_of c.args.graph.now) c.args.element c.levels.head c.levels.level c.levels.state layered n cycle;
@@ -25,14 +25,14 @@ pub levels-preserved : goal.levels-preserved
 levels-preserved g c =
     let before = c.levels.invariant in
     let after = c.layer.ensures in
-    let last = c.best-bound.ensures.answer in
-    let falls = c.best-bound.ensures.falls in
+    let last = c.best-least.ensures.answer in
+    let falls = c.best-least.ensures.falls in
     record {
       layered = layered_next (graph_of c.args.graph.now) c.args.element c.levels.head c.levels.level c.levels.state c.layer.new.state before.layered c.levels-test.true
           after.good after.grows after.expanded c.if-state.false;
       fits = omega (arith, last);
       bound = omega (arith, last, falls, before.bound);
-      reads = g.met.B.BoundSource.reads_more _ _ _ before.reads c.best-bound.ensures.reads;
+      reads = g.met.B.BoundSource.reads_more _ _ _ before.reads c.best-least.ensures.reads;
       cost = let h = after.cost in let k = before.cost in omega arith;
       work = λ more. let one = after.works.reach more in let low = before.work c.levels-test.true in omega arith;
       begun = λ none. absurd (omega arith);

@@ -8,8 +8,8 @@ abbrev pub invariant-levels : goal.invariant-levels
 invariant-levels g l = record {
   layered : IsLayered (graph_of l.graph) l.element l.state l.head l.level;
   fits : l.level + 1 < 2 ^ 32;
-  bound : g.B.BoundSource.last l.source ≤ g.B.BoundSource.last l.fn.source;
-  reads : g.B.BoundSource.reads l.fn.source l.source;
+  bound : g.B.BoundSource.last l.bound ≤ g.B.BoundSource.last l.fn.bound;
+  reads : g.B.BoundSource.reads l.fn.bound l.bound;
   cost : l.looked + sum l.state.marks.items ≤ place_count l.graph + l.head;
   work : l.head < l.state.tail → 2 * l.level ≤ l.looked;
   begun : l.level ≡ 0 → l.head < l.state.tail;

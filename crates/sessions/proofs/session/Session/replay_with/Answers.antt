@@ -2,7 +2,7 @@
 use Rattle.std.proofs.Common.{◌≡◌, ◌∙◌, ◌++◌, ◌∷◌, ◌+◌, [], List, ℕ, suc, take, ap, sym, rules, append_assoc, arith}
 use Rattle.std.specs.Prelude.{slice_get}
 use Rattle.events.specs.History.{stream}
-use Rattle.events.specs.declared.recording.Body.{Body}
+use Rattle.events.specs.declared.entry.Body.{Body}
 use Rattle.sessions.specs.Shown.{PassShown, mine}
 use Rattle.sessions.proofs.Lists.{prefix_through}
 use Rattle.sessions.proofs.Replayed.{take_next}

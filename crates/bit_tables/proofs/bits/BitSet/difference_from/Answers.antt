@@ -3,7 +3,7 @@ use Rattle.std.proofs.Common.{◌+◌, ◌∷◌, ◌++◌, [], ℕ, arith, subs
 use Rattle.bit_tables.specs.Sets.{Has}
 use Rattle.bit_tables.specs.Ways.{AreThoseBelow, IsOutside}
 use Rattle.bit_tables.proofs.Those.{those_below, those_more, those_none, those_past}
-use Rattle.bit_tables.proofs.bits.BitSet.outside_from.Goals as goal
+use Rattle.bit_tables.proofs.bits.BitSet.difference_from.Goals as goal
 
 pub numbers-init : goal.numbers-init
 numbers-init c = record {

@@ -1,6 +1,6 @@
 use Rattle.std.proofs.Common.{◌≡◌, ℕ, ◌<◌, ◌≤◌, ◌/◌, ◌%◌}
 use Rattle.bit_tables.specs.Sets.{Has}
-use Rattle.bit_tables.proofs.bits.BitSet.first_outside.Given as goal
+use Rattle.bit_tables.proofs.bits.BitSet.first_of_difference.Given as goal
 
 abbrev pub invariant-words : goal.invariant-words
 invariant-words l = record {

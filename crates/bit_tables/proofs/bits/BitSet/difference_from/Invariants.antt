@@ -1,6 +1,6 @@
 use Rattle.std.proofs.Common.{◌-◌, ◌≤◌}
 use Rattle.bit_tables.specs.Ways.{AreThoseBelow, IsOutside}
-use Rattle.bit_tables.proofs.bits.BitSet.outside_from.Given as goal
+use Rattle.bit_tables.proofs.bits.BitSet.difference_from.Given as goal
 
 abbrev pub invariant-numbers : goal.invariant-numbers
 invariant-numbers l = record {

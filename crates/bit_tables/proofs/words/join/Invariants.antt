@@ -1,8 +1,0 @@
-use Rattle.std.proofs.Common.{◌≡◌, ℕ, ◌<◌, ◌≤◌, get_or}
-use Rattle.std.specs.Prelude.{bit_or}
-use Rattle.bit_tables.proofs.words.join.Given as goal
-
-abbrev pub invariant-words : goal.invariant-words
-invariant-words l =
-    ((j : ℕ) → j < l.k → get_or l.into j 0 ≡ bit_or (get_or l.fn.into j 0) (get_or l.from j 0))
-    × ((j : ℕ) → l.k ≤ j → get_or l.into j 0 ≡ get_or l.fn.into j 0)
