@@ -73,7 +73,8 @@ fn is_shown(shown: &BitSet, table: &AfterTable, layer: &[u32], number: usize) ->
 
 /// Whether layers of numbers from `first` on, below `n`, meet the layer rule for a source: no number is more
 /// than one layer deeper than one that stands before it in some list of the table, and what stands before the
-/// source is in no layer. Of the numbers below `first` nothing is asked, as if they stood in no list.
+/// source is in no layer. A number in no layer counts as one in a layer behind the last. Of the numbers below
+/// `first` nothing is asked, as if they stood in no list.
 ///
 /// It takes `n / 64` steps for each layer and each number in the layers, fewer where few numbers count, but one step for
 /// each number of the last layer, of which no more is asked than whether it stands before the source; and two sets of

@@ -63,7 +63,7 @@ impl AfterTable {
     /// `n / 64` where these are more than 64; one that is not kept takes `n / 64`. It needs memory only for a
     /// list of more than `n` places.
     ///
-    /// After an error the table may have some of what the list shows.
+    /// After an error the table may have some of what the list shows. No clause says what its rows have then.
     pub fn add(&mut self, noter: &mut Noter, known: &[u32], list: &[u32]) -> Result<(), AllocError>
         requires within { All (λ x. x < length self.old) list.now }
         requires width { HaveWidth (length self.old / 64 + 1) self.old }

@@ -15,7 +15,10 @@ use std::alloc::Global;
 use witnesses::{Layer, Layers, Order, Row, Step, Steps};
 
 impl Certificate {
-    /// The text that spells the certificate in a version.
+    /// The text that spells the certificate in a version. What `certify` and `read` answer has a spelling.
+    ///
+    /// The rows are written as they are. Those that `certify` makes are of version two: no clause says that
+    /// they are valid in version one.
     ///
     /// It takes memory and time in proportion to the text.
     pub fn write(&self, alloc: Global, version: Version) -> Result<Vec<u8>, Memory>

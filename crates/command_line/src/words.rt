@@ -73,10 +73,11 @@ impl From<AllocError> for WordsFault {
 /// words mean `verdict -`.
 ///
 /// What other words mean is what `clap` makes of them for `finder_app`, which writes these commands out: the
-/// task has what they give for each argument, `Help` comes where they ask for help or for the version, and
-/// `Usage` where `clap` finds a mistake, or finds none and the number of workers is none. No clause says the
-/// text of help, or that memory suffices; and where `help` stands as a command, `clap` leaves open whether it
-/// is answered by help or by a usage fault.
+/// task has what they give for each argument, `Help` comes only where they ask for help or for the version,
+/// and `Usage` only where `clap` may find a mistake, or finds none and the number of workers is none. Where
+/// the commands take the words, there is a task unless that number is none. No clause says the text of help,
+/// or that memory suffices; and where `help` stands as a command, `clap` leaves open whether it is answered
+/// by help or by a usage fault.
 pub fn read_words(alloc: Global, words: &[String]) -> Result<Task, WordsFault>
     ensures workers { IfOk result HasWorkers }
     ensures none { words.now ≡ [] → MatchResult result IsDefault (λ fault. fault ≡ WordsFault.Memory) }

@@ -14,7 +14,7 @@ const FIRST_ROWS: usize = 16;
 const FIRST_VALUES: usize = 64;
 
 /// Rows of values, one after the other, and where each ends. What stands after the last end is a row
-/// that is begun.
+/// that is begun. `push_row` and `row` ask that none is begun, and that the ends do not fall.
 #[derive(Drop)]
 pub struct Rows<T: Copy + Drop> {
     pub items: Vec<T>,

@@ -20,7 +20,7 @@ use std::alloc::Global;
 use std::thread::Threads;
 
 /// Reads a trace to its end, and writes the certificate of its verdict, in version two. Four workers search,
-/// and rows are made in four threads.
+/// and rows are made in four threads. What follows a faulty line may be left unread.
 ///
 /// Nothing is written before the whole text is made. A trace line that is refused for out of memory is
 /// `Memory`.

@@ -25,7 +25,8 @@ use std::sync::Wait;
 use std::thread::Threads;
 
 /// Reads a trace to its end, has its streams replayed by recorder threads in one session, beside a watcher
-/// that judges four snapshots, and writes the report of the verdict on what the session has in the end.
+/// that judges four snapshots, and writes the report of the verdict on what the session has in the end. What
+/// follows a faulty line may be left unread.
 ///
 /// The number of workers is tested before anything is read; so many search at each snapshot, and at the end.
 /// For each replica r the gate's `before(r, 0)` and `after(r, 0)` are called round its replay, and no search

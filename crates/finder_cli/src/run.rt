@@ -18,7 +18,8 @@ use events::{Memory, Recording};
 use std::alloc::Global;
 use std::thread::Threads;
 
-/// Reads a trace to its end, and writes the report of its verdict.
+/// Reads a trace to its end, and writes the report of its verdict. What follows a faulty line may be left
+/// unread.
 ///
 /// The number of workers is tested before anything is read. Nothing is written before the whole report is
 /// made. A trace line that is refused for out of memory is `Memory`.

@@ -24,7 +24,8 @@ use std::thread::Threads;
 /// valid for the recording that the trace spells.
 ///
 /// Texts that do not read are answers of the checker and no faults: the rest of a faulty trace is read and
-/// thrown away. Nothing is written before the whole line is made.
+/// thrown away. Its faults are `Read`, `Write` and `Memory` alone. Nothing is written before the whole line
+/// is made.
 ///
 /// The trace's text never stands in memory: it is read by pieces of 65,536 bytes. What is kept is the
 /// recording, the certificate's text, and what `check_recording` takes for the two.

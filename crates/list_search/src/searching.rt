@@ -129,7 +129,8 @@ pub fn search_by_number<B: BoundSource>(
 /// than that bound, and where it is above the number of elements, that there is none at all.
 ///
 /// It takes no memory. It sets back a mark for each list and element, and then looks at no more places and
-/// elements, together, than there are; at one at least, where the bound last read was above 1.
+/// elements, together, than there are; at one at least, where the bound last read was above 1. Where it finds
+/// a cycle of m elements, it looks at 2 * m at least.
 pub fn search<B: BoundSource>(
     graph: &OrderGraph,
     element: u32,

@@ -1,5 +1,7 @@
 //! Sample recordings, for the tests of the crates above: worked ones as texts, and generated ones.
 //!
+//! Only `check_sound` and `Random::below` have a contract. What the other calls make, no clause says.
+//!
 //! A call that finds no memory is made once more, so tests with these hold too where one request is refused.
 #![tactic(auto)]
 

@@ -68,6 +68,7 @@ fn names_of(alloc: Global, graph: &OrderGraph, numbers: &[u32]) -> Result<Vec<Na
 /// The numbers of the elements that can be taken one after the other, each after all that stand before it in
 /// a response, in that order: the least first where several can. All elements exactly where some order
 /// follows every response; else neither the elements of a cycle nor what stands after one are among them.
+/// None is among them twice. Where they are all elements, they stand in the least order.
 ///
 /// Time: one pass over the places of all responses, which lists what stands right after each element; at most
 /// two looks at each entry of these lists; and each element once into and out of an ordered set. An element
