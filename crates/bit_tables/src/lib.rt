@@ -1,5 +1,5 @@
-//! Sets of numbers below a bound, a bit each; tables of which numbers stand after which in some lists; and
-//! the layer rule of a row, asked of such a table. It searches nothing.
+//! Sets of numbers, kept as a bit for each number, and tables of which numbers stand after which in some
+//! lists. By such a table the layers of a certificate's row are made, and a row is judged by the layer rule.
 #![tactic(auto)]
 
 mod bits;

@@ -1,7 +1,9 @@
-//! Readers and writers that tell contracts how their calls went.
+//! Readers and writers of bytes that tell contracts how their calls went.
 //!
-//! `std`'s traits tell a contract which bytes a call moved, and not whether it failed. `Reader` and
-//! `Writer` tell that too; `Source` and `Sink` ask them no more once a call has failed.
+//! They are small types of our own. `std`'s traits tell a contract which bytes a call moved, and not whether
+//! it failed. `Reader` and `Writer` record each call. `Source` and `Sink` are proved over any of these: after
+//! a call that failed none is made, and a stream that failed is closed. Nothing is known of the calls of
+//! `std`'s own streams, and the code can't tell them apart, so it does the same with them.
 #![tactic(auto)]
 
 mod reader;

@@ -1,7 +1,12 @@
-//! The verdict on a recording, and its certificate.
+//! The verdict on a recording, and its certificate: a text that shows why the verdict is right, so that a
+//! checker needs no search.
 //!
-//! `judge`, of the crate `verdict`, gives the verdict. `certify` shows why it is right, and `write_certificate`
-//! gives the text of that. `judge_and_write` does both, with threads.
+//! `judge`, of the crate `verdict`, gives the verdict. `certify` shows why it is right, and
+//! `write_certificate` gives the text of that. `judge_and_write` does both, with threads.
+//!
+//! Rows do not depend on one another, so threads make them side by side, in pieces. The pieces are not put
+//! together, which would copy some tens of megabytes: the command `cert` writes them one after the other. A
+//! row is let go once its line is written, since rows as values take seven times their text.
 #![tactic(auto)]
 
 mod certifying;

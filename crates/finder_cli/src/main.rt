@@ -3,6 +3,13 @@
 //!
 //! `run`, `run_cert`, `run_verify` and `live` are the engines, over any readers and writers; `program` joins
 //! them and the words of the command line in any world that opens streams, and `machine` is the real one.
+//!
+//! - The engines are modules, since a crate of the toolchain is a library or a program. They have the
+//!   contracts that a library's functions would have, so they can move as they are. The streams and the
+//!   command line are crates below, where a check costs less.
+//! - The program runs in a `World`: a trait that opens the stream of a word, notes what was done, and writes
+//!   a fault's line. Which words are opened, which engine runs with which arguments, and the status are
+//!   clauses of the function `finder`.
 #![tactic(auto)]
 
 mod answer_line;

@@ -1,6 +1,20 @@
-//! The conflict number and the least cycle, by searches over a table of bits, with workers in threads.
+//! The conflict number of a recording, which is the least number of responses that no order of the elements
+//! follows together, and the least cycle of elements that shows it. The searches go over a table of bits,
+//! with workers in threads.
 //!
-//! `search` and `distances`, over lists, are those of `list_search`: the searches here are compared with them.
+//! `search` and `distances` of `list_search` are handed out too.
+//!
+//! - The search goes on in the core. What can be taken in turn for an order lies on no cycle. What is left,
+//!   the core, holds every cycle, and the answers there are those of the whole (proofs/Cores). Peeling from
+//!   the other end too would leave less, and need the lists turned.
+//! - It starts from few elements. An order of the core is guessed, and the elements out of place in it are
+//!   found. Each cycle leads through one of these, whatever the guess was. That they are few is not claimed:
+//!   the fewest are hard to find.
+//! - It reads one table of bits. A layer is a union of rows. The table takes 32 MiB for a core of 16,384
+//!   elements, and 512 MiB for one of all 65,536. A search over lists, for such, is not built into the
+//!   program.
+//! - Workers take all memory before they start, so no worker can run out of memory in a search. A worker
+//!   takes the next source by one addition, and waits for nobody.
 #![tactic(auto)]
 
 mod conflict;

@@ -1,7 +1,7 @@
 //! The search by levels for a shortest cycle, and distances, over the lists of an order graph.
 //!
-//! A search looks at each place of a list once. The searches for the conflict number go over a table of bits
-//! (`level_search`); these are compared with them in tests.
+//! A search looks at each place of a list once. The program does not call these searches: its own go over a
+//! table of bits (`level_search`), and tests compare them with these.
 #![tactic(auto)]
 
 mod searching;

@@ -1,5 +1,5 @@
-//! Two editors type into one session, each in a thread of its own, and a third thread looks on. Then the
-//! session is closed, and the report of its recording is printed.
+//! An example of a live session. Two editors type into one session, each in a thread of its own, and a third
+//! thread looks on. Then the session is closed, and the report of its recording is printed.
 #![tactic(auto)]
 
 ghost use Rattle.std.specs.Prelude.{◌≡◌};

@@ -46,9 +46,10 @@ impl Desk {
 
     /// It has recorded so many operations. Who sleeps for one of them is woken.
     ///
-    /// A sleeper writes `wanted`, and then looks at `made`; here `made` is written, and then `wanted` is looked at. So one of
-    /// the two sees the other. `wanted` is wiped under the lock and all are woken, since each that still lacks its operation
-    /// writes it again before it sleeps on.
+    /// No wake-up is lost. A sleeper writes `wanted`, and then looks at `made`; here `made` is written, and
+    /// then `wanted` is looked at. All threads see these words change in one order, so one of the two sees
+    /// the other. `wanted` is wiped under the lock and all are woken, since each that still lacks its
+    /// operation writes it again before it sleeps on.
     fn tell<R: Wait>(&self, rt: &R, made: u64) {
         self.made.store(made, Ordering::SeqCst);
         if self.wanted.load(Ordering::SeqCst) > made {

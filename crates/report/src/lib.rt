@@ -1,6 +1,8 @@
 //! The report of a verdict, as text and as JSON.
 //!
-//! Both are functions of the recording's streams and the verdict alone.
+//! Both are functions of the recording's streams and the verdict alone. A report asks nothing of its verdict:
+//! `text` and `json` write the one that they are given, right or not. That it is the recording's is the word
+//! of `judge`; `run` of `finder_cli` joins the two.
 #![tactic(auto)]
 
 mod compact;

@@ -1,6 +1,10 @@
-//! Recorders hand in the streams of a recording in a hundred interleavings, and then in threads: each
-//! session's recording has the same verdict, and the same reports byte for byte. The recording is read
-//! from standard input. Before that, recorders may be refused memory, and replays stall and are resumed.
+//! A test of sessions, as a program. Recorders hand in the streams of a recording in a hundred interleavings,
+//! and then ten times in threads: each session's recording has the same verdict, and the same reports byte
+//! for byte. The recording is read from standard input. Before that, recorders may be refused memory, and
+//! replays stall and are resumed.
+//!
+//! It is a program so that `sessions` needs no crate above `verdict`, and so that the builds of both
+//! compilers are run.
 #![tactic(auto)]
 
 mod interleaved;

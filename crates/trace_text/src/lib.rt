@@ -7,6 +7,14 @@
 //!
 //! A recording with a view has one spelling. One without a view has two, which differ in the first line
 //! alone: both are read, and `trace 1` is written.
+//!
+//! - A line is read beside its replica's last response, since most responses repeat the one before them but
+//!   for a few names. So the texts are compared in chunks, and runs that are the same are copied. Only a word
+//!   that differs is read as a name. Each run is compared, so a wrong guess costs time alone, and the
+//!   contract of the reading does not mention the other response.
+//! - A line that pieces cut is kept short, however long it grows (`KeptLine`). Contracts say that the short
+//!   line stands for the long one (`StandsFor`): whatever follows, a fault of the one is the fault of the
+//!   other.
 #![tactic(auto)]
 
 mod begun;

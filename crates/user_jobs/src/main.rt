@@ -1,6 +1,6 @@
-//! The jobs that a user of this software waits for, on sessions that are made up from a seed. It prints one number for
-//! all results, and no times: `user_jobs JOB SEED` does a job, and without words, or with the word `every`, it does each
-//! job at a small scale.
+//! The jobs that a user of this software waits for, on sessions that are made up from a seed. It prints one
+//! number for all results, and no times: `user_jobs JOB SEED` does a job, and without words, or with the word
+//! `every`, it does each job at a small scale.
 #![tactic(auto)]
 
 mod digest;

@@ -1,4 +1,5 @@
-//! The verdict on a recording.
+//! The verdict on a recording: its first fault; or an order of the elements that every response follows; or
+//! the fewest responses that no order follows together.
 //!
 //! `judge` looks for the first fault, then for the least order that every response follows, and only where
 //! there is none for the conflict number and the least cycle.
