@@ -93,7 +93,7 @@ TESTS = {
     "bit_tables::meets_rule": ("bit_tables", "the_rule_from_a_number_on"),
     "layers_from": ("bit_tables", "layers_of_numbers"),
     "OrderGraph::of": ("graph_tests", "steps_of_worked_recordings", "marks_of_the_ring_of_four"),
-    "ShownTable::of": ("level_search", "rows_that_a_search_of_the_ring_of_four_looks_at"),
+    "BeforeTable::of": ("level_search", "rows_that_a_search_of_the_ring_of_four_looks_at"),
     "Sets::new": ("level_search", "rows_that_a_search_of_the_ring_of_four_looks_at"),
     "Scratch::new": ("level_search", "a_scratch_fits_its_graph_alone"),
     "Bound::new": ("shared_bound", "two_seats_share_three_sources"),

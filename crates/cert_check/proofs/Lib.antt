@@ -5,7 +5,6 @@ pub mod WordPairs
 pub mod RowWords
 pub mod TextLines
 pub mod FaultReasons
-pub mod Parts
 pub mod Listed
 pub mod Ranks
 pub mod RowNumbers

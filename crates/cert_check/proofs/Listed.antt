@@ -19,7 +19,7 @@ use Rattle.specification.proofs.Subsequences.{Before-subsequence}
 use Rattle.specification.proofs.Strong.{returned_by}
 use Rattle.element_numbers.proofs.NameNumbers.{number-at, number-some}
 use Rattle.element_numbers.specs.Covering.{IsPart}
-use Rattle.cert_check.proofs.Parts.{In-part}
+use Rattle.element_numbers.proofs.Parts.{In-part}
 use Rattle.cert_check.specs.Numbering.{IsOf, lists_of, places_at}
 use Rattle.cert_check.specs.declared.numbered.Numbered.{Numbered}
 

@@ -19,7 +19,7 @@ use Rattle.specification.proofs.Dictionary.{ComesBefore-asymmetric}
 use Rattle.specification.proofs.OperationNames.{operation_names-rise, operation-listed, listed-operation, AllPairs-from_Rising}
 use Rattle.specification.proofs.Strong.{returned_by}
 use Rattle.contents_check.proofs.Doubled.{ComesBefore-trans}
-use Rattle.cert_check.proofs.Parts.{Rising-part}
+use Rattle.element_numbers.proofs.Parts.{Rising-part}
 use Rattle.cert_check.proofs.Listed.{Before-map, Before-map_back, HoldsOfFewer, IsCovered, once-elements, known-response, once-response, kept-listed, covered, of_covered, list_at}
 use Rattle.cert_check.proofs.Ranks.{follows_from_rising, rising_from_follows}
 use Rattle.cert_check.specs.Noted.{Holds, placed_from}

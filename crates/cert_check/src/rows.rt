@@ -171,7 +171,7 @@ fn first_source(rows: &[u8]) -> Option<Name>
 /// which it mostly has the elements in the same order: so it costs `n / 64` steps for n elements, a step for each
 /// of its places, and what is new in it. In the end it notes for each element whether the row of the one before has all of its
 /// row, in up to `n / 64` steps and a byte each.
-fn shown_after(alloc: Global, numbered: &Numbered) -> Result<AfterTable, Memory>
+fn after_table(alloc: Global, numbered: &Numbered) -> Result<AfterTable, Memory>
     requires cut { IsCut numbered.now.places }
     requires within { AreWithin (length numbered.now.names.items) numbered.now }
     ensures { IfOk result (λ t. IsTableOf (length numbered.now.names.items) (lists_of numbered.now) t) }
@@ -212,7 +212,7 @@ pub fn rows_fault(
         → rows.now ≡ text_of (map row_line layers)
         → TellsRows (version_in version) numbered.now k layers found) }
 {
-    let table = shown_after(alloc, numbered)?;
+    let table = after_table(alloc, numbered)?;
     let mut depths = RowDepths::new(alloc, numbered.names.len(), k - 1)?;
     first_row_fault(alloc, numbered, &table, version, k, rows, &mut depths)
 }

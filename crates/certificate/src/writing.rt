@@ -1,6 +1,6 @@
 //! The text of the certificate of a verdict, whose rows are made and written piece by piece.
 
-ghost use Rattle.std.specs.Prelude.{◌≡◌, ◌⊎◌, ◌↔◌, ◌<◌, [], IfOk, IfSome, IsErrOf};
+ghost use Rattle.std.specs.Prelude.{◌≡◌, ◌⊎◌, ◌↔◌, ◌<◌, [], IfNone, IfOk, IfSome, IsErrOf};
 ghost use Rattle.specification.specs.CertificateText.{certificate_text};
 ghost use Rattle.specification.specs.Faults.{IsSound};
 ghost use Rattle.specification.specs.Responses.{responses_of};
@@ -8,7 +8,7 @@ ghost use Rattle.specification.specs.Verdict.{IsVerdict};
 ghost use Rattle.specification.specs.Versions.{two};
 ghost use Rattle.order_graph.specs.Covers.{IsCoveredBy};
 ghost use Rattle.certificate.specs.ByRows.{IsTextOfCertificate, certificate_with, joined};
-ghost use Rattle.verdict.specs.VerdictOf.{verdict_of};
+ghost use Rattle.verdict.specs.VerdictOf.{IsRefusal, verdict_of};
 
 use super::certifying::{covering_graph, number_with_rows, with_rows};
 use super::pieces::{push_rows_by, row_maker};
@@ -81,7 +81,7 @@ pub fn judge_and_write<H: Threads + Sync, G: Gate>(
     Ok(Certified { verdict, texts })
 }
 
-/// The text of the certificate of a verdict, as texts one after the other, where the graph may have been made.
+/// The text of the certificate of a verdict, as texts one after the other. A refusal comes with its graph.
 fn texts_by<H: Threads + Sync>(
     rt: &H,
     alloc: Global,
@@ -92,6 +92,7 @@ fn texts_by<H: Threads + Sync>(
 ) -> Result<Vec<Vec<u8>>, Memory>
     requires verdict { IsVerdict recording.now (verdict_of verdict.now) }
     requires made { IfSome made (IsCoveredBy (responses_of recording.now)) }
+    requires refusal { IfNone made (¬ IsRefusal (verdict_of verdict.now)) }
     ensures { IfOk result (λ texts. IsTextOfCertificate recording.now (verdict_of verdict.now)
         (joined texts.items)) }
 {
@@ -103,25 +104,11 @@ fn texts_by<H: Threads + Sync>(
     let Some(k) = number_with_rows(verdict) else {
         return Ok(texts);
     };
-    let graph = made_or_new(alloc, recording, made)?;
+    let Some(graph) = made else {
+        unreachable!()
+    };
     push_rows_by(rt, alloc, workers, &graph, k, &mut texts)?;
     Ok(texts)
-}
-
-/// The graph that was made, or else a new one.
-fn made_or_new(
-    alloc: Global,
-    recording: &Recording,
-    made: Option<OrderGraph>,
-) -> Result<OrderGraph, Memory>
-    requires sound { IsSound recording.now }
-    requires made { IfSome made (IsCoveredBy (responses_of recording.now)) }
-    ensures { IfOk result (IsCoveredBy (responses_of recording.now)) }
-{
-    match made {
-        Some(graph) => Ok(graph),
-        None => covering_graph(alloc, recording),
-    }
 }
 
 /// The text of the certificate of a verdict up to its rows.

@@ -15,7 +15,7 @@ ghost use Rattle.contents_check.specs.Standings.{AreBehind};
 
 use super::elements::Elements;
 use super::recent::Recent;
-use super::rightness::is_view;
+use super::position::is_view;
 use super::standings::Standings;
 use events::{Memory, OpName, Recording, Response};
 

@@ -5,7 +5,7 @@ use Rattle.std.proofs.lemmas.Bool.{cases_lt}
 use Rattle.bit_tables.specs.Sets.{Has}
 use Rattle.bit_tables.proofs.SetLemmas.{Has-either}
 use Rattle.bit_tables.specs.Lists.{row_of}
-use Rattle.level_search.specs.Tables.{IsShown, IsShownTable}
+use Rattle.level_search.specs.Tables.{IsShown, IsBeforeTable}
 use Rattle.level_search.specs.Balls.{IsAtLevel, IsInLayer}
 use Rattle.list_search.specs.Graph.{Before}
 use Rattle.list_search.specs.Rings.{Reaches}
@@ -20,7 +20,7 @@ before_shown rows a b before = (before.list, record { place = before.place; late
 pub shown_before : (rows : List (List ℕ)) (a b : ℕ) → IsShown rows a b → Before rows a b
 shown_before rows a b (l, s) = record { list = l; place = s.place; later = s.later; in_order = s.in_order; first = s.first; second = s.second }
 
-module _ (n : ℕ) (rows table : List (List ℕ)) (is : IsShownTable n rows table) (known : (a b : ℕ) → Before rows a b → (a < n) × (b < n)) (s : ℕ) where
+module _ (n : ℕ) (rows table : List (List ℕ)) (is : IsBeforeTable n rows table) (known : (a b : ℕ) → Before rows a b → (a < n) × (b < n)) (s : ℕ) where
   -- from an element of the layer exactly as many steps as the level lead to s
   pub layer_reaches : (level : ℕ) (sets : Sets) → IsAtLevel rows s level sets → (x : ℕ) → IsInLayer n sets x → Reaches rows s level x
   layer_reaches level sets at x layer =

@@ -10,7 +10,7 @@ use Rattle.list_search.specs.Rings.{IsRing, Leads}
 use Rattle.level_search.specs.Sources.{UNRANKED, IsRanked, AreRanked, Rises}
 use Rattle.bit_tables.specs.Sets.{Has}
 use Rattle.bit_tables.specs.Lists.{row_of}
-use Rattle.level_search.specs.Tables.{IsShownTable}
+use Rattle.level_search.specs.Tables.{IsBeforeTable}
 use Rattle.level_search.proofs.BallLemmas.{before_shown}
 use Rattle.list_search.proofs.RingWalks.{ring_through, cycle_ring}
 
@@ -72,7 +72,7 @@ ranked-one table next x taken new ranks low small fresh behind grown are =
     }
 
 -- along each list the ranked elements rise
-pub ranked-rise : (rows table : List (List ℕ)) (n next : ℕ) (taken ranks : List ℕ) → IsShownTable n rows table → length ranks ≡ n
+pub ranked-rise : (rows table : List (List ℕ)) (n next : ℕ) (taken ranks : List ℕ) → IsBeforeTable n rows table → length ranks ≡ n
     → ((a b : ℕ) → Before rows a b → (a < n) × (b < n)) → AreRanked table next taken ranks → (l : ℕ) → Rises rows ranks l
 ranked-rise rows table n next taken ranks is long known are l = record {
   rises = λ p q x y lt first second ranked later.

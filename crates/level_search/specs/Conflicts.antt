@@ -5,7 +5,7 @@ use Rattle.specification.specs.Conflict.{AreLeastSteps, HasConflictNumber, HasNo
 use Rattle.specification.specs.LayerRule.{narrowed}
 use Rattle.order_graph.specs.Kept.{names_at}
 use Rattle.order_graph.specs.Lists.{lists_of}
-use Rattle.level_search.specs.Tables.{IsShownTable}
+use Rattle.level_search.specs.Tables.{IsBeforeTable}
 use Rattle.level_search.specs.Cores.{IsCoreOf}
 use Rattle.level_search.specs.Team.{AreLooksOf, IsLeastLength}
 use Rattle.level_search.specs.declared.conflict.Conflict.{Conflict}
@@ -29,7 +29,7 @@ pub record IsFound (v : Responses) (s : Found) : Type 0 where
   pub core : IsCoreOf v s.core.elements.items
   pub part : s.core.graph ≡ narrowed v (names_at v.elements s.core.elements.items)
   pub part_proper : AreProper s.core.graph
-  pub table : IsShownTable (length s.core.graph.elements) (lists_of s.core.graph) s.table
+  pub table : IsBeforeTable (length s.core.graph.elements) (lists_of s.core.graph) s.table
   pub least : IsLeastLength s.core.graph s.least
   pub looked : AreLooksOf (length s.core.graph.elements) (lists_of s.core.graph) s.least s.looked
   pub few : IsWithinSearches v s.looked

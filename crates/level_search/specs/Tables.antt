@@ -9,7 +9,7 @@ abbrev pub IsShown : List (List ℕ) → ℕ → ℕ → Type 0
 IsShown lists a b = (l : ℕ) × BeforeIn lists l a b
 
 -- the table has a row for each number below n, of those that stand before it in some list
-pub record IsShownTable (n : ℕ) (lists rows : List (List ℕ)) : Type 0 where
+pub record IsBeforeTable (n : ℕ) (lists rows : List (List ℕ)) : Type 0 where
   pub len : length rows ≡ n
   pub width : HaveWidth (n / 64 + 1) rows
   pub shown : (a b : ℕ) → b < n → Has (row_of rows b) a ↔ IsShown lists a b

@@ -10,7 +10,7 @@ use super::cycles::least_cycle_by_table;
 use super::gate::Gate;
 use super::search_fault::SearchFault;
 use super::workers::least_length;
-use crate::shown_table::ShownTable;
+use crate::before_table::BeforeTable;
 use order_graph::OrderGraph;
 use shared_bound::NO_OFFER;
 use std::alloc::Global;
@@ -22,7 +22,7 @@ use witnesses::Steps;
 #[derive(Drop)]
 struct Found {
     core: Core,
-    table: ShownTable,
+    table: BeforeTable,
     least: u32,
     looked: u64,
 }
@@ -45,7 +45,7 @@ fn search_core<H: Threads + Sync, G: Gate>(
     let _ = graph.elements();
     let core = Core::of(alloc, graph)?;
     let _ = core.graph.elements();
-    let table = ShownTable::of(alloc, &core.graph)?;
+    let table = BeforeTable::of(alloc, &core.graph)?;
     let searched = least_length(rt, alloc, &core.graph, &table, workers, &core.gate(gate))?;
     Ok(Found {
         core,
@@ -68,7 +68,7 @@ fn search_core<H: Threads + Sync, G: Gate>(
 /// number of workers, any gate and any order in which the workers come to run.
 ///
 /// All searches read one table, which has for each element of the core the set of those that some list shows
-/// before it, a bit each: n * n / 8 bytes for n elements. What making it takes is said at `ShownTable::of`. A search
+/// before it, a bit each: n * n / 8 bytes for n elements. What making it takes is said at `BeforeTable::of`. A search
 /// keeps sets of n bits. It goes through the n / 64 words of such sets twice at its start, once for each element that it
 /// goes on from, and six times at most for each of its levels, and it takes a few steps more for each element that it
 /// reaches. Each worker takes memory linear in the core. All memory is taken before the first search.

@@ -4,7 +4,7 @@ ghost use Rattle.std.specs.Prelude.{◌≡◌, IfOk, length};
 ghost use Rattle.specification.specs.Conflict.{AreLeastSteps};
 ghost use Rattle.specification.specs.Search.{IsShortestLength};
 ghost use Rattle.order_graph.specs.Lists.{lists_of};
-ghost use Rattle.level_search.specs.Tables.{IsShownTable};
+ghost use Rattle.level_search.specs.Tables.{IsBeforeTable};
 
 mod back;
 mod choose;
@@ -13,7 +13,7 @@ mod steps;
 mod tables;
 
 use super::cycle_core::Core;
-use crate::shown_table::ShownTable;
+use crate::before_table::BeforeTable;
 use events::Memory;
 use order_graph::OrderGraph;
 use ring::least_ring;
@@ -36,7 +36,7 @@ pub fn least_cycle(alloc: Global, graph: &OrderGraph, k: u32) -> Result<Steps, M
     let _ = graph.elements();
     let core = Core::of(alloc, graph)?;
     let _ = core.graph.elements();
-    let table = ShownTable::of(alloc, &core.graph)?;
+    let table = BeforeTable::of(alloc, &core.graph)?;
     least_cycle_by_table(alloc, &core.graph, &table, k)
 }
 
@@ -44,10 +44,10 @@ pub fn least_cycle(alloc: Global, graph: &OrderGraph, k: u32) -> Result<Steps, M
 pub fn least_cycle_by_table(
     alloc: Global,
     graph: &OrderGraph,
-    table: &ShownTable,
+    table: &BeforeTable,
     k: u32,
 ) -> Result<Steps, Memory>
-    requires table { IsShownTable (length graph.now.elements) (lists_of graph.now) table.now }
+    requires table { IsBeforeTable (length graph.now.elements) (lists_of graph.now) table.now }
     requires shortest { IsShortestLength graph.now k }
     ensures { IfOk result (λ steps. AreLeastSteps graph.now steps × (length steps ≡ k)) }
 {

@@ -23,7 +23,7 @@ mod cycles;
 mod gate;
 mod laws;
 mod search_fault;
-mod shown_table;
+mod before_table;
 mod sources;
 mod tabled;
 mod workers;
@@ -35,7 +35,7 @@ pub use laws::{least_offer_is_shortest, most_workers_is_the_number};
 pub use list_search::{BoundSource, PlainBound, Scratch, distances, search};
 pub use order_graph::Looked;
 pub use search_fault::SearchFault;
-pub use shown_table::ShownTable;
+pub use before_table::BeforeTable;
 pub use tabled::{Sets, search_by_table};
 pub use witnesses::{Step, Steps};
 

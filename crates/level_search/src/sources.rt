@@ -3,12 +3,12 @@
 ghost use Rattle.std.specs.Prelude.{◌≡◌, ◌+◌, ◌/◌, ◌<◌, ◌≤◌, ℕ, All, AllPairs, Contains, IfOk, length};
 ghost use Rattle.std.specs.Prelude.{slice_index};
 ghost use Rattle.order_graph.specs.Lists.{lists_of};
-ghost use Rattle.level_search.specs.Tables.{IsShownTable};
+ghost use Rattle.level_search.specs.Tables.{IsBeforeTable};
 ghost use Rattle.level_search.specs.Sources.{AreRanked, MeetsCycles, Rises};
 
 mod peeling;
 
-use crate::shown_table::ShownTable;
+use crate::before_table::BeforeTable;
 use bit_tables::BitSet;
 use events::Memory;
 use order_graph::OrderGraph;
@@ -28,9 +28,9 @@ const FEW: u32 = 64;
 pub fn feedback_vertex_set(
     alloc: Global,
     graph: &OrderGraph,
-    table: &ShownTable,
+    table: &BeforeTable,
 ) -> Result<Vec<u32>, Memory>
-    requires table { IsShownTable (length graph.now.elements) (lists_of graph.now) table.now }
+    requires table { IsBeforeTable (length graph.now.elements) (lists_of graph.now) table.now }
     ensures known { IfOk result (λ v. All (λ s. s < length graph.now.elements) v.items) }
     ensures count { IfOk result (λ v. length v.items ≤ length graph.now.elements) }
     ensures met { IfOk result (λ v. MeetsCycles (lists_of graph.now) (length graph.now.elements) v.items) }
@@ -48,10 +48,10 @@ pub fn feedback_vertex_set(
 fn ranks_along(
     alloc: Global,
     graph: &OrderGraph,
-    table: &ShownTable,
+    table: &BeforeTable,
     order: &[u32],
 ) -> Result<Vec<u32>, Memory>
-    requires table { IsShownTable (length graph.now.elements) (lists_of graph.now) table.now }
+    requires table { IsBeforeTable (length graph.now.elements) (lists_of graph.now) table.now }
     ensures count { IfOk result (λ ranks. length ranks.items ≡ length graph.now.elements) }
     ensures rise { IfOk result (λ ranks. (l : ℕ) → Rises (lists_of graph.now) ranks.items l) }
 {
@@ -69,13 +69,13 @@ fn ranks_along(
 /// Takes an element: it has this rank where all that stands before it was taken.
 fn take(
     graph: &OrderGraph,
-    table: &ShownTable,
+    table: &BeforeTable,
     x: u32,
     rank: u32,
     taken: &mut BitSet,
     ranks: &mut [u32],
 )
-    requires table { IsShownTable (length graph.now.elements) (lists_of graph.now) table.now }
+    requires table { IsBeforeTable (length graph.now.elements) (lists_of graph.now) table.now }
     requires width { length taken.old ≡ length graph.now.elements / 64 + 1 }
     requires count { length ranks.old ≡ length graph.now.elements }
     requires rank { rank < UNRANKED }

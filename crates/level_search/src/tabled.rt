@@ -4,7 +4,7 @@ ghost use Rattle.std.specs.Prelude.{◌≡◌, ℕ, ◌+◌, ◌*◌, ◌<◌, �
 ghost use Rattle.order_graph.specs.Lists.{lists_of};
 ghost use Rattle.bit_tables.specs.Sets.{Has};
 ghost use Rattle.bit_tables.specs.Lists.{row_of};
-ghost use Rattle.level_search.specs.Tables.{IsShownTable};
+ghost use Rattle.level_search.specs.Tables.{IsBeforeTable};
 ghost use Rattle.level_search.specs.Balls.{FitsSets, IsBall, IsInLayer};
 ghost use Rattle.level_search.specs.LayerSizes.{counted, layer_size};
 ghost use Rattle.level_search.specs.Looks.{HasLooked, IsFirstBehind};
@@ -12,7 +12,7 @@ ghost use Rattle.list_search.specs.Walks.{IsSearchAnswer};
 
 mod sets;
 
-use crate::shown_table::ShownTable;
+use crate::before_table::BeforeTable;
 use list_search::BoundSource;
 use order_graph::{Looked, OrderGraph};
 pub use sets::Sets;
@@ -20,12 +20,12 @@ pub use sets::Sets;
 /// Whether the element stands before one of the layer. It looks once at the row of each, up to the first.
 fn closes(
     graph: &OrderGraph,
-    table: &ShownTable,
+    table: &BeforeTable,
     element: u32,
     sets: &Sets,
     looked: &mut Looked,
 ) -> bool
-    requires { IsShownTable (length graph.now.elements) (lists_of graph.now) table.now }
+    requires { IsBeforeTable (length graph.now.elements) (lists_of graph.now) table.now }
     ensures found { result ≡ true → (x : ℕ)
         × IsFirstBehind (length graph.now.elements) (lists_of graph.now) sets.now element x
         × (looked.new ≡ counted (layer_size (x + 1) sets.now) looked.old) }
@@ -58,14 +58,14 @@ fn closes(
 /// cycle is found, it has one for each of these or for none.
 pub fn search_by_table<B: BoundSource>(
     graph: &OrderGraph,
-    table: &ShownTable,
+    table: &BeforeTable,
     element: u32,
     sets: &mut Sets,
     looked: &mut Looked,
     bound: &mut B,
 ) -> Option<u32>
     requires element { element < length graph.now.elements }
-    requires table { IsShownTable (length graph.now.elements) (lists_of graph.now) table.now }
+    requires table { IsBeforeTable (length graph.now.elements) (lists_of graph.now) table.now }
     requires fits { FitsSets (length graph.now.elements) sets.old }
     ensures answer { IsSearchAnswer (lists_of graph.now) element (B.last bound.new) result }
     ensures bound { B.last bound.new ≤ B.last bound.old }

@@ -5,7 +5,7 @@ ghost use Rattle.std.specs.List.{range_with_len};
 ghost use Rattle.order_graph.specs.Lists.{lists_of};
 ghost use Rattle.specification.specs.Responses.{AreProper};
 ghost use Rattle.shared_bound.specs.Seats.{fresh_seat};
-ghost use Rattle.level_search.specs.Tables.{IsShownTable};
+ghost use Rattle.level_search.specs.Tables.{IsBeforeTable};
 ghost use Rattle.level_search.specs.Sources.{MeetsCycles};
 ghost use Rattle.level_search.specs.Team.{AreLooksOf, AreLooksOfClaims, CanWork, HasWorked, HaveWorked, Honest};
 ghost use Rattle.level_search.specs.Team.{IsLeastLength, IsTeam};
@@ -16,7 +16,7 @@ mod worker;
 use super::MOST_WORKERS;
 use super::gate::Gate;
 use super::sources::feedback_vertex_set;
-use crate::shown_table::ShownTable;
+use crate::before_table::BeforeTable;
 use events::Memory;
 use order_graph::OrderGraph;
 use shared_bound::{Bound, NO_OFFER, Seat};
@@ -51,12 +51,12 @@ fn team<'a>(
 fn work_all<H: Threads + Sync, G: Gate>(
     rt: &H,
     graph: &OrderGraph,
-    table: &ShownTable,
+    table: &BeforeTable,
     sources: &[u32],
     gate: &G,
     team: &mut [Worker],
 )
-    requires table { IsShownTable (length graph.now.elements) (lists_of graph.now) table.now }
+    requires table { IsBeforeTable (length graph.now.elements) (lists_of graph.now) table.now }
     requires known { All (λ s. s < length graph.now.elements) sources.now }
     requires team { All (CanWork graph.now sources.now) team.old }
     ensures { HaveWorked graph.now sources.now team.old team.new }
@@ -67,7 +67,7 @@ fn work_all<H: Threads + Sync, G: Gate>(
         team,
         threads,
         &|_: usize, worker: &mut Worker|
-            requires table { IsShownTable (length graph.now.elements) (lists_of graph.now) table.now }
+            requires table { IsBeforeTable (length graph.now.elements) (lists_of graph.now) table.now }
             requires known { All (λ s. s < length graph.now.elements) sources.now }
             requires ready { CanWork graph.now sources.now worker.old }
             ensures { HasWorked graph.entry.now sources.entry.now worker.old worker.new }
@@ -132,11 +132,11 @@ pub fn least_length<H: Threads + Sync, G: Gate>(
     rt: &H,
     alloc: Global,
     graph: &OrderGraph,
-    table: &ShownTable,
+    table: &BeforeTable,
     workers: u32,
     gate: &G,
 ) -> Result<Searched, Memory>
-    requires table { IsShownTable (length graph.now.elements) (lists_of graph.now) table.now }
+    requires table { IsBeforeTable (length graph.now.elements) (lists_of graph.now) table.now }
     requires workers { (1 ≤ workers) × (workers ≤ MOST_WORKERS) }
     requires proper { AreProper graph.now }
     ensures least { IfOk result (λ s. IsLeastLength graph.now s.least) }

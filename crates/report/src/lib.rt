@@ -5,13 +5,13 @@
 //! of `judge`; `run` of `finder_cli` joins the two.
 #![tactic(auto)]
 
-mod compact;
+mod json;
 mod counts;
 mod laws;
 mod lines;
 mod object;
 mod words;
 
-pub use compact::json;
+pub use json::json;
 pub use laws::reports_are_of_streams;
 pub use lines::text;

@@ -155,11 +155,11 @@ fn step_value(alloc: Global, recording: &Recording, step: &Step) -> Result<Value
     let response = returned_value(alloc, recording, step.shown)?;
     let shown = operation_value(alloc, step.shown)?;
     let to = name_value(alloc, &step.to)?;
-    Ok(step_of(alloc, from, response, shown, to)?)
+    Ok(step_object(alloc, from, response, shown, to)?)
 }
 
 /// The object of a step.
-fn step_of(
+fn step_object(
     alloc: Global,
     from: Value,
     response: Value,

@@ -10,3 +10,9 @@ verdict_of (Contents at) = spec.faulty (fault.contents at)
 verdict_of (Position at) = spec.faulty (fault.position at)
 verdict_of (Accepted order) = spec.accepted order
 verdict_of (Refused k steps) = spec.refused k steps
+
+-- no order follows every response
+abbrev pub IsRefusal : spec.Verdict → Type 0
+IsRefusal (spec.faulty fault) = ⊥
+IsRefusal (spec.accepted order) = ⊥
+IsRefusal (spec.refused k steps) = Unit {0}

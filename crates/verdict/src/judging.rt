@@ -1,13 +1,13 @@
 //! The verdict on a recording.
 
-ghost use Rattle.std.specs.Prelude.{◌⊎◌, ◌↔◌, ◌<◌, IfOk, IfSome, IsErrOf};
+ghost use Rattle.std.specs.Prelude.{◌⊎◌, ◌↔◌, ◌<◌, IfNone, IfOk, IfSome, IsErrOf};
 ghost use Rattle.specification.specs.Faults.{IsSound};
 ghost use Rattle.specification.specs.Orders.{HasNoOrder, IsLeastOrder};
 ghost use Rattle.specification.specs.Responses.{responses_of};
 ghost use Rattle.specification.specs.Verdict.{IsVerdict, DecidesSpecifications, ProvesItself};
 ghost use Rattle.order_graph.specs.Covers.{IsCoveredBy};
 ghost use Rattle.level_search.specs.Conflicts.{IsLeastConflict};
-ghost use Rattle.verdict.specs.VerdictOf.{verdict_of};
+ghost use Rattle.verdict.specs.VerdictOf.{IsRefusal, verdict_of};
 
 use super::verdict::Verdict;
 use contents_check::{Checked, check};
@@ -67,6 +67,7 @@ pub fn verdict_and_graph<H: Threads + Sync, G: Gate>(
 ) -> Result<Judged, SearchFault>
     ensures verdict { IfOk result (λ found. IsVerdict recording.now (verdict_of found.verdict)) }
     ensures graph { IfOk result (λ found. IfSome found.graph (IsCoveredBy (responses_of recording.now))) }
+    ensures refusal { IfOk result (λ found. IfNone found.graph (¬ IsRefusal (verdict_of found.verdict))) }
     ensures workers { IsErrOf result SearchFault.Workers ↔ ((workers < 1) ⊎ (MOST_WORKERS < workers)) }
 {
     if workers == 0 || workers > MOST_WORKERS {
@@ -102,7 +103,8 @@ fn accepted(recording: &Recording, graph: &OrderGraph, order: Order) -> Verdict
     requires sound { IsSound recording.now }
     requires covered { IsCoveredBy (responses_of recording.now) graph.now }
     requires least { IsLeastOrder graph.now order }
-    ensures { IsVerdict recording.now (verdict_of result) }
+    ensures verdict { IsVerdict recording.now (verdict_of result) }
+    ensures accepted { ¬ IsRefusal (verdict_of result) }
 {
     Verdict::Accepted(order)
 }

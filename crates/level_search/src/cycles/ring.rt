@@ -5,14 +5,14 @@ ghost use Rattle.specification.specs.Responses.{AreProper};
 ghost use Rattle.specification.specs.Search.{IsShortestLength};
 ghost use Rattle.order_graph.specs.Lists.{lists_of};
 ghost use Rattle.list_search.specs.Rings.{IsFirstRing, IsLeastNext};
-ghost use Rattle.level_search.specs.Tables.{IsShownTable};
+ghost use Rattle.level_search.specs.Tables.{IsBeforeTable};
 ghost use Rattle.level_search.specs.Balls.{FitsSets};
 ghost use Rattle.level_search.specs.Looks.{HaveLooked};
 ghost use Rattle.list_search.specs.Walks.{HasCycle};
 
 use super::choose::next_of_ring;
 use super::tables::tables;
-use crate::shown_table::ShownTable;
+use crate::before_table::BeforeTable;
 use crate::tabled::{Sets, search_by_table};
 use events::Memory;
 use list_search::PlainBound;
@@ -22,12 +22,12 @@ use std::alloc::Global;
 /// The least element through which a shortest cycle leads.
 fn first_source(
     graph: &OrderGraph,
-    table: &ShownTable,
+    table: &BeforeTable,
     k: u32,
     sets: &mut Sets,
     looked: &mut Looked,
 ) -> u32
-    requires table { IsShownTable (length graph.now.elements) (lists_of graph.now) table.now }
+    requires table { IsBeforeTable (length graph.now.elements) (lists_of graph.now) table.now }
     requires fits { FitsSets (length graph.now.elements) sets.old }
     requires least { IsShortestLength graph.now k }
     ensures known { result < length graph.now.elements }
@@ -80,10 +80,10 @@ fn ring_from(alloc: Global, graph: &OrderGraph, element: u32, k: u32) -> Result<
 pub fn least_ring(
     alloc: Global,
     graph: &OrderGraph,
-    table: &ShownTable,
+    table: &BeforeTable,
     k: u32,
 ) -> Result<Vec<u32>, Memory>
-    requires table { IsShownTable (length graph.now.elements) (lists_of graph.now) table.now }
+    requires table { IsBeforeTable (length graph.now.elements) (lists_of graph.now) table.now }
     requires least { IsShortestLength graph.now k }
     ensures proper { AreProper graph.now }
     ensures first { IfOk result (λ v. IsFirstRing (lists_of graph.now) k v.items) }

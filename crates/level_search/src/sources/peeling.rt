@@ -3,7 +3,7 @@
 
 ghost use Rattle.std.specs.Prelude.{◌≡◌, length};
 
-use crate::shown_table::ShownTable;
+use crate::before_table::BeforeTable;
 use bit_tables::BitSet;
 use events::Memory;
 use order_graph::OrderGraph;
@@ -37,7 +37,7 @@ struct Peeling {
 pub fn order_taken(
     alloc: Global,
     graph: &OrderGraph,
-    table: &ShownTable,
+    table: &BeforeTable,
 ) -> Result<Vec<u32>, Memory>
     requires { length table.now ≡ length graph.now.elements }
 {
@@ -89,7 +89,7 @@ impl Peeling {
     /// Lets an element that is left await the last that stands before it and is left; where there is none
     /// it is free. Where it awaited another, all that stand before it above that one are gone, so only those below
     /// are looked at.
-    fn await_one(&mut self, graph: &OrderGraph, table: &ShownTable, x: u32) -> Result<(), Memory>
+    fn await_one(&mut self, graph: &OrderGraph, table: &BeforeTable, x: u32) -> Result<(), Memory>
         requires { length table.now ≡ length graph.now.elements }
     {
         let elements = graph.elements();
@@ -110,7 +110,7 @@ impl Peeling {
     }
 
     /// Takes an element away: those that await it await another.
-    fn take_away(&mut self, graph: &OrderGraph, table: &ShownTable, x: u32) -> Result<(), Memory>
+    fn take_away(&mut self, graph: &OrderGraph, table: &BeforeTable, x: u32) -> Result<(), Memory>
         requires { length table.now ≡ length graph.now.elements }
     {
         if self.gone.has_room(x as usize) {

@@ -4,11 +4,11 @@ ghost use Rattle.std.specs.Prelude.{◌≡◌, ℕ, ◌+◌, ◌*◌, ◌<◌, �
 ghost use Rattle.order_graph.specs.Lists.{lists_of};
 ghost use Rattle.bit_tables.specs.Sets.{Has};
 ghost use Rattle.bit_tables.specs.Lists.{row_of};
-ghost use Rattle.level_search.specs.Tables.{IsShownTable};
+ghost use Rattle.level_search.specs.Tables.{IsBeforeTable};
 ghost use Rattle.level_search.specs.Balls.{FitsSets, IsInLayer};
 ghost use Rattle.level_search.specs.LayerSizes.{counted, layer_size};
 
-use crate::shown_table::ShownTable;
+use crate::before_table::BeforeTable;
 use bit_tables::BitSet;
 use events::Memory;
 use order_graph::{Looked, OrderGraph};
@@ -64,8 +64,8 @@ impl Sets {
     }
 
     /// Puts together what stands before an element of the layer. It looks once at the row of each.
-    fn gather(&mut self, graph: &OrderGraph, table: &ShownTable, looked: &mut Looked)
-        requires table { IsShownTable (length graph.now.elements) (lists_of graph.now) table.now }
+    fn gather(&mut self, graph: &OrderGraph, table: &BeforeTable, looked: &mut Looked)
+        requires table { IsBeforeTable (length graph.now.elements) (lists_of graph.now) table.now }
         requires fits { FitsSets (length graph.now.elements) self.old }
         ensures fits { FitsSets (length graph.now.elements) self.new }
         ensures near { self.new.near ≡ self.old.near }
@@ -87,10 +87,10 @@ impl Sets {
     pub fn next_layer(
         &mut self,
         graph: &OrderGraph,
-        table: &ShownTable,
+        table: &BeforeTable,
         looked: &mut Looked,
     ) -> bool
-        requires table { IsShownTable (length graph.now.elements) (lists_of graph.now) table.now }
+        requires table { IsBeforeTable (length graph.now.elements) (lists_of graph.now) table.now }
         requires fits { FitsSets (length graph.now.elements) self.old }
         ensures fits { FitsSets (length graph.now.elements) self.new }
         ensures near { (x : ℕ) → Has self.new.near x ↔ (Has self.old.near x ⊎ Has self.old.reached x) }

@@ -1,9 +1,9 @@
 //! The table of generated recordings, beside a plain reading of their responses.
 ghost use Rattle.std.specs.Prelude.{IfOk, length};
 ghost use Rattle.order_graph.specs.Lists.{lists_of};
-ghost use Rattle.level_search.specs.Tables.{IsShownTable};
+ghost use Rattle.level_search.specs.Tables.{IsBeforeTable};
 
-use crate::ShownTable;
+use crate::BeforeTable;
 use events::{Memory, Recording};
 use order_graph::OrderGraph;
 use sample_recordings::{Random, check_sound, generated, mostly_ordered, stands_before};
@@ -12,12 +12,12 @@ use std::test::Fail;
 use std::thread::Threads;
 
 /// The table of a graph. A call that finds no memory is made again.
-fn table_of(alloc: Global, graph: &OrderGraph) -> Result<ShownTable, Memory>
-    ensures { IfOk result (λ t. IsShownTable (length graph.now.elements) (lists_of graph.now) t) }
+fn table_of(alloc: Global, graph: &OrderGraph) -> Result<BeforeTable, Memory>
+    ensures { IfOk result (λ t. IsBeforeTable (length graph.now.elements) (lists_of graph.now) t) }
 {
-    match ShownTable::of(alloc, graph) {
+    match BeforeTable::of(alloc, graph) {
         Ok(table) => Ok(table),
-        Err(Memory) => ShownTable::of(alloc, graph),
+        Err(Memory) => BeforeTable::of(alloc, graph),
     }
 }
 

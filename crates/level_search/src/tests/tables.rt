@@ -2,13 +2,13 @@
 
 ghost use Rattle.std.specs.Prelude.{◌≡◌, ◌<◌, true, IfOk, length};
 ghost use Rattle.order_graph.specs.Lists.{lists_of};
-ghost use Rattle.level_search.specs.Tables.{IsShownTable};
+ghost use Rattle.level_search.specs.Tables.{IsBeforeTable};
 ghost use Rattle.shared_bound.specs.Seats.{fresh_seat};
 ghost use Rattle.level_search.specs.Balls.{FitsSets};
 
 use super::graphs::ask_of;
 use super::sources::FallingBound;
-use crate::shown_table::ShownTable;
+use crate::before_table::BeforeTable;
 use crate::tabled::{Sets, search_by_table};
 use crate::workers::bound_seat::BoundSeat;
 use crate::{BoundSource, PlainBound};
@@ -23,12 +23,12 @@ use std::thread;
 use std::thread::Threads;
 
 /// A table of the graph. A call that finds no memory is made again.
-fn table(alloc: Global, graph: &OrderGraph) -> Result<ShownTable, Fail>
-    ensures { IfOk result (λ t. IsShownTable (length graph.now.elements) (lists_of graph.now) t) }
+fn table(alloc: Global, graph: &OrderGraph) -> Result<BeforeTable, Fail>
+    ensures { IfOk result (λ t. IsBeforeTable (length graph.now.elements) (lists_of graph.now) t) }
 {
-    match ShownTable::of(alloc, graph) {
+    match BeforeTable::of(alloc, graph) {
         Ok(made) => Ok(made),
-        Err(Memory) => Ok(ShownTable::of(alloc, graph)?),
+        Err(Memory) => Ok(BeforeTable::of(alloc, graph)?),
     }
 }
 

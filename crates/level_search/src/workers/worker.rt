@@ -2,7 +2,7 @@
 
 ghost use Rattle.std.specs.Prelude.{◌≡◌, ℕ, ◌+◌, ◌*◌, Option, List, ◌<◌, ◌≤◌, true, [], length, IfOk, All};
 ghost use Rattle.order_graph.specs.Lists.{lists_of};
-ghost use Rattle.level_search.specs.Tables.{IsShownTable};
+ghost use Rattle.level_search.specs.Tables.{IsBeforeTable};
 ghost use Rattle.level_search.specs.Balls.{FitsSets};
 ghost use Rattle.level_search.specs.Looks.{HasLooked};
 ghost use Rattle.level_search.specs.Team.{IsLength, IsReady, SameSeat};
@@ -10,7 +10,7 @@ ghost use Rattle.list_search.specs.Walks.{NoneShorter};
 
 use super::bound_seat::BoundSeat;
 use crate::gate::Gate;
-use crate::shown_table::ShownTable;
+use crate::before_table::BeforeTable;
 use crate::tabled::{Sets, search_by_table};
 use events::Memory;
 use order_graph::{Looked, OrderGraph};
@@ -69,13 +69,13 @@ impl<'a> Worker<'a> {
 /// Searches from one element, between the gate's calls, and offers the length that it finds.
 fn search_from<G: Gate>(
     graph: &OrderGraph,
-    table: &ShownTable,
+    table: &BeforeTable,
     source: u32,
     gate: &G,
     worker: &mut Worker,
 )
     requires element { source < length graph.now.elements }
-    requires table { IsShownTable (length graph.now.elements) (lists_of graph.now) table.now }
+    requires table { IsBeforeTable (length graph.now.elements) (lists_of graph.now) table.now }
     requires fits { FitsSets (length graph.now.elements) worker.old.sets }
     requires known { worker.old.seat.low ≤ NO_OFFER }
     ensures number { worker.new.number ≡ worker.old.number }
@@ -109,12 +109,12 @@ fn search_from<G: Gate>(
 /// Claims places of the sources until none is left, and searches from the element at each.
 pub fn work<G: Gate>(
     graph: &OrderGraph,
-    table: &ShownTable,
+    table: &BeforeTable,
     sources: &[u32],
     gate: &G,
     worker: &mut Worker,
 )
-    requires table { IsShownTable (length graph.now.elements) (lists_of graph.now) table.now }
+    requires table { IsBeforeTable (length graph.now.elements) (lists_of graph.now) table.now }
     requires known { All (λ s. s < length graph.now.elements) sources.now }
     requires count { worker.old.seat.bound.sources ≡ length sources.now }
     requires ready { IsReady graph.now sources.now worker.old }

@@ -3,5 +3,5 @@ use Rattle.specification.specs.Responses.{responses_of}
 use Rattle.order_graph.proofs.Covers.{covered-least_order}
 use Rattle.verdict.proofs.judging.accepted.Goals as goal
 
-pub returns : goal.returns
-returns c = (c.requires.sound, covered-least_order (responses_of c.args.recording.now) c.args.graph.now c.requires.covered c.args.order c.requires.least)
+pub returns-clause-verdict : goal.returns-clause-verdict
+returns-clause-verdict c = (c.requires.sound, covered-least_order (responses_of c.args.recording.now) c.args.graph.now c.requires.covered c.args.order c.requires.least)
