@@ -18,7 +18,8 @@ pub record IsSized (rows : List (List ℕ)) (b : Back) : Type 0 where
   pub width : HaveWidth (length b.after) rows
   pub room : length rows ≤ room b.after
 
--- this is known of the list from place i on: what stands there is fresh, or stands in the known list from the place `next` on
+-- this is known of the list from place i on: what stands there is fresh, or stands in the known list from the
+-- place `next` on
 pub record IsBack (known w : List ℕ) (i : ℕ) (b : Back) : Type 0 where
   pub after : IsAfter i w b.after
   pub fresh : (x : ℕ) → Contains b.fresh.items x → Has b.after x

@@ -14,10 +14,13 @@ pub record AreNarrowed (wide narrow : List ℕ) : Type 0 where
 
 -- the number in place of a depth of the list
 abbrev pub StandsFor : List ℕ → List ℕ → ℕ → ℕ → Type 0
-StandsFor wide narrow depth small = (i : ℕ) × (i < length wide) × (slice_index wide i ≡ depth) × (slice_index narrow i ≡ small)
+StandsFor wide narrow depth small =
+    (i : ℕ) × (i < length wide) × (slice_index wide i ≡ depth) × (slice_index narrow i ≡ small)
 
 -- small depths, and a small count, stand to one another as the depths and the count; a number without a
 -- depth is as deep as the count
 pub record AreSmall (depths : List ℕ) (count : ℕ) (small : List ℕ) (most : ℕ) : Type 0 where
   pub len : length small ≡ length depths
-  pub alike : (x y : ℕ) → AreAlike (slice_index_or depths x count) (slice_index_or depths y count) (slice_index_or small x most) (slice_index_or small y most)
+  pub alike : (x y : ℕ)
+      → AreAlike (slice_index_or depths x count) (slice_index_or depths y count) (slice_index_or small x most)
+      (slice_index_or small y most)

@@ -1,5 +1,6 @@
 -- The layer rule on numbers: what layers of numbers show of lists of them.
-use Rattle.std.specs.Prelude.{ℕ, ◌+◌, ◌<◌, ◌≤◌, ◌↔◌, List, [], Contains, Vec, length, map, slice_index, slice_index_or}
+use Rattle.std.specs.Prelude.{ℕ, ◌+◌, ◌<◌, ◌≤◌, ◌↔◌, List, [], Contains, Vec, length, map, slice_index}
+use Rattle.std.specs.Prelude.{slice_index_or}
 use Rattle.std.specs.Global.{Global}
 use Rattle.bit_tables.specs.Lists.{IsShown}
 
@@ -19,7 +20,8 @@ pub record AreDepths (first : ℕ) (layers : List (List ℕ)) (depth : ℕ → �
 
 -- the numbers are just those whose depth is below the count
 abbrev pub HaveDepths : List ℕ → ℕ → List ℕ → Type 0
-HaveDepths depths count numbers = (x : ℕ) → Contains numbers x ↔ ((x < length depths) × (slice_index depths x < count))
+HaveDepths depths count numbers =
+    (x : ℕ) → Contains numbers x ↔ ((x < length depths) × (slice_index depths x < count))
 
 -- of the numbers from the first on that counts: none is more than one layer deeper than one that stands
 -- before it, and what stands before the source is as deep as can be

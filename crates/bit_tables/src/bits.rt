@@ -168,8 +168,8 @@ impl BitSet {
 }
 
 impl BitSet {
-    /// The least number from `from` on and below `n` that this set has and the other has not. It takes a step for each
-    /// word that it passes over.
+    /// The least number from `from` on and below `n` that this set has and the other has not. It takes a step
+    /// for each word that it passes over.
     pub fn first_of_difference(&self, other: &BitSet, from: u32, n: u32) -> Option<u32>
         ensures some { IfSome result (λ x. (from ≤ x) × (x < n) × Has self.now x × (¬ Has other.now x)) }
         ensures first { IfSome result (λ x. (y : ℕ) → from ≤ y → y < x → Has self.now y → Has other.now y) }
@@ -189,11 +189,13 @@ impl BitSet {
         None
     }
 
-    /// The least of the 64 numbers of a word, from a place among them on, that this set has and the other has not.
+    /// The least of the 64 numbers of a word, from a place among them on, that this set has and the other has
+    /// not.
     #[inline(always)]
     fn first_in_word(&self, other: &BitSet, word: u32, place: u32) -> Option<u64>
         requires { place < 64 }
-        ensures some { IfSome result (λ x. (x / 64 ≡ word) × (place ≤ x % 64) × Has self.now x × (¬ Has other.now x)) }
+        ensures some { IfSome result (λ x. (x / 64 ≡ word) × (place ≤ x % 64) × Has self.now x
+            × (¬ Has other.now x)) }
         ensures first { IfSome result (λ x. (y : ℕ) → y / 64 ≡ word → place ≤ y % 64 → y < x → Has self.now y
             → Has other.now y) }
         ensures none { IfNone result ((y : ℕ) → y / 64 ≡ word → place ≤ y % 64 → Has self.now y
@@ -216,7 +218,8 @@ impl BitSet {
         self.difference_from(alloc, other, 0, n)
     }
 
-    /// The same, where the other set has what this one has of the numbers below `first`, which are not looked at.
+    /// The same, where the other set has what this one has of the numbers below `first`, which are not looked
+    /// at.
     pub fn difference_from(
         &self,
         alloc: Global,

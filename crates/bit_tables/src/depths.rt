@@ -1,6 +1,7 @@
 //! The layer rule of numbers whose depths are known.
 
-ghost use Rattle.std.specs.Prelude.{◌≡◌, ◌<◌, ◌≤◌, ◌+◌, ◌*◌, ◌/◌, ◌⊎◌, ◌↔◌, ◌^◌, ℕ, All, Contains, IfOk, IsTrue, List, OnOk};
+ghost use Rattle.std.specs.Prelude.{◌≡◌, ◌<◌, ◌≤◌, ◌+◌, ◌*◌, ◌/◌, ◌⊎◌, ◌↔◌, ◌^◌, ℕ, All, Contains, IfOk};
+ghost use Rattle.std.specs.Prelude.{IsTrue, List, OnOk};
 ghost use Rattle.std.specs.Prelude.{length, map, slice_index, slice_index_or, vec_len};
 ghost use Rattle.bit_tables.specs.Lists.{HaveWidth, IsTableOf};
 ghost use Rattle.bit_tables.specs.Rule.{HaveDepths, MeetsRule, layer_at};
@@ -14,7 +15,8 @@ use std::alloc::{AllocError, Global};
 /// Puts a number from `first` on into the layer of its depth, if there is one.
 fn put(layers: &mut Vec<Vec<u32>>, depth: u32, number: u32, first: u32) -> Result<(), AllocError>
     ensures count { vec_len layers.new ≡ vec_len layers.old }
-    ensures layers { OnOk result ((d x : ℕ) → d < vec_len layers.old → Contains (layer_at layers.new.items d) x
+    ensures layers { OnOk result ((d x : ℕ) → d < vec_len layers.old
+        → Contains (layer_at layers.new.items d) x
         ↔ (Contains (layer_at layers.old.items d) x ⊎ ((first ≤ number) × (d ≡ depth) × (x ≡ number)))) }
 {
     if number >= first && (depth as usize) < layers.len() {
@@ -49,8 +51,8 @@ fn layers_by_depth(
 /// Whether the numbers from `first` on, below `n`, at these depths of at most the count, meet the layer rule
 /// for a source, as `are_deep` asks it. The count is at most two more than twice the number of the depths.
 ///
-/// It takes `n / 64` steps for each layer and for each noted number that is not in the last layer, a step for each
-/// other one, and memory for these numbers, as many layers as the count and two sets.
+/// It takes `n / 64` steps for each layer and for each noted number that is not in the last layer, a step for
+/// each other one, and memory for these numbers, as many layers as the count and two sets.
 fn are_deep_in_layers(
     alloc: Global,
     table: &AfterTable,
@@ -81,16 +83,16 @@ fn are_deep_in_layers(
     Ok(deep)
 }
 
-/// Whether the numbers from `first` on, below `n`, the number of depths, at these depths of at most the count,
-/// meet the layer rule for a source: no number is more than one deeper than one that stands before it in some
-/// list of the table, and what stands before the source is as deep as the count. Of the numbers below `first`,
-/// and of their depths, nothing is asked: the lists are taken with these numbers left out. Noted are the
-/// numbers of a lesser depth than the count, so that the others are not gone through.
+/// Whether the numbers from `first` on, below `n`, the number of depths, at these depths of at most the
+/// count, meet the layer rule for a source: no number is more than one deeper than one that stands before it
+/// in some list of the table, and what stands before the source is as deep as the count. Of the numbers below
+/// `first`, and of their depths, nothing is asked: the lists are taken with these numbers left out. Noted are
+/// the numbers of a lesser depth than the count, so that the others are not gone through.
 ///
-/// It takes `n / 64` steps for each layer and for each noted number that is not in the last layer, a step for each
-/// other one, and memory for these numbers, the layers and two sets. There are as many layers as the count where that is at most `n`, and else at most `2 * n + 2`,
-/// found in about `n * log n` further steps. So memory is linear in `n`, whatever the count, where no number
-/// is noted twice.
+/// It takes `n / 64` steps for each layer and for each noted number that is not in the last layer, a step for
+/// each other one, and memory for these numbers, the layers and two sets. There are as many layers as the
+/// count where that is at most `n`, and else at most `2 * n + 2`, found in about `n * log n` further steps.
+/// So memory is linear in `n`, whatever the count, where no number is noted twice.
 pub fn are_deep(
     alloc: Global,
     table: &AfterTable,

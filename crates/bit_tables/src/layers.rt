@@ -21,8 +21,8 @@ pub fn add_layer(into: &mut BitSet, layer: &[u32])
     }
 }
 
-/// Whether it is known that the row of the number at the place before in a layer has all that the row of the number at this
-/// place has.
+/// Whether it is known that the row of the number at the place before in a layer has all that the row of the
+/// number at this place has.
 fn row_before_has_all(table: &AfterTable, layer: &[u32], i: usize) -> bool
     requires { i < length layer.now }
     ensures { result ≡ true → (0 < i) × ((y : ℕ) → Has (row_of table.now (slice_index layer.now i)) y
@@ -31,7 +31,8 @@ fn row_before_has_all(table: &AfterTable, layer: &[u32], i: usize) -> bool
     i > 0 && layer[i - 1].checked_add(1) == Some(layer[i]) && table.is_included(layer[i] as usize)
 }
 
-/// Adds what stands after a number of the layer in some list, from `first` on; of lesser numbers nothing is promised.
+/// Adds what stands after a number of the layer in some list, from `first` on; of lesser numbers nothing is
+/// promised.
 pub fn add_successors(into: &mut BitSet, table: &AfterTable, layer: &[u32], first: usize)
     requires within { All (λ x. x < length table.now) layer.now }
     requires width { HaveWidth (length into.old) table.now }
@@ -76,9 +77,9 @@ fn is_shown(shown: &BitSet, table: &AfterTable, layer: &[u32], number: usize) ->
 /// source is in no layer. A number in no layer counts as one in a layer behind the last. Of the numbers below
 /// `first` nothing is asked, as if they stood in no list.
 ///
-/// It takes `n / 64` steps for each layer and each number in the layers, fewer where few numbers count, but one step for
-/// each number of the last layer, of which no more is asked than whether it stands before the source; and two sets of
-/// memory.
+/// It takes `n / 64` steps for each layer and each number in the layers, fewer where few numbers count, but
+/// one step for each number of the last layer, of which no more is asked than whether it stands before the
+/// source; and two sets of memory.
 pub fn meets_rule(
     alloc: Global,
     table: &AfterTable,

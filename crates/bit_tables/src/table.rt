@@ -1,6 +1,7 @@
 //! Which numbers stand after which in some lists.
 
-ghost use Rattle.std.specs.Prelude.{◌≡◌, ◌<◌, ◌+◌, ◌/◌, ℕ, [], ◌∷◌, ◌++◌, All, IfOk, OnOk, List, length, true};
+ghost use Rattle.std.specs.Prelude.{◌≡◌, ◌<◌, ◌+◌, ◌/◌, ℕ, [], ◌∷◌, ◌++◌, All, IfOk, OnOk, List, length};
+ghost use Rattle.std.specs.Prelude.{true};
 ghost use Rattle.bit_tables.specs.Sets.{Has};
 ghost use Rattle.bit_tables.specs.Included.{AreIncluded, IsIncluded};
 ghost use Rattle.bit_tables.specs.Lists.{HasList, HaveWidth, IsTableOf, row_of};
@@ -10,8 +11,8 @@ use super::noting::Noter;
 use std::alloc::{AllocError, Global};
 use std::marker::Model;
 
-/// For each number the set of those that stand after it in some list. It may have noted of some numbers that the row of the
-/// number before has all that their rows have.
+/// For each number the set of those that stand after it in some list. It may have noted of some numbers that
+/// the row of the number before has all that their rows have.
 #[derive(Drop)]
 pub struct AfterTable {
     rows: Vec<BitSet>,
@@ -80,9 +81,9 @@ impl AfterTable {
         noter.note(&mut self.rows, known, list)
     }
 
-    /// Notes for each number whether the row of the number before has all that its row has, which makes layers faster
-    /// where many have. It takes at most `n / 64` steps for each of the n numbers, and a byte of memory each. After an
-    /// error nothing is noted that was not before.
+    /// Notes for each number whether the row of the number before has all that its row has, which makes
+    /// layers faster where many have. It takes at most `n / 64` steps for each of the n numbers, and a byte
+    /// of memory each. After an error nothing is noted that was not before.
     pub fn note_included(&mut self, alloc: Global) -> Result<(), AllocError>
         requires width { HaveWidth (length self.old / 64 + 1) self.old }
         ensures { self.new ≡ self.old }
@@ -92,8 +93,8 @@ impl AfterTable {
         Ok(())
     }
 
-    /// Whether it was noted that the row of the number before has all that this number's row has. It may be so and not be
-    /// noted.
+    /// Whether it was noted that the row of the number before has all that this number's row has. It may be
+    /// so and not be noted.
     pub fn is_included(&self, a: usize) -> bool
         ensures { result ≡ true → IsIncluded self.now a }
     {

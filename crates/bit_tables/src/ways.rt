@@ -23,8 +23,8 @@ fn numbers_below(alloc: Global, n: u32, first: u32) -> Result<BitSet, AllocError
     Ok(numbers)
 }
 
-/// Adds what stands after a number of the layer, from `first` on, unless this layer, counted from 0, is the last of so
-/// many: what it shows is then asked of no other.
+/// Adds what stands after a number of the layer, from `first` on, unless this layer, counted from 0, is the
+/// last of so many: what it shows is then asked of no other.
 fn add_unless_last(
     into: &mut BitSet,
     table: &AfterTable,
@@ -49,8 +49,8 @@ fn add_unless_last(
 /// lead to from the source, and no fewer, in rising order. A step leads to what the table has of a number,
 /// and all steps go through numbers that count.
 ///
-/// It takes `n / 64` steps for each layer and for each number in the layers but the last, fewer where few numbers count,
-/// and memory for these numbers and two sets.
+/// It takes `n / 64` steps for each layer and for each number in the layers but the last, fewer where few
+/// numbers count, and memory for these numbers and two sets.
 pub fn layers_from(
     alloc: Global,
     table: &AfterTable,

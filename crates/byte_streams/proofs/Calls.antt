@@ -1,6 +1,10 @@
 -- The calls that were made so far, one more at a time.
-use Rattle.std.proofs.Common.{◌≡◌, ℕ, ◌+◌, ◌++◌, ◌∷◌, ◌∙◌, [], List, Option, None, Some, unwrap_or, is_some, Bool, true≢false, IsSome, zero, suc, ◌<◌, ◌-◌, true, false, drop, length, take, refl, sym, ap, subst, arith, append_assoc, append-nil, length-append}
-use Rattle.byte_streams.specs.Streams.{SourceState, SinkState, ReadCall, WriteCall, Makes, HaveCome, HaveTaken, EndInFailure, all_that_came, all_that_was_taken, bytes_of_read, bytes_of_write, at_least_one, some_bytes}
+use Rattle.std.proofs.Common.{◌≡◌, ℕ, ◌+◌, ◌++◌, ◌∷◌, ◌∙◌, [], List, Option, None, Some, unwrap_or, is_some}
+use Rattle.std.proofs.Common.{Bool, true≢false, IsSome, zero, suc, ◌<◌, ◌-◌, true, false, drop, length, take}
+use Rattle.std.proofs.Common.{refl, sym, ap, subst, arith, append_assoc, append-nil, length-append}
+use Rattle.byte_streams.specs.Streams.{SourceState, SinkState, ReadCall, WriteCall, Makes, HaveCome}
+use Rattle.byte_streams.specs.Streams.{HaveTaken, EndInFailure, all_that_came, all_that_was_taken}
+use Rattle.byte_streams.specs.Streams.{bytes_of_read, bytes_of_write, at_least_one, some_bytes}
 use Rattle.byte_streams.specs.Wholes.{CameAs, TakenInPart}
 use Rattle.byte_streams.proofs.Fronts.{front-joined}
 
@@ -71,7 +75,8 @@ nothing-read state = record {
 }
 
 -- one more
-pub read-more : (old now new : SourceState) (text bytes : List ℕ) (asked : ℕ) → ReadSoFar old now text → 0 < length bytes
+pub read-more : (old now new : SourceState) (text bytes : List ℕ) (asked : ℕ) → ReadSoFar old now text
+    → 0 < length bytes
     → (new.reads ≡ now.reads + 1)
     × Makes now.calls new.calls (record { asked = asked; came = Some bytes } ∷ [])
     → ReadSoFar old new (text ++ bytes)
@@ -86,7 +91,8 @@ read-more old now new text bytes asked before some one =
     }
 
 -- one more, which came to the end
-pub read-ended : (old now new : SourceState) (text bytes : List ℕ) (asked : ℕ) → ReadSoFar old now text → bytes ≡ []
+pub read-ended : (old now new : SourceState) (text bytes : List ℕ) (asked : ℕ) → ReadSoFar old now text
+    → bytes ≡ []
     → (new.reads ≡ now.reads + 1)
     × Makes now.calls new.calls (record { asked = asked; came = Some bytes } ∷ [])
     → (calls : List ReadCall) × Makes old.calls new.calls calls × (new.reads ≡ old.reads + length calls)
@@ -96,7 +102,13 @@ read-ended old now new text bytes asked before none one =
       before.calls ++ (call ∷ []),
       Makes-trans _ _ _ before.calls (call ∷ []) before.made one.1,
       omega (arith, before.count, one.0, length-append before.calls (call ∷ [])),
-      (before.calls, asked, ap (λ l. before.calls ++ (record { asked = asked; came = Some l } ∷ [])) none, before.came, before.gave),
+      (
+        before.calls,
+        asked,
+        ap (λ l. before.calls ++ (record { asked = asked; came = Some l } ∷ [])) none,
+        before.came,
+        before.gave,
+      ),
     )
 
 -- one more, which failed

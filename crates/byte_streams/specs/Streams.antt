@@ -1,5 +1,6 @@
 -- What contracts see of a reader and of a writer: the bytes, where they are known, and how the calls went.
-use Rattle.std.specs.Prelude.{◌≡◌, ℕ, suc, zero, ◌<◌, ◌⊎◌, Bool, true, false, Option, None, Some, List, [], ◌∷◌, ◌++◌, length, take, ⊤, IsSome}
+use Rattle.std.specs.Prelude.{◌≡◌, ℕ, suc, zero, ◌<◌, ◌⊎◌, Bool, true, false, Option, None, Some, List, []}
+use Rattle.std.specs.Prelude.{◌∷◌, ◌++◌, length, take, ⊤, IsSome}
 use Rattle.std.specs.Io.KnownBytes.{Appends}
 
 -- one read: how many bytes were asked for, and what came; none where it failed

@@ -1,13 +1,15 @@
 -- How the calls went by which a whole text was read or written.
 use Rattle.std.specs.Prelude.{◌≡◌, ℕ, ◌<◌, ◌⊎◌, Some, List, [], ◌∷◌, ◌++◌, length, take}
-use Rattle.byte_streams.specs.Streams.{ReadCall, WriteCall, HaveCome, EndInFailure, all_that_came, HaveTaken, EndInRefusal, all_that_was_taken}
+use Rattle.byte_streams.specs.Streams.{ReadCall, WriteCall, HaveCome, EndInFailure, all_that_came, HaveTaken}
+use Rattle.byte_streams.specs.Streams.{EndInRefusal, all_that_was_taken}
 use Rattle.byte_streams.specs.declared.source.ReadFault.{ReadFault}
 use Rattle.byte_streams.specs.declared.source.ReadFault.TheVariants.{Read, Memory}
 
 -- each read but the last gave something, and together they gave the text; the last came to the end
 abbrev pub CameAs : List ℕ → List ReadCall → Type 0
 CameAs text calls =
-    (before : List ReadCall) × (asked : ℕ) × (calls ≡ before ++ (record { asked = asked; came = Some [] } ∷ []))
+    (before : List ReadCall) × (asked : ℕ)
+    × (calls ≡ before ++ (record { asked = asked; came = Some [] } ∷ []))
     × HaveCome before × (all_that_came before ≡ text)
 
 -- the last read failed, or the limit was reached with no end in sight; out of memory comes only after a byte

@@ -9,10 +9,12 @@ use Rattle.specification.specs.ValidCertificate.{IsWrongFault}
 use Rattle.specification.proofs.VerdictsUnique.{one_first_fault, sound_or_fault}
 use Rattle.certificate_text.specs.Outlines.{Outlines}
 use Rattle.certificate_text.specs.declared.outline.Outline.{Outline}
-use Rattle.certificate_text.specs.declared.outline.Outline.TheVariants.{Doubled, Contents, Position, Accepted, Refused}
+use Rattle.certificate_text.specs.declared.outline.Outline.TheVariants.{Doubled, Contents, Position, Accepted}
+use Rattle.certificate_text.specs.declared.outline.Outline.TheVariants.{Refused}
 use Rattle.cert_check.specs.Judged.{named}
 
-pub wrong_fault : (h : History) (c : Certificate) (f : Fault) → IsFirstFault h f → (c ≡ names_fault f → ⊥) → IsWrongFault h c
+pub wrong_fault : (h : History) (c : Certificate) (f : Fault) → IsFirstFault h f → (c ≡ names_fault f → ⊥)
+    → IsWrongFault h c
 wrong_fault h (names_fault g) f first other = λ is. other (ap names_fault (one_first_fault h g f is first))
 wrong_fault h (gives_order order) f first other = λ sound. sound_or_fault h f sound first
 wrong_fault h (gives_cycle k steps rows) f first other = λ sound. sound_or_fault h f sound first
@@ -27,19 +29,29 @@ some_fault f g e = Prim.cc
 named_same : (f g : Fault) → names_fault f ≡ names_fault g → f ≡ g
 named_same f g e = Prim.cc
 
-by_name : (c : Certificate) (f g : Fault) → c ≡ names_fault g → (Some g ≡ Some f → c ≡ names_fault f) × (c ≡ names_fault f → Some g ≡ Some f)
-by_name c f g is = ((λ e. is ∙ ap names_fault (some_fault g f e)), (λ e. ap Some (named_same g f (sym is ∙ e))))
+by_name : (c : Certificate) (f g : Fault) → c ≡ names_fault g
+    → (Some g ≡ Some f → c ≡ names_fault f) × (c ≡ names_fault f → Some g ≡ Some f)
+by_name c f g is =
+    ((λ e. is ∙ ap names_fault (some_fault g f e)), (λ e. ap Some (named_same g f (sym is ∙ e))))
 
 -- the fault that its outline names is the one that it names
-pub named_is : (o : Outline) (c : Certificate) (f : Fault) → Outlines o c → (named o ≡ Some f → c ≡ names_fault f) × (c ≡ names_fault f → named o ≡ Some f)
+pub named_is : (o : Outline) (c : Certificate) (f : Fault) → Outlines o c
+    → (named o ≡ Some f → c ≡ names_fault f) × (c ≡ names_fault f → named o ≡ Some f)
 named_is (Doubled first again) c f is = by_name c f (fault.doubled first again) is
 named_is (Contents at) c f is = by_name c f (fault.contents at) is
 named_is (Position at) c f is = by_name c f (fault.position at) is
-named_is (Accepted names) c f is = ((λ e. absurd Prim.cc), (λ e. absurd (let bad : gives_order is.0 ≡ names_fault f = sym is.1 ∙ e in Prim.cc)))
-named_is (Refused k steps rows) c f is = ((λ e. absurd Prim.cc), (λ e. absurd (let bad : gives_cycle k is.0 is.1 ≡ names_fault f = sym is.2 ∙ e in Prim.cc)))
+named_is (Accepted names) c f is = (
+  (λ e. absurd Prim.cc),
+  (λ e. absurd (let bad : gives_order is.0 ≡ names_fault f = sym is.1 ∙ e in Prim.cc)),
+)
+named_is (Refused k steps rows) c f is = (
+  (λ e. absurd Prim.cc),
+  (λ e. absurd (let bad : gives_cycle k is.0 is.1 ≡ names_fault f = sym is.2 ∙ e in Prim.cc)),
+)
 
 -- one that has neither an order nor a cycle names a fault
-pub names_some : (o : Outline) (c : Certificate) → Outlines o c → ((names : _) → o ≡ Accepted names → ⊥) → ((k : _) (steps : _) (rows : _) → o ≡ Refused k steps rows → ⊥) → (f : Fault) × (c ≡ names_fault f)
+pub names_some : (o : Outline) (c : Certificate) → Outlines o c → ((names : _) → o ≡ Accepted names → ⊥)
+    → ((k : _) (steps : _) (rows : _) → o ≡ Refused k steps rows → ⊥) → (f : Fault) × (c ≡ names_fault f)
 names_some (Doubled first again) c is accepted refused = (fault.doubled first again, is)
 names_some (Contents at) c is accepted refused = (fault.contents at, is)
 names_some (Position at) c is accepted refused = (fault.position at, is)

@@ -13,7 +13,8 @@ use Rattle.cert_check.specs.Laws.{kind_of_verdict, VerdictsCertificatesGetYes}
 use Rattle.cert_check.specs.declared.answer.Answer.TheVariants.{Yes}
 use Rattle.cert_check.proofs.ReasonsExclude.{get_yes}
 
-kind-of : (version : Version) (h : History) (v : Verdict) (c : Certificate) → IsCertificateOf version h v c → kind_of c ≡ kind_of_verdict v
+kind-of : (version : Version) (h : History) (v : Verdict) (c : Certificate) → IsCertificateOf version h v c
+    → kind_of c ≡ kind_of_verdict v
 kind-of version h (faulty (fault.doubled first again)) c is = ap kind_of is
 kind-of version h (faulty (fault.contents at)) c is = ap kind_of is
 kind-of version h (faulty (fault.position at)) c is = ap kind_of is

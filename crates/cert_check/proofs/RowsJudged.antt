@@ -1,5 +1,6 @@
 -- Rows that are right at each element, and what is wrong with the others.
-use Rattle.std.proofs.Common.{◌≡◌, ℕ, suc, ◌<◌, ◌≤◌, Some, None, List, [], ◌∷◌, length, get_or, refl, sym, ◌∙◌, ap, subst, arith}
+use Rattle.std.proofs.Common.{◌≡◌, ℕ, suc, ◌<◌, ◌≤◌, Some, None, List, [], ◌∷◌, length, get_or, refl, sym}
+use Rattle.std.proofs.Common.{◌∙◌, ap, subst, arith}
 use Rattle.std.specs.Prelude.{slice_get}
 use Rattle.events.proofs.Places.{slice_get-within}
 use Rattle.events.specs.Names.{NameBytes}
@@ -13,13 +14,19 @@ use Rattle.specification.specs.CertificateText.{gives_cycle, IsRow}
 use Rattle.specification.specs.ValidCertificate.{HasSource, RowsMeetRule, RowIsRight, RowsRightBefore}
 use Rattle.cert_check.specs.Judged.{IsRowFault, AreRowsFault, IsJudgedNo}
 use Rattle.cert_check.specs.declared.answer.Reason.{Reason}
-use Rattle.cert_check.specs.declared.answer.Reason.TheVariants.{Trace, CertText, WrongFault, NotOrder, NotFollowed, NoCycle, MissingLayer, ShortLayer, ExtraLayer}
+use Rattle.cert_check.specs.declared.answer.Reason.TheVariants.{Trace, CertText, WrongFault, NotOrder}
+use Rattle.cert_check.specs.declared.answer.Reason.TheVariants.{NotFollowed, NoCycle, MissingLayer}
+use Rattle.cert_check.specs.declared.answer.Reason.TheVariants.{ShortLayer, ExtraLayer}
 
 -- the element with this number, by the names that are the elements
-pub element_at : (names all : List NameBytes) (i : ℕ) (a : NameBytes) → i < length names → a ≡ get_or names i a → names ≡ all → slice_get all i ≡ Some a
-element_at names all i a lt is same = ap (λ (ns : List NameBytes). slice_get ns i) (sym same) ∙ slice_get-within names i a lt is
+pub element_at : (names all : List NameBytes) (i : ℕ) (a : NameBytes) → i < length names
+    → a ≡ get_or names i a → names ≡ all → slice_get all i ≡ Some a
+element_at names all i a lt is same =
+    ap (λ (ns : List NameBytes). slice_get ns i) (sym same) ∙ slice_get-within names i a lt is
 
-pub rows_meet : (version : Version) (v : Responses) (k : ℕ) (sources : List NameBytes) (rows : List Row) → ((j : ℕ) (source : NameBytes) → slice_get sources j ≡ Some source → RowIsRight version v k rows j source) →
+pub rows_meet : (version : Version) (v : Responses) (k : ℕ) (sources : List NameBytes) (rows : List Row)
+    → ((j : ℕ) (source : NameBytes) → slice_get sources j ≡ Some source
+    → RowIsRight version v k rows j source) →
     length rows ≤ length sources → RowsMeetRule version v k sources rows
 rows_meet version v k [] [] right le = tt
 rows_meet version v k [] (row ∷ rows) right le = absurd (omega arith)
@@ -48,7 +55,8 @@ row_source k (layer ∷ row) is = go layer is.source
 pub one_source : (row : Row) (a b : NameBytes) → HasSource row a → HasSource row b → a ≡ b
 one_source row a b p q = let e : Some (a ∷ []) ≡ Some (b ∷ []) = sym p ∙ q in Prim.cc
 
-pub judged_no : (version : Version) (h : History) (k : ℕ) (steps : List Step) (rows : List Row) (why : Reason) → IsSound h → AreShownSteps (responses_of h) steps → 3 ≤ k →
+pub judged_no : (version : Version) (h : History) (k : ℕ) (steps : List Step) (rows : List Row) (why : Reason)
+    → IsSound h → AreShownSteps (responses_of h) steps → 3 ≤ k →
     AreRowsFault version (responses_of h) k rows why → IsJudgedNo version h (gives_cycle k steps rows) why
 judged_no version h k steps rows Trace sound shown le f = f
 judged_no version h k steps rows CertText sound shown le f = f
@@ -56,12 +64,15 @@ judged_no version h k steps rows WrongFault sound shown le f = absurd f
 judged_no version h k steps rows NotOrder sound shown le f = absurd f
 judged_no version h k steps rows (NotFollowed at) sound shown le f = absurd f
 judged_no version h k steps rows (NoCycle step) sound shown le f = absurd f
-judged_no version h k steps rows (MissingLayer source) sound shown le f = (sound, shown, le, f.0, f.1, f.2, f.3)
-judged_no version h k steps rows (ShortLayer source) sound shown le f = (sound, shown, le, f.0, f.1, f.2, f.3, f.4, f.5, f.6)
+judged_no version h k steps rows (MissingLayer source) sound shown le f =
+    (sound, shown, le, f.0, f.1, f.2, f.3)
+judged_no version h k steps rows (ShortLayer source) sound shown le f =
+    (sound, shown, le, f.0, f.1, f.2, f.3, f.4, f.5, f.6)
 judged_no version h k steps rows (ExtraLayer source) sound shown le f = (sound, shown, le, f.0, f.1, f.2, f.3)
 
 -- what is wrong with a row behind right ones is wrong with the rows
-pub first_fault : (version : Version) (v : Responses) (k : ℕ) (rows : List Row) (i : ℕ) (why : Reason) → IsRowFault version v k rows i why → RowsRightBefore version v k rows i →
+pub first_fault : (version : Version) (v : Responses) (k : ℕ) (rows : List Row) (i : ℕ) (why : Reason)
+    → IsRowFault version v k rows i why → RowsRightBefore version v k rows i →
     AreRowsFault version v k rows why
 first_fault version v k rows i Trace f before = absurd f
 first_fault version v k rows i CertText f before = absurd f

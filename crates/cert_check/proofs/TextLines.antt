@@ -1,5 +1,6 @@
 -- A text of lines, taken apart line by line.
-use Rattle.std.proofs.Common.{◌≡◌, ℕ, zero, suc, ◌+◌, ◌<◌, ◌≤◌, Some, List, [], ◌∷◌, ◌++◌, map, drop, length, codes, refl, sym, ◌∙◌, ap, subst, arith, append_assoc}
+use Rattle.std.proofs.Common.{◌≡◌, ℕ, zero, suc, ◌+◌, ◌<◌, ◌≤◌, Some, List, [], ◌∷◌, ◌++◌, map, drop, length}
+use Rattle.std.proofs.Common.{codes, refl, sym, ◌∙◌, ap, subst, arith, append_assoc}
 use Rattle.std.specs.Prelude.{All, slice_get}
 use Rattle.std.proofs.lemmas.List.Elements.{All-head, All-tail, Contains-append_left, Contains-push}
 use Rattle.events.specs.Names.{NameBytes, IsName}
@@ -19,11 +20,15 @@ use Rattle.certificate_text.proofs.StepLines.{one-step}
 pub first-line : (l : Line) (lines : List Line) → text_of (l ∷ lines) ≡ l ++ 10 ∷ text_of lines
 first-line l lines = append_assoc l (10 ∷ []) (text_of lines)
 
-pub line-off : (line : Line) (behind : List ℕ) (l : Line) (lines : List Line) → LacksLf l → IsOneLine line → text_of (l ∷ lines) ≡ line ++ 10 ∷ behind → (line ≡ l) × (behind ≡ text_of lines)
-line-off line behind l lines lacks one is = line-same line l behind (text_of lines) (lacks-lf line one) lacks (sym is ∙ first-line l lines)
+pub line-off : (line : Line) (behind : List ℕ) (l : Line) (lines : List Line) → LacksLf l → IsOneLine line
+    → text_of (l ∷ lines) ≡ line ++ 10 ∷ behind → (line ≡ l) × (behind ≡ text_of lines)
+line-off line behind l lines lacks one is =
+    line-same line l behind (text_of lines) (lacks-lf line one) lacks (sym is ∙ first-line l lines)
 
 row-lacks : (k : ℕ) (r : Row) → IsRow k r → LacksLf (row_line r)
-row-lacks k r h = subst LacksLf (sym (row-spaced r)) (spaced-lacks (codes "layers") (layers_words r) plain-layers (row-plain r h.names))
+row-lacks k r h =
+    subst LacksLf (sym (row-spaced r))
+    (spaced-lacks (codes "layers") (layers_words r) plain-layers (row-plain r h.names))
 
 pub some-line : (l : Line) (lines : List Line) → IsOneLine (text_of (l ∷ lines)) → ⊥
 some-line l lines one = one (Contains-append_left (l ++ 10 ∷ []) (text_of lines) 10 (Contains-push l 10))
@@ -33,32 +38,44 @@ nothing-cut [] behind e = absurd Prim.cc
 nothing-cut (b ∷ line) behind e = absurd Prim.cc
 
 -- a text that is one line has no rows
-pub no-rows : (rows : List Row) (text : List ℕ) → text ≡ text_of (map row_line rows) → IsOneLine text → rows ≡ []
+pub no-rows : (rows : List Row) (text : List ℕ) → text ≡ text_of (map row_line rows) → IsOneLine text
+    → rows ≡ []
 no-rows [] text is one = refl
-no-rows (row ∷ rows) text is one = absurd (some-line (row_line row) (map row_line rows) (subst IsOneLine is one))
+no-rows (row ∷ rows) text is one =
+    absurd (some-line (row_line row) (map row_line rows) (subst IsOneLine is one))
 
 -- rows, the first of which has this line
-pub row-off : (k : ℕ) (rows : List Row) (text line behind : List ℕ) → All (IsRow k) rows → text ≡ text_of (map row_line rows) → IsOneLine line → text ≡ line ++ 10 ∷ behind →
-    (row : Row) × (more : List Row) × (rows ≡ row ∷ more) × (line ≡ row_line row) × (behind ≡ text_of (map row_line more))
+pub row-off : (k : ℕ) (rows : List Row) (text line behind : List ℕ) → All (IsRow k) rows
+    → text ≡ text_of (map row_line rows) → IsOneLine line → text ≡ line ++ 10 ∷ behind →
+    (row : Row) × (more : List Row) × (rows ≡ row ∷ more) × (line ≡ row_line row)
+    × (behind ≡ text_of (map row_line more))
 row-off k [] text line behind h is one cut = absurd (nothing-cut line behind (sym is ∙ cut))
 row-off k (row ∷ rows) text line behind h is one cut =
-    let p = line-off line behind (row_line row) (map row_line rows) (row-lacks k row (All-head (IsRow k) row rows h)) one (sym is ∙ cut) in
+    let p = line-off line behind (row_line row) (map row_line rows)
+    (row-lacks k row (All-head (IsRow k) row rows h)) one (sym is ∙ cut) in
     (row, rows, refl, p.0, p.1)
 
 -- steps
 -- a text begins with one step's line at most
-pub step-same : (s t : Step) (more rest : List ℕ) → IsStep s → IsStep t → step_line s ++ 10 ∷ more ≡ step_line t ++ 10 ∷ rest → (s ≡ t) × (more ≡ rest)
+pub step-same : (s t : Step) (more rest : List ℕ) → IsStep s → IsStep t
+    → step_line s ++ 10 ∷ more ≡ step_line t ++ 10 ∷ rest → (s ≡ t) × (more ≡ rest)
 step-same s t more rest h k is =
     let p = line-same (step_line s) (step_line t) more rest (step-lacks s h) (step-lacks t k) is in
     (one-step s t h k p.0, p.1)
 
 -- a text is that of one list of steps at most
-pub same-steps : (xs ys : List Step) → All IsStep xs → All IsStep ys → text_of (map step_line xs) ≡ text_of (map step_line ys) → xs ≡ ys
+pub same-steps : (xs ys : List Step) → All IsStep xs → All IsStep ys
+    → text_of (map step_line xs) ≡ text_of (map step_line ys) → xs ≡ ys
 same-steps [] [] h k is = refl
-same-steps [] (y ∷ ys) h k is = absurd (nothing-cut (step_line y) (text_of (map step_line ys)) (is ∙ first-line (step_line y) (map step_line ys)))
-same-steps (x ∷ xs) [] h k is = absurd (nothing-cut (step_line x) (text_of (map step_line xs)) (sym is ∙ first-line (step_line x) (map step_line xs)))
+same-steps [] (y ∷ ys) h k is =
+    absurd (nothing-cut (step_line y) (text_of (map step_line ys))
+    (is ∙ first-line (step_line y) (map step_line ys)))
+same-steps (x ∷ xs) [] h k is =
+    absurd (nothing-cut (step_line x) (text_of (map step_line xs)) (sym is
+    ∙ first-line (step_line x) (map step_line xs)))
 same-steps (x ∷ xs) (y ∷ ys) h k is =
-    let p = step-same x y (text_of (map step_line xs)) (text_of (map step_line ys)) (All-head IsStep x xs h) (All-head IsStep y ys k)
+    let p = step-same x y (text_of (map step_line xs)) (text_of (map step_line ys)) (All-head IsStep x xs h)
+    (All-head IsStep y ys k)
     (sym (first-line (step_line x) (map step_line xs)) ∙ is ∙ first-line (step_line y) (map step_line ys)) in
     let rest = same-steps xs ys (All-tail IsStep x xs h) (All-tail IsStep y ys k) p.1 in
     ap (λ z. z ∷ xs) p.0 ∙ ap (λ l. y ∷ l) rest
@@ -66,27 +83,33 @@ same-steps (x ∷ xs) (y ∷ ys) h k is =
 -- names after spaces
 pub names-behind : (order : List NameBytes) → All IsName order → words_behind (names_text order) ≡ order
 names-behind [] h = refl
-names-behind (a ∷ order) h = names-words a order (name-lacks a (All-head IsName a order h)) (names-lack order (All-tail IsName a order h))
+names-behind (a ∷ order) h =
+    names-words a order (name-lacks a (All-head IsName a order h))
+    (names-lack order (All-tail IsName a order h))
 
 -- what is left from a place on
-drop-suc : {X : Type 0} (xs : List X) (i : ℕ) → i < length xs → (x : X) × (slice_get xs i ≡ Some x) × (drop i xs ≡ x ∷ drop (suc i) xs)
+drop-suc : {X : Type 0} (xs : List X) (i : ℕ) → i < length xs
+    → (x : X) × (slice_get xs i ≡ Some x) × (drop i xs ≡ x ∷ drop (suc i) xs)
 drop-suc [] i lt = absurd (omega arith)
 drop-suc (x ∷ xs) zero lt = (x, refl, refl)
 drop-suc (x ∷ xs) (suc i) lt = drop-suc xs i (omega arith)
 
-pub drop-next : {X : Type 0} (xs : List X) (i : ℕ) → i < length xs → (x : X) × (slice_get xs i ≡ Some x) × (drop i xs ≡ x ∷ drop (i + 1) xs)
+pub drop-next : {X : Type 0} (xs : List X) (i : ℕ) → i < length xs
+    → (x : X) × (slice_get xs i ≡ Some x) × (drop i xs ≡ x ∷ drop (i + 1) xs)
 drop-next xs i lt =
     let p = drop-suc xs i lt in
     let one : suc i ≡ i + 1 = omega arith in
     (p.0, p.1, p.2 ∙ ap (λ (n : ℕ). p.0 ∷ drop n xs) one)
 
-suc-is : {X : Type 0} (xs : List X) (i : ℕ) (x : X) (more : List X) → drop i xs ≡ x ∷ more → (slice_get xs i ≡ Some x) × (more ≡ drop (suc i) xs)
+suc-is : {X : Type 0} (xs : List X) (i : ℕ) (x : X) (more : List X) → drop i xs ≡ x ∷ more
+    → (slice_get xs i ≡ Some x) × (more ≡ drop (suc i) xs)
 suc-is [] zero x more e = absurd Prim.cc
 suc-is [] (suc i) x more e = absurd Prim.cc
 suc-is (y ∷ xs) zero x more e = (let f : y ≡ x = Prim.cc in ap Some f, (let f : more ≡ xs = Prim.cc in f))
 suc-is (y ∷ xs) (suc i) x more e = suc-is xs i x more e
 
-pub drop-is : {X : Type 0} (xs : List X) (i : ℕ) (x : X) (more : List X) → drop i xs ≡ x ∷ more → (slice_get xs i ≡ Some x) × (more ≡ drop (i + 1) xs)
+pub drop-is : {X : Type 0} (xs : List X) (i : ℕ) (x : X) (more : List X) → drop i xs ≡ x ∷ more
+    → (slice_get xs i ≡ Some x) × (more ≡ drop (i + 1) xs)
 drop-is xs i x more e =
     let p = suc-is xs i x more e in
     let one : suc i ≡ i + 1 = omega arith in

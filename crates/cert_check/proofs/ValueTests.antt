@@ -1,5 +1,6 @@
 -- One value more, or one that is not right.
-use Rattle.std.proofs.Common.{◌≡◌, ℕ, suc, ◌+◌, ◌<◌, ◌≤◌, ◌⊎◌, inl, inr, List, [], ◌∷◌, ◌++◌, map, take, drop, length, get_or, refl, sym, ◌∙◌, ap, subst, arith}
+use Rattle.std.proofs.Common.{◌≡◌, ℕ, suc, ◌+◌, ◌<◌, ◌≤◌, ◌⊎◌, inl, inr, List, [], ◌∷◌, ◌++◌, map, take, drop}
+use Rattle.std.proofs.Common.{length, get_or, refl, sym, ◌∙◌, ap, subst, arith}
 use Rattle.std.proofs.lemmas.List.{map_push, map-append, take_more, take_all}
 use Rattle.std.proofs.lemmas.Option.{slice_get-get_or}
 use Rattle.visibility.proofs.Entries.{split_at}
@@ -7,7 +8,8 @@ use Rattle.specification.proofs.Members.{In, Before, In-append_right, In-append_
 use Rattle.cert_check.specs.Values.{IsRising}
 
 module _ {X : Type 0} where
-  pub Before-push : (a b x : X) (xs : List X) → Before a b (xs ++ x ∷ []) → Before a b xs ⊎ (In a xs × (b ≡ x))
+  pub Before-push : (a b x : X) (xs : List X) → Before a b (xs ++ x ∷ [])
+      → Before a b xs ⊎ (In a xs × (b ≡ x))
   Before-push a b x [] (inl h) = absurd h.1
   Before-push a b x [] (inr h) = absurd h
   Before-push a b x (y ∷ ys) (inl h) = go (In-append_cases b ys (x ∷ []) h.1)
@@ -37,11 +39,13 @@ In-push a x xs i = go (In-append_cases a xs (x ∷ []) i)
     go (inr (inr z)) = absurd z
 
 -- a list round a place, under a function
-pub map-more : {Y : Type 0} (f : ℕ → Y) (xs : List ℕ) (i : ℕ) → i < length xs → map f (take (i + 1) xs) ≡ map f (take i xs) ++ f (get_or xs i 0) ∷ []
+pub map-more : {Y : Type 0} (f : ℕ → Y) (xs : List ℕ) (i : ℕ) → i < length xs
+    → map f (take (i + 1) xs) ≡ map f (take i xs) ++ f (get_or xs i 0) ∷ []
 map-more f xs i lt = ap (map f) (take_more xs i 0 lt) ∙ map_push f (take i xs) (get_or xs i 0)
 
 -- what holds of the values so far and of one more holds of the values up to its place
-pub one-further : (P : List ℕ → Type 0) (f : ℕ → ℕ) (xs : List ℕ) (i v : ℕ) → i < length xs → v ≡ f (get_or xs i 0) → P (map f (take i xs) ++ v ∷ []) → P (map f (take (i + 1) xs))
+pub one-further : (P : List ℕ → Type 0) (f : ℕ → ℕ) (xs : List ℕ) (i v : ℕ) → i < length xs
+    → v ≡ f (get_or xs i 0) → P (map f (take i xs) ++ v ∷ []) → P (map f (take (i + 1) xs))
 one-further P f xs i v lt value more =
     subst P (sym (map-more f xs i lt)) (subst (λ (d : ℕ). P (map f (take i xs) ++ d ∷ [])) value more)
 
@@ -51,7 +55,8 @@ map-split f xs i lt =
     ap (map f) (split_at xs i (get_or xs i 0) (slice_get-get_or xs i 0 lt))
     ∙ map-append f (take i xs) (get_or xs i 0 ∷ drop (suc i) xs)
 
-pub whole_front : {Y : Type 0} (f : ℕ → Y) (xs : List ℕ) (i : ℕ) → length xs ≤ i → map f (take i xs) ≡ map f xs
+pub whole_front : {Y : Type 0} (f : ℕ → Y) (xs : List ℕ) (i : ℕ) → length xs ≤ i
+    → map f (take i xs) ≡ map f xs
 whole_front f xs i le = ap (map f) (take_all i xs le)
 
 -- each value so far is below the least that may follow
@@ -62,14 +67,26 @@ pub record RiseTo (ds : List ℕ) (least : ℕ) : Type 0 where
 
 pub rise_more : (ds : List ℕ) (least v : ℕ) → RiseTo ds least → least ≤ v → RiseTo (ds ++ v ∷ []) (v + 1)
 rise_more ds least v r le = record {
-  rising = λ a b h. elim (Before-push a b v ds h) [ inl k ↦ r.rising a b k | inr k ↦ (let lt = r.below a k.0 in let e : b ≡ v = k.1 in omega arith) ];
-  below = λ a i. elim (In-push a v ds i) [ inl j ↦ (let lt = r.below a j in omega arith) | inr e ↦ omega arith ];
+  rising =
+      λ a b h. elim (Before-push a b v ds h) [
+        | inl k ↦ r.rising a b k
+        | inr k ↦
+            (let lt = r.below a k.0 in let e : b ≡ v = k.1 in omega arith)
+      ];
+  below = λ a i. elim (In-push a v ds i) [
+    | inl j ↦ (let lt = r.below a j in omega arith)
+    | inr e ↦
+        omega arith
+  ];
   tight = inr (v, In-append_right v ds (v ∷ []) (inl refl), refl);
 }
 
-pub rise_stop : (ds : List ℕ) (least v : ℕ) (rest : List ℕ) → RiseTo ds least → v < least → IsRising (ds ++ v ∷ rest) → ⊥
+pub rise_stop : (ds : List ℕ) (least v : ℕ) (rest : List ℕ) → RiseTo ds least → v < least
+    → IsRising (ds ++ v ∷ rest) → ⊥
 rise_stop ds least v rest r lt rising =
     elim r.tight [
       | inl e ↦ omega arith
-      | inr k ↦ (let more = rising k.0 v (Before-front k.0 v ds rest k.1) in let e : k.0 + 1 ≡ least = k.2 in omega arith)
+      | inr k ↦
+          (let more = rising k.0 v (Before-front k.0 v ds rest k.1) in let e : k.0 + 1 ≡ least = k.2 in
+          omega arith)
     ]

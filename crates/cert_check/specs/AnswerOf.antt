@@ -29,12 +29,14 @@ abbrev pub Reads : List ℕ → List ℕ → Version → History → text.Certif
 Reads trace cert version h c = Spells trace h × text.SpellsCertificate cert version c
 
 abbrev pub IsReadReason : List ℕ → List ℕ → valid.Reason → Type 0
-IsReadReason trace cert why = (version : Version) × (h : History) × (c : text.Certificate) × Reads trace cert version h c × valid.IsFirstReason version h c why
+IsReadReason trace cert why = (version : Version) × (h : History) × (c : text.Certificate)
+    × Reads trace cert version h c × valid.IsFirstReason version h c why
 
 -- the first reason that holds, of two texts
 abbrev pub IsReason : List ℕ → List ℕ → Reason → Type 0
 IsReason trace cert reason.Trace = (h : History) → ¬ Spells trace h
-IsReason trace cert reason.CertText = ((h : History) × Spells trace h) × ((version : Version) (c : text.Certificate) → ¬ text.SpellsCertificate cert version c)
+IsReason trace cert reason.CertText = ((h : History) × Spells trace h)
+    × ((version : Version) (c : text.Certificate) → ¬ text.SpellsCertificate cert version c)
 IsReason trace cert reason.WrongFault = IsReadReason trace cert valid.wrong_fault
 IsReason trace cert reason.NotOrder = IsReadReason trace cert valid.not_order
 IsReason trace cert (reason.NotFollowed at) = IsReadReason trace cert (valid.not_followed at)
@@ -44,7 +46,8 @@ IsReason trace cert (reason.ShortLayer source) = IsReadReason trace cert (valid.
 IsReason trace cert (reason.ExtraLayer source) = IsReadReason trace cert (valid.extra_layer source)
 
 abbrev pub IsAnswer : List ℕ → List ℕ → Answer → Type 0
-IsAnswer trace cert (Yes k) = (version : Version) × (h : History) × (c : text.Certificate) × Reads trace cert version h c × valid.IsValid version h c × (kind_of c ≡ k)
+IsAnswer trace cert (Yes k) = (version : Version) × (h : History) × (c : text.Certificate)
+    × Reads trace cert version h c × valid.IsValid version h c × (kind_of c ≡ k)
 IsAnswer trace cert (No why) = IsReason trace cert why
 
 -- the answer on a recording: that on each text that spells it
@@ -55,13 +58,16 @@ IsAnswerOn h cert a = (trace : List ℕ) → Spells trace h → IsAnswer trace c
 abbrev pub Implies : History → text.Certificate → Type 0
 Implies h (text.names_fault named) = fault.IsFirstFault h named
 Implies h (text.gives_order order) = MeetsStrong h
-Implies h (text.gives_cycle k steps rows) = HasConflictNumber (responses_of h) k × ProvesConflict (responses_of h) k steps
+Implies h (text.gives_cycle k steps rows) =
+    HasConflictNumber (responses_of h) k × ProvesConflict (responses_of h) k steps
 
 abbrev pub ImpliesOfTexts : List ℕ → List ℕ → Answer → Type 0
-ImpliesOfTexts trace cert (Yes k) = (version : Version) (h : History) (c : text.Certificate) → Reads trace cert version h c → Implies h c
+ImpliesOfTexts trace cert (Yes k) = (version : Version) (h : History) (c : text.Certificate)
+    → Reads trace cert version h c → Implies h c
 ImpliesOfTexts trace cert (No why) = Unit {0}
 
 -- what a yes implies of the recording
 abbrev pub ImpliesOn : History → List ℕ → Answer → Type 0
-ImpliesOn h cert (Yes k) = (version : Version) (c : text.Certificate) → text.SpellsCertificate cert version c → Implies h c
+ImpliesOn h cert (Yes k) = (version : Version) (c : text.Certificate) → text.SpellsCertificate cert version c
+    → Implies h c
 ImpliesOn h cert (No why) = Unit {0}

@@ -7,7 +7,8 @@ use Rattle.specification.specs.Responses.{Responses, responses_of}
 use Rattle.specification.specs.LayerRule.{Row, MeetsRuleOf}
 use Rattle.specification.specs.Versions.{Version}
 use Rattle.specification.specs.ValidCertificate as valid
-use Rattle.specification.specs.ValidCertificate.{HasSource, LacksRow, RowIsRight, RowsRightBefore, RowsMeetRule}
+use Rattle.specification.specs.ValidCertificate.{HasSource, LacksRow, RowIsRight, RowsRightBefore}
+use Rattle.specification.specs.ValidCertificate.{RowsMeetRule}
 use Rattle.specification.specs.CertificateText as text
 use Rattle.specification.specs.Faults as fault
 use Rattle.certificate_text.specs.declared.outline.Outline.{Outline}
@@ -27,7 +28,8 @@ IsJudgedNo version h c reason.WrongFault = valid.IsFirstReason version h c valid
 IsJudgedNo version h c reason.NotOrder = valid.IsFirstReason version h c valid.not_order
 IsJudgedNo version h c (reason.NotFollowed at) = valid.IsFirstReason version h c (valid.not_followed at)
 IsJudgedNo version h c (reason.NoCycle step) = valid.IsFirstReason version h c (valid.no_cycle step)
-IsJudgedNo version h c (reason.MissingLayer source) = valid.IsFirstReason version h c (valid.missing_layer source)
+IsJudgedNo version h c (reason.MissingLayer source) =
+    valid.IsFirstReason version h c (valid.missing_layer source)
 IsJudgedNo version h c (reason.ShortLayer source) = valid.IsFirstReason version h c (valid.short_layer source)
 IsJudgedNo version h c (reason.ExtraLayer source) = valid.IsFirstReason version h c (valid.extra_layer source)
 
@@ -38,7 +40,8 @@ IsJudged version h c (No why) = IsJudgedNo version h c why
 
 -- what is judged, in either version, of a recording with this first fault
 abbrev pub IsJudgedByFault : text.Certificate → fault.Fault → Answer → Type 0
-IsJudgedByFault c found answer = (version : Version) (h : History) → fault.IsFirstFault h found → IsJudged version h c answer
+IsJudgedByFault c found answer = (version : Version) (h : History) → fault.IsFirstFault h found
+    → IsJudged version h c answer
 
 -- the fault that an outline names
 abbrev pub named : Outline → Option fault.Fault
@@ -50,32 +53,39 @@ named (outline.Refused k steps rows) = None
 
 -- what is wrong with the row at a place
 abbrev pub IsRowFault : Version → Responses → ℕ → List Row → ℕ → Reason → Type 0
-IsRowFault version v k rows i (reason.MissingLayer source) = (slice_get v.elements i ≡ Some source) × LacksRow rows i source
+IsRowFault version v k rows i (reason.MissingLayer source) =
+    (slice_get v.elements i ≡ Some source) × LacksRow rows i source
 IsRowFault version v k rows i (reason.ShortLayer source) =
     (slice_get v.elements i ≡ Some source)
-    × (row : Row) × (slice_get rows i ≡ Some row) × HasSource row source × (¬ MeetsRuleOf version v k source row)
+    × (row : Row) × (slice_get rows i ≡ Some row) × HasSource row source
+    × (¬ MeetsRuleOf version v k source row)
 IsRowFault version v k rows i why = ⊥
 
 abbrev pub IsRowJudged : Version → Responses → ℕ → List Row → ℕ → Option Reason → Type 0
-IsRowJudged version v k rows i None = (source : NameBytes) → slice_get v.elements i ≡ Some source → RowIsRight version v k rows i source
+IsRowJudged version v k rows i None = (source : NameBytes) → slice_get v.elements i ≡ Some source
+    → RowIsRight version v k rows i source
 IsRowJudged version v k rows i (Some why) = IsRowFault version v k rows i why
 
 -- of each sound recording with these numbers and places: what is wrong with the row at a place
 abbrev pub TellsRow : Version → Numbered → ℕ → List Row → ℕ → Option Reason → Type 0
-TellsRow version t k rows i found = (h : History) → IsOf h t → IsRowJudged version (responses_of h) k rows i found
+TellsRow version t k rows i found = (h : History) → IsOf h t
+    → IsRowJudged version (responses_of h) k rows i found
 
 -- whether the row of the element with this number meets the layer rule of the version
 abbrev pub TellsLayerRule : Version → Numbered → ℕ → ℕ → Row → Bool → Type 0
 TellsLayerRule version t k source row meets =
-    (h : History) (a : NameBytes) → IsOf h t → slice_get (elements h) source ≡ Some a → IsTrue meets ↔ MeetsRuleOf version (responses_of h) k a row
+    (h : History) (a : NameBytes) → IsOf h t → slice_get (elements h) source ≡ Some a
+    → IsTrue meets ↔ MeetsRuleOf version (responses_of h) k a row
 
 -- what is wrong with the rows
 abbrev pub AreRowsFault : Version → Responses → ℕ → List Row → Reason → Type 0
 AreRowsFault version v k rows (reason.MissingLayer source) =
-    (i : ℕ) × (slice_get v.elements i ≡ Some source) × RowsRightBefore version v k rows i × LacksRow rows i source
+    (i : ℕ) × (slice_get v.elements i ≡ Some source) × RowsRightBefore version v k rows i
+    × LacksRow rows i source
 AreRowsFault version v k rows (reason.ShortLayer source) =
     (i : ℕ) × (slice_get v.elements i ≡ Some source) × RowsRightBefore version v k rows i
-    × (row : Row) × (slice_get rows i ≡ Some row) × HasSource row source × (¬ MeetsRuleOf version v k source row)
+    × (row : Row) × (slice_get rows i ≡ Some row) × HasSource row source
+    × (¬ MeetsRuleOf version v k source row)
 AreRowsFault version v k rows (reason.ExtraLayer source) =
     RowsRightBefore version v k rows (length v.elements)
     × (row : Row) × (slice_get rows (length v.elements) ≡ Some row) × HasSource row source
@@ -87,4 +97,5 @@ AreRowsJudged version v k rows (Some why) = AreRowsFault version v k rows why
 
 -- of each sound recording with these numbers and places: what is wrong with the rows
 abbrev pub TellsRows : Version → Numbered → ℕ → List Row → Option Reason → Type 0
-TellsRows version t k rows found = (h : History) → IsOf h t → AreRowsJudged version (responses_of h) k rows found
+TellsRows version t k rows found =
+    (h : History) → IsOf h t → AreRowsJudged version (responses_of h) k rows found

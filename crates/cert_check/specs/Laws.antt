@@ -20,15 +20,18 @@ LayersBoundCycles = laws.LayersBoundCycles
 
 -- a valid certificate of either version implies what it shows
 abbrev pub ValidCertificatesImply : Type 0
-ValidCertificatesImply = (version : Version) (h : History) (c : Certificate) → IsLegal h → IsSpellable c → IsValid version h c → Implies h c
+ValidCertificatesImply = (version : Version) (h : History) (c : Certificate) → IsLegal h → IsSpellable c
+    → IsValid version h c → Implies h c
 
 -- a valid certificate has no reason against it
 abbrev pub ValidOrReason : Type 0
-ValidOrReason = (version : Version) (h : History) (c : Certificate) (why : Reason) → IsLegal h → IsValid version h c → ¬ IsFirstReason version h c why
+ValidOrReason = (version : Version) (h : History) (c : Certificate) (why : Reason) → IsLegal h
+    → IsValid version h c → ¬ IsFirstReason version h c why
 
 -- a valid certificate gets a yes, of its kind
 abbrev pub ValidCertificatesGetYes : Type 0
-ValidCertificatesGetYes = (trace cert : List ℕ) (version : Version) (h : History) (c : Certificate) → Reads trace cert version h c → IsValid version h c →
+ValidCertificatesGetYes = (trace cert : List ℕ) (version : Version) (h : History) (c : Certificate)
+    → Reads trace cert version h c → IsValid version h c →
     (a : Answer) → IsAnswer trace cert a → a ≡ Yes (kind_of c)
 
 -- what a verdict's certificate shows
@@ -42,10 +45,12 @@ kind_of_verdict (refused k steps) = kind.Refused
 -- the spelling, in either version, of the certificate of a recording's verdict, checked against any spelling
 -- of the recording, has the answer yes, of the verdict's kind, and no other
 abbrev pub VerdictsCertificatesGetYes : Type 0
-VerdictsCertificatesGetYes = (version : Version) (h : History) (v : Verdict) (c : Certificate) (text : List ℕ) → Spells text h → IsVerdict h v → IsCertificateOf version h v c →
+VerdictsCertificatesGetYes = (version : Version) (h : History) (v : Verdict) (c : Certificate) (text : List ℕ)
+    → Spells text h → IsVerdict h v → IsCertificateOf version h v c →
     IsAnswer text (certificate_text version c) (Yes (kind_of_verdict v))
     × ((a : Answer) → IsAnswer text (certificate_text version c) a → a ≡ Yes (kind_of_verdict v))
 
 -- two texts have one right answer at most
 abbrev pub AnswersAreUnique : Type 0
-AnswersAreUnique = (trace cert : List ℕ) (a b : Answer) → IsAnswer trace cert a → IsAnswer trace cert b → a ≡ b
+AnswersAreUnique = (trace cert : List ℕ) (a b : Answer) → IsAnswer trace cert a → IsAnswer trace cert b
+    → a ≡ b

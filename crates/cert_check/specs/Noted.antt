@@ -1,5 +1,6 @@
 -- Values noted for elements, name by name.
-use Rattle.std.specs.Prelude.{◌≡◌, ◌≢◌, ℕ, ◌+◌, ◌<◌, List, [], ◌∷◌, ◌++◌, length, map, slice_get, slice_index, Some}
+use Rattle.std.specs.Prelude.{◌≡◌, ◌≢◌, ℕ, ◌+◌, ◌<◌, List, [], ◌∷◌, ◌++◌, length, map, slice_get, slice_index}
+use Rattle.std.specs.Prelude.{Some}
 use Rattle.events.specs.Names.{NameBytes}
 use Rattle.specification.specs.LayerRule.{Row}
 use Rattle.specification.specs.Members.{In, Once}
@@ -31,5 +32,7 @@ pub record CanBeNoted (names : List NameBytes) (noted : List Noted) : Type 0 whe
 pub record Holds (names : List NameBytes) (unset : ℕ) (noted : List Noted) (values : List ℕ) : Type 0 where
   pub size : length values ≡ length names
   pub can : CanBeNoted names noted
-  pub here : (p : Noted) (i : ℕ) → In p noted → slice_get names i ≡ Some p.0 → (slice_index values i ≡ p.1) × (p.1 < unset)
-  pub others : (a : NameBytes) (i : ℕ) → slice_get names i ≡ Some a → slice_index values i ≢ unset → In (a, slice_index values i) noted
+  pub here : (p : Noted) (i : ℕ) → In p noted → slice_get names i ≡ Some p.0
+      → (slice_index values i ≡ p.1) × (p.1 < unset)
+  pub others : (a : NameBytes) (i : ℕ) → slice_get names i ≡ Some a → slice_index values i ≢ unset
+      → In (a, slice_index values i) noted

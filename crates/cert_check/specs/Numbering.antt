@@ -28,7 +28,8 @@ places_at t i = slice_index_or (lists_of t) i []
 
 -- along these places, from the first on that counts, the values are gradual, and deep before the source
 abbrev pub AreDeepAt : Numbered → List ℕ → ℕ → ℕ → ℕ → ℕ → Type 0
-AreDeepAt t depths first source bound j = IsGradualFrom first depths (places_at t j) × IsDeepFrom first depths source bound (places_at t j)
+AreDeepAt t depths first source bound j =
+    IsGradualFrom first depths (places_at t j) × IsDeepFrom first depths source bound (places_at t j)
 
 -- the first number of which a row speaks: in version two its source's
 abbrev pub first_of : Version → ℕ → ℕ

@@ -12,4 +12,5 @@ CertTakesMemory cert = (version : Version) × (c : Certificate) × SpellsCertifi
 
 -- a line of the trace takes memory; or the trace spells a recording, and the certificate's text a certificate
 abbrev pub TakesMemory : List ℕ → List ℕ → Type 0
-TakesMemory trace cert = ((line : ℕ) × TakesMemoryAt trace line) ⊎ (((h : History) × Spells trace h) × CertTakesMemory cert)
+TakesMemory trace cert =
+    ((line : ℕ) × TakesMemoryAt trace line) ⊎ (((h : History) × Spells trace h) × CertTakesMemory cert)

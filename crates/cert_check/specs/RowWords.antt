@@ -38,4 +38,5 @@ GoesOn names unset noted depth w values next =
 -- with this word, nothing that has so few layers can be noted
 abbrev pub Stops : List NameBytes → ℕ → List Noted → ℕ → Word → Type 0
 Stops names unset noted depth w =
-    (ws : List Word) → depth + slashes (w ∷ ws) < unset → ¬ CanBeNoted names (noted ++ pairs_of depth (w ∷ ws))
+    (ws : List Word) → depth + slashes (w ∷ ws) < unset
+    → ¬ CanBeNoted names (noted ++ pairs_of depth (w ∷ ws))

@@ -7,9 +7,11 @@ use Rattle.specification.specs.Lines.{text_of}
 use Rattle.specification.specs.Responses.{responses_of}
 use Rattle.specification.specs.ValidCertificate.{StepIsRight, IsFirstWrongStep}
 
--- k is 2 or more: none is answered only where the lines are those of k steps that are all right; a number, where the lines are those
--- of k steps, only where it is that of the first that is not right
+-- k is 2 or more: none is answered only where the lines are those of k steps that are all right; a number,
+-- where the lines are those of k steps, only where it is that of the first that is not right
 abbrev pub TellsFirstWrong : History → ℕ → List ℕ → Option ℕ → Type 0
 TellsFirstWrong h k lines answer = 2 ≤ k → MatchOption answer
-    ((steps : List Step) × (length steps ≡ k) × All IsStep steps × (lines ≡ text_of (map step_line steps)) × ((i : ℕ) → i < length steps → StepIsRight (responses_of h) steps i))
-    (λ n. (steps : List Step) → length steps ≡ k → All IsStep steps → lines ≡ text_of (map step_line steps) → IsFirstWrongStep (responses_of h) steps n)
+    ((steps : List Step) × (length steps ≡ k) × All IsStep steps × (lines ≡ text_of (map step_line steps))
+    × ((i : ℕ) → i < length steps → StepIsRight (responses_of h) steps i))
+    (λ n. (steps : List Step) → length steps ≡ k → All IsStep steps → lines ≡ text_of (map step_line steps)
+    → IsFirstWrongStep (responses_of h) steps n)

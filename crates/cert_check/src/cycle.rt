@@ -22,8 +22,8 @@ use events::{Memory, Recording};
 use std::alloc::Global;
 
 /// Whether the steps are a cycle of a sound recording and the rows, of this version, show that none is
-/// shorter. Steps and rows are given by their lines. The rows are judged by the responses that cover all, which
-/// show the same elements before one another as all do.
+/// shorter. Steps and rows are given by their lines. The rows are judged by the responses that cover all,
+/// which show the same elements before one another as all do.
 pub fn judge_cycle(
     alloc: Global,
     recording: &Recording,

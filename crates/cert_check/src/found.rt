@@ -10,13 +10,13 @@ const SLOTS: usize = 1_048_576;
 /// From how many steps on places are kept: fewer are judged sooner without.
 const MANY: u32 = 4_096;
 
-/// Where names stand in responses of operations, kept in two ways. Both give guesses: a place is believed only
-/// where the name stands there.
+/// Where names stand in responses of operations, kept in two ways. Both give guesses: a place is believed
+/// only where the name stands there.
 #[derive(Drop)]
 pub struct FoundPlaces {
     alloc: Global,
-    /// Where a name was found last, by operation and name. Names share slots, and who writes the trace can choose
-    /// names that share one.
+    /// Where a name was found last, by operation and name. Names share slots, and who writes the trace can
+    /// choose names that share one.
     slots: Vec<u32>,
     /// The places of each response in order of its names, by replica and number of the operation. It is empty
     /// until a step was found to be right in that response.

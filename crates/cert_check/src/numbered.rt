@@ -18,8 +18,8 @@ struct Place {
 /// The elements of a recording with their numbers, and the responses of operations that cover all as numbers.
 ///
 /// Elements are numbered from 0 in the order of their inserts' operations. There is one row of places for
-/// each of these operations, in the order of their names. Each response of the recording is a subsequence of that
-/// of one of them, which is the same operation or comes before it.
+/// each of these operations, in the order of their names. Each response of the recording is a subsequence of
+/// that of one of them, which is the same operation or comes before it.
 #[derive(Drop)]
 pub struct Numbered {
     pub names: Vec<Name>,
@@ -45,7 +45,8 @@ ghost use Rattle.cert_check.specs.RowWords.{GoesOn, IsRowWord, Stops, pairs_of, 
 ghost use Rattle.cert_check.specs.Values.{IsRising};
 
 impl Numbered {
-    /// The elements of a recording that has no fault, and the places of operations that cover all, as they were found.
+    /// The elements of a recording that has no fault, and the places of operations that cover all, as they
+    /// were found.
     pub fn of(recording: &Recording, found: NumberedElements) -> Numbered
         requires sound { IsSound recording.now }
         requires found { IsNumbered recording.now found }
@@ -125,8 +126,8 @@ impl Numbered {
         Some(number)
     }
 
-    /// Goes on by one word of a row: `/` ends a layer, and a name's depth is noted. None where the name cannot
-    /// be noted, or a layer too many begins.
+    /// Goes on by one word of a row: `/` ends a layer, and a name's depth is noted. None where the name
+    /// cannot be noted, or a layer too many begins.
     fn note_word(
         &self,
         row: &mut RowDepths,

@@ -21,8 +21,8 @@ use events::{Memory, Recording};
 use std::alloc::Global;
 
 /// Whether each response of a sound recording follows the order, and that is one of all elements. That is
-/// asked of certificates of both versions. Only the responses that cover all are looked at: another follows where
-/// these do, and the first that does not is one of these.
+/// asked of certificates of both versions. Only the responses that cover all are looked at: another follows
+/// where these do, and the first that does not is one of these.
 ///
 /// The order is given by its names, each after one space.
 pub fn judge_order(

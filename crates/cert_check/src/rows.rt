@@ -69,8 +69,9 @@ fn first_of(version: Version, source: u32) -> u32
 
 /// Whether the row of the element with this number meets the layer rule of the version. In version two it
 /// does not where it has an element that is numbered below, and nothing is asked of these elements. It costs
-/// a step for each word of the row, and for each layer and each name that is not in the last layer `n / 64`, n being
-/// the number of elements; where `k - 1` is more than n, about `n * log n` steps besides, to sort the depths.
+/// a step for each word of the row, and for each layer and each name that is not in the last layer `n / 64`,
+/// n being the number of elements; where `k - 1` is more than n, about `n * log n` steps besides, to sort the
+/// depths.
 ///
 /// Before and after a row that meets the rule no depth is noted.
 fn meets_rule(
@@ -167,10 +168,10 @@ fn first_source(rows: &[u8]) -> Option<Name>
     }
 }
 
-/// Which elements are shown after which, in the responses that cover all. Each is noted beside the one before, of
-/// which it mostly has the elements in the same order: so it costs `n / 64` steps for n elements, a step for each
-/// of its places, and what is new in it. In the end it notes for each element whether the row of the one before has all of its
-/// row, in up to `n / 64` steps and a byte each.
+/// Which elements are shown after which, in the responses that cover all. Each is noted beside the one
+/// before, of which it mostly has the elements in the same order: so it costs `n / 64` steps for n elements,
+/// a step for each of its places, and what is new in it. In the end it notes for each element whether the row
+/// of the one before has all of its row, in up to `n / 64` steps and a byte each.
 fn after_table(alloc: Global, numbered: &Numbered) -> Result<AfterTable, Memory>
     requires cut { IsCut numbered.now.places }
     requires within { AreWithin (length numbered.now.names.items) numbered.now }
@@ -192,11 +193,11 @@ fn after_table(alloc: Global, numbered: &Numbered) -> Result<AfterTable, Memory>
 /// The first thing that is wrong with the rows of a certificate for `k` of 3 and more: one row after the
 /// other, in order of numbers, and then a row too many. The rows are given by their lines.
 ///
-/// It makes a table of which elements are shown after which, `n * n / 8` bytes for n elements, of the responses
-/// that cover all. Each of these costs `n / 64` steps, and each of its places a step, and one for each new element
-/// behind it, up to 64; where there are more, or its own is new, `n / 64` steps. New is an element that the one
-/// before has not, or in another order. The depths of one row after the other are noted in the same memory, in n
-/// steps for all rows, and then for each row as `meets_rule` says.
+/// It makes a table of which elements are shown after which, `n * n / 8` bytes for n elements, of the
+/// responses that cover all. Each of these costs `n / 64` steps, and each of its places a step, and one for
+/// each new element behind it, up to 64; where there are more, or its own is new, `n / 64` steps. New is an
+/// element that the one before has not, or in another order. The depths of one row after the other are noted
+/// in the same memory, in n steps for all rows, and then for each row as `meets_rule` says.
 pub fn rows_fault(
     alloc: Global,
     numbered: &Numbered,

@@ -65,9 +65,9 @@ fn stand_as_found(
     }
 }
 
-/// Whether an operation shows one name before the other; both are given by their bytes. It costs the response,
-/// or where it has more than six names and a step was right in it before, a search by halving for each name, and
-/// mostly one look.
+/// Whether an operation shows one name before the other; both are given by their bytes. It costs the
+/// response, or where it has more than six names and a step was right in it before, a search by halving for
+/// each name, and mostly one look.
 pub fn shows(
     found: &mut FoundPlaces,
     recording: &Recording,

@@ -40,8 +40,8 @@ fn is_right_step(
 /// and read one after the other. Lines that are not those of `k` steps, 2 or more, get some number, never
 /// none.
 ///
-/// Each step costs the response that it cites, or less where there are many steps, that response has more than
-/// six names, and those of the step were found there before.
+/// Each step costs the response that it cites, or less where there are many steps, that response has more
+/// than six names, and those of the step were found there before.
 pub fn first_wrong_step(alloc: Global, recording: &Recording, k: u32, lines: &[u8]) -> Option<u32>
     requires { IsLegal recording.now }
     ensures { TellsFirstWrong recording.now k lines.now result }

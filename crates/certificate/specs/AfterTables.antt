@@ -9,4 +9,5 @@ use Rattle.bit_tables.specs.Lists.{HaveWidth, IsShown, row_of}
 pub record IsAfterTable (v : Responses) (rows : List (List ℕ)) : Type 0 where
   pub len : length rows ≡ length v.elements
   pub width : HaveWidth (length v.elements / 64 + 1) rows
-  pub shown : (a b : ℕ) → a < length v.elements → b < length v.elements → Has (row_of rows a) b ↔ IsShown (lists_of v) a b
+  pub shown : (a b : ℕ) → a < length v.elements → b < length v.elements
+      → Has (row_of rows a) b ↔ IsShown (lists_of v) a b

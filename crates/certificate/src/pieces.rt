@@ -18,8 +18,8 @@ use std::{mem, thread};
 
 /// How many rows stand in one piece.
 ///
-/// Ten and not a power of two: a replica often has as many elements as a power of two, and then a thread would
-/// get the same part of the elements of each replica, which may be the part with the longest rows.
+/// Ten and not a power of two: a replica often has as many elements as a power of two, and then a thread
+/// would get the same part of the elements of each replica, which may be the part with the longest rows.
 const ROWS: usize = 10;
 
 /// How many threads make pieces side by side.
@@ -153,7 +153,8 @@ impl RowMaker<'_> {
             made,
             THREADS,
             &|slot: usize, piece: &mut Result<Vec<u8>, Memory>|
-                requires { IsAfterTable self.now.graph.now self.now.table × (first < 2 ^ 39) × (slot < PIECES) }
+                requires { IsAfterTable self.now.graph.now self.now.table × (first < 2 ^ 39)
+                    × (slot < PIECES) }
                 ensures { IfOk piece.new (λ lines. AppendsRows self.entry.now.graph.now self.entry.now.k
                     (take ROWS (drop (first + ROWS * (slot % TURNS * THREADS + slot / TURNS))
                     self.entry.now.graph.now.elements)) [] lines.items) }
@@ -163,8 +164,8 @@ impl RowMaker<'_> {
         );
     }
 
-    /// Adds the lines of the rows of all elements, in pieces that are made side by side. The last batch of them
-    /// may be a part, or empty: past the end no row is added.
+    /// Adds the lines of the rows of all elements, in pieces that are made side by side. The last batch of
+    /// them may be a part, or empty: past the end no row is added.
     fn push_in_pieces<H: Threads + Sync>(
         &self,
         rt: &H,
@@ -193,9 +194,9 @@ fn unmade(alloc: Global) -> Result<Vec<Result<Vec<u8>, Memory>>, Memory>
     Ok(slots)
 }
 
-/// Adds pieces in the order of their rows; they are taken out of their slots. In the slots the pieces of a thread
-/// stand one after the other; in the order of rows the threads take turns. The graph, k and the first number serve
-/// the contract alone.
+/// Adds pieces in the order of their rows; they are taken out of their slots. In the slots the pieces of a
+/// thread stand one after the other; in the order of rows the threads take turns. The graph, k and the first
+/// number serve the contract alone.
 fn push_pieces(
     graph: &OrderGraph,
     k: u32,
@@ -228,12 +229,12 @@ fn taken(made: &mut [Result<Vec<u8>, Memory>], slot: usize) -> Result<Vec<u8>, M
     mem::replace(&mut made[slot], Err(Memory))
 }
 
-/// Adds the lines of the rows of layers, one for each element, as texts that are to stand one after the other.
-/// The number of workers says whether threads are used: with 1 the rows are made one after the other in the
-/// caller's thread, as one text; with any other number four threads take turns at texts of ten rows, in batches
-/// of 5,120 rows, after each of which they wait for one another. Behind the last row up to 512 texts are empty.
-/// Besides the texts it takes memory for a row of each thread, for 512 slots, and for a table of `n * n / 8`
-/// bytes for n elements.
+/// Adds the lines of the rows of layers, one for each element, as texts that are to stand one after the
+/// other. The number of workers says whether threads are used: with 1 the rows are made one after the other
+/// in the caller's thread, as one text; with any other number four threads take turns at texts of ten rows,
+/// in batches of 5,120 rows, after each of which they wait for one another. Behind the last row up to 512
+/// texts are empty. Besides the texts it takes memory for a row of each thread, for 512 slots, and for a
+/// table of `n * n / 8` bytes for n elements.
 pub fn push_rows_by<H: Threads + Sync>(
     rt: &H,
     alloc: Global,

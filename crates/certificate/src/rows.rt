@@ -28,9 +28,9 @@ pub fn rows_of_layers(alloc: Global, graph: &OrderGraph, k: u32) -> Result<Vec<R
 }
 
 /// The table of what stands after each element. Each list is noted beside the one before, of which it mostly
-/// has the elements in the same order: so it costs `n / 64` steps for n elements, a step for each of its places,
-/// and what is new in it. In the end it notes for each element whether the row of the one before has all of its row, in up
-/// to `n / 64` steps and a byte each.
+/// has the elements in the same order: so it costs `n / 64` steps for n elements, a step for each of its
+/// places, and what is new in it. In the end it notes for each element whether the row of the one before has
+/// all of its row, in up to `n / 64` steps and a byte each.
 pub fn after_table(alloc: Global, graph: &OrderGraph) -> Result<AfterTable, Memory>
     ensures { IfOk result (λ t. IsAfterTable graph.now t) }
 {

@@ -112,8 +112,8 @@ impl Hold {
         }
     }
 
-    /// Whether it held up three searches: the first saw another beside it, and all have ended. Where memory was wanted
-    /// after them, they were made again.
+    /// Whether it held up three searches: the first saw another beside it, and all have ended. Where memory
+    /// was wanted after them, they were made again.
     fn saw_three(&self) -> bool {
         let ended = self.ended.load(Ordering::SeqCst);
         self.seen.load(Ordering::SeqCst) == 1 && (ended == 3 || ended == 6)

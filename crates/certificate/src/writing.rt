@@ -60,10 +60,10 @@ pub struct Certified {
 ///
 /// The responses that cover all others are found once for both. With one worker the rows are made one after
 /// the other in the caller's thread, as one text; with more, four threads make texts of ten rows, 128 each
-/// before they wait for one another. These stay as they are: nothing is copied to put them together. Behind the
-/// last row up to 512 texts are empty. So memory is for the text, with the room that each of its parts has to
-/// spare, for one row of each thread, and for some dozens of bytes for each part; else time and memory are those
-/// of the two calls.
+/// before they wait for one another. These stay as they are: nothing is copied to put them together. Behind
+/// the last row up to 512 texts are empty. So memory is for the text, with the room that each of its parts
+/// has to spare, for one row of each thread, and for some dozens of bytes for each part; else time and memory
+/// are those of the two calls.
 pub fn judge_and_write<H: Threads + Sync, G: Gate>(
     rt: &H,
     alloc: Global,
@@ -104,9 +104,7 @@ fn texts_by<H: Threads + Sync>(
     let Some(k) = number_with_rows(verdict) else {
         return Ok(texts);
     };
-    let Some(graph) = made else {
-        unreachable!()
-    };
+    let Some(graph) = made else { unreachable!() };
     push_rows_by(rt, alloc, workers, &graph, k, &mut texts)?;
     Ok(texts)
 }

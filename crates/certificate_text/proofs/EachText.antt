@@ -1,5 +1,6 @@
 -- Each text spells a certificate or has a fault.
-use Rattle.std.proofs.Common.{◌≡◌, ℕ, ◌+◌, ◌<◌, ◌≤◌, Bool, true, false, List, [], ◌∷◌, ◌++◌, length, codes, refl, sym, ap, ◌∙◌, arith, Option, Some, None, ◌⊎◌, inl, inr}
+use Rattle.std.proofs.Common.{◌≡◌, ℕ, ◌+◌, ◌<◌, ◌≤◌, Bool, true, false, List, [], ◌∷◌, ◌++◌, length, codes}
+use Rattle.std.proofs.Common.{refl, sym, ap, ◌∙◌, arith, Option, Some, None, ◌⊎◌, inl, inr}
 use Rattle.std.specs.List.{All}
 use Rattle.std.specs.Str.{bytes_eq}
 use Rattle.std.proofs.lemmas.List.{append-nil}
@@ -13,7 +14,10 @@ use Rattle.specification.specs.Faults.{doubled, contents, position}
 use Rattle.specification.specs.LayerRule.{Row}
 use Rattle.specification.specs.Lines.{Line, text_of, IsOneLine, order_line}
 use Rattle.specification.specs.CertificateText as format
-use Rattle.specification.specs.CertificateText.{Certificate, names_fault, gives_order, gives_cycle, certificate_lines, SpellsCertificate, BeginsCertificate, IsWholeCertificate, IsFirstCertFault, cause_behind, version_line}
+use Rattle.specification.specs.CertificateText.{Certificate, names_fault, gives_order, gives_cycle}
+use Rattle.specification.specs.CertificateText.{certificate_lines, SpellsCertificate, BeginsCertificate}
+use Rattle.specification.specs.CertificateText.{IsWholeCertificate, IsFirstCertFault, cause_behind}
+use Rattle.specification.specs.CertificateText.{version_line}
 use Rattle.specification.specs.Versions.{Version, one, two}
 use Rattle.format_words.proofs.CutText.{cut-text, line-off, line-on}
 use Rattle.format_words.specs.Words.{words_of}
@@ -25,8 +29,11 @@ use Rattle.certificate_text.specs.Progress.{IsKind, IsPartOfCycle, kind_line}
 use Rattle.certificate_text.proofs.KindLines.{kind-spells}
 use Rattle.certificate_text.proofs.StepLines.{order-spells, step-spells}
 use Rattle.certificate_text.proofs.RowLines.{row-spells}
-use Rattle.certificate_text.proofs.GoingOn.{kind_of, rest_lines, lines-parts, kind-behind, no-kind, no-order, no-step, no-row, no-more-of-two, lacks-step, no-steps, step-more, row-more}
-use Rattle.certificate_text.proofs.Begins.{empty-order, headed-begins, kind-begins, order-begins, cycle-begins}
+use Rattle.certificate_text.proofs.GoingOn.{kind_of, rest_lines, lines-parts, kind-behind, no-kind, no-order}
+use Rattle.certificate_text.proofs.GoingOn.{no-step, no-row, no-more-of-two, lacks-step, no-steps, step-more}
+use Rattle.certificate_text.proofs.GoingOn.{row-more}
+use Rattle.certificate_text.proofs.Begins.{empty-order, headed-begins, kind-begins, order-begins}
+use Rattle.certificate_text.proofs.Begins.{cycle-begins}
 use Rattle.certificate_text.proofs.FirstFaults.{wrong-fault, lacking-fault}
 
 -- what right lines say
@@ -60,62 +67,91 @@ begins (cycle version k steps rows) h = cycle-begins version k steps rows h
 
 -- one line more goes on a spelling, or goes on none
 abbrev GoesOn : List Line → Line → Type 0
-GoesOn good l = (¬ BeginsCertificate (good ++ l ∷ [])) ⊎ ((t : Known) × IsRight t × (lines_so_far t ≡ good ++ l ∷ []))
+GoesOn good l =
+    (¬ BeginsCertificate (good ++ l ∷ [])) ⊎ ((t : Known) × IsRight t × (lines_so_far t ≡ good ++ l ∷ []))
 
 header-step : (l : Line) → GoesOn [] l
 header-step l = by (bytes_eq l (version_line one)) refl (bytes_eq l (version_line two)) refl
   where
     headed-by : (version : Version) → bytes_eq l (version_line version) ≡ true → GoesOn [] l
-    headed-by version e = inr (headed version, tt, ap (λ (first : Line). first ∷ []) (sym ((bytes_eq-Decides l (version_line version)).0 e)))
+    headed-by version e =
+        inr (
+          headed version,
+          tt,
+          ap (λ (first : Line). first ∷ []) (sym ((bytes_eq-Decides l (version_line version)).0 e)),
+        )
 
-    neither : bytes_eq l (version_line one) ≡ false → bytes_eq l (version_line two) ≡ false → (version : Version) → l ≡ version_line version → ⊥
+    neither : bytes_eq l (version_line one) ≡ false → bytes_eq l (version_line two) ≡ false
+        → (version : Version) → l ≡ version_line version → ⊥
     neither e f one same = false≢true (sym e ∙ (bytes_eq-Decides l (version_line one)).1 same)
     neither e f two same = false≢true (sym f ∙ (bytes_eq-Decides l (version_line two)).1 same)
 
-    by : (s : Bool) → bytes_eq l (version_line one) ≡ s → (t : Bool) → bytes_eq l (version_line two) ≡ t → GoesOn [] l
+    by : (s : Bool) → bytes_eq l (version_line one) ≡ s → (t : Bool) → bytes_eq l (version_line two) ≡ t
+        → GoesOn [] l
     by true e t f = headed-by one e
     by false e true f = headed-by two f
-    by false e false f = inl (λ (w, c, spellable, more, is). let same : l ≡ version_line w = cc in neither e f w same)
+    by false e false f =
+        inl (λ (w, c, spellable, more, is). let same : l ≡ version_line w = cc in neither e f w same)
 
 kind-step : (version : Version) → (l : Line) → GoesOn (version_line version ∷ []) l
 kind-step version l = by (kind_at (words_of l)) refl
   where
     by : (o : Option Kind) → kind_at (words_of l) ≡ o → GoesOn (version_line version ∷ []) l
     by None e = inl (no-kind version l e)
-    by (Some k) e = let p = kind-spells l k e in inr (of_kind version k, p.0, ap (λ (second : Line). version_line version ∷ second ∷ []) (sym p.1))
+    by (Some k) e = let p = kind-spells l k e in
+        inr (of_kind version k, p.0, ap (λ (second : Line). version_line version ∷ second ∷ []) (sym p.1))
 
 order-step : (version : Version) → (l : Line) → GoesOn (version_line version ∷ codes "accepted" ∷ []) l
 order-step version l = by (order_at (words_of l)) refl
   where
-    by : (o : Option (List NameBytes)) → order_at (words_of l) ≡ o → GoesOn (version_line version ∷ codes "accepted" ∷ []) l
+    by : (o : Option (List NameBytes)) → order_at (words_of l) ≡ o
+        → GoesOn (version_line version ∷ codes "accepted" ∷ []) l
     by None e = inl (no-order version l e)
-    by (Some order) e = let p = order-spells l order e in inr (ordered version order, p.0, ap (λ (third : Line). version_line version ∷ codes "accepted" ∷ third ∷ []) (sym p.1))
+    by (Some order) e = let p =
+        order-spells l order e in
+        inr (
+          ordered version order,
+          p.0,
+          ap (λ (third : Line). version_line version ∷ codes "accepted" ∷ third ∷ []) (sym p.1),
+        )
 
-cycle-step : (version : Version) → (k : ℕ) (steps : List Step) (rows : List Row) (l : Line) → IsPartOfCycle k steps rows → GoesOn (certificate_lines version (gives_cycle k steps rows)) l
+cycle-step : (version : Version) → (k : ℕ) (steps : List Step) (rows : List Row) (l : Line)
+    → IsPartOfCycle k steps rows → GoesOn (certificate_lines version (gives_cycle k steps rows)) l
 cycle-step version k steps rows l part = elim (cases_lt (length steps) k) [
   | inl less ↦ by-step less (step_at (words_of l)) refl
   | inr all ↦ (let whole : length steps ≡ k = omega (arith, part.few) in elim (cases_lt k 3) [
-    | inl short ↦ inl (no-more-of-two version k steps rows l part whole (let is : k ≡ 2 = omega (arith, part.low) in is))
+    | inl short ↦
+        inl (no-more-of-two version k steps rows l part whole
+        (let is : k ≡ 2 = omega (arith, part.low) in is))
     | inr long ↦ by-row whole long (row_at k (words_of l)) refl
   ])
 ]
   where
-    by-step : length steps < k → (o : Option Step) → step_at (words_of l) ≡ o → GoesOn (certificate_lines version (gives_cycle k steps rows)) l
+    by-step : length steps < k → (o : Option Step) → step_at (words_of l) ≡ o
+        → GoesOn (certificate_lines version (gives_cycle k steps rows)) l
     by-step less None e = inl (no-step version k steps rows l part less e)
-    by-step less (Some s) e = let p = step-spells l s e in let q = step-more version k steps rows s l part less p.0 p.1 in inr (cycle version k (steps ++ s ∷ []) rows, q.0, q.1)
+    by-step less (Some s) e = let p = step-spells l s e in let q =
+        step-more version k steps rows s l part less p.0 p.1 in
+        inr (cycle version k (steps ++ s ∷ []) rows, q.0, q.1)
 
-    by-row : length steps ≡ k → 3 ≤ k → (o : Option Row) → row_at k (words_of l) ≡ o → GoesOn (certificate_lines version (gives_cycle k steps rows)) l
+    by-row : length steps ≡ k → 3 ≤ k → (o : Option Row) → row_at k (words_of l) ≡ o
+        → GoesOn (certificate_lines version (gives_cycle k steps rows)) l
     by-row whole long None e = inl (no-row version k steps rows l part whole e)
-    by-row whole long (Some r) e = let p = row-spells k l r e in let q = row-more version k steps rows r l part whole long p.0 p.1 in inr (cycle version k steps (rows ++ r ∷ []), q.0, q.1)
+    by-row whole long (Some r) e = let p = row-spells k l r e in
+        let q = row-more version k steps rows r l part whole long p.0 p.1 in
+        inr (cycle version k steps (rows ++ r ∷ []), q.0, q.1)
 
 -- no line follows a fault's line, nor an order's
-none-behind : (version : Version) → (k : Kind) (l : Line) → IsKind k → ((c : Certificate) → kind_of c ≡ k → rest_lines c ≡ []) → ¬ BeginsCertificate (version_line version ∷ kind_line k ∷ l ∷ [])
+none-behind : (version : Version) → (k : Kind) (l : Line) → IsKind k
+    → ((c : Certificate) → kind_of c ≡ k → rest_lines c ≡ [])
+    → ¬ BeginsCertificate (version_line version ∷ kind_line k ∷ l ∷ [])
 none-behind version k l h none (w, c, spellable, more, is) =
     let p = kind-behind w (version_line version) c k (l ∷ more) spellable h is in
     let empty : l ∷ more ≡ [] = p.1 ∙ none c p.0 in
     absurd (cc)
 
-of-doubled : (c : Certificate) (first again : Operation) → kind_of c ≡ kind.Doubled first again → rest_lines c ≡ []
+of-doubled : (c : Certificate) (first again : Operation) → kind_of c ≡ kind.Doubled first again
+    → rest_lines c ≡ []
 of-doubled (names_fault fault) f g e = refl
 of-doubled (gives_order order) f g e = absurd (cc)
 of-doubled (gives_cycle k steps rows) f g e = absurd (cc)
@@ -130,23 +166,29 @@ of-position (names_fault fault) at e = refl
 of-position (gives_order order) at e = absurd (cc)
 of-position (gives_cycle k steps rows) at e = absurd (cc)
 
-ordered-rest : (c : Certificate) (a b : Line) (more : List Line) → kind_of c ≡ kind.Accepted → a ∷ b ∷ more ≡ rest_lines c → ⊥
+ordered-rest : (c : Certificate) (a b : Line) (more : List Line) → kind_of c ≡ kind.Accepted
+    → a ∷ b ∷ more ≡ rest_lines c → ⊥
 ordered-rest (names_fault (doubled first again)) a b more e is = absurd (cc)
 ordered-rest (names_fault (contents at)) a b more e is = absurd (cc)
 ordered-rest (names_fault (position at)) a b more e is = absurd (cc)
 ordered-rest (gives_order order) a b more e is = absurd (cc)
 ordered-rest (gives_cycle k steps rows) a b more e is = absurd (cc)
 
-behind-order : (version : Version) → (order : List NameBytes) (l : Line) → ¬ BeginsCertificate (certificate_lines version (gives_order order) ++ l ∷ [])
+behind-order : (version : Version) → (order : List NameBytes) (l : Line)
+    → ¬ BeginsCertificate (certificate_lines version (gives_order order) ++ l ∷ [])
 behind-order version order l (w, c, spellable, more, is) =
-    let p = kind-behind w (version_line version) c kind.Accepted (order_line order ∷ l ∷ more) spellable tt is in ordered-rest c (order_line order) l more p.0 p.1
+    let p = kind-behind w (version_line version) c kind.Accepted
+    (order_line order ∷ l ∷ more) spellable tt is in ordered-rest c (order_line order) l more p.0 p.1
 
 step : (s : Known) (l : Line) → IsRight s → GoesOn (lines_so_far s) l
 step start l h = header-step l
 step (headed version) l h = kind-step version l
-step (of_kind version (kind.Doubled first again)) l h = inl (none-behind version (kind.Doubled first again) l h (λ c. of-doubled c first again))
-step (of_kind version (kind.Contents at)) l h = inl (none-behind version (kind.Contents at) l h (λ c. of-contents c at))
-step (of_kind version (kind.Position at)) l h = inl (none-behind version (kind.Position at) l h (λ c. of-position c at))
+step (of_kind version (kind.Doubled first again)) l h =
+    inl (none-behind version (kind.Doubled first again) l h (λ c. of-doubled c first again))
+step (of_kind version (kind.Contents at)) l h =
+    inl (none-behind version (kind.Contents at) l h (λ c. of-contents c at))
+step (of_kind version (kind.Position at)) l h =
+    inl (none-behind version (kind.Position at) l h (λ c. of-position c at))
 step (of_kind version kind.Accepted) l h = order-step version l
 step (of_kind version (kind.Refused k)) l h = cycle-step version k [] [] l (no-steps k h.0 h.1)
 step (ordered version order) l h = inl (behind-order version order l)
@@ -157,7 +199,9 @@ header-missing : ¬ IsWholeCertificate []
 header-missing (w, c, spellable, is) = absurd (cc)
 
 kind-missing : (version : Version) → ¬ IsWholeCertificate (version_line version ∷ [])
-kind-missing version (w, c, spellable, is) = let parts : version_line version ∷ [] ≡ version_line w ∷ kind_line (kind_of c) ∷ rest_lines c = is ∙ lines-parts w c in absurd (cc)
+kind-missing version (w, c, spellable, is) =
+    let parts : version_line version ∷ [] ≡ version_line w ∷ kind_line (kind_of c) ∷ rest_lines c =
+    is ∙ lines-parts w c in absurd (cc)
 
 accepted-rest : (c : Certificate) → kind_of c ≡ kind.Accepted → [] ≡ rest_lines c → ⊥
 accepted-rest (names_fault (doubled first again)) e is = absurd (cc)
@@ -167,13 +211,28 @@ accepted-rest (gives_order order) e is = absurd (cc)
 accepted-rest (gives_cycle k steps rows) e is = absurd (cc)
 
 order-missing : (version : Version) → ¬ IsWholeCertificate (version_line version ∷ codes "accepted" ∷ [])
-order-missing version (w, c, spellable, is) = let p = kind-behind w (version_line version) c kind.Accepted [] spellable tt is in accepted-rest c p.0 p.1
+order-missing version (w, c, spellable, is) = let p =
+    kind-behind w (version_line version) c kind.Accepted [] spellable tt is in accepted-rest c p.0 p.1
 
 cycle-end : (version : Version) → (k : ℕ) (steps : List Step) (rows : List Row) → IsPartOfCycle k steps rows →
-    IsWholeCertificate (certificate_lines version (gives_cycle k steps rows)) ⊎ (¬ IsWholeCertificate (certificate_lines version (gives_cycle k steps rows)))
+    IsWholeCertificate (certificate_lines version (gives_cycle k steps rows))
+    ⊎ (¬ IsWholeCertificate (certificate_lines version (gives_cycle k steps rows)))
 cycle-end version k steps rows part = elim (cases_lt (length steps) k) [
   | inl less ↦ inr (lacks-step version k steps rows part less)
-  | inr all ↦ inl (version, gives_cycle k steps rows, (part.low, part.high, (let n : length steps ≡ k = omega (arith, part.few) in n), part.each_step, part.short, part.each_row), refl)
+  | inr all ↦
+      inl (
+        version,
+        gives_cycle k steps rows,
+        (
+          part.low,
+          part.high,
+          (let n : length steps ≡ k = omega (arith, part.few) in n),
+          part.each_step,
+          part.short,
+          part.each_row,
+        ),
+        refl,
+      )
 ]
 
 end : (s : Known) → IsRight s → IsWholeCertificate (lines_so_far s) ⊎ (¬ IsWholeCertificate (lines_so_far s))
@@ -193,30 +252,62 @@ HasFault text = (line : ℕ) × (cause : format.CertCause) × IsFirstCertFault t
 abbrev IsSpelled : List ℕ → Type 0
 IsSpelled text = (version : Version) × (c : Certificate) × SpellsCertificate text version c
 
-cut-at : (text : List ℕ) (good : List Line) (b : ℕ) (rest : List ℕ) → BeginsCertificate good → IsOneLine (b ∷ rest) → text ≡ text_of good ++ b ∷ rest → HasFault text
-cut-at text good b rest begins no_lf is = (length good + 1, format.cut, record { good = good; begins = begins; rest = b ∷ rest; some_byte = omega arith; one_line = no_lf; text_is = is; number = refl })
+cut-at : (text : List ℕ) (good : List Line) (b : ℕ) (rest : List ℕ) → BeginsCertificate good
+    → IsOneLine (b ∷ rest) → text ≡ text_of good ++ b ∷ rest → HasFault text
+cut-at text good b rest begins no_lf is = (
+  length good + 1,
+  format.cut,
+  record {
+    good = good;
+    begins = begins;
+    rest = b ∷ rest;
+    some_byte =
+        omega arith;
+    one_line = no_lf;
+    text_is = is;
+    number = refl;
+  },
+)
 
-wrong-at : (text : List ℕ) (good : List Line) (l : Line) (behind : List ℕ) → BeginsCertificate good → IsOneLine l → text ≡ text_of good ++ (l ++ 10 ∷ behind) → ¬ BeginsCertificate (good ++ l ∷ []) → HasFault text
-wrong-at text good l behind begins no_lf is wrong =
-    (length good + 1, cause_behind good, wrong-fault text (length good + 1) good l (l ++ 10 ∷ behind) behind (Some (cause_behind good)) is refl no_lf refl begins (refl, wrong))
+wrong-at : (text : List ℕ) (good : List Line) (l : Line) (behind : List ℕ) → BeginsCertificate good
+    → IsOneLine l → text ≡ text_of good ++ (l ++ 10 ∷ behind) → ¬ BeginsCertificate (good ++ l ∷ [])
+    → HasFault text
+wrong-at text good l behind begins no_lf is wrong = (
+  length good + 1,
+  cause_behind good,
+  wrong-fault text (length good + 1) good l (l ++ 10 ∷ behind) behind
+      (Some (cause_behind good)) is refl no_lf refl begins (refl, wrong),
+)
 
-lacking-at : (text : List ℕ) (good : List Line) → BeginsCertificate good → text ≡ text_of good → ¬ IsWholeCertificate good → HasFault text
-lacking-at text good begins is not = (length good + 1, cause_behind good, lacking-fault text (length good + 1) good (Some (cause_behind good)) is refl begins (refl, not))
+lacking-at : (text : List ℕ) (good : List Line) → BeginsCertificate good → text ≡ text_of good
+    → ¬ IsWholeCertificate good → HasFault text
+lacking-at text good begins is not = (
+  length good + 1,
+  cause_behind good,
+  lacking-fault text (length good + 1) good (Some (cause_behind good)) is refl begins (refl, not),
+)
 
-from-here : (text : List ℕ) (s : Known) (lines : List Line) (rest : List ℕ) → IsRight s → All IsOneLine lines → IsOneLine rest → text ≡ text_of (lines_so_far s) ++ (text_of lines ++ rest) → IsSpelled text ⊎ HasFault text
+from-here : (text : List ℕ) (s : Known) (lines : List Line) (rest : List ℕ) → IsRight s → All IsOneLine lines
+    → IsOneLine rest → text ≡ text_of (lines_so_far s) ++ (text_of lines ++ rest)
+    → IsSpelled text ⊎ HasFault text
 from-here text s [] [] right each last is =
     let all : text ≡ text_of (lines_so_far s) = is ∙ append-nil (text_of (lines_so_far s)) in
     elim (end s right) [
       | inl whole ↦ inl (whole.0, whole.1, (whole.2, all ∙ ap text_of whole.3))
       | inr not ↦ inr (lacking-at text (lines_so_far s) (begins s right) all not)
     ]
-from-here text s [] (b ∷ rest) right each last is = inr (cut-at text (lines_so_far s) b rest (begins s right) last is)
+from-here text s [] (b ∷ rest) right each last is =
+    inr (cut-at text (lines_so_far s) b rest (begins s right) last is)
 from-here text s (l ∷ lines) rest right each last is =
-    let off : text ≡ text_of (lines_so_far s) ++ (l ++ 10 ∷ (text_of lines ++ rest)) = is ∙ ap (λ t. text_of (lines_so_far s) ++ t) (line-off l lines rest) in
+    let off : text ≡ text_of (lines_so_far s) ++ (l ++ 10 ∷ (text_of lines ++ rest)) =
+    is ∙ ap (λ t. text_of (lines_so_far s) ++ t) (line-off l lines rest) in
     elim (step s l right) [
-      | inl wrong ↦ inr (wrong-at text (lines_so_far s) l (text_of lines ++ rest) (begins s right) (All-head IsOneLine l lines each) off wrong)
+      | inl wrong ↦
+          inr (wrong-at text (lines_so_far s) l (text_of lines ++ rest) (begins s right)
+          (All-head IsOneLine l lines each) off wrong)
       | inr t ↦ from-here text t.0 lines rest t.1 (All-tail IsOneLine l lines each) last
-          (off ∙ line-on (lines_so_far s) l (text_of lines ++ rest) ∙ ap (λ (ls : List Line). text_of ls ++ (text_of lines ++ rest)) (sym t.2))
+          (off ∙ line-on (lines_so_far s) l (text_of lines ++ rest)
+          ∙ ap (λ (ls : List Line). text_of ls ++ (text_of lines ++ rest)) (sym t.2))
     ]
 
 pub each-text : (text : List ℕ) → IsSpelled text ⊎ HasFault text

@@ -1,9 +1,11 @@
 -- The first fault of a text, from what its right lines are and what follows them.
-use Rattle.std.proofs.Common.{◌≡◌, ℕ, ◌+◌, ◌≤◌, List, [], ◌∷◌, ◌++◌, length, ◌∙◌, Option, Some, None, IfSome, inl, inr, arith}
+use Rattle.std.proofs.Common.{◌≡◌, ℕ, ◌+◌, ◌≤◌, List, [], ◌∷◌, ◌++◌, length, ◌∙◌, Option, Some, None, IfSome}
+use Rattle.std.proofs.Common.{inl, inr, arith}
 use Rattle.std.proofs.lemmas.List.{append-nil}
 use Rattle.specification.specs.Lines.{Line, text_of, IsOneLine}
 use Rattle.specification.specs.CertificateText as format
-use Rattle.specification.specs.CertificateText.{BeginsCertificate, HasWrongLine, LacksCertificateLine, IsCertificateCut, IsFirstCertFault, cause_behind}
+use Rattle.specification.specs.CertificateText.{BeginsCertificate, HasWrongLine, LacksCertificateLine}
+use Rattle.specification.specs.CertificateText.{IsCertificateCut, IsFirstCertFault, cause_behind}
 use Rattle.format_words.specs.Reading.{Fails, GivesOne}
 use Rattle.format_words.specs.declared.stop.Stop.{Stop}
 use Rattle.format_words.specs.declared.stop.Stop.TheVariants as stop
@@ -20,21 +22,26 @@ never-cut [] e = cc
 never-cut (a ∷ []) e = cc
 never-cut (a ∷ b ∷ lines) e = cc
 
-first-of-wrong : (text : List ℕ) (number : ℕ) (lines : List Line) (cause : format.CertCause) → cause ≡ cause_behind lines → HasWrongLine text number cause → IsFirstCertFault text number cause
+first-of-wrong : (text : List ℕ) (number : ℕ) (lines : List Line) (cause : format.CertCause)
+    → cause ≡ cause_behind lines → HasWrongLine text number cause → IsFirstCertFault text number cause
 first-of-wrong text number lines format.header e wrong = inl wrong
 first-of-wrong text number lines format.kind e wrong = inl wrong
 first-of-wrong text number lines format.shape e wrong = inl wrong
 first-of-wrong text number lines format.cut e wrong = absurd (never-cut lines e)
 
-first-of-lacking : (text : List ℕ) (number : ℕ) (lines : List Line) (cause : format.CertCause) → cause ≡ cause_behind lines → LacksCertificateLine text number cause → IsFirstCertFault text number cause
+first-of-lacking : (text : List ℕ) (number : ℕ) (lines : List Line) (cause : format.CertCause)
+    → cause ≡ cause_behind lines → LacksCertificateLine text number cause → IsFirstCertFault text number cause
 first-of-lacking text number lines format.header e lacks = inr lacks
 first-of-lacking text number lines format.kind e lacks = inr lacks
 first-of-lacking text number lines format.shape e lacks = inr lacks
 first-of-lacking text number lines format.cut e lacks = absurd (never-cut lines e)
 
 -- a wrong line after right ones
-pub wrong-fault : (text : List ℕ) (number : ℕ) (lines : List Line) (line rest behind : List ℕ) (cause : Option format.CertCause) →
-    text ≡ text_of lines ++ rest → rest ≡ line ++ 10 ∷ behind → IsOneLine line → number ≡ length lines + 1 → BeginsCertificate lines → IfSome cause (IsWrongBehind lines line) → IfSome cause (IsFirstCertFault text number)
+pub wrong-fault : (text : List ℕ) (number : ℕ) (lines : List Line) (line rest behind : List ℕ)
+    (cause : Option format.CertCause) →
+    text ≡ text_of lines ++ rest → rest ≡ line ++ 10 ∷ behind → IsOneLine line → number ≡ length lines + 1
+    → BeginsCertificate lines → IfSome cause (IsWrongBehind lines line)
+    → IfSome cause (IsFirstCertFault text number)
 wrong-fault text number lines line rest behind None whole cut one is begins wrong = tt
 wrong-fault text number lines line rest behind (Some cause) whole cut one is begins wrong =
     first-of-wrong text number lines cause wrong.0 (record {
@@ -51,32 +58,63 @@ wrong-fault text number lines line rest behind (Some cause) whole cut one is beg
 
 -- a line is missing after right ones
 pub lacking-fault : (text : List ℕ) (number : ℕ) (lines : List Line) (cause : Option format.CertCause) →
-    text ≡ text_of lines → number ≡ length lines + 1 → BeginsCertificate lines → IfSome cause (LacksMore lines) → IfSome cause (IsFirstCertFault text number)
+    text ≡ text_of lines → number ≡ length lines + 1 → BeginsCertificate lines
+    → IfSome cause (LacksMore lines) → IfSome cause (IsFirstCertFault text number)
 lacking-fault text number lines None whole is begins lacks = tt
 lacking-fault text number lines (Some cause) whole is begins lacks =
-    first-of-lacking text number lines cause lacks.0 (record { good = lines; begins = begins; text_is = whole; not_whole = lacks.1; number = is; cause_is = lacks.0 })
+    first-of-lacking text number lines cause lacks.0 (record {
+      good = lines;
+      begins = begins;
+      text_is =
+          whole;
+      not_whole = lacks.1;
+      number = is;
+      cause_is = lacks.0;
+    })
 
 -- after right lines, bytes without LF
-pub cut-fault : (text : List ℕ) (number : ℕ) (lines : List Line) (rest : Line) → 1 ≤ length rest → IsOneLine rest → text ≡ text_of lines ++ rest → number ≡ length lines + 1 → BeginsCertificate lines → IsCertificateCut text number
-cut-fault text number lines rest some one whole is begins = record { good = lines; begins = begins; rest = rest; some_byte = some; one_line = one; text_is = whole; number = is }
+pub cut-fault : (text : List ℕ) (number : ℕ) (lines : List Line) (rest : Line) → 1 ≤ length rest
+    → IsOneLine rest → text ≡ text_of lines ++ rest → number ≡ length lines + 1 → BeginsCertificate lines
+    → IsCertificateCut text number
+cut-fault text number lines rest some one whole is begins =
+    record {
+      good = lines;
+      begins = begins;
+      rest = rest;
+      some_byte = some;
+      one_line = one;
+      text_is =
+          whole;
+      number = is;
+    }
 
 pub nothing-left : (text front rest : List ℕ) → text ≡ front ++ rest → length rest ≡ 0 → text ≡ front
 nothing-left text front [] is none = is ∙ append-nil front
 nothing-left text front (b ∷ rest) is none = absurd (omega arith)
 
-pub behind-right : (text : List ℕ) (number : ℕ) (lines : List Line) (rest : List ℕ) → text ≡ text_of lines ++ rest → number ≡ length lines + 1 → BeginsCertificate lines → IsBehindRightLines text number
-behind-right text number lines rest whole is begins = record { good = lines; begins = begins; rest = rest; text_is = whole; number = is }
+pub behind-right : (text : List ℕ) (number : ℕ) (lines : List Line) (rest : List ℕ)
+    → text ≡ text_of lines ++ rest → number ≡ length lines + 1 → BeginsCertificate lines
+    → IsBehindRightLines text number
+behind-right text number lines rest whole is begins =
+    record { good = lines; begins = begins; rest = rest; text_is = whole; number = is }
 
 pub ended-line : (text : List ℕ) (number : ℕ) (lines : List Line) (line rest behind : List ℕ) →
-    text ≡ text_of lines ++ rest → rest ≡ line ++ 10 ∷ behind → IsOneLine line → number ≡ length lines + 1 → BeginsCertificate lines → TakesMemory lines line → TakesMemoryAt text number
-ended-line text number lines line rest behind whole cut one is begins takes = places.ended-line BeginsCertificate TakesMemory text number lines line rest behind whole cut one is begins takes
+    text ≡ text_of lines ++ rest → rest ≡ line ++ 10 ∷ behind → IsOneLine line → number ≡ length lines + 1
+    → BeginsCertificate lines → TakesMemory lines line → TakesMemoryAt text number
+ended-line text number lines line rest behind whole cut one is begins takes =
+    places.ended-line BeginsCertificate TakesMemory text number lines line rest behind whole cut one is begins
+    takes
 
 -- a line whose reading stopped has the cause of one that says no such thing, or there was no memory
-pub stop-fault : {Y : Type 0} (takes : Y → Type 0) (unsaid : CertCause) (s : Stop) (read : Option Y) (P : format.CertCause → Type 0) → Fails takes s read → (read ≡ None → IfSome (cause_of unsaid) P) → IfSome (cause_of (cause_of_stop unsaid s)) P
+pub stop-fault : {Y : Type 0} (takes : Y → Type 0) (unsaid : CertCause) (s : Stop) (read : Option Y)
+    (P : format.CertCause → Type 0) → Fails takes s read → (read ≡ None → IfSome (cause_of unsaid) P)
+    → IfSome (cause_of (cause_of_stop unsaid s)) P
 stop-fault takes unsaid stop.Shape read P none wrong = wrong none
 stop-fault takes unsaid stop.Memory read P none wrong = tt
 
 -- where a line's reading stopped out of memory, there was something that takes memory
-pub stop-takes : {Y : Type 0} (takes : Y → Type 0) (unsaid : CertCause) (s : Stop) (read : Option Y) → (unsaid ≡ cause.Memory → ⊥) → Fails takes s read → cause_of_stop unsaid s ≡ cause.Memory → GivesOne takes read
+pub stop-takes : {Y : Type 0} (takes : Y → Type 0) (unsaid : CertCause) (s : Stop) (read : Option Y)
+    → (unsaid ≡ cause.Memory → ⊥) → Fails takes s read → cause_of_stop unsaid s ≡ cause.Memory
+    → GivesOne takes read
 stop-takes takes unsaid stop.Shape read other none is = absurd (other is)
 stop-takes takes unsaid stop.Memory read other some is = some

@@ -6,7 +6,8 @@ use Rattle.specification.specs.Versions as versions
 use Rattle.format_words.specs.declared.stop.Stop.{Stop}
 use Rattle.format_words.specs.declared.stop.Stop.TheVariants as stop
 use Rattle.certificate_text.specs.declared.certificate.Certificate.{Certificate}
-use Rattle.certificate_text.specs.declared.certificate.Certificate.TheVariants.{Doubled, Contents, Position, Accepted, Refused}
+use Rattle.certificate_text.specs.declared.certificate.Certificate.TheVariants.{Doubled, Contents, Position}
+use Rattle.certificate_text.specs.declared.certificate.Certificate.TheVariants.{Accepted, Refused}
 use Rattle.certificate_text.specs.declared.version.Version.{Version}
 use Rattle.certificate_text.specs.declared.version.Version.TheVariants as version
 use Rattle.certificate_text.specs.declared.fault.CertCause.{CertCause}

@@ -8,10 +8,11 @@ use Rattle.format_words.specs.Place as place
 abbrev pub IsBehindRightLines : List ℕ → ℕ → Type 0
 IsBehindRightLines text line = place.IsBehindRightLines BeginsCertificate text line
 
--- after these right lines, reading this line takes memory: it is the third or a later one, some certificate's spelling
--- goes on with it, and it is not that of an order without names
+-- after these right lines, reading this line takes memory: it is the third or a later one, some certificate's
+-- spelling goes on with it, and it is not that of an order without names
 abbrev pub TakesMemory : List Line → Line → Type 0
-TakesMemory lines line = (2 ≤ length lines) × BeginsCertificate (lines ++ line ∷ []) × (line ≢ codes "order :")
+TakesMemory lines line =
+    (2 ≤ length lines) × BeginsCertificate (lines ++ line ∷ []) × (line ≢ codes "order :")
 
 -- the line of this number is there, with its LF, after right lines, and reading it takes memory
 abbrev pub TakesMemoryAt : List ℕ → ℕ → Type 0

@@ -4,7 +4,9 @@ use Rattle.specification.specs.Conflict.{Step}
 use Rattle.specification.specs.LayerRule.{Row}
 use Rattle.specification.specs.Lines.{Line, operation_text}
 use Rattle.specification.specs.CertificateText as format
-use Rattle.specification.specs.CertificateText.{version_line, certificate_lines, IsOperationName, IsStep, IsRow, IsSpellable, BeginsCertificate, IsWholeCertificate, cause_behind}
+use Rattle.specification.specs.CertificateText.{version_line, certificate_lines, IsOperationName, IsStep}
+use Rattle.specification.specs.CertificateText.{IsRow, IsSpellable, BeginsCertificate, IsWholeCertificate}
+use Rattle.specification.specs.CertificateText.{cause_behind}
 use Rattle.events.specs.Names.{IsName}
 use Rattle.certificate_text.specs.CertificateOf.{certificate_of, version_in}
 use Rattle.certificate_text.specs.declared.certificate.Certificate.{Certificate}
@@ -72,4 +74,5 @@ LacksMore lines cause = (cause ≡ cause_behind lines) × (¬ IsWholeCertificate
 
 -- these lines are the spelling of this certificate in this version
 abbrev pub AreSpelling : List Line → Version × Certificate → Type 0
-AreSpelling lines r = IsSpellable (certificate_of r.1) × (lines ≡ certificate_lines (version_in r.0) (certificate_of r.1))
+AreSpelling lines r =
+    IsSpellable (certificate_of r.1) × (lines ≡ certificate_lines (version_in r.0) (certificate_of r.1))

@@ -1,13 +1,16 @@
 -- What the words of a certificate's lines say. Nothing, where they say nothing of the kind.
-use Rattle.std.specs.Prelude.{◌≡◌, ℕ, ◌+◌, nat_le, Bool, slice_index_or, if◌then◌else◌, Option, Some, None, option_map, List, [], ◌∷◌, ◌++◌, ◌==◌, ◌&&◌, length, codes, bytes_eq}
+use Rattle.std.specs.Prelude.{◌≡◌, ℕ, ◌+◌, nat_le, Bool, slice_index_or, if◌then◌else◌, Option, Some, None}
+use Rattle.std.specs.Prelude.{option_map, List, [], ◌∷◌, ◌++◌, ◌==◌, ◌&&◌, length, codes, bytes_eq}
 use Rattle.events.specs.Names.{NameBytes}
 use Rattle.events.specs.Operation.{Operation}
 use Rattle.specification.specs.Conflict.{Step}
 use Rattle.specification.specs.LayerRule.{Row}
 use Rattle.format_words.specs.Words.{Word}
-use Rattle.format_words.specs.Reading.{◌>>=◌, number_at, name_of, name_at, names_at, operation_at, after_word, no_more}
+use Rattle.format_words.specs.Reading.{◌>>=◌, number_at, name_of, name_at, names_at, operation_at, after_word}
+use Rattle.format_words.specs.Reading.{no_more}
 use Rattle.certificate_text.specs.declared.kind.Kind.{Kind}
-use Rattle.certificate_text.specs.declared.kind.Kind.TheVariants.{Doubled, Contents, Position, Accepted, Refused}
+use Rattle.certificate_text.specs.declared.kind.Kind.TheVariants.{Doubled, Contents, Position, Accepted}
+use Rattle.certificate_text.specs.declared.kind.Kind.TheVariants.{Refused}
 
 -- an operation that ends the line
 unfoldable pub last_operation_at : List Word → Option Operation

@@ -1,6 +1,7 @@
 //! The step that a text begins with, taken from the text at once.
 
-ghost use Rattle.std.specs.Prelude.{◌≡◌, ◌≢◌, ◌==◌, ◌∷◌, ◌++◌, ℕ, List, MatchOption, IfSome, decimal, position};
+ghost use Rattle.std.specs.Prelude.{◌≡◌, ◌≢◌, ◌==◌, ◌∷◌, ◌++◌, ℕ, List, MatchOption, IfSome, decimal};
+ghost use Rattle.std.specs.Prelude.{position};
 ghost use Rattle.events.specs.Names.{IsName};
 ghost use Rattle.specification.specs.CertificateText.{IsStep, step_line};
 ghost use Rattle.specification.specs.Conflict.{Step};
@@ -43,8 +44,8 @@ fn number_ahead(text: &[u8], end: u8) -> Option<(u32, &[u8])>
     Some((number, &text[place + 1..]))
 }
 
-/// The step whose line the text begins with, and what follows that line. It is for speed alone: where it gives
-/// none, the text's first line may still be a step's.
+/// The step whose line the text begins with, and what follows that line. It is for speed alone: where it
+/// gives none, the text's first line may still be a step's.
 #[inline(always)]
 fn step_ahead(text: &[u8]) -> Option<(StepWords<'_>, &[u8])>
     ensures { IfSome result (λ x. IsStep (step_said x.0)

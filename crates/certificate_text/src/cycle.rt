@@ -3,7 +3,8 @@
 ghost use Rattle.std.specs.Prelude.{◌≡◌, ◌≢◌, ◌∷◌, [], ◌++◌, ◌<◌, ◌≤◌, ◌^◌, length, IfOk, IfErr, IfSome};
 ghost use Rattle.certificate_text.specs.CertificateOf.{cause_of};
 ghost use Rattle.certificate_text.specs.Place.{TakesMemory};
-ghost use Rattle.certificate_text.specs.Progress.{AreSpelling, IsRightCycle, IsWrongBehind, LacksMore, cycle_lines};
+ghost use Rattle.certificate_text.specs.Progress.{AreSpelling, IsRightCycle, IsWrongBehind, LacksMore};
+ghost use Rattle.certificate_text.specs.Progress.{cycle_lines};
 
 use super::certificate::Certificate;
 use super::entries::{row_of, step_of};

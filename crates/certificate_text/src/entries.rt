@@ -1,6 +1,7 @@
 //! The lines after the second: an order, steps and rows.
 
-ghost use Rattle.std.specs.Prelude.{◌≡◌, ◌+◌, ◌<◌, ◌≤◌, ◌^◌, ◌∷◌, [], List, Some, None, IfOk, IfErr, bytes_eq, codes};
+ghost use Rattle.std.specs.Prelude.{◌≡◌, ◌+◌, ◌<◌, ◌≤◌, ◌^◌, ◌∷◌, [], List, Some, None, IfOk, IfErr};
+ghost use Rattle.std.specs.Prelude.{bytes_eq, codes};
 ghost use Rattle.events.specs.Names.{NameBytes};
 ghost use Rattle.specification.specs.Lines.{names_text};
 ghost use Rattle.format_words.specs.Words.{Word, words_of, words_behind};
@@ -70,7 +71,8 @@ fn is_step(word: &[u8]) -> bool
 
 /// What follows the line's first word, which must be `step`.
 ///
-/// Where a space follows `step`, as in each right line, the first five bytes tell it, and no space is looked for.
+/// Where a space follows `step`, as in each right line, the first five bytes tell it, and no space is looked
+/// for.
 #[tactic(auto, unfolding(format_words::specs::Reading::after_word))]
 fn after_step(line: &[u8]) -> Result<&[u8], Shape>
     ensures { Says (λ rest. words_behind rest.now) result (after_word (codes "step") (words_of line.now)) }

@@ -1,6 +1,7 @@
 //! The first line of a text as one of a certificate's lines. Nothing here takes memory.
 
-ghost use Rattle.std.specs.Prelude.{◌≡◌, ◌≢◌, ◌∷◌, [], ◌++◌, ◌≤◌, ◌<◌, ◌⊎◌, List, None, length, All, IfOk, IfErr};
+ghost use Rattle.std.specs.Prelude.{◌≡◌, ◌≢◌, ◌∷◌, [], ◌++◌, ◌≤◌, ◌<◌, ◌⊎◌, List, None, length, All, IfOk};
+ghost use Rattle.std.specs.Prelude.{IfErr};
 ghost use Rattle.events.specs.Names.{NameBytes, IsName};
 ghost use Rattle.specification.specs.Conflict as conflict;
 ghost use Rattle.specification.specs.LayerRule as layer_rule;

@@ -4,7 +4,8 @@ use Rattle.clap.specs.Words.{AddsSubcommand, App, with_subcommand}
 use Rattle.clap.specs.declared.builder.command.Command.{Command}
 use Rattle.command_line.specs.Commands.{IsCommandOf}
 
-pub subcommand-added : (old sub new : Command) (app part : App) → IsCommandOf app old → IsCommandOf part sub → AddsSubcommand old sub new
+pub subcommand-added : (old sub new : Command) (app part : App) → IsCommandOf app old → IsCommandOf part sub
+    → AddsSubcommand old sub new
     → IsCommandOf (with_subcommand app part.top) new
 subcommand-added old sub new app part whole one added = (
   added.shape one.1 ∙ ap₂ with_subcommand whole.0 (ap (λ (a : App). a.top) one.0),

@@ -1,5 +1,6 @@
 -- Which words are numbers from 1.
-use Rattle.std.proofs.Common.{◌≡◌, ◌≢◌, ℕ, ◌<◌, ◌≤◌, ◌^◌, List, length, get_or, sym, ap, ◌∙◌, arith, Option, Some, None, Err, decimal, refl}
+use Rattle.std.proofs.Common.{◌≡◌, ◌≢◌, ℕ, ◌<◌, ◌≤◌, ◌^◌, List, length, get_or, sym, ap, ◌∙◌, arith, Option}
+use Rattle.std.proofs.Common.{Some, None, Err, decimal, refl}
 use Rattle.std.proofs.lemmas.Option.{same_Some}
 use Rattle.std.proofs.lemmas.Fmt.{first_decimal, decimal_is_IsNumeral, decimal_nonempty, decimal_digit}
 use Rattle.std.proofs.lemmas.Str.Parse.{digit_at}
@@ -34,17 +35,20 @@ read-positive w (Some n) e h =
     let is : w ≡ decimal n = (number_of-is w n (sym e)).0 in
     let first : get_or w 0 0 ≡ get_or (decimal n) 0 0 = ap (λ l. get_or l 0 0) is in
     let some : n ≢ 0 = λ none.
-    let zero : get_or (decimal n) 0 0 ≡ 48 = ap (λ m. get_or (decimal m) 0 0) none ∙ ap (λ l. get_or l 0 0) (decimal_digit 0 (omega arith)) in
+    let zero : get_or (decimal n) 0 0 ≡ 48 =
+    ap (λ m. get_or (decimal m) 0 0) none ∙ ap (λ l. get_or l 0 0) (decimal_digit 0 (omega arith)) in
     absurd (omega arith) in
     (is, omega arith)
 
 -- a word is the text of one number
 pub one-number : (w : List ℕ) (n m : ℕ) → n < 2 ^ 32 → m < 2 ^ 32 → w ≡ decimal n → w ≡ decimal m → n ≡ m
 one-number w n m small little is also =
-    let read : Some n ≡ Some m = sym (number_of-decimal n small) ∙ ap number_of (sym is ∙ also) ∙ number_of-decimal m little in cc
+    let read : Some n ≡ Some m =
+    sym (number_of-decimal n small) ∙ ap number_of (sym is ∙ also) ∙ number_of-decimal m little in cc
 
 -- a number above 64 is a usage fault
-pub many-workers : (given : Option (List ℕ)) (w : List ℕ) (n : ℕ) → given ≡ Some w → w ≡ decimal n → n < 2 ^ 32 → 64 < n → IsWorkersOf given (Err Usage)
+pub many-workers : (given : Option (List ℕ)) (w : List ℕ) (n : ℕ) → given ≡ Some w → w ≡ decimal n
+    → n < 2 ^ 32 → 64 < n → IsWorkersOf given (Err Usage)
 many-workers None w n e is small many = absurd (cc)
 many-workers (Some v) w n e is small many = (
   refl,

@@ -35,10 +35,11 @@ HasWish kinds = (kind : ErrorKind) × IsAmong kind kinds × AsksForText kind
 abbrev pub HasMistake : Kinds → Type 0
 HasMistake kinds = (kind : ErrorKind) × IsAmong kind kinds × IsFaultOf kind Usage
 
--- the task that the words ask for; a text where they ask for help or the version; a usage fault where `clap` may find a mistake, or finds
--- none and the number of workers is none; or out of memory
+-- the task that the words ask for; a text where they ask for help or the version; a usage fault where `clap`
+-- may find a mistake, or finds none and the number of workers is none; or out of memory
 abbrev pub IsAnswerToWords : List (List ℕ) → Result Task WordsFault → Type 0
 IsAnswerToWords words (Ok task) = (kinds_at words ≡ []) × AsksFor (given_by words) task
-IsAnswerToWords words (Err Usage) = HasMistake (kinds_at words) ⊎ ((kinds_at words ≡ []) × HasBadWorkers (given_by words))
+IsAnswerToWords words (Err Usage) =
+    HasMistake (kinds_at words) ⊎ ((kinds_at words ≡ []) × HasBadWorkers (given_by words))
 IsAnswerToWords words (Err (Help text)) = HasWish (kinds_at words)
 IsAnswerToWords words (Err Memory) = Unit {0}

@@ -50,15 +50,24 @@ verify_app = with_rule (with_rule (new_app (codes "verify")) file_rule) certific
 abbrev pub live_app : App
 live_app = with_rule (with_rule (new_app (codes "live")) workers_rule) file_rule
 
--- the program without its commands: one of them is to be named, and the words begin with its name; it has a version
+-- the program without its commands: one of them is to be named, and the words begin with its name; it has a
+-- version
 abbrev pub bare_app : App
 bare_app = record (new_app (codes "domepeeler")) {
-  top = record (new_app (codes "domepeeler")).top { no_binary_name = true; subcommand_required = true; has_version = true };
+  top = record (new_app (codes "domepeeler")).top {
+    no_binary_name = true;
+    subcommand_required =
+        true;
+    has_version = true;
+  };
 }
 
 -- the program
 abbrev pub finder_app : App
-finder_app = with_subcommand (with_subcommand (with_subcommand (with_subcommand bare_app verdict_app.top) cert_app.top) verify_app.top) live_app.top
+finder_app =
+    with_subcommand
+    (with_subcommand (with_subcommand (with_subcommand bare_app verdict_app.top) cert_app.top) verify_app.top)
+    live_app.top
 
 -- the command takes what the app says, and none of its arguments is global
 abbrev pub IsCommandOf : App → Command → Type 0

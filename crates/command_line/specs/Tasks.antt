@@ -42,7 +42,8 @@ IsTaskOf name rows (Verify file cert) =
     (name ≡ codes "verify") × (first_of (codes "FILE") rows ≡ Some file)
     × (first_of (codes "CERT") rows ≡ Some cert)
 IsTaskOf name rows (Live workers file) =
-    (name ≡ codes "live") × IsWorkersOf (first_of (codes "workers") rows) (Ok workers) × (first_of (codes "FILE") rows ≡ Some file)
+    (name ≡ codes "live") × IsWorkersOf (first_of (codes "workers") rows) (Ok workers)
+    × (first_of (codes "FILE") rows ≡ Some file)
 
 -- the task is what the subcommand, if there is one, asks for
 abbrev pub AsksFor : Option (List ℕ × List Row) → Task → Type 0
@@ -58,7 +59,8 @@ IsAnswerToSubcommand given answer = MatchResult answer (AsksFor given)
 abbrev pub HasBadWorkers : Option (List ℕ × List Row) → Type 0
 HasBadWorkers None = ⊥
 HasBadWorkers (Some given) =
-    ((given.0 ≡ codes "verdict") ⊎ (given.0 ≡ codes "live")) × ((n : ℕ) → IsWorkersOf (first_of (codes "workers") given.1) (Ok n) → ⊥)
+    ((given.0 ≡ codes "verdict") ⊎ (given.0 ≡ codes "live"))
+    × ((n : ℕ) → IsWorkersOf (first_of (codes "workers") given.1) (Ok n) → ⊥)
 
 -- the task that the subcommand asks for; a usage fault where its number of workers is none; or out of memory
 abbrev pub IsAnswerWhereTaken : Option (List ℕ × List Row) → Result Task WordsFault → Type 0

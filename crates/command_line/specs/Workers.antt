@@ -1,5 +1,6 @@
 -- The number of workers that a word of the command line gives.
-use Rattle.std.specs.Prelude.{◌≡◌, ◌≢◌, ℕ, ◌≤◌, ◌<◌, ◌^◌, Option, None, Some, MatchOption, Result, MatchResult, List, decimal}
+use Rattle.std.specs.Prelude.{◌≡◌, ◌≢◌, ℕ, ◌≤◌, ◌<◌, ◌^◌, Option, None, Some, MatchOption, Result}
+use Rattle.std.specs.Prelude.{MatchResult, List, decimal}
 use Rattle.command_line.specs.declared.words.WordsFault.{WordsFault}
 use Rattle.command_line.specs.declared.words.WordsFault.TheVariants.{Usage}
 

@@ -5,7 +5,8 @@ use Rattle.events.specs.Operation.{Operation, ComesBefore}
 use Rattle.events.specs.History.{History}
 use Rattle.events.specs.Operations.{response}
 use Rattle.specification.specs.Orders.{IsSubsequence}
-use Rattle.specification.proofs.Members.{In, In-append_left, In-append_right, In-append_cases, In-from_Contains, Contains-from_In}
+use Rattle.specification.proofs.Members.{In, In-append_left, In-append_right, In-append_cases}
+use Rattle.specification.proofs.Members.{In-from_Contains, Contains-from_In}
 use Rattle.element_numbers.specs.Covering.{IsPart, AreCovering}
 
 module _ {X : Type 0} where
@@ -24,15 +25,27 @@ module _ (h : History) where
   pub none-cover : AreCovering h [] []
   none-cover = record { part = tt; covered = λ o i. absurd (In-from_Contains [] o i) }
 
-  pub covering-append : (xs ys some more : List Operation) → AreCovering h xs some → AreCovering h ys more → AreCovering h (xs ++ ys) (some ++ more)
+  pub covering-append : (xs ys some more : List Operation) → AreCovering h xs some → AreCovering h ys more
+      → AreCovering h (xs ++ ys) (some ++ more)
   covering-append xs ys some more one other = record {
     part = part-append some xs more ys one.part other.part;
     covered = λ o i. go o (In-append_cases o xs ys (In-from_Contains (xs ++ ys) o i));
   }
     where
       go : (o : Operation) → In o xs ⊎ In o ys
-          → (p : Operation) × Contains (some ++ more) p × ((p ≡ o) ⊎ ComesBefore p o) × IsSubsequence (response h o) (response h p)
-      go o (inl i) = let c = one.covered o (Contains-from_In xs o i) in
-          (c.0, Contains-from_In (some ++ more) c.0 (In-append_left c.0 some more (In-from_Contains some c.0 c.1)), c.2, c.3)
-      go o (inr i) = let c = other.covered o (Contains-from_In ys o i) in
-          (c.0, Contains-from_In (some ++ more) c.0 (In-append_right c.0 some more (In-from_Contains more c.0 c.1)), c.2, c.3)
+          → (p : Operation) × Contains (some ++ more) p × ((p ≡ o) ⊎ ComesBefore p o)
+          × IsSubsequence (response h o) (response h p)
+      go o (inl i) = let c = one.covered o (Contains-from_In xs o i) in (
+        c.0,
+        Contains-from_In (some ++ more) c.0
+            (In-append_left c.0 some more (In-from_Contains some c.0 c.1)),
+        c.2,
+        c.3,
+      )
+      go o (inr i) = let c = other.covered o (Contains-from_In ys o i) in (
+        c.0,
+        Contains-from_In (some ++ more) c.0
+            (In-append_right c.0 some more (In-from_Contains more c.0 c.1)),
+        c.2,
+        c.3,
+      )

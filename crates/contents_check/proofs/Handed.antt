@@ -7,10 +7,12 @@ use Rattle.contents_check.specs.declared.elements.Elements.{Elements}
 use Rattle.contents_check.specs.Known.{number_of, element_names, AreNumbered}
 use Rattle.contents_check.proofs.RowNumbers.{name_at, number-among}
 
-pub numbers-are : (elements : Elements) → AreNumbered elements → (a : NameBytes) → number_of elements a ≡ number_in (element_names elements) a
+pub numbers-are : (elements : Elements) → AreNumbered elements → (a : NameBytes)
+    → number_of elements a ≡ number_in (element_names elements) a
 numbers-are elements numbers a = go (number_of elements a) (number_in (element_names elements) a) refl refl
   where
-    go : (n m : Option ℕ) → number_of elements a ≡ n → number_in (element_names elements) a ≡ m → number_of elements a ≡ number_in (element_names elements) a
+    go : (n m : Option ℕ) → number_of elements a ≡ n → number_in (element_names elements) a ≡ m
+        → number_of elements a ≡ number_in (element_names elements) a
     go (Some i) m is other = is ∙ sym (number-among elements numbers a i is)
     go None None is other = is ∙ sym other
     go None (Some i) is other =

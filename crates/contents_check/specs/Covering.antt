@@ -1,5 +1,6 @@
 -- What replicas are found to be, and what is kept on the way: operations whose responses cover those so far.
-use Rattle.std.specs.Prelude.{◌≡◌, ◌⊎◌, ℕ, ◌*◌, ◌<◌, List, ◌∷◌, ◌++◌, map, flat_map, take, drop, length, slice_index_or, All, IfOk, Result}
+use Rattle.std.specs.Prelude.{◌≡◌, ◌⊎◌, ℕ, ◌*◌, ◌<◌, List, ◌∷◌, ◌++◌, map, flat_map, take, drop, length}
+use Rattle.std.specs.Prelude.{slice_index_or, All, IfOk, Result}
 use Rattle.events.specs.Names.{NameBytes}
 use Rattle.events.specs.declared.memory.Memory.{Memory}
 use Rattle.events.specs.Operation.{Operation}
@@ -21,7 +22,8 @@ use Rattle.contents_check.specs.Replicas.{IsRightReplica, IsFirstWrongIn}
 
 -- an operation of these that covers this one: itself, or one that stands before it
 abbrev pub IsFoundIn : History → List Operation → List Operation → Operation → Type 0
-IsFoundIn h all some o = (p : Operation) × In p some × ((p ≡ o) ⊎ Before p o all) × IsSubsequence (response h o) (response h p)
+IsFoundIn h all some o =
+    (p : Operation) × In p some × ((p ≡ o) ⊎ Before p o all) × IsSubsequence (response h o) (response h p)
 
 -- some of the operations, each with all that they cover, by the places where they stand
 pub record AreKeptOf (h : History) (all some : List Operation) : Type 0 where
@@ -56,13 +58,15 @@ pub record IsFirstFaultAmong (h : History) (replicas : List ℕ) (fault : Fault)
 -- the replicas' first fault; or all their operations are right, and these cover them
 abbrev pub IsWalked : History → List NameBytes → List ℕ → Walked → Type 0
 IsWalked h names replicas (Wrong fault) = IsFirstFaultAmong h replicas fault
-IsWalked h names replicas (Right covering) = All (IsRightReplica h) replicas × Covers h names (operations_of h replicas) covering
+IsWalked h names replicas (Right covering) =
+    All (IsRightReplica h) replicas × Covers h names (operations_of h replicas) covering
 
--- each of these pieces that was made has what its part of the replicas is found to be; a part has `size` replicas, the last
--- perhaps fewer
+-- each of these pieces that was made has what its part of the replicas is found to be; a part has `size`
+-- replicas, the last perhaps fewer
 abbrev pub ArePieces : History → List NameBytes → ℕ → List ℕ → List (Result Walked Memory) → Type 0
 ArePieces h names size replicas pieces =
-    (n : ℕ) (d : Result Walked Memory) → n < length pieces → IfOk (slice_index_or pieces n d) (IsWalked h names (take size (drop (n * size) replicas)))
+    (n : ℕ) (d : Result Walked Memory) → n < length pieces
+    → IfOk (slice_index_or pieces n d) (IsWalked h names (take size (drop (n * size) replicas)))
 
 -- the first fault; or there is none, and these are its elements
 abbrev pub IsChecked : History → Checked → Type 0

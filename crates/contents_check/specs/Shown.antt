@@ -1,5 +1,6 @@
 -- Which elements a response shows: those whose standings say so.
-use Rattle.std.specs.Prelude.{◌≡◌, ◌↔◌, ℕ, ◌+◌, ◌<◌, ◌≤◌, true, Some, List, ◌++◌, count_by, drop, length, slice_get, take}
+use Rattle.std.specs.Prelude.{◌≡◌, ◌↔◌, ℕ, ◌+◌, ◌<◌, ◌≤◌, true, Some, List, ◌++◌, count_by, drop, length}
+use Rattle.std.specs.Prelude.{slice_get, take}
 use Rattle.events.specs.Names.{NameBytes}
 use Rattle.events.specs.History.{History}
 use Rattle.specification.specs.Elements.{numbers_in}
@@ -24,16 +25,19 @@ pub record IsShown (elements : Elements) (standings : List Standing) (a : NameBy
   pub stands : slice_get standings number ≡ Some standing
   pub live : is_live standing ≡ true
 
--- no name stands twice, each is that of a live element, and all of theirs are there unless some may be left out
+-- no name stands twice, each is that of a live element, and all of theirs are there unless some may be left
+-- out
 abbrev pub ShowsLive : Type 0 → Elements → List Standing → List NameBytes → Type 0
 ShowsLive MayLeaveOut elements standings w =
-    Once w × ((a : NameBytes) → (In a w → IsShown elements standings a) × (¬ MayLeaveOut → IsShown elements standings a → In a w))
+    Once w × ((a : NameBytes) → (In a w → IsShown elements standings a)
+    × (¬ MayLeaveOut → IsShown elements standings a → In a w))
 
 -- the names differ and are elements' names, and just these elements are noted as shown
 pub record ShowJust (elements : Elements) (standings : List Standing) (w : List NameBytes) : Type 0 where
   pub once : Once w
   pub known : (a : NameBytes) → In a w → (i : ℕ) × (number_of elements a ≡ Some i)
-  pub shown : (i : ℕ) (x : Element) (s : Standing) → slice_get elements.list.items i ≡ Some x → slice_get standings i ≡ Some s → (s.shown ≡ true) ↔ In x.name w
+  pub shown : (i : ℕ) (x : Element) (s : Standing) → slice_get elements.list.items i ≡ Some x
+      → slice_get standings i ≡ Some s → (s.shown ≡ true) ↔ In x.name w
 
 -- there is a standing for each element, and those missing and those too many are counted
 pub record Fits (elements : Elements) (standings : Standings) : Type 0 where
@@ -59,22 +63,27 @@ AreOfElements elements w = Once w × ((a : NameBytes) → In a w → (i : ℕ) �
 abbrev pub joined : List NameBytes → ℕ → List NameBytes → ℕ → List NameBytes
 joined w i last j = take i w ++ drop j last
 
--- at these places the one response is at its end, or its name is shown now as well, which has this number, or the other's
--- is not any more; or the one repeats a name or has one that is no element's
+-- at these places the one response is at its end, or its name is shown now as well, which has this number, or
+-- the other's is not any more; or the one repeats a name or has one that is no element's
 abbrev pub IsStep : Elements → List NameBytes → ℕ → List NameBytes → ℕ → Standings → Step → Type 0
 IsStep elements last j w i new End = (length w ≤ i) × ShowJust elements new.list.items (joined w i last j)
 IsStep elements last j w i new (New number) =
-    (i < length w) × ShowJust elements new.list.items (joined w (i + 1) last j) × (slice_get (numbers_in (element_names elements) w) i ≡ Some number)
-IsStep elements last j w i new Gone = (j < length last) × ShowJust elements new.list.items (joined w i last (j + 1))
+    (i < length w) × ShowJust elements new.list.items (joined w (i + 1) last j)
+    × (slice_get (numbers_in (element_names elements) w) i ≡ Some number)
+IsStep elements last j w i new Gone =
+    (j < length last) × ShowJust elements new.list.items (joined w i last (j + 1))
 IsStep elements last j w i new Refused = ¬ AreOfElements elements w
 
 -- what a response that repeats no name and has elements' names alone shows is noted, and this is its row
-pub record IsNoted (elements : Elements) (w : List NameBytes) (standings : Standings) (row : List ℕ) : Type 0 where
+pub record IsNoted (elements : Elements) (w : List NameBytes) (standings : Standings) (row : List ℕ) :
+    Type 0 where
   pub just : ShowJust elements standings.list.items w
   pub row_is : row ≡ numbers_in (element_names elements) w
 
--- this is what was found of a response, whose row is noted; where it is a part, all its names stand in the one before it
-abbrev pub IsShowing : Type 0 → Elements → List NameBytes → List NameBytes → Standings → List ℕ → Shown → Type 0
+-- this is what was found of a response, whose row is noted; where it is a part, all its names stand in the
+-- one before it
+abbrev pub IsShowing : Type 0 → Elements → List NameBytes → List NameBytes → Standings → List ℕ → Shown
+    → Type 0
 IsShowing Holds elements last w new row Wrong = ¬ Holds
 IsShowing Holds elements last w new row Part = Holds × IsNoted elements w new row × IsSubsequence w last
 IsShowing Holds elements last w new row More = Holds × IsNoted elements w new row

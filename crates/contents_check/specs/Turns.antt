@@ -13,7 +13,8 @@ use Rattle.contents_check.specs.Walk.{IsWalkBefore}
 
 -- the replica's first operations, so many, are right, and the walk stands behind them; or this is its fault
 abbrev pub IsJudgedTo : History → SightTable → Elements → ℕ → ℕ → Option Fault → Walk → Type 0
-IsJudgedTo h table elements r n None walk = (n ≤ count h r) × AreRightTo h r n × IsWalkBefore h table elements r (n + 1) walk
+IsJudgedTo h table elements r n None walk =
+    (n ≤ count h r) × AreRightTo h r n × IsWalkBefore h table elements r (n + 1) walk
 IsJudgedTo h table elements r n (Some fault) walk = IsFirstFaultAmong h (r ∷ []) fault
 
 -- what is kept of the replica is so of its first operations, or its fault is found
@@ -21,13 +22,16 @@ abbrev pub IsOnTheWay : History → SightTable → Elements → OnTheWay → Typ
 IsOnTheWay h table elements way = IsJudgedTo h table elements way.replica way.judged way.fault way.walk
 
 -- these replicas are on the way, in this order
-pub record AreOnTheWay (h : History) (table : SightTable) (elements : Elements) (replicas : List ℕ) (ways : List OnTheWay) : Type 0 where
+pub record AreOnTheWay (h : History) (table : SightTable) (elements : Elements) (replicas : List ℕ)
+    (ways : List OnTheWay) : Type 0 where
   pub replicas_are : map (λ way. way.replica) ways ≡ replicas
   pub each : All (IsOnTheWay h table elements) ways
 
 -- one operation more is judged, unless there is none or the fault is found
 abbrev pub GoesOn : History → OnTheWay → OnTheWay → Type 0
-GoesOn h old new = new.fault ≡ None → (old.fault ≡ None) × ((new.judged ≡ old.judged + 1) ⊎ (count h new.replica ≤ new.judged))
+GoesOn h old new =
+    new.fault ≡ None
+    → (old.fault ≡ None) × ((new.judged ≡ old.judged + 1) ⊎ (count h new.replica ≤ new.judged))
 
 -- all operations of the replica are judged, unless the fault is found
 abbrev pub IsAtTheEnd : History → OnTheWay → Type 0

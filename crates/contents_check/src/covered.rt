@@ -8,9 +8,9 @@ ghost use Rattle.specification.specs.Orders.{IsSubsequence};
 use events::{OpName, Recording, Response};
 
 /// Whether the names of a response are found in another in the same order; it may answer no where the
-/// response has fewer than half as many. Names are compared in runs, as far as both go on alike; after each run one
-/// of the other is passed. So its time is linear in the responses, and it stops where fewer places are left
-/// than names.
+/// response has fewer than half as many. Names are compared in runs, as far as both go on alike; after each
+/// run one of the other is passed. So its time is linear in the responses, and it stops where fewer places
+/// are left than names.
 fn stands_in(response: &Response, other: &Response) -> bool
     ensures { result ≡ true → IsSubsequence response.now other.now }
 {

@@ -1,5 +1,5 @@
-//! The numbers of names that were looked up lately, or that an operation just seen inserts, so that they are found without
-//! a look into the map.
+//! The numbers of names that were looked up lately, or that an operation just seen inserts, so that they are
+//! found without a look into the map.
 
 ghost use Rattle.std.specs.Prelude.{◌≡◌, ◌<◌, ◌^◌};
 ghost use Rattle.contents_check.specs.Known.{number_of, AreNumbered};
@@ -13,15 +13,16 @@ use std::alloc::Global;
 const SLOTS: usize = 1024;
 
 /// For each slot the number of an element whose name was looked up lately. Names share slots, so a number
-/// is believed only where its element has the name. The mask is one less than the number of slots, a power of two.
+/// is believed only where its element has the name. The mask is one less than the number of slots, a power of
+/// two.
 #[derive(Drop)]
 pub struct Recent {
     slots: Vec<u32>,
     mask: usize,
 }
 
-/// One less than the number of slots for so many elements: a power of two, two to four times as many as these, but at least 1
-/// and at most `SLOTS`, the tenth power of two. It decides cost alone.
+/// One less than the number of slots for so many elements: a power of two, two to four times as many as
+/// these, but at least 1 and at most `SLOTS`, the tenth power of two. It decides cost alone.
 fn mask_for(elements: usize) -> usize {
     let mut mask = SLOTS - 1;
     for _ in 0..10 {
@@ -34,8 +35,8 @@ fn mask_for(elements: usize) -> usize {
 }
 
 impl Recent {
-    /// Nothing was looked up: each slot holds 0, which is believed only where element 0 has the name. It takes memory for
-    /// the slots.
+    /// Nothing was looked up: each slot holds 0, which is believed only where element 0 has the name. It
+    /// takes memory for the slots.
     pub fn new(alloc: Global, elements: &Elements) -> Result<Recent, Memory> {
         let mask = mask_for(elements.list.len());
         let slots = vec![in alloc; 0; mask.saturating_add(1)]?;
@@ -58,8 +59,8 @@ impl Recent {
         Some(number)
     }
 
-    /// Keeps the number of the element that a change inserts: probably the next response shows its name. It decides cost
-    /// alone.
+    /// Keeps the number of the element that a change inserts: probably the next response shows its name. It
+    /// decides cost alone.
     pub fn expect(&mut self, elements: &Elements, change: Change) {
         if let Change::Insert(number) = change {
             if let Some(slot) = elements.slots.get(number) {
@@ -86,17 +87,17 @@ impl Recent {
     }
 }
 
-/// A number as a slot holds it. A recording has at most 65,536 elements; a number of 2 ^ 32 or more would not be found
-/// again.
+/// A number as a slot holds it. A recording has at most 65,536 elements; a number of 2 ^ 32 or more would not
+/// be found again.
 fn in_slot(number: usize) -> u32
     ensures { number < 2 ^ 32 → result ≡ number }
 {
     (number % (1 << 32)) as u32
 }
 
-/// A number for a name, by its last three bytes, in which the names of a replica differ most, and by its first
-/// byte, in which names of different replicas may differ where they end alike. The slot of the name is this number masked:
-/// with fewer slots than `SLOTS` it is a lesser one.
+/// A number for a name, by its last three bytes, in which the names of a replica differ most, and by its
+/// first byte, in which names of different replicas may differ where they end alike. The slot of the name is
+/// this number masked: with fewer slots than `SLOTS` it is a lesser one.
 pub fn slot_of(name: &Name) -> u16
     ensures { result < 1024 }
 {

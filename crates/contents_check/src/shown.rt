@@ -1,7 +1,8 @@
-//! What a response shows beside the one before it: whether that is just what is live, or a part of it where it may
-//! be one, and whether it is a part of what the one before it shows.
+//! What a response shows beside the one before it: whether that is just what is live, or a part of it where
+//! it may be one, and whether it is a part of what the one before it shows.
 
-ghost use Rattle.std.specs.Prelude.{◌≡◌, ◌↔◌, ◌+◌, ◌<◌, ◌^◌, ◌++◌, ℕ, ◌≤◌, Some, IfOk, IsTrue, List, [], drop, length};
+ghost use Rattle.std.specs.Prelude.{◌≡◌, ◌↔◌, ◌+◌, ◌<◌, ◌^◌, ◌++◌, ℕ, ◌≤◌, Some, IfOk, IsTrue, List, []};
+ghost use Rattle.std.specs.Prelude.{drop, length};
 ghost use Rattle.std.specs.Prelude.{OnOk, take, true};
 ghost use Rattle.events.specs.Names.{NameBytes};
 ghost use Rattle.events.specs.History.{History};
@@ -14,8 +15,8 @@ ghost use Rattle.contents_check.specs.Shown.{OnlyNotes, ShowJust, ShowsLive};
 ghost use Rattle.contents_check.specs.Standings.{AreBehind};
 
 use super::elements::Elements;
-use super::recent::Recent;
 use super::position::is_view;
+use super::recent::Recent;
 use super::standings::Standings;
 use events::{Memory, OpName, Recording, Response};
 
@@ -35,8 +36,8 @@ pub enum Step {
 /// What a response shows, beside the response before it.
 #[derive(Clone, Copy)]
 pub enum Shown {
-    /// A name stands twice or is no element's; or the names are not just those of the live elements, or of some
-    /// of them where it may leave some out.
+    /// A name stands twice or is no element's; or the names are not just those of the live elements, or of
+    /// some of them where it may leave some out.
     Wrong,
     /// It is right, and all its names stand in the response before it in the same order.
     Part,
@@ -45,14 +46,14 @@ pub enum Shown {
 }
 
 impl Standings {
-    /// What the response of `e` shows beside the one before it, `last`. It is right where it repeats no name and
-    /// has just the names of the live elements, or some of them where `e` is a view. What `last` shows is noted;
-    /// now it is noted of this one, where it is right, and its numbers are put into `next`. Where it is wrong, nothing is
-    /// promised of the notes or of `next`.
+    /// What the response of `e` shows beside the one before it, `last`. It is right where it repeats no name
+    /// and has just the names of the live elements, or some of them where `e` is a view. What `last` shows is
+    /// noted; now it is noted of this one, where it is right, and its numbers are put into `next`. Where it
+    /// is wrong, nothing is promised of the notes or of `next`.
     ///
     /// Names are compared with those of `last` in runs, as far as both go on alike, and only where they
-    /// differ is a name looked up. The numbers of `last` are given, in `row`, and of a run they are copied. It
-    /// takes time linear in both.
+    /// differ is a name looked up. The numbers of `last` are given, in `row`, and of a run they are copied.
+    /// It takes time linear in both.
     pub fn shows_live(
         &mut self,
         recent: &mut Recent,
@@ -96,8 +97,8 @@ impl Standings {
         self.extra == 0 && (self.missing == 0 || is_view(recording, e))
     }
 
-    /// Notes what a response shows, where `last` is noted; it is wrong where it repeats a name or has one that is
-    /// no element's.
+    /// Notes what a response shows, where `last` is noted; it is wrong where it repeats a name or has one
+    /// that is no element's.
     fn show(
         &mut self,
         recent: &mut Recent,
@@ -185,8 +186,8 @@ impl Standings {
         Step::Refused
     }
 
-    /// Whether a row goes on at a place with the number of an element that is not live, so that a right response shows
-    /// it no more. It decides cost alone.
+    /// Whether a row goes on at a place with the number of an element that is not live, so that a right
+    /// response shows it no more. It decides cost alone.
     fn is_gone(&self, row: &[u32], j: usize) -> bool
         ensures { result ≡ true → j < length row.now }
     {

@@ -1,4 +1,5 @@
-//! Replicas judged together, an operation at a time, in the order in which their operations stand in the recording.
+//! Replicas judged together, an operation at a time, in the order in which their operations stand in the
+//! recording.
 
 ghost use Rattle.std.specs.Prelude.{◌≡◌, ◌∷◌, [], IfOk, OnOk, None, length, vec_len, ◌<◌};
 ghost use Rattle.events.specs.History.{History};
@@ -17,8 +18,8 @@ use events::{Body, Memory, OpName, Recording};
 use std::alloc::Global;
 use visibility::Sight;
 
-/// A replica on the way: how many of its operations are judged, its fault if one of these has one, and else what
-/// stands behind them.
+/// A replica on the way: how many of its operations are judged, its fault if one of these has one, and else
+/// what stands behind them.
 #[derive(Drop)]
 struct OnTheWay {
     replica: u32,
@@ -90,12 +91,13 @@ impl OnTheWay {
     }
 }
 
-/// Judges the operations of these replicas, as far as the first fault of the first that has one. They take turns in the
-/// order in which they stand in the recording, for which memory is read from one end to the other.
+/// Judges the operations of these replicas, as far as the first fault of the first that has one. They take
+/// turns in the order in which they stand in the recording, for which memory is read from one end to the
+/// other.
 ///
-/// It costs the places of the replicas' responses, the entries of the recording, and for each replica the operations
-/// that it sees and some bytes for each element. The walks of all these replicas stand at once, and what they keep
-/// stands twice when it is put together.
+/// It costs the places of the replicas' responses, the entries of the recording, and for each replica the
+/// operations that it sees and some bytes for each element. The walks of all these replicas stand at once,
+/// and what they keep stands twice when it is put together.
 pub fn walk_all(
     alloc: Global,
     elements: &Elements,
@@ -133,8 +135,8 @@ fn begin_all(alloc: Global, elements: &Elements, replicas: &[u32]) -> Result<Vec
     Ok(ways)
 }
 
-/// Goes through the recording, and judges an operation of a replica where one stands, but none of a replica behind one
-/// whose fault is found. That all operations are judged is not promised.
+/// Goes through the recording, and judges an operation of a replica where one stands, but none of a replica
+/// behind one whose fault is found. That all operations are judged is not promised.
 fn take_turns(
     ways: &mut Vec<OnTheWay>,
     elements: &Elements,
@@ -163,8 +165,8 @@ fn take_turns(
     Ok(())
 }
 
-/// The place among these replicas, where they follow one another, of the one that has an operation at the i-th entry;
-/// it may be past the last of them. It decides cost alone.
+/// The place among these replicas, where they follow one another, of the one that has an operation at the
+/// i-th entry; it may be past the last of them. It decides cost alone.
 fn turn_at(recording: &Recording, i: u32, replicas: &[u32]) -> Option<usize> {
     let first = replicas.first()?;
     let entry = recording.entry(i)?;

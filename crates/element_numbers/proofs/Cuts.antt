@@ -1,5 +1,6 @@
 -- Rows cut from a list: one more at the end, and where each begins and ends.
-use Rattle.std.proofs.Common.{◌≡◌, ◌≢◌, ℕ, zero, suc, ◌+◌, ◌-◌, ◌<◌, ◌≤◌, List, [], ◌∷◌, ◌++◌, length, take, drop, get_or, refl, sym, ◌∙◌, ap, subst, arith, length-append, length-drop}
+use Rattle.std.proofs.Common.{◌≡◌, ◌≢◌, ℕ, zero, suc, ◌+◌, ◌-◌, ◌<◌, ◌≤◌, List, [], ◌∷◌, ◌++◌, length, take}
+use Rattle.std.proofs.Common.{drop, get_or, refl, sym, ◌∙◌, ap, subst, arith, length-append, length-drop}
 use Rattle.std.proofs.lemmas.List.{take-append-le, drop-append-le, take_all}
 use Rattle.element_numbers.specs.Cuts.{cut, AreEnds, begin_of, rows_of, IsCut}
 use Rattle.element_numbers.specs.declared.rows.Rows.{Rows}
@@ -15,7 +16,8 @@ drop-end : {X : Type 0} (n : ℕ) (r : List X) → n ≡ length r → length (dr
 drop-end {X = X} n r e = omega (arith, length-drop n r)
 
 -- one more row, which is the end of the list
-pub cut-push : {X : Type 0} (from e : ℕ) (es : List ℕ) (xs r : List X) → AreEnds from es xs → e ≡ from + length xs + length r
+pub cut-push : {X : Type 0} (from e : ℕ) (es : List ℕ) (xs r : List X) → AreEnds from es xs
+    → e ≡ from + length xs + length r
     → cut from (es ++ e ∷ []) (xs ++ r) ≡ cut from es xs ++ r ∷ []
 cut-push {X = X} from e [] xs r ends is =
     let none : xs ≡ [] = empty_of xs ends in
@@ -28,7 +30,8 @@ cut-push {X = X} from e (e1 ∷ es) xs r ends is =
     ∙ ap (λ l. take n xs ∷ cut e1 (es ++ e ∷ []) l) (drop-append-le n xs r ends.1)
     ∙ ap (λ l. take n xs ∷ l) (cut-push e1 e es (drop n xs) r ends.2 rest)
 
-pub ends-push : {X : Type 0} (from e : ℕ) (es : List ℕ) (xs r : List X) → AreEnds from es xs → e ≡ from + length xs + length r
+pub ends-push : {X : Type 0} (from e : ℕ) (es : List ℕ) (xs r : List X) → AreEnds from es xs
+    → e ≡ from + length xs + length r
     → AreEnds from (es ++ e ∷ []) (xs ++ r)
 ends-push {X = X} from e [] xs r ends is =
     let size : e - from ≡ length r = omega arith in
@@ -39,8 +42,12 @@ ends-push {X = X} from e [] xs r ends is =
 ends-push {X = X} from e (e1 ∷ es) xs r ends is =
     let n : ℕ = e1 - from in
     let rest : e ≡ e1 + length (drop n xs) + length r = omega (arith, length-drop n xs, ends.0, ends.1) in
-    let high : n ≤ length (xs ++ r) = omega (arith, length-append xs r, ends.1) in
-    (ends.0, high, subst (λ l. AreEnds e1 (es ++ e ∷ []) l) (sym (drop-append-le n xs r ends.1)) (ends-push e1 e es (drop n xs) r ends.2 rest))
+    let high : n ≤ length (xs ++ r) = omega (arith, length-append xs r, ends.1) in (
+      ends.0,
+      high,
+      subst (λ l. AreEnds e1 (es ++ e ∷ []) l) (sym (drop-append-le n xs r ends.1))
+          (ends-push e1 e es (drop n xs) r ends.2 rest),
+    )
 
 pub length-cut : {X : Type 0} (from : ℕ) (es : List ℕ) (xs : List X) → length (cut from es xs) ≡ length es
 length-cut from [] xs = refl
@@ -56,7 +63,8 @@ pub record Lies {X : Type 0} (from : ℕ) (es : List ℕ) (xs : List X) (l : ℕ
   pub low : from ≤ begin_of from es l
   pub rising : begin_of from es l ≤ get_or es l 0
   pub within : get_or es l 0 - from ≤ length xs
-  pub row_is : get_or (cut from es xs) l [] ≡ take (get_or es l 0 - begin_of from es l) (drop (begin_of from es l - from) xs)
+  pub row_is : get_or (cut from es xs) l [] ≡ take (get_or es l 0 - begin_of from es l)
+      (drop (begin_of from es l - from) xs)
 
 drop-none : {X : Type 0} (n : ℕ) → drop {A = X} n [] ≡ []
 drop-none zero = refl
@@ -65,13 +73,15 @@ drop-none (suc n) = refl
 drop-drop : {X : Type 0} (n m : ℕ) (xs : List X) → drop n (drop m xs) ≡ drop (m + n) xs
 drop-drop n zero xs = let same : n ≡ 0 + n = omega arith in ap (λ k. drop k xs) same
 drop-drop n (suc m) [] = drop-none n ∙ sym (drop-none (suc m + n))
-drop-drop n (suc m) (x ∷ xs) = drop-drop n m xs ∙ (let same : suc (m + n) ≡ suc m + n = omega arith in ap (λ k. drop k (x ∷ xs)) same)
+drop-drop n (suc m) (x ∷ xs) =
+    drop-drop n m xs ∙ (let same : suc (m + n) ≡ suc m + n = omega arith in ap (λ k. drop k (x ∷ xs)) same)
 
 begin-tail : (from e l : ℕ) (es : List ℕ) → begin_of e es l ≡ begin_of from (e ∷ es) (suc l)
 begin-tail from e zero es = refl
 begin-tail from e (suc l) es = refl
 
-pub row-lies : {X : Type 0} (from : ℕ) (es : List ℕ) (xs : List X) (l : ℕ) → AreEnds from es xs → l < length es → Lies from es xs l
+pub row-lies : {X : Type 0} (from : ℕ) (es : List ℕ) (xs : List X) (l : ℕ) → AreEnds from es xs
+    → l < length es → Lies from es xs l
 row-lies from [] xs l ends lt = absurd (omega arith)
 row-lies from (e ∷ es) xs zero ends lt = record {
   low = omega arith;
@@ -95,18 +105,25 @@ row-lies {X = X} from (e ∷ es) xs (suc l) ends lt =
       low = subst (λ k. from ≤ k) begin (omega arith);
       rising = subst (λ k. k ≤ end) begin rising;
       within = omega arith;
-      row_is = rest.row_is ∙ ap (λ l. take (end - b) l) (drop-drop (b - e) (e - from) xs ∙ ap (λ k. drop k xs) sums)
+      row_is =
+          rest.row_is
+          ∙ ap (λ l. take (end - b) l) (drop-drop (b - e) (e - from) xs ∙ ap (λ k. drop k xs) sums)
           ∙ ap (λ k. take (end - k) (drop (k - from) xs)) begin;
     }
 
 -- the row that was begun is ended
-pub row-ended : {X : Type 0} (old new : Rows X) (r : List X) → IsCut old → new.items.items ≡ old.items.items ++ r
-    → new.ends.items ≡ old.ends.items ++ (length new.items.items) ∷ [] → (rows_of new ≡ rows_of old ++ r ∷ []) × IsCut new
+pub row-ended : {X : Type 0} (old new : Rows X) (r : List X) → IsCut old
+    → new.items.items ≡ old.items.items ++ r
+    → new.ends.items ≡ old.ends.items ++ (length new.items.items) ∷ []
+    → (rows_of new ≡ rows_of old ++ r ∷ []) × IsCut new
 row-ended {X = X} old new r whole items ends =
     let e : ℕ = length new.items.items in
-    let all : e ≡ 0 + length old.items.items + length r = omega (arith, ap length items, length-append old.items.items r) in
+    let all : e ≡ 0 + length old.items.items + length r =
+    omega (arith, ap length items, length-append old.items.items r) in
     let xs : List X = old.items.items in
     let es : List ℕ = old.ends.items in (
-      ap (λ l. cut 0 l new.items.items) ends ∙ ap (λ l. cut 0 (es ++ e ∷ []) l) items ∙ cut-push 0 e es xs r whole all,
-      subst (λ l. AreEnds 0 l new.items.items) (sym ends) (subst (λ (l : List X). AreEnds 0 (es ++ e ∷ []) l) (sym items) (ends-push 0 e es xs r whole all)),
+      ap (λ l. cut 0 l new.items.items) ends ∙ ap (λ l. cut 0 (es ++ e ∷ []) l) items
+          ∙ cut-push 0 e es xs r whole all,
+      subst (λ l. AreEnds 0 l new.items.items) (sym ends)
+          (subst (λ (l : List X). AreEnds 0 (es ++ e ∷ []) l) (sym items) (ends-push 0 e es xs r whole all)),
     )

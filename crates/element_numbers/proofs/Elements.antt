@@ -10,17 +10,21 @@ use Rattle.specification.specs.Elements.{elements}
 use Rattle.specification.specs.Responses.{responses_of, AreProper}
 use Rattle.specification.proofs.SoundResponses.{sound_responses_are_proper}
 
-pub distinct-names : (h : History) → IsLegal h → IsSound h → (names : List NameBytes) → names ≡ elements h → AllPairs (λ a b. a ≢ b) names
+pub distinct-names : (h : History) → IsLegal h → IsSound h → (names : List NameBytes) → names ≡ elements h
+    → AllPairs (λ a b. a ≢ b) names
 distinct-names h legal sound names is =
     let proper : AreProper (responses_of h) = sound_responses_are_proper h legal sound in
     subst (λ (l : List NameBytes). AllPairs (λ a b. a ≢ b) l) (sym is) proper.distinct
 
-pub few-names : (h : History) → IsLegal h → IsSound h → (names : List NameBytes) → names ≡ elements h → length names < 2 ^ 32
+pub few-names : (h : History) → IsLegal h → IsSound h → (names : List NameBytes) → names ≡ elements h
+    → length names < 2 ^ 32
 few-names h legal sound names is =
     let proper : AreProper (responses_of h) = sound_responses_are_proper h legal sound in
     omega (arith, proper.few, ap (λ (l : List NameBytes). length l) is)
 
 -- the inserted names are the elements
-pub names-are : (h : History) (operations : List Operation) (names : List NameBytes) → operations ≡ operation_names h
+pub names-are : (h : History) (operations : List Operation) (names : List NameBytes)
+    → operations ≡ operation_names h
     → names ≡ filter_map (λ o. option_and_then inserted_name (operation h o)) operations → names ≡ elements h
-names-are h operations names all is = is ∙ ap (filter_map (λ o. option_and_then inserted_name (operation h o))) all
+names-are h operations names all is =
+    is ∙ ap (filter_map (λ o. option_and_then inserted_name (operation h o))) all

@@ -19,5 +19,6 @@ module _ {X : Type 0} where
   pub Rising-part : (R : X → X → Type 0) (xs ys : List X) → IsPart xs ys → Rising R ys → Rising R xs
   Rising-part R [] ys p r = tt
   Rising-part R (x ∷ xs) [] p r = absurd p
-  Rising-part R (x ∷ xs) (y ∷ ys) (inl p) r = (λ z i. subst (λ w. R w z) (sym p.0) (r.0 z (In-part z xs ys p.1 i)), Rising-part R xs ys p.1 r.1)
+  Rising-part R (x ∷ xs) (y ∷ ys) (inl p) r =
+      (λ z i. subst (λ w. R w z) (sym p.0) (r.0 z (In-part z xs ys p.1 i)), Rising-part R xs ys p.1 r.1)
   Rising-part R (x ∷ xs) (y ∷ ys) (inr p) r = Rising-part R (x ∷ xs) ys p r.1

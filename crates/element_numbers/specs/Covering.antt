@@ -1,5 +1,5 @@
--- Operations whose responses cover those of others: what these show, they show, by the same operation or one that comes
--- before; the rows of numbers that are their responses; and the elements with their numbers.
+-- Operations whose responses cover those of others: what these show, they show, by the same operation or one
+-- that comes before; the rows of numbers that are their responses; and the elements with their numbers.
 use Rattle.std.specs.Prelude.{◌≡◌, ◌==◌, ◌⊎◌, ℕ, ⊤, List, [], ◌∷◌, map, Contains}
 use Rattle.std.specs.Cmp.Lexicographic.{pointwise}
 use Rattle.indexmap.specs.IndexMap.{get}
@@ -24,15 +24,18 @@ IsPart (x ∷ xs) (y ∷ ys) = ((x ≡ y) × IsPart xs ys) ⊎ IsPart (x ∷ xs)
 pub record AreCovering (h : History) (all some : List Operation) : Type 0 where
   pub part : IsPart some all
   pub covered : (o : Operation) → Contains all o
-      → (p : Operation) × Contains some p × ((p ≡ o) ⊎ ComesBefore p o) × IsSubsequence (response h o) (response h p)
+      → (p : Operation) × Contains some p × ((p ≡ o) ⊎ ComesBefore p o)
+      × IsSubsequence (response h o) (response h p)
 
 -- the rows are the responses of these operations, each name as its number among these names
-pub record AreRowsOf (h : History) (names : List NameBytes) (operations : List Operation) (rows : Rows ℕ) : Type 0 where
+pub record AreRowsOf (h : History) (names : List NameBytes) (operations : List Operation) (rows : Rows ℕ) :
+    Type 0 where
   pub cut : IsCut rows
   pub rows_are : rows_of rows ≡ map (λ o. numbers_in names (response h o)) operations
 
 -- some of these operations cover all of them, and these are the rows of their responses
-pub record Covers (h : History) (names : List NameBytes) (all : List Operation) (covering : Covering) : Type 0 where
+pub record Covers (h : History) (names : List NameBytes) (all : List Operation) (covering : Covering) :
+    Type 0 where
   pub operations : AreCovering h all covering.operations.items
   pub rows : AreRowsOf h names covering.operations.items covering.rows
 

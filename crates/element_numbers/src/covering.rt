@@ -7,9 +7,9 @@ use super::rows::Rows;
 use events::{Memory, OpName};
 use std::alloc::Global;
 
-/// Some operations, in order, whose responses cover those of all: each response is a subsequence of that of one of
-/// them, which is the same operation or comes before it. Of each there is a row, the names of its response as the
-/// elements' numbers, which count from 0 in the order of the inserts' operations.
+/// Some operations, in order, whose responses cover those of all: each response is a subsequence of that of
+/// one of them, which is the same operation or comes before it. Of each there is a row, the names of its
+/// response as the elements' numbers, which count from 0 in the order of the inserts' operations.
 #[derive(Drop)]
 pub struct Covering {
     pub operations: Vec<OpName>,

@@ -11,9 +11,9 @@ use std::hash::{BuildHasher, DefaultHasher, Hash};
 
 /// What a map of names hashes by: SipHash, begun with all names that go into the map.
 ///
-/// Whoever writes a recording chooses its names. With a hasher that always begins alike they could choose many names
-/// that a map puts into one place, and each look would go past all of them. Here one name more, or another one, changes
-/// the hashes of all.
+/// Whoever writes a recording chooses its names. With a hasher that always begins alike they could choose
+/// many names that a map puts into one place, and each look would go past all of them. Here one name more, or
+/// another one, changes the hashes of all.
 #[derive(Clone, Copy)]
 pub struct NameKey {
     begun: DefaultHasher,
@@ -47,7 +47,8 @@ impl NameKey {
         key
     }
 
-    /// The key of the names that these operations insert. It goes through the operations once, and takes no memory.
+    /// The key of the names that these operations insert. It goes through the operations once, and takes no
+    /// memory.
     pub fn of_inserted(recording: &Recording, operations: &[OpName]) -> NameKey
         ensures { result ≡ key_of (filter_map
             (λ o. option_and_then inserted_name (operation recording.now o)) operations.now) }

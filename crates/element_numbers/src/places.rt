@@ -156,7 +156,8 @@ fn add_list(
     requires numbered { (a : NameBytes) → get (pointwise ◌==◌) numbers.now a ≡ number_in names.now a }
     requires few { length names.now < 2 ^ 32 }
     requires whole { IsCut places.old }
-    requires last { take (length last.now) (drop begin places.old.items.items) ≡ numbers_in names.now last.now }
+    requires last { take (length last.now) (drop begin places.old.items.items)
+        ≡ numbers_in names.now last.now }
     ensures cut { OnOk result (IsCut places.new) }
     ensures rows { OnOk result (rows_of places.new
         ≡ rows_of places.old ++ (numbers_in names.now (response recording.now operation)) ∷ []) }

@@ -6,8 +6,8 @@ ghost use Rattle.std.specs.Prelude.{◌+◌, slice_index_or, vec_capacity, vec_l
 use events::Memory;
 use std::alloc::Global;
 
-/// For how many rows `push_row` makes room where no row is ended yet. `end_row` makes none ahead: where it alone ends rows,
-/// the list of ends grows as any list does.
+/// For how many rows `push_row` makes room where no row is ended yet. `end_row` makes none ahead: where it
+/// alone ends rows, the list of ends grows as any list does.
 const FIRST_ROWS: usize = 16;
 
 /// For how many values it makes room then at least. Values that are pushed before `end_row` get none ahead.
@@ -60,7 +60,8 @@ impl<T: Copy + Drop> Rows<T> {
     fn make_first_room(&mut self, values: usize) -> Result<(), Memory>
         ensures items { self.new.items.items ≡ self.old.items.items }
         ensures ends { self.new.ends.items ≡ self.old.ends.items }
-        ensures room_for_rows { OnOk result (length self.old.ends.items ≡ 0 → 16 ≤ vec_capacity self.new.ends) }
+        ensures room_for_rows { OnOk result (length self.old.ends.items ≡ 0
+            → 16 ≤ vec_capacity self.new.ends) }
         ensures room_for_values { OnOk result (length self.old.ends.items ≡ 0
             → vec_len self.new.items + values ≤ vec_capacity self.new.items) }
     {

@@ -1,5 +1,7 @@
 -- The text of names begins with other names exactly where the names do.
-use Rattle.std.proofs.Common.{◌≡◌, ℕ, zero, suc, ◌+◌, ◌<◌, ◌≤◌, ◌==◌, true, IsTrue, List, [], ◌∷◌, ◌++◌, length, take, drop, slice_get, Some, refl, length-take, sym, ap, ◌∙◌, subst, arith}
+use Rattle.std.proofs.Common.{◌≡◌, ℕ, zero, suc, ◌+◌, ◌<◌, ◌≤◌, ◌==◌, true, IsTrue, List, [], ◌∷◌, ◌++◌}
+use Rattle.std.proofs.Common.{length, take, drop, slice_get, Some, refl, length-take, sym, ap, ◌∙◌, subst}
+use Rattle.std.proofs.Common.{arith}
 use Rattle.std.specs.List.{All}
 use Rattle.std.proofs.lemmas.Bool.Decides.{nat_tests}
 use Rattle.std.proofs.lemmas.List.{append_assoc, take-append-drop}
@@ -30,14 +32,19 @@ inside b more rest h follows is =
     cc bad
 
 -- two texts are the same, each a name and what may follow it
-same-word : (v w p q : List ℕ) → All (λ b. is_name_byte b ≡ true) v → All (λ b. is_name_byte b ≡ true) w → MayFollow p → MayFollow q → v ++ p ≡ w ++ q → (v ≡ w) × (p ≡ q)
+same-word : (v w p q : List ℕ) → All (λ b. is_name_byte b ≡ true) v → All (λ b. is_name_byte b ≡ true) w
+    → MayFollow p → MayFollow q → v ++ p ≡ w ++ q → (v ≡ w) × (p ≡ q)
 same-word [] [] p q a b f g is = (refl, is)
-same-word [] (y ∷ w) p q a b f g is = absurd (inside y (w ++ q) p (All-head (λ b. is_name_byte b ≡ true) y w b) f is)
-same-word (x ∷ v) [] p q a b f g is = absurd (inside x (v ++ p) q (All-head (λ b. is_name_byte b ≡ true) x v a) g (sym is))
+same-word [] (y ∷ w) p q a b f g is =
+    absurd (inside y (w ++ q) p (All-head (λ b. is_name_byte b ≡ true) y w b) f is)
+same-word (x ∷ v) [] p q a b f g is =
+    absurd (inside x (v ++ p) q (All-head (λ b. is_name_byte b ≡ true) x v a) g (sym is))
 same-word (x ∷ v) (y ∷ w) p q a b f g is =
     let head : x ≡ y = cc in
     let tail : v ++ p ≡ w ++ q = cc in
-    let rest = same-word v w p q (All-tail (λ b. is_name_byte b ≡ true) x v a) (All-tail (λ b. is_name_byte b ≡ true) y w b) f g tail in
+    let rest =
+    same-word v w p q (All-tail (λ b. is_name_byte b ≡ true) x v a)
+    (All-tail (λ b. is_name_byte b ≡ true) y w b) f g tail in
     (rw (head, rest.0) refl, rest.1)
 
 spaced-follows : (names : List NameBytes) → MayFollow (spaced names)
@@ -48,24 +55,34 @@ more-follows : (names : List NameBytes) (rest : List ℕ) → MayFollow rest →
 more-follows [] rest h = h
 more-follows (a ∷ names) rest h = refl
 
-same-front : (names others : List NameBytes) (rest : List ℕ) → All IsName names → All IsName others → MayFollow rest → spaced others ≡ spaced names ++ rest → take (length names) others ≡ names
+same-front : (names others : List NameBytes) (rest : List ℕ) → All IsName names → All IsName others
+    → MayFollow rest → spaced others ≡ spaced names ++ rest → take (length names) others ≡ names
 same-front [] others rest h k follows is = refl
 same-front (a ∷ names) [] rest h k follows is = absurd (cc is)
 same-front (a ∷ names) (b ∷ others) rest h k follows is =
     let tail : b ++ spaced others ≡ (a ++ spaced names) ++ rest = cc in
-    let both = same-word b a (spaced others) (spaced names ++ rest) (word b (All-head IsName b others k)) (word a (All-head IsName a names h)) (spaced-follows others) (more-follows names rest follows)
+    let both =
+    same-word b a (spaced others) (spaced names ++ rest) (word b (All-head IsName b others k))
+    (word a (All-head IsName a names h)) (spaced-follows others) (more-follows names rest follows)
     (tail ∙ append_assoc a (spaced names) rest) in
-    rw (both.0, same-front names others rest (All-tail IsName a names h) (All-tail IsName b others k) follows both.1) refl
+    rw (
+      both.0,
+      same-front names others rest (All-tail IsName a names h)
+          (All-tail IsName b others k) follows both.1,
+    ) refl
 
 module _ (names others : List NameBytes) (named : All IsName names) (others_named : All IsName others) where
   -- a text of names that begins with names
-  front-of : (text : List ℕ) → text ≡ spaced others → BeginsWith text names → take (length names) others ≡ names
+  front-of : (text : List ℕ) → text ≡ spaced others → BeginsWith text names
+      → take (length names) others ≡ names
   front-of text is begins =
       let cut : spaced others ≡ spaced names ++ drop (length (spaced names)) text =
-      sym is ∙ sym (take-append-drop (length (spaced names)) text) ∙ ap (λ l. l ++ drop (length (spaced names)) text) begins.same in
+      sym is ∙ sym (take-append-drop (length (spaced names)) text)
+      ∙ ap (λ l. l ++ drop (length (spaced names)) text) begins.same in
       let place : length (spaced names) ≡ length (spaced names) + 0 = omega arith in
       let follows : MayFollow (drop (length (spaced names)) text) =
-      subst (λ o. IsTrue (may_follow o)) (ap (slice_get text) place ∙ sym (drop-get (length (spaced names)) 0 text)) begins.ends in
+      subst (λ o. IsTrue (may_follow o)) (ap (slice_get text) place
+      ∙ sym (drop-get (length (spaced names)) 0 text)) begins.ends in
       same-front names others (drop (length (spaced names)) text) named others_named follows cut
 
 begins-with-front : (others : List NameBytes) (n : ℕ) → BeginsWith (spaced others) (take n others)
@@ -73,12 +90,18 @@ begins-with-front others n = record {
   same = take-spaced others n;
   ends =
       let place : size others n ≡ size others n + 0 = omega arith in
-      let cut : spaced others ≡ spaced (take n others) ++ spaced (drop n others) = ap spaced (sym (take-append-drop n others)) ∙ spaced-append (take n others) (drop n others) in
-      let behind : drop (size others n) (spaced others) ≡ spaced (drop n others) = ap (drop (size others n)) cut ∙ drop-append_seam (spaced (take n others)) (spaced (drop n others)) in
-      subst (λ o. IsTrue (may_follow o)) (ap (λ l. slice_get l 0) (sym behind) ∙ drop-get (size others n) 0 (spaced others) ∙ ap (slice_get (spaced others)) (sym place)) (spaced-follows (drop n others));
+      let cut : spaced others ≡ spaced (take n others) ++ spaced (drop n others) =
+      ap spaced (sym (take-append-drop n others)) ∙ spaced-append (take n others) (drop n others) in
+      let behind : drop (size others n) (spaced others) ≡ spaced (drop n others) =
+      ap (drop (size others n)) cut
+      ∙ drop-append_seam (spaced (take n others)) (spaced (drop n others)) in
+      subst (λ o. IsTrue (may_follow o)) (ap (λ l. slice_get l 0) (sym behind)
+      ∙ drop-get (size others n) 0 (spaced others) ∙ ap (slice_get (spaced others)) (sym place))
+      (spaced-follows (drop n others));
 }
 
-take-one-more : (n : ℕ) (names others : List NameBytes) (a : NameBytes) → take n names ≡ take n others → slice_get names n ≡ Some a → slice_get others n ≡ Some a → take (suc n) names ≡ take (suc n) others
+take-one-more : (n : ℕ) (names others : List NameBytes) (a : NameBytes) → take n names ≡ take n others
+    → slice_get names n ≡ Some a → slice_get others n ≡ Some a → take (suc n) names ≡ take (suc n) others
 take-one-more n [] others a is here there = absurd (cc here)
 take-one-more n (b ∷ names) [] a is here there = absurd (cc there)
 take-one-more zero (b ∷ names) (c ∷ others) a is here there = cc
@@ -88,14 +111,19 @@ take-one-more (suc n) (b ∷ names) (c ∷ others) a is here there =
     rw (head, take-one-more n names others a tail here there) refl
 
 -- the longest run of names in the text of others is of the names that both begin with
-module _ (names others : List NameBytes) (named : All IsName names) (others_named : All IsName others) (n bytes : ℕ) (longest : IsLongestRun (spaced others) names n bytes) where
+module _ (names others : List NameBytes) (named : All IsName names) (others_named : All IsName others)
+    (n bytes : ℕ) (longest : IsLongestRun (spaced others) names n bytes) where
   fronts-to : (m : ℕ) → m ≡ n → take m names ≡ take m others
   fronts-to zero is = refl
   fronts-to (suc m) is =
-      let count : length (take (suc m) names) ≡ suc m = omega (arith, length-take (suc m) names, longest.within, is) in
+      let count : length (take (suc m) names) ≡ suc m =
+      omega (arith, length-take (suc m) names, longest.within, is) in
       let some : 0 < n = omega (arith, is) in
-      let begins : BeginsWith (spaced others) (take (suc m) names) = subst (λ k. BeginsWith (spaced others) (take k names)) (sym is) (longest.begins some) in
-      let same = front-of (take (suc m) names) others (All-take IsName (suc m) names named) others_named (spaced others) refl begins in
+      let begins : BeginsWith (spaced others) (take (suc m) names) =
+      subst (λ k. BeginsWith (spaced others) (take k names)) (sym is) (longest.begins some) in
+      let same =
+      front-of (take (suc m) names) others (All-take IsName (suc m) names named) others_named
+      (spaced others) refl begins in
       sym same ∙ ap (λ k. take k others) count
 
   pub fronts : take n names ≡ take n others
@@ -106,7 +134,9 @@ module _ (names others : List NameBytes) (named : All IsName names) (others_name
 
   pub none-more : (a : NameBytes) → slice_get names n ≡ Some a → slice_get others n ≡ Some a → ⊥
   none-more a here there =
-      let more : take (suc n) names ≡ take (suc n) others = take-one-more n names others a fronts here there in
-      let begins : BeginsWith (spaced others) (take (suc n) names) = subst (BeginsWith (spaced others)) (sym more) (begins-with-front others (suc n)) in
+      let more : take (suc n) names ≡ take (suc n) others =
+      take-one-more n names others a fronts here there in
+      let begins : BeginsWith (spaced others) (take (suc n) names) =
+      subst (BeginsWith (spaced others)) (sym more) (begins-with-front others (suc n)) in
       let within : suc n ≤ length names = omega (arith, slice_get_within names n a here) in
       absurd (omega (arith, longest.most (suc n) within begins))

@@ -1,9 +1,13 @@
--- What a recording keeps of each replica beside the entries: where its entries and operations stand, and its counts.
-use Rattle.std.specs.Prelude.{◌≡◌, ℕ, ◌+◌, ◌<◌, Option, Some, List, ◌∷◌, [], ◌++◌, length, map, filter, option_map, count_by, sum_by, if◌then◌else◌, slice_get, vec_len, vec_capacity, nat_le, nat_lt, Bool, ◌&&◌}
+-- What a recording keeps of each replica beside the entries: where its entries and operations stand, and its
+-- counts.
+use Rattle.std.specs.Prelude.{◌≡◌, ℕ, ◌+◌, ◌<◌, Option, Some, List, ◌∷◌, [], ◌++◌, length, map, filter}
+use Rattle.std.specs.Prelude.{option_map, count_by, sum_by, if◌then◌else◌, slice_get, vec_len, vec_capacity}
+use Rattle.std.specs.Prelude.{nat_le, nat_lt, Bool, ◌&&◌}
 use Rattle.events.specs.History.{IsLegal, response_of, is_insert, is_operation, stream_of}
 use Rattle.events.specs.declared.TheConstants.{MOST_ENTRIES, MOST_INSERTS, MOST_NAMES, MOST_PLACES}
 use Rattle.events.specs.declared.refusal.Refusal.{Refusal}
-use Rattle.events.specs.declared.refusal.Refusal.TheVariants.{EntriesFull, InsertsFull, LongResponse, PlacesFull}
+use Rattle.events.specs.declared.refusal.Refusal.TheVariants.{EntriesFull, InsertsFull, LongResponse}
+use Rattle.events.specs.declared.refusal.Refusal.TheVariants.{PlacesFull}
 use Rattle.events.specs.declared.lane.Lane.{Lane}
 use Rattle.events.specs.declared.lane.Weight.{Weight}
 use Rattle.events.specs.declared.entry.Entry.{Entry}
@@ -27,7 +31,8 @@ pub record IsLaneOf (entries : List Entry) (bodies : List Body) (lane : Lane) : 
 -- one lane for each replica
 pub record AreLanesOf (replicas : ℕ) (entries : List Entry) (lanes : List Lane) : Type 0 where
   pub count : length lanes ≡ replicas
-  pub each : (r : ℕ) (lane : Lane) → slice_get lanes r ≡ Some lane → IsLaneOf entries (stream_of r entries) lane
+  pub each : (r : ℕ) (lane : Lane) → slice_get lanes r ≡ Some lane
+      → IsLaneOf entries (stream_of r entries) lane
 
 -- all that a recording keeps true
 pub record IsKept (replicas : ℕ) (entries : List Entry) (lanes : List Lane) : Type 0 where
@@ -55,7 +60,8 @@ pub record IsSameLane (old new : Lane) : Type 0 where
 -- one more entry, at this place and of this weight
 pub record AddsEntry (old : Lane) (at : ℕ) (w : Weight) (new : Lane) : Type 0 where
   pub entries : new.entries.items ≡ old.entries.items ++ at ∷ []
-  pub operations : new.operations.items ≡ (if w.operates then old.operations.items ++ at ∷ [] else old.operations.items)
+  pub operations : new.operations.items
+      ≡ (if w.operates then old.operations.items ++ at ∷ [] else old.operations.items)
   pub inserts : new.inserts ≡ (if w.inserts then old.inserts + 1 else old.inserts)
   pub places : new.places ≡ old.places + w.places
 

@@ -1,5 +1,6 @@
 -- How far a text goes on with names that stand one after the other.
-use Rattle.std.specs.Prelude.{◌≡◌, ℕ, ◌≤◌, ◌<◌, ◌==◌, ◌++◌, [], ◌∷◌, Bool, true, IsTrue, Option, Some, None, List, length, take, slice_get, All}
+use Rattle.std.specs.Prelude.{◌≡◌, ℕ, ◌≤◌, ◌<◌, ◌==◌, ◌++◌, [], ◌∷◌, Bool, true, IsTrue, Option, Some, None}
+use Rattle.std.specs.Prelude.{List, length, take, slice_get, All}
 use Rattle.events.specs.Names.{NameBytes, IsName}
 use Rattle.events.specs.Packed.{spaced}
 

@@ -10,8 +10,8 @@ use std::simd::prelude::*;
 /// How many bytes are looked at at once.
 const LANES: usize = 16;
 
-/// How many bytes at the front may stand in a name: the place of the first that may not, or all of them. It takes time
-/// linear in that, and no memory.
+/// How many bytes at the front may stand in a name: the place of the first that may not, or all of them. It
+/// takes time linear in that, and no memory.
 pub fn allowed_bytes(bytes: &[u8]) -> usize
     ensures { result ≡ prefix_len is_name_byte bytes.now }
 {
@@ -46,9 +46,9 @@ fn allowed_in_few(bytes: &[u8]) -> usize
 
 /// Of the first sixteen bytes a bit each, the least for the first: whether it may not stand in a name.
 ///
-/// A byte less the first of a range is at most the range's length where the byte is in it, since lesser bytes wrap
-/// round; so one comparison is enough for a range. Letters are asked for with the bit 32 set, which makes small letters of
-/// capitals.
+/// A byte less the first of a range is at most the range's length where the byte is in it, since lesser bytes
+/// wrap round; so one comparison is enough for a range. Letters are asked for with the bit 32 set, which
+/// makes small letters of capitals.
 #[inline(always)]
 fn not_allowed(bytes: &[u8]) -> u64
     requires { LANES ≤ length bytes.now }

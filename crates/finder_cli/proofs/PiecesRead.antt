@@ -22,6 +22,7 @@ ran-out old now new text piece asked read came before one line =
       piece = piece;
       came = before.came;
       made = Makes-trans old.calls now.calls new.calls before.calls (call ∷ []) before.made one;
-      bytes = subst (λ t. Consumes old.bytes new.bytes (t ++ piece)) (sym before.gave) (Consumes-trans old.bytes now.bytes new.bytes text piece read came);
+      bytes = subst (λ t. Consumes old.bytes new.bytes (t ++ piece)) (sym before.gave)
+          (Consumes-trans old.bytes now.bytes new.bytes text piece read came);
       line = subst (λ t. HasMemoryLine t piece) (sym before.gave) line;
     }

@@ -1,11 +1,13 @@
 -- What was written, as an output on the text that was read.
-use Rattle.std.proofs.Common.{◌≡◌, ℕ, Bool, true, List, Option, Some, None, Result, Ok, Err, IfSome, IfOk, IfErr, refl, subst, sym}
+use Rattle.std.proofs.Common.{◌≡◌, ℕ, Bool, true, List, Option, Some, None, Result, Ok, Err, IfSome, IfOk}
+use Rattle.std.proofs.Common.{IfErr, refl, subst, sym}
 use Rattle.std.specs.Io.KnownBytes.{Appends, Consumes, IsAtEnd}
 use Rattle.std.proofs.KnownBytes.{Consumes-whole}
 use Rattle.byte_streams.specs.Streams.{AppendsFront}
 use Rattle.finder_cli.specs.declared.status.Status.{Status}
 use Rattle.finder_cli.specs.declared.status.RunFault.{RunFault}
-use Rattle.finder_cli.specs.declared.status.RunFault.TheVariants.{Memory, Read, Stalled, Thread, Trace, Workers, Write}
+use Rattle.finder_cli.specs.declared.status.RunFault.TheVariants.{Memory, Read, Stalled, Thread, Trace}
+use Rattle.finder_cli.specs.declared.status.RunFault.TheVariants.{Workers, Write}
 use Rattle.command_line.specs.declared.task.Form.{Form}
 use Rattle.events.specs.History.{History}
 use Rattle.specification.specs.TraceText.{Spells}
@@ -24,33 +26,45 @@ pub record WasRead (before after : Option (List ℕ)) (text read : List ℕ) : T
   pub same : text ≡ read
 
 -- an output on the text was written, where the text is known
-pub written-on : (Q : List ℕ → List ℕ → Status → Type 0) (before old new : Option (List ℕ)) (bytes : List ℕ) (status : Status) (answer : Result Status RunFault)
+pub written-on : (Q : List ℕ → List ℕ → Status → Type 0) (before old new : Option (List ℕ)) (bytes : List ℕ)
+    (status : Status) (answer : Result Status RunFault)
     → IfSome before (λ t. Q t bytes status) → IfOk answer (λ s. (s ≡ status) × Appends old new bytes)
     → IfOk answer (λ s. IfSome before (λ t. (output : List ℕ) × Q t output s × Appends old new output))
 written-on Q None old new bytes status (Ok s) of_text wrote = tt
-written-on Q (Some t) old new bytes status (Ok s) of_text wrote = (bytes, subst (λ x. Q t bytes x) (sym wrote.0) of_text, wrote.1)
+written-on Q (Some t) old new bytes status (Ok s) of_text wrote =
+    (bytes, subst (λ x. Q t bytes x) (sym wrote.0) of_text, wrote.1)
 written-on Q before old new bytes status (Err fault) of_text wrote = tt
 
 -- a prefix of one was written
-pub front-on : (Q : List ℕ → List ℕ → Status → Type 0) (failed : Bool) (before old new : Option (List ℕ)) (bytes : List ℕ) (status : Status) (answer : Result Status RunFault)
-    → IfSome before (λ t. Q t bytes status) → IfErr answer (λ f. (f ≡ Write) × (failed ≡ true) × AppendsFront old new bytes)
-    → IfErr answer (λ f. f ≡ Write → (failed ≡ true) × IfSome before (λ t. (output : List ℕ) × (s : Status) × Q t output s × AppendsFront old new output))
+pub front-on : (Q : List ℕ → List ℕ → Status → Type 0) (failed : Bool) (before old new : Option (List ℕ))
+    (bytes : List ℕ) (status : Status) (answer : Result Status RunFault)
+    → IfSome before (λ t. Q t bytes status)
+    → IfErr answer (λ f. (f ≡ Write) × (failed ≡ true) × AppendsFront old new bytes)
+    → IfErr answer (λ f. f ≡ Write → (failed ≡ true)
+    × IfSome before (λ t. (output : List ℕ) × (s : Status) × Q t output s × AppendsFront old new output))
 front-on Q failed None old new bytes status (Err fault) of_text wrote = λ _. (wrote.1, tt)
-front-on Q failed (Some t) old new bytes status (Err fault) of_text wrote = λ _. (wrote.1, (bytes, status, of_text, wrote.2))
+front-on Q failed (Some t) old new bytes status (Err fault) of_text wrote =
+    λ _. (wrote.1, (bytes, status, of_text, wrote.2))
 front-on Q failed before old new bytes status (Ok s) of_text wrote = tt
 
 -- the report on the recording that a text spells is that on the text
-pub report-on : (before : Option (List ℕ)) (h : History) (form : Form) (bytes : List ℕ) (status : Status) → IfSome before (λ t. Spells t h) → IsReportOn h form bytes status → IfSome before (λ t. IsReportOf t form bytes status)
+pub report-on : (before : Option (List ℕ)) (h : History) (form : Form) (bytes : List ℕ) (status : Status)
+    → IfSome before (λ t. Spells t h) → IsReportOn h form bytes status
+    → IfSome before (λ t. IsReportOf t form bytes status)
 report-on None h form bytes status spells made = tt
 report-on (Some t) h form bytes status spells made = (h, made.0, spells, made.1, made.2, made.3)
 
 -- and so is its certificate
-pub certificate-on : (before : Option (List ℕ)) (h : History) (bytes : List ℕ) (status : Status) → IfSome before (λ t. Spells t h) → IsCertificateFor h bytes status → IfSome before (λ t. IsCertificateOn t bytes status)
+pub certificate-on : (before : Option (List ℕ)) (h : History) (bytes : List ℕ) (status : Status)
+    → IfSome before (λ t. Spells t h) → IsCertificateFor h bytes status
+    → IfSome before (λ t. IsCertificateOn t bytes status)
 certificate-on None h bytes status spells made = tt
-certificate-on (Some t) h bytes status spells made = (h, made.0, made.1, spells, made.2, made.3, made.4, made.5)
+certificate-on (Some t) h bytes status spells made =
+    (h, made.0, made.1, spells, made.2, made.3, made.4, made.5)
 
 -- no fault of threads or of memory is one of a text
-pub names-none : (before : Option (List ℕ)) (fault : RunFault) → IsOfSession fault → IfSome before (λ t. NamesFirstFault t fault)
+pub names-none : (before : Option (List ℕ)) (fault : RunFault) → IsOfSession fault
+    → IfSome before (λ t. NamesFirstFault t fault)
 names-none None fault h = tt
 names-none (Some t) Thread h = tt
 names-none (Some t) Stalled h = tt
@@ -61,7 +75,8 @@ names-none (Some t) Read h = absurd h
 names-none (Some t) Write h = absurd h
 
 -- where the fault for that of a rehearsal is that a recorder gave up, so is that of the rehearsal
-pub stalled-rehearsed : (h : History) (why : RehearsalFault) → IsEndOf h why → (why ≡ rehearsal.Stalled → HasStalled h) → fault_of_rehearsal why ≡ Stalled
+pub stalled-rehearsed : (h : History) (why : RehearsalFault) → IsEndOf h why
+    → (why ≡ rehearsal.Stalled → HasStalled h) → fault_of_rehearsal why ≡ Stalled
     → HasStalled h × HasEnded h rehearsal.Stalled
 stalled-rehearsed h rehearsal.Workers ended stalled e = absurd cc
 stalled-rehearsed h rehearsal.Thread ended stalled e = absurd cc
@@ -69,30 +84,48 @@ stalled-rehearsed h rehearsal.Stalled ended stalled e = (stalled refl, ended)
 stalled-rehearsed h rehearsal.Memory ended stalled e = absurd cc
 
 -- the recording that a text spells has stalled
-pub stalled-on : (before : Option (List ℕ)) (h : History) → IfSome before (λ t. Spells t h) → HasStalled h × HasEnded h rehearsal.Stalled → IfSome before HasStalledOn
+pub stalled-on : (before : Option (List ℕ)) (h : History) → IfSome before (λ t. Spells t h)
+    → HasStalled h × HasEnded h rehearsal.Stalled → IfSome before HasStalledOn
 stalled-on None h spells stalled = tt
 stalled-on (Some t) h spells stalled = (h, spells, stalled.0, stalled.1)
 
--- what is so of each text of which this was read, and of this certificate's text, is so of both texts where they are known
-pub of-both : (Was : List ℕ → Type 0) (Q : List ℕ → List ℕ → List ℕ → Status → Type 0) (before before_2 after_2 : Option (List ℕ)) (text_2 read_2 bytes : List ℕ) (status : Status)
-    → IfSome before Was → WasRead before_2 after_2 text_2 read_2 → ((t : List ℕ) → Was t → Q t text_2 bytes status)
+-- what is so of each text of which this was read, and of this certificate's text, is so of both texts where
+-- they are known
+pub of-both : (Was : List ℕ → Type 0) (Q : List ℕ → List ℕ → List ℕ → Status → Type 0)
+    (before before_2 after_2 : Option (List ℕ)) (text_2 read_2 bytes : List ℕ) (status : Status)
+    → IfSome before Was → WasRead before_2 after_2 text_2 read_2
+    → ((t : List ℕ) → Was t → Q t text_2 bytes status)
     → IfSome before (λ t. IfSome before_2 (λ c. Q t c bytes status))
 of-both Was Q None before_2 after_2 text_2 read_2 bytes status was was_2 of_texts = tt
 of-both Was Q (Some t) before_2 after_2 text_2 read_2 bytes status was was_2 of_texts =
-    Consumes-whole before_2 after_2 read_2 (λ c. Q t c bytes status) was_2.consumed was_2.ended (subst (λ c. Q t c bytes status) was_2.same (of_texts t was))
+    Consumes-whole before_2 after_2 read_2 (λ c. Q t c bytes status) was_2.consumed was_2.ended
+    (subst (λ c. Q t c bytes status) was_2.same (of_texts t was))
 
 -- an output on two texts was written
-pub written-of-both : (Q : List ℕ → List ℕ → List ℕ → Status → Type 0) (before before_2 old new : Option (List ℕ)) (bytes : List ℕ) (status : Status) (answer : Result Status RunFault)
-    → IfSome before (λ t. IfSome before_2 (λ c. Q t c bytes status)) → IfOk answer (λ s. (s ≡ status) × Appends old new bytes)
-    → IfOk answer (λ s. IfSome before (λ t. IfSome before_2 (λ c. (output : List ℕ) × Q t c output s × Appends old new output)))
+pub written-of-both : (Q : List ℕ → List ℕ → List ℕ → Status → Type 0)
+    (before before_2 old new : Option (List ℕ)) (bytes : List ℕ) (status : Status)
+    (answer : Result Status RunFault)
+    → IfSome before (λ t. IfSome before_2 (λ c. Q t c bytes status))
+    → IfOk answer (λ s. (s ≡ status) × Appends old new bytes)
+    → IfOk answer
+    (λ s. IfSome before
+    (λ t. IfSome before_2 (λ c. (output : List ℕ) × Q t c output s × Appends old new output)))
 written-of-both Q None before_2 old new bytes status (Ok s) of_texts wrote = tt
-written-of-both Q (Some t) before_2 old new bytes status (Ok s) of_texts wrote = written-on (Q t) before_2 old new bytes status (Ok s) of_texts wrote
+written-of-both Q (Some t) before_2 old new bytes status (Ok s) of_texts wrote =
+    written-on (Q t) before_2 old new bytes status (Ok s) of_texts wrote
 written-of-both Q before before_2 old new bytes status (Err fault) of_texts wrote = tt
 
 -- a prefix of one was written
-pub front-of-both : (Q : List ℕ → List ℕ → List ℕ → Status → Type 0) (failed : Bool) (before before_2 old new : Option (List ℕ)) (bytes : List ℕ) (status : Status) (answer : Result Status RunFault)
-    → IfSome before (λ t. IfSome before_2 (λ c. Q t c bytes status)) → IfErr answer (λ f. (f ≡ Write) × (failed ≡ true) × AppendsFront old new bytes)
-    → IfErr answer (λ f. f ≡ Write → (failed ≡ true) × IfSome before (λ t. IfSome before_2 (λ c. (output : List ℕ) × (s : Status) × Q t c output s × AppendsFront old new output)))
+pub front-of-both : (Q : List ℕ → List ℕ → List ℕ → Status → Type 0) (failed : Bool)
+    (before before_2 old new : Option (List ℕ)) (bytes : List ℕ) (status : Status)
+    (answer : Result Status RunFault)
+    → IfSome before (λ t. IfSome before_2 (λ c. Q t c bytes status))
+    → IfErr answer (λ f. (f ≡ Write) × (failed ≡ true) × AppendsFront old new bytes)
+    → IfErr answer (λ f. f ≡ Write
+    → (failed ≡ true)
+    × IfSome before (λ t. IfSome before_2 (λ c. (output : List ℕ) × (s : Status) × Q t c output s
+    × AppendsFront old new output)))
 front-of-both Q failed None before_2 old new bytes status (Err fault) of_texts wrote = λ _. (wrote.1, tt)
-front-of-both Q failed (Some t) before_2 old new bytes status (Err fault) of_texts wrote = front-on (Q t) failed before_2 old new bytes status (Err fault) of_texts wrote
+front-of-both Q failed (Some t) before_2 old new bytes status (Err fault) of_texts wrote =
+    front-on (Q t) failed before_2 old new bytes status (Err fault) of_texts wrote
 front-of-both Q failed before before_2 old new bytes status (Ok s) of_texts wrote = tt

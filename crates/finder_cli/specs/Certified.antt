@@ -16,24 +16,30 @@ use Rattle.finder_cli.specs.Runs.{status_of}
 use Rattle.finder_cli.specs.declared.status.Status.{Status}
 use Rattle.finder_cli.specs.declared.status.Status.TheVariants.{Good, Bad}
 
--- the text of the certificate, in version two, of the verdict on the recording, and the status of that verdict
+-- the text of the certificate, in version two, of the verdict on the recording, and the status of that
+-- verdict
 abbrev pub IsCertificateFor : History → List ℕ → Status → Type 0
 IsCertificateFor h output status =
-    (v : Verdict) × (c : Certificate) × IsVerdict h v × IsCertificateOf two h v c × (output ≡ certificate_text two c) × (status ≡ status_of v)
+    (v : Verdict) × (c : Certificate) × IsVerdict h v × IsCertificateOf two h v c
+    × (output ≡ certificate_text two c) × (status ≡ status_of v)
 
--- the text of the certificate, in version two, of the verdict on the recording that the text spells, and the status of that verdict
+-- the text of the certificate, in version two, of the verdict on the recording that the text spells, and the
+-- status of that verdict
 abbrev pub IsCertificateOn : List ℕ → List ℕ → Status → Type 0
 IsCertificateOn text output status =
-    (h : History) × (v : Verdict) × (c : Certificate) × Spells text h × IsVerdict h v × IsCertificateOf two h v c
+    (h : History) × (v : Verdict) × (c : Certificate) × Spells text h × IsVerdict h v
+    × IsCertificateOf two h v c
     × (output ≡ certificate_text two c) × (status ≡ status_of v)
 
 -- exactly that text was appended
 abbrev pub Certifies : List ℕ → Option (List ℕ) → Option (List ℕ) → Status → Type 0
-Certifies text old new status = (output : List ℕ) × IsCertificateOn text output status × Appends old new output
+Certifies text old new status =
+    (output : List ℕ) × IsCertificateOn text output status × Appends old new output
 
 -- a prefix of it was appended
 abbrev pub CertifiesFront : List ℕ → Option (List ℕ) → Option (List ℕ) → Type 0
-CertifiesFront text old new = (output : List ℕ) × (status : Status) × IsCertificateOn text output status × AppendsFront old new output
+CertifiesFront text old new =
+    (output : List ℕ) × (status : Status) × IsCertificateOn text output status × AppendsFront old new output
 
 -- good exactly for a yes
 abbrev pub status_of_answer : Answer → Status
@@ -52,8 +58,10 @@ IsLineOn trace cert output status =
 
 -- exactly that line was appended
 abbrev pub Verifies : List ℕ → List ℕ → Option (List ℕ) → Option (List ℕ) → Status → Type 0
-Verifies trace cert old new status = (output : List ℕ) × IsLineOn trace cert output status × Appends old new output
+Verifies trace cert old new status =
+    (output : List ℕ) × IsLineOn trace cert output status × Appends old new output
 
 -- a prefix of it was appended
 abbrev pub VerifiesFront : List ℕ → List ℕ → Option (List ℕ) → Option (List ℕ) → Type 0
-VerifiesFront trace cert old new = (output : List ℕ) × (status : Status) × IsLineOn trace cert output status × AppendsFront old new output
+VerifiesFront trace cert old new =
+    (output : List ℕ) × (status : Status) × IsLineOn trace cert output status × AppendsFront old new output

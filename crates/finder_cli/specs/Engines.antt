@@ -6,7 +6,8 @@ use Rattle.command_line.specs.declared.task.Form.{Form}
 use Rattle.command_line.specs.declared.task.Form.TheVariants.{Text}
 use Rattle.finder_cli.specs.declared.engine.Engine.{Engine}
 use Rattle.finder_cli.specs.declared.engine.Engine.TheVariants as engine
-use Rattle.finder_cli.specs.Runs.{Reports, ReportsFront, NamesFirstFault, HasStalledOn, IsNoWorkers, IsOfRun, IsOfVerifying}
+use Rattle.finder_cli.specs.Runs.{Reports, ReportsFront, NamesFirstFault, HasStalledOn, IsNoWorkers, IsOfRun}
+use Rattle.finder_cli.specs.Runs.{IsOfVerifying}
 use Rattle.finder_cli.specs.Certified.{Certifies, CertifiesFront, Verifies, VerifiesFront}
 use Rattle.finder_cli.specs.OutOfMemory.{RunsOut, RunsOutVerifying}
 use Rattle.finder_cli.specs.declared.status.Status.{Status}
@@ -36,7 +37,8 @@ JudgesAlone count form before after old new answer = Judges count form before af
     × IfErr answer IsOfRun
 
 -- the same by way of a session: that a recorder gave up is answered only where the recording can stall
-abbrev pub JudgesLive : ℕ → SourceState → SourceState → SinkState → SinkState → Result Status RunFault → Type 0
+abbrev pub JudgesLive : ℕ → SourceState → SourceState → SinkState → SinkState → Result Status RunFault
+    → Type 0
 JudgesLive count before after old new answer = Judges count Text before after old new answer
     × IfErr answer (λ fault. fault ≡ run.Stalled → IfSome before.bytes HasStalledOn)
 
@@ -57,8 +59,10 @@ pub record Shows (before after : SourceState) (old new : SinkState)
   pub unwritten : IfErr answer (λ fault. fault ≢ run.Write → new ≡ old)
 
 -- what each engine does that reads one trace
-abbrev pub RunsAs : Engine → SourceState → SourceState → SinkState → SinkState → Result Status RunFault → Type 0
-RunsAs (engine.Verdict count form) before after old new answer = JudgesAlone count form before after old new answer
+abbrev pub RunsAs : Engine → SourceState → SourceState → SinkState → SinkState → Result Status RunFault
+    → Type 0
+RunsAs (engine.Verdict count form) before after old new answer =
+    JudgesAlone count form before after old new answer
 RunsAs engine.Cert before after old new answer = Shows before after old new answer
 RunsAs (engine.Live count) before after old new answer = JudgesLive count before after old new answer
 

@@ -6,8 +6,8 @@ use Rattle.specification.specs.TraceText.{IsCutAt, Spells}
 use Rattle.trace_text.specs.Place.{TakesMemoryAt}
 use Rattle.byte_streams.specs.Streams.{HaveCome, Makes, ReadCall, SourceState, all_that_came}
 
--- with this piece behind what was read, a line is there, with its LF, after right lines, and reading it takes memory; or a line was
--- begun before the piece came
+-- with this piece behind what was read, a line is there, with its LF, after right lines, and reading it takes
+-- memory; or a line was begun before the piece came
 abbrev pub HasMemoryLine : List ℕ → List ℕ → Type 0
 HasMemoryLine read piece = (line : ℕ) × (TakesMemoryAt (read ++ piece) line ⊎ IsCutAt read line)
 
@@ -32,10 +32,11 @@ RunsOut before after = RunsOutAtPiece before after ⊎ WasReadWhole before after
 
 -- bytes came, and no read failed
 abbrev pub HasBytes : SourceState → SourceState → Type 0
-HasBytes before after = (after.failed ≡ false) × ((some : List ℕ) × (0 < length some) × Consumes before.bytes after.bytes some)
+HasBytes before after =
+    (after.failed ≡ false) × ((some : List ℕ) × (0 < length some) × Consumes before.bytes after.bytes some)
 
--- memory ran out at a piece of the trace, and the certificate was left alone; or the trace was read to its end, and bytes of the
--- certificate came, or all of them
+-- memory ran out at a piece of the trace, and the certificate was left alone; or the trace was read to its
+-- end, and bytes of the certificate came, or all of them
 abbrev pub RunsOutVerifying : SourceState → SourceState → SourceState → SourceState → Type 0
 RunsOutVerifying trace trace_after cert cert_after =
     (RunsOutAtPiece trace trace_after × (cert_after ≡ cert))

@@ -1,5 +1,6 @@
 -- What the program does for the words of its command line, in every world.
-use Rattle.std.specs.Prelude.{◌≡◌, ◌⊎◌, ◌∷◌, [], ℕ, true, string_bytes, List, MatchResult, Option, Result, Ok, Err}
+use Rattle.std.specs.Prelude.{◌≡◌, ◌⊎◌, ◌∷◌, [], ℕ, true, string_bytes, List, MatchResult, Option, Result, Ok}
+use Rattle.std.specs.Prelude.{Err}
 use Rattle.std.specs.Io.KnownBytes.{Appends}
 use Rattle.byte_streams.specs.Streams.{SourceState, SinkState, AppendsFront}
 use Rattle.command_line.specs.declared.task.Form.TheVariants.{Text}

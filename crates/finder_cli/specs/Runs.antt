@@ -32,31 +32,37 @@ status_of (refused k steps) = Bad
 
 -- this is the report of the recording, and the status that of its verdict
 abbrev pub IsReportOn : History → Form → List ℕ → Status → Type 0
-IsReportOn h form report status = (v : Verdict) × IsVerdict h v × (report ≡ report_of form h v) × (status ≡ status_of v)
+IsReportOn h form report status =
+    (v : Verdict) × IsVerdict h v × (report ≡ report_of form h v) × (status ≡ status_of v)
 
 -- this is the report of the recording that the text spells, and the status that of its verdict
 abbrev pub IsReportOf : List ℕ → Form → List ℕ → Status → Type 0
 IsReportOf text form report status =
-    (h : History) × (v : Verdict) × Spells text h × IsVerdict h v × (report ≡ report_of form h v) × (status ≡ status_of v)
+    (h : History) × (v : Verdict) × Spells text h × IsVerdict h v × (report ≡ report_of form h v)
+    × (status ≡ status_of v)
 
 -- exactly that report was appended
 abbrev pub Reports : List ℕ → Form → Option (List ℕ) → Option (List ℕ) → Status → Type 0
-Reports text form old new status = (report : List ℕ) × IsReportOf text form report status × Appends old new report
+Reports text form old new status =
+    (report : List ℕ) × IsReportOf text form report status × Appends old new report
 
 -- a prefix of it was appended
 abbrev pub ReportsFront : List ℕ → Form → Option (List ℕ) → Option (List ℕ) → Type 0
-ReportsFront text form old new = (report : List ℕ) × (status : Status) × IsReportOf text form report status × AppendsFront old new report
+ReportsFront text form old new =
+    (report : List ℕ) × (status : Status) × IsReportOf text form report status × AppendsFront old new report
 
 -- the first faulty line of the text, and not out of memory
 abbrev pub IsLineFaultOf : List ℕ → LineFault → Type 0
-IsLineFaultOf text fault = (cause : Cause) × (cause_of fault.cause ≡ Some cause) × IsFirstLineFault text fault.line cause
+IsLineFaultOf text fault =
+    (cause : Cause) × (cause_of fault.cause ≡ Some cause) × IsFirstLineFault text fault.line cause
 
 -- where the fault is of the text, it is the first of the text
 abbrev pub NamesFirstFault : List ℕ → RunFault → Type 0
 NamesFirstFault text (run.Trace fault) = IsLineFaultOf text fault
 NamesFirstFault text _ = Unit {0}
 
--- the text spells a recording that has stalled, and that is the foremost fault in some account of what all threads told
+-- the text spells a recording that has stalled, and that is the foremost fault in some account of what all
+-- threads told
 abbrev pub HasStalledOn : List ℕ → Type 0
 HasStalledOn text = (h : History) × Spells text h × HasStalled h × HasEnded h rehearsal.Stalled
 

@@ -6,7 +6,8 @@ ghost use Rattle.byte_streams.specs.Streams.{IsClosed};
 ghost use Rattle.command_line.specs.declared.task.Form.TheVariants.{Text};
 ghost use Rattle.rehearsal.specs.Ends.{HasEnded};
 ghost use Rattle.rehearsal.specs.Replays.{HasStalled};
-ghost use Rattle.finder_cli.specs.Runs.{IsReportOn, Reports, ReportsFront, NamesFirstFault, HasStalledOn, IsOfSession};
+ghost use Rattle.finder_cli.specs.Runs.{IsReportOn, Reports, ReportsFront, NamesFirstFault, HasStalledOn};
+ghost use Rattle.finder_cli.specs.Runs.{IsOfSession};
 ghost use Rattle.finder_cli.specs.Runs.{IsNoWorkers};
 ghost use Rattle.finder_cli.specs.OutOfMemory.{RunsOut};
 
@@ -47,11 +48,12 @@ pub fn live<H: Threads + Wait + Sync, R: Reader + Drop, W: Writer + Drop, G: Gat
     ensures unread { IsNoWorkers workers → source.new ≡ source.old }
     ensures read { IfErr result (λ fault. fault ≡ RunFault.Read → IsClosed source.new) }
     ensures memory { IfErr result (λ fault. fault ≡ RunFault.Memory → source.new.failed ≡ false) }
-    // Out of memory only at a piece with a line whose reading takes memory, or one that comes in the midst of a
-    // line; or behind the whole text.
+    // Out of memory only at a piece with a line whose reading takes memory, or one that comes in the midst of
+    // a line; or behind the whole text.
     ensures place { IfErr result (λ fault. fault ≡ RunFault.Memory → RunsOut source.old source.new) }
     ensures trace { IfErr result (λ fault. IfSome source.old.bytes (λ text. NamesFirstFault text fault)) }
-    ensures stalled { IfErr result (λ fault. fault ≡ RunFault.Stalled → IfSome source.old.bytes HasStalledOn) }
+    ensures stalled { IfErr result (λ fault. fault ≡ RunFault.Stalled
+        → IfSome source.old.bytes HasStalledOn) }
     ensures write { IfErr result (λ fault. fault ≡ RunFault.Write → (sink.new.failed ≡ true)
         × IfSome source.old.bytes (λ text. ReportsFront text Text sink.old.bytes sink.new.bytes)) }
     ensures unwritten { IfErr result (λ fault. fault ≢ RunFault.Write → sink.new ≡ sink.old) }

@@ -1,6 +1,7 @@
 //! The recording that a source spells, read as it comes.
 
-ghost use Rattle.std.specs.Prelude.{◌≡◌, ◌≢◌, ◌++◌, true, false, IfOk, IfErr, IfSome, List, MatchOption, None};
+ghost use Rattle.std.specs.Prelude.{◌≡◌, ◌≢◌, ◌++◌, true, false, IfOk, IfErr, IfSome, List, MatchOption};
+ghost use Rattle.std.specs.Prelude.{None};
 ghost use Rattle.std.specs.Prelude.{OnOk, ℕ};
 ghost use Rattle.std.specs.Io.KnownBytes.{IsAtEnd};
 ghost use Rattle.specification.specs.TraceText.{Spells};
@@ -33,8 +34,8 @@ pub fn recording_from<R: Reader + Drop>(
     ensures faults { IfErr result IsOfTrace }
     ensures read { IfErr result (λ fault. fault ≡ RunFault.Read → IsClosed source.new) }
     ensures memory { IfErr result (λ fault. fault ≡ RunFault.Memory → source.new.failed ≡ false) }
-    // Out of memory only at a piece with a line whose reading takes memory, or one that comes in the midst of a
-    // line.
+    // Out of memory only at a piece with a line whose reading takes memory, or one that comes in the midst of
+    // a line.
     ensures place { IfErr result (λ fault. fault ≡ RunFault.Memory
         → RunsOutAtPiece source.old source.new) }
 {
@@ -64,8 +65,8 @@ pub fn recording_to_end<R: Reader + Drop>(
     ensures faults { IfErr result IsOfReading }
     ensures read { IfErr result (λ fault. fault ≡ RunFault.Read → IsClosed source.new) }
     ensures memory { IfErr result (λ fault. fault ≡ RunFault.Memory → source.new.failed ≡ false) }
-    // Out of memory only at a piece with a line whose reading takes memory, or one that comes in the midst of a
-    // line.
+    // Out of memory only at a piece with a line whose reading takes memory, or one that comes in the midst of
+    // a line.
     ensures place { IfErr result (λ fault. fault ≡ RunFault.Memory
         → RunsOutAtPiece source.old source.new) }
 {

@@ -1,5 +1,6 @@
 -- How a line falls into words.
-use Rattle.std.proofs.Common.{◌≡◌, ℕ, ◌+◌, ◌<◌, ◌≤◌, ◌==◌, Bool, true, false, not, cond, ltb, List, [], ◌∷◌, length, take, drop, refl, ap, ◌∙◌, arith, Some, None, unwrap_or, position}
+use Rattle.std.proofs.Common.{◌≡◌, ℕ, ◌+◌, ◌<◌, ◌≤◌, ◌==◌, Bool, true, false, not, cond, ltb, List, [], ◌∷◌}
+use Rattle.std.proofs.Common.{length, take, drop, refl, ap, ◌∙◌, arith, Some, None, unwrap_or, position}
 use Rattle.std.specs.List.{onto_first, position_or_len}
 use Rattle.std.proofs.Math.Numerals.{one-add}
 use Rattle.std.proofs.lemmas.List.Sums.{prefix_len-le-length}
@@ -14,7 +15,8 @@ abbrev end_of : List ℕ → ℕ
 end_of text = position_or_len is_space text
 
 cut-step : (c : Bool) (b : ℕ) (bs : List ℕ) (k : ℕ) → words_of bs ≡ take k bs ∷ words_behind (drop k bs) →
-    cond c ([] ∷ words_of bs) (onto_first b (words_of bs)) ≡ take (cond (not c) (1 + k) 0) (b ∷ bs) ∷ words_behind (drop (cond (not c) (1 + k) 0) (b ∷ bs))
+    cond c ([] ∷ words_of bs) (onto_first b (words_of bs)) ≡ take (cond (not c) (1 + k) 0) (b ∷ bs)
+    ∷ words_behind (drop (cond (not c) (1 + k) 0) (b ∷ bs))
 cut-step true b bs k h = refl
 cut-step false b bs k h = rw (one-add k) (ap (onto_first b) h)
 
@@ -26,9 +28,11 @@ place-is : (k m : ℕ) → k ≤ m → unwrap_or (cond (ltb k m) (Some k) None) 
 place-is k m h = grind (arith, nat_tests)
 
 -- the first word ends at the first space, or with the text
-pub first-word : (text : List ℕ) (n : ℕ) → n ≡ unwrap_or (position (λ b. b == 32) text) (length text) → words_of text ≡ take n text ∷ words_behind (drop n text)
+pub first-word : (text : List ℕ) (n : ℕ) → n ≡ unwrap_or (position (λ b. b == 32) text) (length text)
+    → words_of text ≡ take n text ∷ words_behind (drop n text)
 first-word text n e =
-    let at : n ≡ end_of text = e ∙ place-is (end_of text) (length text) (prefix_len-le-length (λ b. not (is_space b)) text) in
+    let at : n ≡ end_of text =
+    e ∙ place-is (end_of text) (length text) (prefix_len-le-length (λ b. not (is_space b)) text) in
     rw at (cut-word text)
 
 -- after a space there is a word

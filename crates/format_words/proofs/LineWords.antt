@@ -33,7 +33,10 @@ word-then w rest h = slice_split_at (λ b. b == 32) w 32 rest h refl
 pub last-word : (w : Word) → LacksSpace w → words_of w ≡ w ∷ []
 last-word w h = slice_split_none (λ b. b == 32) w h
 
-pub names-words : (w : Word) (names : List NameBytes) → LacksSpace w → All LacksSpace names → words_of (w ++ names_text names) ≡ w ∷ names
+pub names-words : (w : Word) (names : List NameBytes) → LacksSpace w → All LacksSpace names
+    → words_of (w ++ names_text names) ≡ w ∷ names
 names-words w [] h k = ap words_of (append-nil w) ∙ last-word w h
 names-words w (a ∷ names) h k =
-    word-then w (a ++ names_text names) h ∙ ap (λ l. w ∷ l) (names-words a names (All-head LacksSpace a names k) (All-tail LacksSpace a names k))
+    word-then w (a ++ names_text names) h
+    ∙ ap (λ l. w ∷ l)
+    (names-words a names (All-head LacksSpace a names k) (All-tail LacksSpace a names k))

@@ -8,7 +8,8 @@ use Rattle.events.proofs.NoFaults.{no-fault-name, name-no-fault}
 use Rattle.format_words.specs.Words.{Word}
 use Rattle.format_words.specs.Reading.{unless_fault, name_of}
 
-unless-fault-some : (f : Option NameFault) (w : Word) (a : NameBytes) → unless_fault f w ≡ Some a → (f ≡ None) × (w ≡ a)
+unless-fault-some : (f : Option NameFault) (w : Word) (a : NameBytes) → unless_fault f w ≡ Some a
+    → (f ≡ None) × (w ≡ a)
 unless-fault-some None w a e = (refl, same_Some w a e)
 unless-fault-some (Some f) w a e = absurd (cc)
 

@@ -1,5 +1,6 @@
 -- Words that are read are the words of what is read, and are read as that.
-use Rattle.std.proofs.Common.{◌≡◌, ℕ, ◌<◌, ◌^◌, List, [], ◌∷◌, refl, ap, ◌∙◌, subst, decimal, Option, Some, None}
+use Rattle.std.proofs.Common.{◌≡◌, ℕ, ◌<◌, ◌^◌, List, [], ◌∷◌, refl, ap, ◌∙◌, subst, decimal, Option, Some}
+use Rattle.std.proofs.Common.{None}
 use Rattle.std.specs.Str.{bytes_eq}
 use Rattle.std.specs.List.{All}
 use Rattle.std.proofs.lemmas.Slice.Eq.{bytes_eq-Decides}
@@ -11,19 +12,22 @@ use Rattle.format_words.specs.Reading.{◌>>=◌, no_more, number_of, name_of, n
 use Rattle.format_words.proofs.Numbers.{number_of-is, number_of-decimal}
 use Rattle.format_words.proofs.NameWords.{name-is, name_of-name}
 
-pub bind-some : {A B : Type 0} (o : Option A) (f : A → Option B) (y : B) → (o >>= f) ≡ Some y → (x : A) × (o ≡ Some x) × (f x ≡ Some y)
+pub bind-some : {A B : Type 0} (o : Option A) (f : A → Option B) (y : B) → (o >>= f) ≡ Some y
+    → (x : A) × (o ≡ Some x) × (f x ≡ Some y)
 bind-some None f y e = absurd (cc)
 bind-some (Some x) f y e = (x, refl, e)
 
 -- what is read of the first word, and the words behind it
-pub read-first : {A : Type 0} (read : Word → Option A) (w : Word) (ws : List Word) (x : A) (more : List Word) → ◌>>=◌ {B = A × List Word} (read w) (λ y. Some (y, ws)) ≡ Some (x, more)
+pub read-first : {A : Type 0} (read : Word → Option A) (w : Word) (ws : List Word) (x : A) (more : List Word)
+    → ◌>>=◌ {B = A × List Word} (read w) (λ y. Some (y, ws)) ≡ Some (x, more)
     → (read w ≡ Some x) × (ws ≡ more)
 read-first {A} read w ws x more e =
     let p = bind-some {B = A × List Word} (read w) (λ y. Some (y, ws)) (x, more) e in
     let parts = some_pair_parts p.0 x ws more p.2 in
     (p.1 ∙ ap Some parts.0, parts.1)
 
-pub number-at-is : (ws : List Word) (n : ℕ) (more : List Word) → number_at ws ≡ Some (n, more) → (ws ≡ decimal n ∷ more) × (n < 2 ^ 32)
+pub number-at-is : (ws : List Word) (n : ℕ) (more : List Word) → number_at ws ≡ Some (n, more)
+    → (ws ≡ decimal n ∷ more) × (n < 2 ^ 32)
 unfolding number_at
 number-at-is [] n more e = absurd (cc)
 number-at-is (w ∷ ws) n more e =
@@ -31,7 +35,8 @@ number-at-is (w ∷ ws) n more e =
     let is = number_of-is w n p.0 in
     (cc, is.1)
 
-pub after-word-is : (wanted : Word) (ws more : List Word) → after_word wanted ws ≡ Some more → ws ≡ wanted ∷ more
+pub after-word-is : (wanted : Word) (ws more : List Word) → after_word wanted ws ≡ Some more
+    → ws ≡ wanted ∷ more
 unfolding after_word
 after-word-is wanted [] more e = absurd (cc)
 after-word-is wanted (w ∷ ws) more e =
@@ -39,7 +44,8 @@ after-word-is wanted (w ∷ ws) more e =
     let same = (bytes_eq-Decides w wanted).0 parts.0 in
     cc
 
-pub names-are : (ws : List Word) (names : List NameBytes) → names_at ws ≡ Some names → (ws ≡ names) × All IsName names
+pub names-are : (ws : List Word) (names : List NameBytes) → names_at ws ≡ Some names
+    → (ws ≡ names) × All IsName names
 unfolding names_at
 names-are [] names e = let same = same_Some [] names e in (same, subst (All IsName) same (All-nil IsName))
 names-are (w ∷ ws) names e =
@@ -65,4 +71,5 @@ word-again wanted ws = rw ((bytes_eq-Decides wanted wanted).1 refl) refl
 pub names-again : (names : List NameBytes) → All IsName names → names_at names ≡ Some names
 unfolding names_at
 names-again [] h = refl
-names-again (a ∷ names) h = rw (name_of-name a (All-head IsName a names h), names-again names (All-tail IsName a names h)) refl
+names-again (a ∷ names) h =
+    rw (name_of-name a (All-head IsName a names h), names-again names (All-tail IsName a names h)) refl

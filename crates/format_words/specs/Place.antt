@@ -1,4 +1,5 @@
--- Where a fault stands in a text, whatever its cause, in a format that says which lines are the first ones of a spelling.
+-- Where a fault stands in a text, whatever its cause, in a format that says which lines are the first ones of
+-- a spelling.
 use Rattle.std.specs.Prelude.{◌≡◌, ℕ, ◌+◌, List, ◌∷◌, ◌++◌, length}
 use Rattle.specification.specs.Lines.{Line, text_of, IsOneLine}
 
@@ -11,7 +12,8 @@ pub record IsBehindRightLines (Begins : List Line → Type 0) (text : List ℕ) 
   pub number : line ≡ length good + 1
 
 -- the line of this number is there, with its LF, after such lines, and reading it takes memory
-pub record TakesMemoryAt (Begins : List Line → Type 0) (Takes : List Line → Line → Type 0) (text : List ℕ) (line : ℕ) : Type 0 where
+pub record TakesMemoryAt (Begins : List Line → Type 0) (Takes : List Line → Line → Type 0) (text : List ℕ)
+    (line : ℕ) : Type 0 where
   pub good : List Line
   pub begins : Begins good
   pub next : Line

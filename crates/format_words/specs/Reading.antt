@@ -1,5 +1,7 @@
 -- What words say: a number, a name, the name of an operation. Nothing, where they say none.
-use Rattle.std.specs.Prelude.{◌≡◌, ℕ, ◌+◌, ◌≤◌, ◌^◌, ◌==◌, ◌&&◌, nat_lt, nat_le, take, drop, position, if◌then◌else◌, Option, Some, None, option_and_then, option_map, Result, Ok, Err, List, [], ◌∷◌, ◌++◌, length, decimal, bytes_eq}
+use Rattle.std.specs.Prelude.{◌≡◌, ℕ, ◌+◌, ◌≤◌, ◌^◌, ◌==◌, ◌&&◌, nat_lt, nat_le, take, drop, position}
+use Rattle.std.specs.Prelude.{if◌then◌else◌, Option, Some, None, option_and_then, option_map, Result, Ok, Err}
+use Rattle.std.specs.Prelude.{List, [], ◌∷◌, ◌++◌, length, decimal, bytes_eq}
 use Rattle.std.specs.Str.Parse.{digits_value}
 use Rattle.events.specs.Names.{NameBytes}
 use Rattle.events.specs.Operation.{Operation}
@@ -45,7 +47,9 @@ HasSome ys = 1 ≤ length ys
 
 -- the number below 2 ^ 32 whose decimal text the word is
 unfoldable pub number_of : Word → Option ℕ
-number_of w = if bytes_eq w (decimal (digits_value 10 w)) && nat_lt (digits_value 10 w) (2 ^ 32) then Some (digits_value 10 w) else None
+number_of w =
+    if bytes_eq w (decimal (digits_value 10 w)) && nat_lt (digits_value 10 w) (2 ^ 32) then Some
+    (digits_value 10 w) else None
 
 abbrev pub unless_fault : Option NameFault → Word → Option NameBytes
 unless_fault None w = Some w

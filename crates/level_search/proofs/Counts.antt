@@ -1,5 +1,6 @@
 -- Counts of looks: of a search under a lower bound, of several together, and how many at most.
-use Rattle.std.proofs.Common.{◌≡◌, ℕ, zero, suc, ◌+◌, ◌*◌, ◌<◌, ◌≤◌, ◌⊎◌, Option, Some, None, List, [], ◌∷◌, ◌++◌, length, min, inl, inr, refl, sym, ap, subst, ◌∙◌, le_trans, arith}
+use Rattle.std.proofs.Common.{◌≡◌, ℕ, zero, suc, ◌+◌, ◌*◌, ◌<◌, ◌≤◌, ◌⊎◌, Option, Some, None, List, [], ◌∷◌}
+use Rattle.std.proofs.Common.{◌++◌, length, min, inl, inr, refl, sym, ap, subst, ◌∙◌, le_trans, arith}
 use Rattle.std.specs.Prelude.{slice_index}
 use Rattle.std.proofs.Math.Nat.{add-mul}
 use Rattle.level_search.specs.LayerSizes.{counted, layer_size, set_size}
@@ -7,17 +8,23 @@ use Rattle.level_search.specs.Looks.{AreCountsAt, HasLooked, HaveLooked, IsAtEnd
 use Rattle.level_search.specs.declared.tabled.sets.Sets.{Sets}
 use Rattle.level_search.proofs.LayerSizes.{layer-up, sizes-within}
 
-end-lower : (n : ℕ) (sets : Sets) (low low' level : ℕ) → low' ≤ low → IsAtEnd n sets low level → IsAtEnd n sets low' level
+end-lower : (n : ℕ) (sets : Sets) (low low' level : ℕ) → low' ≤ low → IsAtEnd n sets low level
+    → IsAtEnd n sets low' level
 end-lower n sets low low' level less (inl high) = inl (le_trans less high)
 end-lower n sets low low' level less (inr none) = inr none
 
-part-lower : (n : ℕ) (rows : List (List ℕ)) (s low low' : ℕ) (sets : Sets) (level : ℕ) (answer : Option ℕ) (part : ℕ) → low' ≤ low → IsLastPart n rows s low sets level answer part → IsLastPart n rows s low' sets level answer part
+part-lower : (n : ℕ) (rows : List (List ℕ)) (s low low' : ℕ) (sets : Sets) (level : ℕ) (answer : Option ℕ)
+    (part : ℕ) → low' ≤ low → IsLastPart n rows s low sets level answer part
+    → IsLastPart n rows s low' sets level answer part
 part-lower n rows s low low' sets level (Some m) part less is = is
-part-lower n rows s low low' sets level None part less (inl is) = inl (is.0, end-lower n sets low low' level less is.1)
+part-lower n rows s low low' sets level None part less (inl is) =
+    inl (is.0, end-lower n sets low low' level less is.1)
 part-lower n rows s low low' sets level None part less (inr is) = inr (is.0, le_trans less is.1)
 
 -- a lower bound is no less than a lower one
-pub count-lower : (n : ℕ) (rows : List (List ℕ)) (s low low' : ℕ) (sets : Sets) (answer : Option ℕ) (count : ℕ) → low' ≤ low → IsCountOf n rows s low sets answer count → IsCountOf n rows s low' sets answer count
+pub count-lower : (n : ℕ) (rows : List (List ℕ)) (s low low' : ℕ) (sets : Sets) (answer : Option ℕ)
+    (count : ℕ) → low' ≤ low → IsCountOf n rows s low sets answer count
+    → IsCountOf n rows s low' sets answer count
 count-lower n rows s low low' sets answer count less is = record {
   level = is.level;
   near = is.near;
@@ -27,10 +34,14 @@ count-lower n rows s low low' sets answer count less is = record {
   is_sum = is.is_sum;
 }
 
-pub looked-lower : (n : ℕ) (rows : List (List ℕ)) (s low low' : ℕ) (sets : Sets) (answer : Option ℕ) (old new : ℕ) → low' ≤ low → HasLooked n rows s low sets answer old new → HasLooked n rows s low' sets answer old new
-looked-lower n rows s low low' sets answer old new less is = (is.0, count-lower n rows s low low' sets answer is.0 less is.1, is.2)
+pub looked-lower : (n : ℕ) (rows : List (List ℕ)) (s low low' : ℕ) (sets : Sets) (answer : Option ℕ)
+    (old new : ℕ) → low' ≤ low → HasLooked n rows s low sets answer old new
+    → HasLooked n rows s low' sets answer old new
+looked-lower n rows s low low' sets answer old new less is =
+    (is.0, count-lower n rows s low low' sets answer is.0 less is.1, is.2)
 
-pub counts-lower : (n : ℕ) (rows : List (List ℕ)) (low low' : ℕ) (sources places : List ℕ) (count : ℕ) → low' ≤ low → AreCountsAt n rows low sources places count → AreCountsAt n rows low' sources places count
+pub counts-lower : (n : ℕ) (rows : List (List ℕ)) (low low' : ℕ) (sources places : List ℕ) (count : ℕ)
+    → low' ≤ low → AreCountsAt n rows low sources places count → AreCountsAt n rows low' sources places count
 counts-lower n rows low low' sources [] count less are = are
 counts-lower n rows low low' sources (place ∷ places) count less are = (
   are.0,
@@ -43,13 +54,17 @@ counts-lower n rows low low' sources (place ∷ places) count less are = (
 )
 
 -- one search more
-pub counts-one : (n : ℕ) (rows : List (List ℕ)) (low : ℕ) (sources : List ℕ) (place : ℕ) (sets : Sets) (answer : Option ℕ) (one : ℕ)
-    → IsCountOf n rows (slice_index sources place) low sets answer one → AreCountsAt n rows low sources (place ∷ []) one
+pub counts-one : (n : ℕ) (rows : List (List ℕ)) (low : ℕ) (sources : List ℕ) (place : ℕ) (sets : Sets)
+    (answer : Option ℕ) (one : ℕ)
+    → IsCountOf n rows (slice_index sources place) low sets answer one
+    → AreCountsAt n rows low sources (place ∷ []) one
 counts-one n rows low sources place sets answer one is = (one, 0, sets, answer, is, refl, omega arith)
 
-pub counts-append : (n : ℕ) (rows : List (List ℕ)) (low : ℕ) (sources xs ys : List ℕ) (a b : ℕ) → AreCountsAt n rows low sources xs a → AreCountsAt n rows low sources ys b
+pub counts-append : (n : ℕ) (rows : List (List ℕ)) (low : ℕ) (sources xs ys : List ℕ) (a b : ℕ)
+    → AreCountsAt n rows low sources xs a → AreCountsAt n rows low sources ys b
     → AreCountsAt n rows low sources (xs ++ ys) (a + b)
-counts-append n rows low sources [] ys a b none are = subst (AreCountsAt n rows low sources ys) (let zero : b ≡ a + b = omega (arith, none) in zero) are
+counts-append n rows low sources [] ys a b none are =
+    subst (AreCountsAt n rows low sources ys) (let zero : b ≡ a + b = omega (arith, none) in zero) are
 counts-append n rows low sources (x ∷ xs) ys a b one are = (
   one.0,
   one.1 + b,
@@ -60,7 +75,8 @@ counts-append n rows low sources (x ∷ xs) ys a b one are = (
   (let sum = one.6 in omega (arith, sum)),
 )
 
-part-within : (n : ℕ) (rows : List (List ℕ)) (s low : ℕ) (sets : Sets) (level : ℕ) (answer : Option ℕ) (part : ℕ) → IsLastPart n rows s low sets level answer part → part ≤ layer_size n sets
+part-within : (n : ℕ) (rows : List (List ℕ)) (s low : ℕ) (sets : Sets) (level : ℕ) (answer : Option ℕ)
+    (part : ℕ) → IsLastPart n rows s low sets level answer part → part ≤ layer_size n sets
 part-within n rows s low sets level (Some m) part is =
     let known = is.2.here.known in
     let up = layer-up sets (is.1 + 1) n (omega (arith, known)) in
@@ -70,13 +86,15 @@ part-within n rows s low sets level None part (inl is) = let none = is.0 in omeg
 part-within n rows s low sets level None part (inr is) = let all = is.0 in omega (arith, all)
 
 -- no search looks more than twice at the row of each element
-pub count-most : (n : ℕ) (rows : List (List ℕ)) (s low : ℕ) (sets : Sets) (answer : Option ℕ) (count : ℕ) → IsCountOf n rows s low sets answer count → count ≤ 2 * n
+pub count-most : (n : ℕ) (rows : List (List ℕ)) (s low : ℕ) (sets : Sets) (answer : Option ℕ) (count : ℕ)
+    → IsCountOf n rows s low sets answer count → count ≤ 2 * n
 count-most n rows s low sets answer count is =
     let part = part-within n rows s low sets is.level answer is.part is.is_part in
     let sum = is.is_sum in
     omega (arith, sum, part, sizes-within n sets)
 
-pub counts-most : (n : ℕ) (rows : List (List ℕ)) (low : ℕ) (sources places : List ℕ) (count : ℕ) → AreCountsAt n rows low sources places count → count ≤ length places * (2 * n)
+pub counts-most : (n : ℕ) (rows : List (List ℕ)) (low : ℕ) (sources places : List ℕ) (count : ℕ)
+    → AreCountsAt n rows low sources places count → count ≤ length places * (2 * n)
 counts-most n rows low sources [] count are = omega (arith, are)
 counts-most n rows low sources (place ∷ places) count are =
     let one = count-most n rows (slice_index sources place) low are.2 are.3 are.0 are.4 in
@@ -89,7 +107,8 @@ pub counted-is : (k : ℕ) → counted k 0 ≡ min k 18446744073709551615
 counted-is zero = refl
 counted-is (suc k) = let h = counted-is k in omega (arith, h)
 
-pub counted-together : (a b one other all : ℕ) → one ≡ counted a 0 → other ≡ counted b 0 → all ≡ min (one + other) 18446744073709551615 → all ≡ counted (a + b) 0
+pub counted-together : (a b one other all : ℕ) → one ≡ counted a 0 → other ≡ counted b 0
+    → all ≡ min (one + other) 18446744073709551615 → all ≡ counted (a + b) 0
 counted-together a b one other all is_one is_other sum =
     let p = counted-is a in
     let q = counted-is b in

@@ -11,7 +11,8 @@ pub none : (v : Responses) → AreProper v → (m : ℕ) → IsLeastLength v m �
 none v proper m (inl shortest) e = let fits = shortest-fits v proper m shortest in absurd (omega arith)
 none v proper m (inr without) e = (conflict_number_is_shortest_cycle v proper).1.1 without.1
 
-pub some : (v : Responses) → AreProper v → (m : ℕ) → IsLeastLength v m → m ≢ 4294967295 → HasConflictNumber v m
+pub some : (v : Responses) → AreProper v → (m : ℕ) → IsLeastLength v m → m ≢ 4294967295
+    → HasConflictNumber v m
 some v proper m (inl shortest) other = ((conflict_number_is_shortest_cycle v proper).0 m).1 shortest
 some v proper m (inr without) other = absurd (other without.0)
 

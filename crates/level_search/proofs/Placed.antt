@@ -1,5 +1,6 @@
 -- Numbers that stand at places of lists are no more than the places.
-use Rattle.std.proofs.Common.{◌≡◌, ◌≢◌, ℕ, zero, suc, ◌+◌, ◌*◌, ◌<◌, ◌≤◌, Some, List, [], ◌∷◌, ◌++◌, length, refl, ap, ◌∙◌, arith, length-append}
+use Rattle.std.proofs.Common.{◌≡◌, ◌≢◌, ℕ, zero, suc, ◌+◌, ◌*◌, ◌<◌, ◌≤◌, Some, List, [], ◌∷◌, ◌++◌, length}
+use Rattle.std.proofs.Common.{refl, ap, ◌∙◌, arith, length-append}
 use Rattle.std.specs.Prelude.{AllPairs, Contains, sum_by}
 use Rattle.std.specs.List.{range_with_len}
 use Rattle.std.proofs.lemmas.List.FromFn.{length-range_with_len}
@@ -8,7 +9,8 @@ use Rattle.std.proofs.lemmas.List.Sums.{sum_by-cons}
 use Rattle.std.proofs.lemmas.Nat.{mul-le}
 use Rattle.std.proofs.lemmas.Option.{slice_get-get_or}
 use Rattle.specification.specs.Responses.{Responses, place_count}
-use Rattle.specification.proofs.Members.{In, Once, Once-bounded, Once-from_AllPairs, In-append_left, In-append_right, In-from_place, Contains-from_In}
+use Rattle.specification.proofs.Members.{In, Once, Once-bounded, Once-from_AllPairs, In-append_left}
+use Rattle.specification.proofs.Members.{In-append_right, In-from_place, Contains-from_In}
 use Rattle.order_graph.specs.Lists.{lists_of, row, Stands}
 use Rattle.order_graph.proofs.Shown.{lists-total}
 use Rattle.level_search.specs.Conflicts.{IsWithinSearches}
@@ -24,7 +26,8 @@ joined (r ∷ rs) = r ++ joined rs
 
 joined-length : (rows : List (List ℕ)) → length (joined rows) ≡ sum_by (λ r. length r) rows
 joined-length [] = refl
-joined-length (r ∷ rs) = omega (arith, length-append r (joined rs), joined-length rs, sum_by-cons (λ (l : List ℕ). length l) r rs)
+joined-length (r ∷ rs) =
+    omega (arith, length-append r (joined rs), joined-length rs, sum_by-cons (λ (l : List ℕ). length l) r rs)
 
 in-joined : (rows : List (List ℕ)) (l x : ℕ) → In x (row rows l) → In x (joined rows)
 in-joined [] l x i = i
@@ -32,23 +35,32 @@ in-joined (r ∷ rs) zero x i = In-append_left x r (joined rs) i
 in-joined (r ∷ rs) (suc l) x i = In-append_right x r (joined rs) (in-joined rs l x i)
 
 rising-once : (xs : List ℕ) → AllPairs (λ x y. x < y) xs → Once xs
-rising-once xs rising = Once-from_AllPairs xs (λ i j d lt within e. (let up = rising i j d lt within in omega arith))
+rising-once xs rising =
+    Once-from_AllPairs xs (λ i j d lt within e. (let up = rising i j d lt within in omega arith))
 
-pub placed-few : (v : Responses) (xs : List ℕ) → AllPairs (λ x y. x < y) xs → ((x : ℕ) → Contains xs x → IsPlaced (lists_of v) x) → length xs ≤ place_count v
+pub placed-few : (v : Responses) (xs : List ℕ) → AllPairs (λ x y. x < y) xs
+    → ((x : ℕ) → Contains xs x → IsPlaced (lists_of v) x) → length xs ≤ place_count v
 placed-few v xs rising placed =
     let rows : List (List ℕ) = lists_of v in
     let few : length xs ≤ length (joined rows) =
     Once-bounded xs (joined rows) (rising-once xs rising) (λ z i.
     (let at = placed z (Contains-from_In xs z i) in
-    in-joined rows at.list z (In-from_place (row rows at.list) at.place z (slice_get-get_or (row rows at.list) at.place 0 at.here.within ∙ ap Some at.here.here)))) in
+    in-joined rows at.list z (In-from_place (row rows at.list) at.place z
+    (slice_get-get_or (row rows at.list) at.place 0 at.here.within ∙ ap Some at.here.here)))) in
     omega (arith, few, joined-length rows, lists-total v)
 
--- a search from each of these elements, with two looks at most at the row of each, makes no more looks than elements times places and elements
-pub within-searches : (v : Responses) (n : ℕ) (rows : List (List ℕ)) (least looked : ℕ) → n ≤ length v.elements → n ≤ place_count v → AreLooksOf n rows least looked → IsWithinSearches v looked
+-- a search from each of these elements, with two looks at most at the row of each, makes no more looks than
+-- elements times places and elements
+pub within-searches : (v : Responses) (n : ℕ) (rows : List (List ℕ)) (least looked : ℕ)
+    → n ≤ length v.elements → n ≤ place_count v → AreLooksOf n rows least looked → IsWithinSearches v looked
 within-searches v n rows least looked known placed is =
     let all = counts-most n rows least is.sources is.places is.count is.counts in
-    let searches : length is.places ≡ length is.sources = length_permutation (range_with_len 0 (length is.sources)) is.places is.once ∙ length-range_with_len 0 (length is.sources) in
+    let searches : length is.places ≡ length is.sources =
+    length_permutation (range_with_len 0 (length is.sources)) is.places is.once
+    ∙ length-range_with_len 0 (length is.sources) in
     let few = is.few in
-    let most = mul-le (length is.places) (2 * n) (length v.elements) (place_count v + length v.elements) (omega (arith, searches, few, known)) (omega (arith, known, placed)) in
+    let most =
+    mul-le (length is.places) (2 * n) (length v.elements) (place_count v + length v.elements)
+    (omega (arith, searches, few, known)) (omega (arith, known, placed)) in
     let looked_is = is.looked_is in
     omega (arith, looked_is, all, most, counted-most is.count 0)

@@ -1,5 +1,7 @@
 -- An order of elements that each list follows: each cycle leads through an element that it leaves out.
-use Rattle.std.proofs.Common.{◌≡◌, ◌≢◌, ℕ, suc, ◌+◌, ◌<◌, ◌≤◌, ◌⊎◌, inl, inr, List, [], ◌∷◌, ◌++◌, length, get_or, set, get_or-set_same, get_or-set_other, length-set, slice_index, sym, ap, ◌∙◌, subst, arith}
+use Rattle.std.proofs.Common.{◌≡◌, ◌≢◌, ℕ, suc, ◌+◌, ◌<◌, ◌≤◌, ◌⊎◌, inl, inr, List, [], ◌∷◌, ◌++◌, length}
+use Rattle.std.proofs.Common.{get_or, set, get_or-set_same, get_or-set_other, length-set, slice_index, sym}
+use Rattle.std.proofs.Common.{ap, ◌∙◌, subst, arith}
 use Rattle.std.specs.Prelude.{◌↔◌, Contains}
 use Rattle.std.proofs.lemmas.Bool.{cases_lt, cases_eq}
 use Rattle.std.proofs.lemmas.List.Elements.{Contains-append_left, Contains-append_right}
@@ -15,7 +17,8 @@ use Rattle.level_search.proofs.BallLemmas.{before_shown}
 use Rattle.list_search.proofs.RingWalks.{ring_through, cycle_ring}
 
 -- nothing is ranked where all have no rank
-pub ranked-none : (table : List (List ℕ)) (taken ranks : List ℕ) → ((x : ℕ) → x < length ranks → slice_index ranks x ≡ UNRANKED) → AreRanked table 0 taken ranks
+pub ranked-none : (table : List (List ℕ)) (taken ranks : List ℕ)
+    → ((x : ℕ) → x < length ranks → slice_index ranks x ≡ UNRANKED) → AreRanked table 0 taken ranks
 ranked-none table taken ranks none = record {
   below = λ x low ranked. absurd (ranked (none x low));
   are_taken = λ x low ranked. absurd (ranked (none x low));
@@ -24,7 +27,9 @@ ranked-none table taken ranks none = record {
 }
 
 -- more is taken, and nothing more ranked
-pub ranked-more : (table : List (List ℕ)) (next : ℕ) (taken new ranks : List ℕ) → ((x : ℕ) → Has taken x → Has new x) → AreRanked table next taken ranks → AreRanked table (next + 1) new ranks
+pub ranked-more : (table : List (List ℕ)) (next : ℕ) (taken new ranks : List ℕ)
+    → ((x : ℕ) → Has taken x → Has new x) → AreRanked table next taken ranks
+    → AreRanked table (next + 1) new ranks
 ranked-more table next taken new ranks more are = record {
   below = λ x low ranked. let lt = are.below x low ranked in omega arith;
   are_taken = λ x low ranked. more x (are.are_taken x low ranked);
@@ -33,18 +38,23 @@ ranked-more table next taken new ranks more are = record {
 }
 
 -- one element more is ranked, before which only those stand that are taken
-pub ranked-one : (table : List (List ℕ)) (next x : ℕ) (taken new ranks : List ℕ) → x < length ranks → next < UNRANKED → ¬ Has taken x
+pub ranked-one : (table : List (List ℕ)) (next x : ℕ) (taken new ranks : List ℕ) → x < length ranks
+    → next < UNRANKED → ¬ Has taken x
     → ((a : ℕ) → Has (row_of table x) a → Has taken a) → ((a : ℕ) → Has new a ↔ (Has taken a ⊎ (a ≡ x)))
     → AreRanked table next taken ranks → AreRanked table (next + 1) new (set ranks x next)
 ranked-one table next x taken new ranks low small fresh behind grown are =
     let long : length (set ranks x next) ≡ length ranks = length-set ranks x next in
-    let here : (a : ℕ) → a ≡ x → get_or (set ranks x next) a 0 ≡ next = λ a e. ap (λ i. get_or (set ranks x next) i 0) e ∙ get_or-set_same ranks x next 0 low in
-    let there : (a : ℕ) → a ≢ x → get_or (set ranks x next) a 0 ≡ get_or ranks a 0 = λ a apart. get_or-set_other ranks x a next 0 apart in
-    let was : (a : ℕ) → a ≢ x → IsRanked (set ranks x next) a → IsRanked ranks a = λ a apart ranked e. ranked (there a apart ∙ e) in
+    let here : (a : ℕ) → a ≡ x → get_or (set ranks x next) a 0 ≡ next =
+    λ a e. ap (λ i. get_or (set ranks x next) i 0) e ∙ get_or-set_same ranks x next 0 low in
+    let there : (a : ℕ) → a ≢ x → get_or (set ranks x next) a 0 ≡ get_or ranks a 0 =
+    λ a apart. get_or-set_other ranks x a next 0 apart in
+    let was : (a : ℕ) → a ≢ x → IsRanked (set ranks x next) a → IsRanked ranks a =
+    λ a apart ranked e. ranked (there a apart ∙ e) in
     record {
       below = λ a within ranked. elim (cases_eq a x) [
         | inl e ↦ omega (arith, here a e)
-        | inr apart ↦ let lt = are.below a (omega (arith, long)) (was a apart ranked) in omega (arith, there a apart)
+        | inr apart ↦ let lt = are.below a (omega (arith, long)) (was a apart ranked) in
+            omega (arith, there a apart)
       ];
       are_taken = λ a within ranked. elim (cases_eq a x) [
         | inl e ↦ (grown a).1 (inr e)
@@ -59,37 +69,51 @@ ranked-one table next x taken new ranks low small fresh behind grown are =
             let gone = behind a (subst (λ i. Has (row_of table i) a) e has) in
             elim (cases_eq a x) [
               | inl same ↦ absurd (fresh (subst (Has taken) same gone))
-              | inr apart ↦ let lt = are.below a (omega (arith, long)) (was a apart first) in omega (arith, there a apart, here b e)
+              | inr apart ↦ let lt = are.below a (omega (arith, long)) (was a apart first) in
+                  omega (arith, there a apart, here b e)
             ]
         | inr apart_b ↦
             elim (cases_eq a x) [
-              | inl same ↦ absurd (fresh (subst (Has taken) same (are.closed a b (omega (arith, long)) (was b apart_b second) has)))
+              | inl same ↦
+                  absurd (fresh
+                  (subst (Has taken) same (are.closed a b (omega (arith, long)) (was b apart_b second) has)))
               | inr apart ↦
-                  let lt = are.rises a b (omega (arith, long)) (omega (arith, long)) (was a apart first) (was b apart_b second) has in
+                  let lt =
+                  are.rises a b (omega (arith, long)) (omega (arith, long)) (was a apart first)
+                  (was b apart_b second) has in
                   omega (arith, there a apart, there b apart_b)
             ]
       ];
     }
 
 -- along each list the ranked elements rise
-pub ranked-rise : (rows table : List (List ℕ)) (n next : ℕ) (taken ranks : List ℕ) → IsBeforeTable n rows table → length ranks ≡ n
-    → ((a b : ℕ) → Before rows a b → (a < n) × (b < n)) → AreRanked table next taken ranks → (l : ℕ) → Rises rows ranks l
+pub ranked-rise : (rows table : List (List ℕ)) (n next : ℕ) (taken ranks : List ℕ)
+    → IsBeforeTable n rows table → length ranks ≡ n
+    → ((a b : ℕ) → Before rows a b → (a < n) × (b < n)) → AreRanked table next taken ranks → (l : ℕ)
+    → Rises rows ranks l
 ranked-rise rows table n next taken ranks is long known are l = record {
   rises = λ p q x y lt first second ranked later.
-      let before : Before rows x y = record { list = l; place = p; later = q; in_order = lt; first = first; second = second } in
+      let before : Before rows x y =
+      record { list = l; place = p; later = q; in_order = lt; first = first; second = second } in
       let low = known x y before in
-      are.rises x y (omega (arith, long, low.0)) (omega (arith, long, low.1)) ranked later ((is.shown x y low.1).1 (before_shown rows x y before));
+      are.rises x y (omega (arith, long, low.0)) (omega (arith, long, low.1)) ranked later
+      ((is.shown x y low.1).1 (before_shown rows x y before));
 }
 
 module _ (rows : List (List ℕ)) (ranks : List ℕ) (rise : (l : ℕ) → Rises rows ranks l) where
-  before-rises : (a b : ℕ) → Before rows a b → IsRanked ranks a → IsRanked ranks b → slice_index ranks a < slice_index ranks b
-  before-rises a b before first second = (rise before.list).rises before.place before.later a b before.in_order before.first before.second first second
+  before-rises : (a b : ℕ) → Before rows a b → IsRanked ranks a → IsRanked ranks b
+      → slice_index ranks a < slice_index ranks b
+  before-rises a b before first second =
+      (rise before.list).rises before.place before.later a b before.in_order before.first before.second first
+      second
 
-  -- an element of the list that is left out; or each is in the order, and the last has a higher rank than the first
+  -- an element of the list that is left out; or each is in the order, and the last has a higher rank than the
+  -- first
   abbrev LeavesOut : List ℕ → Type 0
   LeavesOut path = (j : ℕ) × (j < length path) × (slice_index ranks (get_or path j 0) ≡ UNRANKED)
 
-  leads-rise : (a : ℕ) (path : List ℕ) (z : ℕ) → Leads rows a path z → IsRanked ranks a → IsRanked ranks z → LeavesOut path ⊎ (slice_index ranks a < slice_index ranks z)
+  leads-rise : (a : ℕ) (path : List ℕ) (z : ℕ) → Leads rows a path z → IsRanked ranks a → IsRanked ranks z
+      → LeavesOut path ⊎ (slice_index ranks a < slice_index ranks z)
   leads-rise a [] z leads first last = inr (before-rises a z leads first last)
   leads-rise a (b ∷ path) z leads first last = elim (cases_eq (slice_index ranks b) UNRANKED) [
     | inl out ↦ inl (0, omega arith, out)
@@ -110,15 +134,21 @@ module _ (rows : List (List ℕ)) (ranks : List ℕ) (rise : (l : ℕ) → Rises
   ]
 
   -- a cycle leads through an element that is left out
-  pub cycle-leaves_out : (s n : ℕ) → HasCycle rows s n → (t : ℕ) × (slice_index ranks t ≡ UNRANKED) × HasCycle rows t n
+  pub cycle-leaves_out : (s n : ℕ) → HasCycle rows s n → (t : ℕ) × (slice_index ranks t ≡ UNRANKED)
+      × HasCycle rows t n
   cycle-leaves_out s n cycle =
       let ring = cycle_ring rows s n cycle in
-      let found : LeavesOut (s ∷ ring.rest) = ring-leaves_out (s ∷ ring.rest) ring.is_ring in
-      (get_or (s ∷ ring.rest) found.0 0, found.2, subst (λ k. HasCycle rows (get_or (s ∷ ring.rest) found.0 0) k) ring.count (ring_through rows (s ∷ ring.rest) found.0 ring.is_ring found.1))
+      let found : LeavesOut (s ∷ ring.rest) = ring-leaves_out (s ∷ ring.rest) ring.is_ring in (
+        get_or (s ∷ ring.rest) found.0 0,
+        found.2,
+        subst (λ k. HasCycle rows (get_or (s ∷ ring.rest) found.0 0) k) ring.count
+            (ring_through rows (s ∷ ring.rest) found.0 ring.is_ring found.1),
+      )
 
 -- a list of all numbers below n that P holds of, with n where P holds of it
 pub listed-next : (xs : List ℕ) (n y : ℕ) → (y < n → Contains xs y) → y < n + 1 → Contains (xs ++ n ∷ []) y
 listed-next xs n y all under = elim (cases_lt y n) [
   | inl lt ↦ Contains-append_left xs (n ∷ []) y (all lt)
-  | inr over ↦ let e : y ≡ n = omega arith in Contains-append_right xs (n ∷ []) y (Contains-from_In (n ∷ []) y (inl e))
+  | inr over ↦ let e : y ≡ n =
+      omega arith in Contains-append_right xs (n ∷ []) y (Contains-from_In (n ∷ []) y (inl e))
 ]

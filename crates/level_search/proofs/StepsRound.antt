@@ -1,5 +1,6 @@
 -- Steps from each element of a ring to the one after it: those of the least ring are the least steps.
-use Rattle.std.proofs.Common.{◌≡◌, ℕ, zero, suc, ◌<◌, Some, None, List, [], ◌∷◌, ◌++◌, length, map, get_or, refl, sym, ◌∙◌, ap, subst, arith, inl, inr}
+use Rattle.std.proofs.Common.{◌≡◌, ℕ, zero, suc, ◌<◌, Some, None, List, [], ◌∷◌, ◌++◌, length, map, get_or}
+use Rattle.std.proofs.Common.{refl, sym, ◌∙◌, ap, subst, arith, inl, inr}
 use Rattle.std.specs.Prelude.{All, slice_get}
 use Rattle.std.proofs.lemmas.List.Elements.{All-nil, All-cons}
 use Rattle.std.proofs.lemmas.Option.{get_or_from_slice_get, none-some}
@@ -16,7 +17,8 @@ use Rattle.level_search.specs.Steps.{AreStepsOf, IsStepBetween, next_in}
 use Rattle.list_search.proofs.Joining.{name, before-shown, names-shown, numbers-shown, least_cycle_of_ring}
 
 -- each element of a ring stands before the one after it
-leads-next : (rows : List (List ℕ)) (a : ℕ) (path : List ℕ) (z j : ℕ) → Leads rows a path z → j < suc (length path)
+leads-next : (rows : List (List ℕ)) (a : ℕ) (path : List ℕ) (z j : ℕ) → Leads rows a path z
+    → j < suc (length path)
     → Before rows (get_or (a ∷ path) j 0) (get_or (path ++ z ∷ []) j 0)
 leads-next rows a [] z zero leads inside = leads
 leads-next rows a [] z (suc j) leads inside = absurd (omega arith)
@@ -29,25 +31,30 @@ ring-next rows [] j ring inside = absurd ring
 ring-next rows (a ∷ path) j ring inside = leads-next rows a path a j ring inside
 
 -- one step more
-pub steps-push : (v : Responses) (numbers : List ℕ) (steps : List Step) (step : Step) → AreStepsOf v numbers steps
-    → IsStepBetween v (get_or numbers (length steps) 0) (next_in numbers (length steps)) step → AreStepsOf v numbers (steps ++ step ∷ [])
+pub steps-push : (v : Responses) (numbers : List ℕ) (steps : List Step) (step : Step)
+    → AreStepsOf v numbers steps
+    → IsStepBetween v (get_or numbers (length steps) 0) (next_in numbers (length steps)) step
+    → AreStepsOf v numbers (steps ++ step ∷ [])
 steps-push v numbers steps step old new j other at = elim (push-slice_get steps step other j at) [
   | inl before ↦ old j other before
   | inr last ↦
       let here : IsStepBetween v (get_or numbers (length steps) 0) (next_in numbers (length steps)) other =
-      subst (λ (s : Step). IsStepBetween v (get_or numbers (length steps) 0) (next_in numbers (length steps)) s) (sym last.1) new in
+      subst (λ (s : Step). IsStepBetween v (get_or numbers (length steps) 0)
+      (next_in numbers (length steps)) s) (sym last.1) new in
       subst (λ i. IsStepBetween v (get_or numbers i 0) (next_in numbers i) other) (sym last.0) here
 ]
 
 -- what stands between two elements, and none of it is wanting
-pub no_name : (v : Responses) → AreProper v → (a b : ℕ) → Before (lists_of v) a b → (slice_get v.elements a ≡ None → ⊥) × (slice_get v.elements b ≡ None → ⊥)
+pub no_name : (v : Responses) → AreProper v → (a b : ℕ) → Before (lists_of v) a b
+    → (slice_get v.elements a ≡ None → ⊥) × (slice_get v.elements b ≡ None → ⊥)
 no_name v proper a b before =
     let shown = before-shown v proper a b before in (
       λ none. absurd (none-some shown.1.0 (sym none ∙ shown.1.2)),
       λ none. absurd (none-some shown.1.1 (sym none ∙ shown.1.3)),
     )
 
-pub step_is_between : (v : Responses) → AreProper v → (a b : ℕ) (step : Step) → slice_get v.elements a ≡ Some step.from → slice_get v.elements b ≡ Some step.to
+pub step_is_between : (v : Responses) → AreProper v → (a b : ℕ) (step : Step)
+    → slice_get v.elements a ≡ Some step.from → slice_get v.elements b ≡ Some step.to
     → IsLeastShowing v a b (Some step.shown) → IsStepBetween v a b step
 step_is_between v proper a b step first second least = record {
   from = first;
@@ -60,15 +67,18 @@ step_is_between v proper a b step first second least = record {
 
 -- what steps along a path from a to z say of their list
 pub record AreStepsAlong (v : Responses) (a : ℕ) (path : List ℕ) (z : ℕ) (steps : List Step) : Type 0 where
-  pub pairs : map (λ (s : Step). (s.from, s.to)) steps ≡ ring_from (name v z) (name v a) (names_at v.elements path)
+  pub pairs : map (λ (s : Step). (s.from, s.to)) steps ≡ ring_from (name v z) (name v a)
+      (names_at v.elements path)
   pub firsts : map (λ (s : Step). s.from) steps ≡ name v a ∷ names_at v.elements path
   pub shown : All (λ (s : Step). IsLeast (λ o. Shows v o s.from s.to) s.shown) steps
 
 abbrev IsShown : Responses → Step → Type 0
 IsShown v s = IsLeast (λ o. Shows v o s.from s.to) s.shown
 
-steps-along : (v : Responses) (a : ℕ) (path : List ℕ) (z : ℕ) (steps : List Step) → length steps ≡ suc (length path)
-    → ((j : ℕ) (step : Step) → slice_get steps j ≡ Some step → IsStepBetween v (get_or (a ∷ path) j 0) (get_or (path ++ z ∷ []) j 0) step)
+steps-along : (v : Responses) (a : ℕ) (path : List ℕ) (z : ℕ) (steps : List Step)
+    → length steps ≡ suc (length path)
+    → ((j : ℕ) (step : Step) → slice_get steps j ≡ Some step
+    → IsStepBetween v (get_or (a ∷ path) j 0) (get_or (path ++ z ∷ []) j 0) step)
     → AreStepsAlong v a path z steps
 steps-along v a path z [] count each = absurd (omega arith)
 steps-along v a [] z (s ∷ t ∷ more) count each = absurd (omega arith)
@@ -93,13 +103,16 @@ steps-along v a (b ∷ rest) z (s ∷ more) count each =
     }
 
 -- the steps of the least ring
-pub least_steps_of_ring : (v : Responses) → AreProper v → (k : ℕ) (numbers : List ℕ) (steps : List Step) → IsShortestLength v k
-    → IsFirstRing (lists_of v) k numbers → length steps ≡ length numbers → AreStepsOf v numbers steps → AreLeastSteps v steps
+pub least_steps_of_ring : (v : Responses) → AreProper v → (k : ℕ) (numbers : List ℕ) (steps : List Step)
+    → IsShortestLength v k
+    → IsFirstRing (lists_of v) k numbers → length steps ≡ length numbers → AreStepsOf v numbers steps
+    → AreLeastSteps v steps
 least_steps_of_ring v proper k [] steps shortest is count each = absurd is.is_ring
 least_steps_of_ring v proper k (a ∷ path) steps shortest is count each =
     let along = steps-along v a path a steps count each in
     record {
       joined = along.pairs ∙ ap ring (sym along.firsts);
-      cycle = subst (λ c. IsLeastCycle v c) (sym along.firsts) (least_cycle_of_ring v proper k (a ∷ path) shortest is);
+      cycle = subst (λ c. IsLeastCycle v c) (sym along.firsts)
+          (least_cycle_of_ring v proper k (a ∷ path) shortest is);
       operations = along.shown;
     }

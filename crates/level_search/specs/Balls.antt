@@ -1,4 +1,5 @@
--- The elements that a search over a table has reached: those from which fewer steps than some number lead to the source.
+-- The elements that a search over a table has reached: those from which fewer steps than some number lead to
+-- the source.
 use Rattle.std.specs.Prelude.{◌≡◌, ℕ, ◌+◌, ◌/◌, ◌<◌, ◌↔◌, List, length}
 use Rattle.bit_tables.specs.Sets.{Has}
 use Rattle.list_search.specs.Rings.{Reaches}

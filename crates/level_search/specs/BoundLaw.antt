@@ -3,14 +3,16 @@ use Rattle.std.specs.Prelude.{◌≡◌, ℕ, ◌<◌, ◌≤◌, ◌⊎◌, len
 use Rattle.events.specs.Names.{NameBytes}
 use Rattle.specification.specs.Responses.{Responses, AreProper}
 use Rattle.specification.specs.Conflict.{IsCycle}
-use Rattle.specification.specs.Search.{IsCycleLength, IsCycleThrough, IsShortestLength, HasNoCycle, NoneShorterThrough}
+use Rattle.specification.specs.Search.{IsCycleLength, IsCycleThrough, IsShortestLength, HasNoCycle}
+use Rattle.specification.specs.Search.{NoneShorterThrough}
 use Rattle.shared_bound.specs.Bound.{BoundCall, fresh, bound_after_all, bound_states, offers}
 use Rattle.shared_bound.specs.declared.TheConstants.{NO_OFFER}
 
 -- some number that m had, or that was offered, or that is at least the last m
 abbrev pub WasBound : ℕ → List BoundCall → ℕ → Type 0
 WasBound n calls b =
-    Contains (map (λ s. s.least) (bound_states n fresh calls)) b ⊎ Contains (offers calls) b ⊎ ((bound_after_all n fresh calls).least ≤ b)
+    Contains (map (λ s. s.least) (bound_states n fresh calls)) b ⊎ Contains (offers calls) b
+    ⊎ ((bound_after_all n fresh calls).least ≤ b)
 
 -- a cycle through the element with this number is as long as the cycle
 pub record IsAsLongThrough (v : Responses) (cycle : List NameBytes) (element : ℕ) : Type 0 where
@@ -33,6 +35,7 @@ pub record CoversAllSources (v : Responses) (sources : List ℕ) (calls : List B
 
 -- then the last m is the shortest length, or no number was offered and there is no cycle
 abbrev pub LeastOfferIsShortest : Type 0
-LeastOfferIsShortest = (v : Responses) (sources : List ℕ) (calls : List BoundCall) → AreProper v → CoversAllSources v sources calls →
+LeastOfferIsShortest = (v : Responses) (sources : List ℕ) (calls : List BoundCall) → AreProper v
+    → CoversAllSources v sources calls →
     IsShortestLength v ((bound_after_all (length sources) fresh calls).least)
     ⊎ (((bound_after_all (length sources) fresh calls).least ≡ NO_OFFER) × HasNoCycle v)

@@ -11,7 +11,8 @@ use Rattle.level_search.specs.Team.{AreLooksOf, IsLeastLength}
 use Rattle.level_search.specs.declared.conflict.Conflict.{Conflict}
 use Rattle.level_search.specs.declared.conflict.Found.{Found}
 
--- so many looks at most as a search from each element would make that makes at most one for each place and for each element
+-- so many looks at most as a search from each element would make that makes at most one for each place and
+-- for each element
 abbrev pub IsWithinSearches : Responses → ℕ → Type 0
 IsWithinSearches v looked = looked ≤ length v.elements * (place_count v + length v.elements)
 

@@ -10,7 +10,8 @@ use Rattle.order_graph.specs.Lists.{Stands}
 pub record IsCoreOf (v : Responses) (numbers : List ℕ) : Type 0 where
   pub rising : AllPairs (λ x y. x < y) numbers
   pub known : All (λ x. x < length v.elements) numbers
-  pub whole : (cycle : List NameBytes) → IsCycle v cycle → All (λ a. Contains (names_at v.elements numbers) a) cycle
+  pub whole : (cycle : List NameBytes) → IsCycle v cycle
+      → All (λ a. Contains (names_at v.elements numbers) a) cycle
 
 -- x stands at some place of the lists
 pub record IsPlaced (rows : List (List ℕ)) (x : ℕ) : Type 0 where

@@ -1,5 +1,6 @@
 -- How many rows of its table a search has looked at.
-use Rattle.std.specs.Prelude.{◌≡◌, ℕ, zero, suc, ◌+◌, ◌*◌, ◌<◌, ◌≤◌, ◌⊎◌, Option, Some, None, List, [], ◌∷◌, slice_index}
+use Rattle.std.specs.Prelude.{◌≡◌, ℕ, zero, suc, ◌+◌, ◌*◌, ◌<◌, ◌≤◌, ◌⊎◌, Option, Some, None, List, [], ◌∷◌}
+use Rattle.std.specs.Prelude.{slice_index}
 use Rattle.level_search.specs.Balls.{IsBall, IsInLayer}
 use Rattle.list_search.specs.Graph.{Before}
 use Rattle.level_search.specs.LayerSizes.{counted, layer_size, set_size}
@@ -15,14 +16,19 @@ pub record IsFirstBehind (n : ℕ) (rows : List (List ℕ)) (sets : Sets) (s x :
 abbrev pub IsAtEnd : ℕ → Sets → ℕ → ℕ → Type 0
 IsAtEnd n sets low level = (low ≤ level + 1) ⊎ ((x : ℕ) → ¬ IsInLayer n sets x)
 
--- how many of the last layer were looked at: those up to where the cycle closes; where none is found, none at the end and all just before it
+-- how many of the last layer were looked at: those up to where the cycle closes; where none is found, none at
+-- the end and all just before it
 abbrev pub IsLastPart : ℕ → List (List ℕ) → ℕ → ℕ → Sets → ℕ → Option ℕ → ℕ → Type 0
-IsLastPart n rows s low sets level (Some m) part = (m ≡ level + 1) × (x : ℕ) × IsFirstBehind n rows sets s x × (part ≡ layer_size (x + 1) sets)
-IsLastPart n rows s low sets level None part = ((part ≡ 0) × IsAtEnd n sets low level) ⊎ ((part ≡ layer_size n sets) × (low ≤ level + 2))
+IsLastPart n rows s low sets level (Some m) part =
+    (m ≡ level + 1) × (x : ℕ) × IsFirstBehind n rows sets s x × (part ≡ layer_size (x + 1) sets)
+IsLastPart n rows s low sets level None part =
+    ((part ≡ 0) × IsAtEnd n sets low level) ⊎ ((part ≡ layer_size n sets) × (low ≤ level + 2))
 
--- So many looks of a search from s under bounds of no less than `low`: two at the row of each element from which fewer steps than some number
--- lead to s, and one at those of part of the next layer. `sets` are as it left them.
-pub record IsCountOf (n : ℕ) (rows : List (List ℕ)) (s low : ℕ) (sets : Sets) (answer : Option ℕ) (count : ℕ) : Type 0 where
+-- So many looks of a search from s under bounds of no less than `low`: two at the row of each element from
+-- which fewer steps than some number lead to s, and one at those of part of the next layer. `sets` are as it
+-- left them.
+pub record IsCountOf (n : ℕ) (rows : List (List ℕ)) (s low : ℕ) (sets : Sets) (answer : Option ℕ)
+    (count : ℕ) : Type 0 where
   pub level : ℕ
   pub near : IsBall rows s level sets.near
   pub reached : IsBall rows s (level + 1) sets.reached
@@ -32,16 +38,19 @@ pub record IsCountOf (n : ℕ) (rows : List (List ℕ)) (s low : ℕ) (sets : Se
 
 -- a search has raised the count by its looks
 abbrev pub HasLooked : ℕ → List (List ℕ) → ℕ → ℕ → Sets → Option ℕ → ℕ → ℕ → Type 0
-HasLooked n rows s low sets answer old new = (count : ℕ) × IsCountOf n rows s low sets answer count × (new ≡ counted count old)
+HasLooked n rows s low sets answer old new =
+    (count : ℕ) × IsCountOf n rows s low sets answer count × (new ≡ counted count old)
 
 -- searches from each element below a number, one after the other
 abbrev pub HaveLooked : ℕ → List (List ℕ) → ℕ → ℕ → ℕ → ℕ → Type 0
 HaveLooked n rows low zero old new = new ≡ old
-HaveLooked n rows low (suc s) old new = (was : ℕ) × HaveLooked n rows low s old was × (sets : Sets) × (answer : Option ℕ) × HasLooked n rows s low sets answer was new
+HaveLooked n rows low (suc s) old new = (was : ℕ) × HaveLooked n rows low s old was × (sets : Sets)
+    × (answer : Option ℕ) × HasLooked n rows s low sets answer was new
 
 -- the looks of a search from the element at each of these places of a list, together
 abbrev pub AreCountsAt : ℕ → List (List ℕ) → ℕ → List ℕ → List ℕ → ℕ → Type 0
 AreCountsAt n rows low sources [] count = count ≡ 0
 AreCountsAt n rows low sources (place ∷ places) count =
-    (one : ℕ) × (others : ℕ) × (sets : Sets) × (answer : Option ℕ) × IsCountOf n rows (slice_index sources place) low sets answer one
+    (one : ℕ) × (others : ℕ) × (sets : Sets) × (answer : Option ℕ)
+    × IsCountOf n rows (slice_index sources place) low sets answer one
     × AreCountsAt n rows low sources places others × (count ≡ one + others)

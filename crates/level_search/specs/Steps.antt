@@ -17,4 +17,5 @@ next_in (a ∷ rest) i = slice_index (rest ++ a ∷ []) i
 
 -- from each element of the first to the one after it, in order
 abbrev pub AreStepsOf : Responses → List ℕ → List Step → Type 0
-AreStepsOf v ring steps = (j : ℕ) (step : Step) → slice_get steps j ≡ Some step → IsStepBetween v (slice_index ring j) (next_in ring j) step
+AreStepsOf v ring steps = (j : ℕ) (step : Step) → slice_get steps j ≡ Some step
+    → IsStepBetween v (slice_index ring j) (next_in ring j) step

@@ -1,5 +1,6 @@
 -- What workers that search for cycles over one bound have found, and teams of them.
-use Rattle.std.specs.Prelude.{◌≡◌, ℕ, ◌+◌, ◌*◌, ◌<◌, ◌≤◌, ◌⊎◌, max, true, false, List, [], ◌∷◌, length, slice_index, slice_index_or, IsPermutation, All}
+use Rattle.std.specs.Prelude.{◌≡◌, ℕ, ◌+◌, ◌*◌, ◌<◌, ◌≤◌, ◌⊎◌, max, true, false, List, [], ◌∷◌, length}
+use Rattle.std.specs.Prelude.{slice_index, slice_index_or, IsPermutation, All}
 use Rattle.std.specs.List.{range_with_len}
 use Rattle.shared_bound.specs.Seats.{BoundView, SeatView}
 use Rattle.shared_bound.specs.declared.TheConstants.{NO_OFFER}
@@ -29,7 +30,8 @@ pub record Honest (rows : List (List ℕ)) (sources : List ℕ) (s : SeatView) :
 
 -- a count of just the looks of a search from each source that the seat was given
 abbrev pub AreLooksOfClaims : ℕ → List (List ℕ) → List ℕ → SeatView → ℕ → Type 0
-AreLooksOfClaims n rows sources s looked = (count : ℕ) × AreCountsAt n rows s.low sources s.claimed count × (looked ≡ counted count 0)
+AreLooksOfClaims n rows sources s looked =
+    (count : ℕ) × AreCountsAt n rows s.low sources s.claimed count × (looked ≡ counted count 0)
 
 -- a worker may search this graph from these sources
 pub record IsReady (v : Responses) (sources : List ℕ) (w : Worker) : Type 0 where
@@ -54,7 +56,8 @@ pub record HasWorked (v : Responses) (sources : List ℕ) (old new : Worker) : T
 
 abbrev pub HaveWorked : Responses → List ℕ → List Worker → List Worker → Type 0
 HaveWorked v sources old new =
-    (length new ≡ length old) × ((k : ℕ) (d : Worker) → k < length old → HasWorked v sources (slice_index_or old k d) (slice_index_or new k d))
+    (length new ≡ length old) × ((k : ℕ) (d : Worker) → k < length old
+    → HasWorked v sources (slice_index_or old k d) (slice_index_or new k d))
 
 -- one more than the greatest of the list, or 0
 abbrev pub ceiling : List ℕ → ℕ
@@ -65,7 +68,8 @@ ceiling (x ∷ xs) = max (x + 1) (ceiling xs)
 abbrev pub AreNumbered : List Worker → Type 0
 AreNumbered team = (k : ℕ) (d : Worker) → k < length team → (slice_index_or team k d).number ≡ k + 1
 
--- the k-th of a team of m + 1 workers over a bound: worker k + 1, but the last, which has the first seat, is worker 0
+-- the k-th of a team of m + 1 workers over a bound: worker k + 1, but the last, which has the first seat, is
+-- worker 0
 pub record AtPlace (b : BoundView) (v : Responses) (sources : List ℕ) (m k : ℕ) (w : Worker) : Type 0 where
   pub bound : w.seat.bound ≡ b
   pub ready : IsReady v sources w
@@ -74,14 +78,16 @@ pub record AtPlace (b : BoundView) (v : Responses) (sources : List ℕ) (m k : �
 
 -- a team of m + 1 workers
 abbrev pub IsTeam : BoundView → Responses → List ℕ → ℕ → List Worker → Type 0
-IsTeam b v sources m team = (length team ≡ m + 1) × ((k : ℕ) (d : Worker) → k < length team → AtPlace b v sources m k (slice_index_or team k d))
+IsTeam b v sources m team =
+    (length team ≡ m + 1) × ((k : ℕ) (d : Worker) → k < length team
+    → AtPlace b v sources m k (slice_index_or team k d))
 
 -- the same, each with its work done
 abbrev pub IsDoneTeam : BoundView → Responses → List ℕ → ℕ → List Worker → Type 0
 IsDoneTeam b v sources m team = IsTeam b v sources m team × All (λ w. w.seat.done ≡ true) team
 
--- Just the looks of one search from each of some elements: of n elements at most, through which all cycles lead. No search was under a bound
--- of less than `least`.
+-- Just the looks of one search from each of some elements: of n elements at most, through which all cycles
+-- lead. No search was under a bound of less than `least`.
 pub record AreLooksOf (n : ℕ) (rows : List (List ℕ)) (least looked : ℕ) : Type 0 where
   pub sources : List ℕ
   pub known : All (λ s. s < n) sources

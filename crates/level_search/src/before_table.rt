@@ -35,9 +35,9 @@ fn turned(alloc: Global, list: &[u32]) -> Result<Vec<u32>, Memory>
 }
 
 impl BeforeTable {
-    /// The table of a graph. A list costs `n / 64` steps for n elements, and each of its places a step, and one
-    /// for each element before it that does not go on with the list before, up to 64; where these are more, or
-    /// its own does not, `n / 64` steps. The table takes `n * n / 8` bytes.
+    /// The table of a graph. A list costs `n / 64` steps for n elements, and each of its places a step, and
+    /// one for each element before it that does not go on with the list before, up to 64; where these are
+    /// more, or its own does not, `n / 64` steps. The table takes `n * n / 8` bytes.
     pub fn of(alloc: Global, graph: &OrderGraph) -> Result<BeforeTable, Memory>
         ensures { IfOk result (λ t. IsBeforeTable (length graph.now.elements) (lists_of graph.now) t) }
     {

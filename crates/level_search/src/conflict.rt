@@ -68,10 +68,11 @@ fn search_core<H: Threads + Sync, G: Gate>(
 /// number of workers, any gate and any order in which the workers come to run.
 ///
 /// All searches read one table, which has for each element of the core the set of those that some list shows
-/// before it, a bit each: n * n / 8 bytes for n elements. What making it takes is said at `BeforeTable::of`. A search
-/// keeps sets of n bits. It goes through the n / 64 words of such sets twice at its start, once for each element that it
-/// goes on from, and six times at most for each of its levels, and it takes a few steps more for each element that it
-/// reaches. Each worker takes memory linear in the core. All memory is taken before the first search.
+/// before it, a bit each: n * n / 8 bytes for n elements. What making it takes is said at `BeforeTable::of`.
+/// A search keeps sets of n bits. It goes through the n / 64 words of such sets twice at its start, once for
+/// each element that it goes on from, and six times at most for each of its levels, and it takes a few steps
+/// more for each element that it reaches. Each worker takes memory linear in the core. All memory is taken
+/// before the first search.
 pub fn conflict_number<H: Threads + Sync, G: Gate>(
     rt: &H,
     alloc: Global,
@@ -90,8 +91,8 @@ pub fn conflict_number<H: Threads + Sync, G: Gate>(
     }
 }
 
-/// A conflict: its number, and the steps of the least cycle, as many; and how many looks at a row of their table the
-/// searches for the number took together, up to 18446744073709551615.
+/// A conflict: its number, and the steps of the least cycle, as many; and how many looks at a row of their
+/// table the searches for the number took together, up to 18446744073709551615.
 #[derive(Drop)]
 pub struct Conflict {
     pub k: u32,

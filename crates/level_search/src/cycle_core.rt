@@ -56,7 +56,8 @@ impl Core {
 fn ranks_of(alloc: Global, elements: usize, taken: &[u32]) -> Result<Vec<u32>, Memory>
     requires { All (λ x. x < elements) taken.now }
     ensures count { IfOk result (λ ranks. length ranks.items ≡ elements) }
-    ensures taken { IfOk result (λ ranks. (x : ℕ) → IsRanked ranks.items x → x < elements → Contains taken.now x) }
+    ensures taken { IfOk result (λ ranks. (x : ℕ) → IsRanked ranks.items x → x < elements
+        → Contains taken.now x) }
     ensures others { IfOk result (λ ranks. All (IsRanked ranks.items) taken.now) }
 {
     let mut ranks = Vec::from_elem(alloc, UNRANKED, elements)?;

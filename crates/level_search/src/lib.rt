@@ -17,17 +17,18 @@
 //!   takes the next source by one addition, and waits for nobody.
 #![tactic(auto)]
 
+mod before_table;
 mod conflict;
 mod cycle_core;
 mod cycles;
 mod gate;
 mod laws;
 mod search_fault;
-mod before_table;
 mod sources;
 mod tabled;
 mod workers;
 
+pub use before_table::BeforeTable;
 pub use conflict::{Conflict, conflict_number, least_conflict};
 pub use cycles::least_cycle;
 pub use gate::{Gate, NoGate};
@@ -35,7 +36,6 @@ pub use laws::{least_offer_is_shortest, most_workers_is_the_number};
 pub use list_search::{BoundSource, PlainBound, Scratch, distances, search};
 pub use order_graph::Looked;
 pub use search_fault::SearchFault;
-pub use before_table::BeforeTable;
 pub use tabled::{Sets, search_by_table};
 pub use witnesses::{Step, Steps};
 

@@ -49,9 +49,10 @@ fn closes(
 /// each element to those that stand before it. `Some` is the length of the shortest cycle, where it is below
 /// that bound; `None` says that no cycle through the element is shorter than that bound.
 ///
-/// A step of it is a look at the row that the table has for an element, of as many bits as there are elements. An
-/// element is in one layer at most, and its row is looked at once for a cycle that closes there and once for the next
-/// layer: so there are at most twice as many steps as elements. They are counted where they are made.
+/// A step of it is a look at the row that the table has for an element, of as many bits as there are
+/// elements. An element is in one layer at most, and its row is looked at once for a cycle that closes there
+/// and once for the next layer: so there are at most twice as many steps as elements. They are counted where
+/// they are made.
 ///
 /// The count is exact. It has two looks for each element from which fewer than some number of steps lead to
 /// the source. It has one for each from which just as many do, up to the one where the cycle closes. Where no

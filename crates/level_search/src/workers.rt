@@ -1,13 +1,15 @@
 //! The workers of one search for the conflict number, in threads.
 
-ghost use Rattle.std.specs.Prelude.{◌≡◌, ℕ, ◌+◌, ◌-◌, ◌*◌, ◌<◌, ◌≤◌, true, false, length, IfOk, IsPermutation, All, vec_len};
+ghost use Rattle.std.specs.Prelude.{◌≡◌, ℕ, ◌+◌, ◌-◌, ◌*◌, ◌<◌, ◌≤◌, true, false, length, IfOk};
+ghost use Rattle.std.specs.Prelude.{IsPermutation, All, vec_len};
 ghost use Rattle.std.specs.List.{range_with_len};
 ghost use Rattle.order_graph.specs.Lists.{lists_of};
 ghost use Rattle.specification.specs.Responses.{AreProper};
 ghost use Rattle.shared_bound.specs.Seats.{fresh_seat};
 ghost use Rattle.level_search.specs.Tables.{IsBeforeTable};
 ghost use Rattle.level_search.specs.Sources.{MeetsCycles};
-ghost use Rattle.level_search.specs.Team.{AreLooksOf, AreLooksOfClaims, CanWork, HasWorked, HaveWorked, Honest};
+ghost use Rattle.level_search.specs.Team.{AreLooksOf, AreLooksOfClaims, CanWork, HasWorked, HaveWorked};
+ghost use Rattle.level_search.specs.Team.{Honest};
 ghost use Rattle.level_search.specs.Team.{IsLeastLength, IsTeam};
 
 pub mod bound_seat;
@@ -91,7 +93,8 @@ fn gathered(
     requires looked { AreLooksOfClaims (length graph.now.elements) (lists_of graph.now) sources.now first looked }
     requires others { All (λ w. (w.seat.bound ≡ bound.now) × (w.seat.is_first ≡ false)
         × Honest (lists_of graph.now) sources.now w.seat
-        × AreLooksOfClaims (length graph.now.elements) (lists_of graph.now) sources.now w.seat w.looked) others.items }
+        × AreLooksOfClaims (length graph.now.elements) (lists_of graph.now) sources.now w.seat w.looked)
+        others.items }
     ensures first { (result.0.bound ≡ bound.now) × (result.0.is_first ≡ true) × (result.0.out ≡ 0)
         × (result.0.done ≡ true) }
     ensures honest { Honest (lists_of graph.now) sources.now result.0 }
@@ -119,15 +122,16 @@ fn closed(bound: Bound, graph: &OrderGraph, sources: &[u32], first: Seat) -> u32
     bound.close(first)
 }
 
-/// What all searches have found: the length of a shortest cycle, or `NO_OFFER` where there is none; and how many steps
-/// they have taken, up to 18446744073709551615.
+/// What all searches have found: the length of a shortest cycle, or `NO_OFFER` where there is none; and how
+/// many steps they have taken, up to 18446744073709551615.
 #[derive(Drop)]
 pub struct Searched {
     pub least: u32,
     pub looked: u64,
 }
 
-/// The length of a shortest cycle by a search from each of few elements. All memory is taken before a worker starts.
+/// The length of a shortest cycle by a search from each of few elements. All memory is taken before a worker
+/// starts.
 pub fn least_length<H: Threads + Sync, G: Gate>(
     rt: &H,
     alloc: Global,

@@ -5,7 +5,8 @@ use Rattle.order_graph.specs.Lists.{ticked}
 use Rattle.list_search.specs.Progress.{Grows, IsReached, IsExpanded, Works}
 use Rattle.list_search.specs.declared.searching.state.State.{State}
 
-pub grows_weaker : (P Q : ℕ → Type 0) (s : ℕ) (a b : State) → ((x : ℕ) → P x → Q x) → Grows P s a b → Grows Q s a b
+pub grows_weaker : (P Q : ℕ → Type 0) (s : ℕ) (a b : State) → ((x : ℕ) → P x → Q x) → Grows P s a b
+    → Grows Q s a b
 grows_weaker P Q s a b to grows = record {
   tail = grows.tail;
   kept = grows.kept;
@@ -29,7 +30,8 @@ grows_both P s a b c first second = record {
 }
 
 -- what was reached stays so
-pub still_reached : (P : ℕ → Type 0) (s x : ℕ) (a b : State) → Grows P s a b → IsReached a.queue.items a.tail x → IsReached b.queue.items b.tail x
+pub still_reached : (P : ℕ → Type 0) (s x : ℕ) (a b : State) → Grows P s a b
+    → IsReached a.queue.items a.tail x → IsReached b.queue.items b.tail x
 still_reached P s x a b grows old = record {
   at = old.at;
   early = let h = old.early in let k = grows.tail in omega arith;
@@ -78,4 +80,5 @@ works_step a b c i j k first second =
 
 pub still_expanded : (P : ℕ → Type 0) (s : ℕ) (a b : State) (rows : List (List ℕ)) (x : ℕ) → Grows P s a b
     → IsExpanded rows a.marks.items x → IsExpanded rows b.marks.items x
-still_expanded P s a b rows x grows old = λ l p stands. let h = old l p stands in let k = grows.marks l in omega arith
+still_expanded P s a b rows x grows old = λ l p stands. let h = old l p stands in let k = grows.marks l in
+    omega arith

@@ -1,5 +1,6 @@
 -- Where a search by levels is between two layers: what each level holds, and what walks reach.
-use Rattle.std.proofs.Common.{◌≡◌, ℕ, zero, suc, ◌+◌, ◌<◌, ◌≤◌, slice_index, sym, ◌∙◌, subst, arith, inl, inr, add-one}
+use Rattle.std.proofs.Common.{◌≡◌, ℕ, zero, suc, ◌+◌, ◌<◌, ◌≤◌, slice_index, sym, ◌∙◌, subst, arith, inl, inr}
+use Rattle.std.proofs.Common.{add-one}
 use Rattle.std.proofs.lemmas.Bool.{cases_lt}
 use Rattle.list_search.specs.Graph.{Graph, Before}
 use Rattle.list_search.specs.Progress.{FollowsLayer, Grows, IsExpanded, IsGood, IsReached}
@@ -19,35 +20,50 @@ pub record IsLevelled (g : Graph) (s : ℕ) (st : State) (head level : ℕ) : Ty
   pub near : (n x : ℕ) → n < level → Walk g.rows s n x → IsExpanded g.rows st.marks.items x
 
 -- what stands after an expanded element is reached
-pub after_expanded : (g : Graph) (s : ℕ) (st : State) → IsGood g s st → (c x : ℕ) → IsExpanded g.rows st.marks.items c → Before g.rows c x → IsReached st.queue.items st.tail x
+pub after_expanded : (g : Graph) (s : ℕ) (st : State) → IsGood g s st → (c x : ℕ)
+    → IsExpanded g.rows st.marks.items c → Before g.rows c x → IsReached st.queue.items st.tail x
 after_expanded g s st good c x expanded leads =
-    good.covered leads.list leads.later x (let h = expanded leads.list leads.place leads.first in let k = leads.in_order in omega arith) leads.second
+    good.covered leads.list leads.later x (let h = expanded leads.list leads.place leads.first in
+    let k = leads.in_order in omega arith) leads.second
 
 -- a walk of at most `level` steps ends at an element that is reached
-pub walk_reached : (g : Graph) (s head level : ℕ) (st : State) → IsLevelled g s st head level → (n x : ℕ) → n ≤ level → Walk g.rows s n x → IsReached st.queue.items st.tail x
-walk_reached g s head level st at zero x h walk = record { at = 0; early = at.some; here = at.first ∙ sym walk }
+pub walk_reached : (g : Graph) (s head level : ℕ) (st : State) → IsLevelled g s st head level → (n x : ℕ)
+    → n ≤ level → Walk g.rows s n x → IsReached st.queue.items st.tail x
+walk_reached g s head level st at zero x h walk =
+    record { at = 0; early = at.some; here = at.first ∙ sym walk }
 walk_reached g s head level st at (suc n) x h walk =
     after_expanded g s st at.good walk.0 x (at.near n walk.0 (omega arith) walk.1) walk.2
 
 -- where the layer is empty every walk ends at an expanded element
-reached_expanded : (g : Graph) (s head level : ℕ) (st : State) → IsLevelled g s st head level → st.tail ≤ head → (x : ℕ) → IsReached st.queue.items st.tail x → IsExpanded g.rows st.marks.items x
+reached_expanded : (g : Graph) (s head level : ℕ) (st : State) → IsLevelled g s st head level → st.tail ≤ head
+    → (x : ℕ) → IsReached st.queue.items st.tail x → IsExpanded g.rows st.marks.items x
 reached_expanded g s head level st at empty x reached =
-    subst (λ y. IsExpanded g.rows st.marks.items y) reached.here (at.done reached.at (let h = reached.early in omega arith))
+    subst (λ y. IsExpanded g.rows st.marks.items y) reached.here
+    (at.done reached.at (let h = reached.early in omega arith))
 
-pub every_walk_reached : (g : Graph) (s head level : ℕ) (st : State) → IsLevelled g s st head level → st.tail ≤ head → (n x : ℕ) → Walk g.rows s n x → IsReached st.queue.items st.tail x
-every_walk_reached g s head level st at empty zero x walk = record { at = 0; early = at.some; here = at.first ∙ sym walk }
+pub every_walk_reached : (g : Graph) (s head level : ℕ) (st : State) → IsLevelled g s st head level
+    → st.tail ≤ head → (n x : ℕ) → Walk g.rows s n x → IsReached st.queue.items st.tail x
+every_walk_reached g s head level st at empty zero x walk =
+    record { at = 0; early = at.some; here = at.first ∙ sym walk }
 every_walk_reached g s head level st at empty (suc n) x walk =
     after_expanded g s st at.good walk.0 x
-    (reached_expanded g s head level st at empty walk.0 (every_walk_reached g s head level st at empty n walk.0 walk.1)) walk.2
+    (reached_expanded g s head level st at empty walk.0
+    (every_walk_reached g s head level st at empty n walk.0 walk.1)) walk.2
 
-pub walk_expanded : (g : Graph) (s head level : ℕ) (st : State) → IsLevelled g s st head level → st.tail ≤ head → (n x : ℕ) → Walk g.rows s n x → IsExpanded g.rows st.marks.items x
+pub walk_expanded : (g : Graph) (s head level : ℕ) (st : State) → IsLevelled g s st head level
+    → st.tail ≤ head → (n x : ℕ) → Walk g.rows s n x → IsExpanded g.rows st.marks.items x
 walk_expanded g s head level st at empty n x walk =
     reached_expanded g s head level st at empty x (every_walk_reached g s head level st at empty n x walk)
 
 -- what follows the layer has a walk of one step more
-pub walk_follows : (g : Graph) (s head level x : ℕ) (st : State) → IsLevelled g s st head level → FollowsLayer g.rows st.queue.items head st.tail x → Walk g.rows s (level + 1) x
+pub walk_follows : (g : Graph) (s head level x : ℕ) (st : State) → IsLevelled g s st head level
+    → FollowsLayer g.rows st.queue.items head st.tail x → Walk g.rows s (level + 1) x
 walk_follows g s head level x st at leads =
-    subst (λ n. Walk g.rows s n x) (sym (add-one level)) (slice_index st.queue.items leads.at, at.walks leads.at leads.from leads.to, leads.before)
+    subst (λ n. Walk g.rows s n x) (sym (add-one level)) (
+      slice_index st.queue.items leads.at,
+      at.walks leads.at leads.from leads.to,
+      leads.before,
+    )
 
 -- the next level
 pub levelled_next : (g : Graph) (s head level : ℕ) (a b : State) → IsLevelled g s a head level → head < a.tail
@@ -69,9 +85,11 @@ levelled_next g s head level a b at some good grows expanded =
       head_in = grows.tail;
       level_in = let h = at.level_in in omega arith;
       done = done;
-      walks = λ k low high. walk_follows g s head level (slice_index b.queue.items k) a at (grows.fresh k low high);
+      walks = λ k low high. walk_follows g s head level (slice_index b.queue.items k) a at
+          (grows.fresh k low high);
       near = λ n x h walk.
           let reached = walk_reached g s head level a at n x (omega arith) walk in
           let early : reached.at < a.tail = reached.early in
-          subst (λ y. IsExpanded g.rows b.marks.items y) (grows.kept reached.at early ∙ reached.here) (done reached.at early);
+          subst (λ y. IsExpanded g.rows b.marks.items y) (grows.kept reached.at early ∙ reached.here)
+          (done reached.at early);
     }

@@ -2,7 +2,8 @@
 use Rattle.std.specs.Prelude.{◌≡◌, ℕ, ◌<◌, ◌≤◌, List, length, slice_index}
 use Rattle.list_search.specs.Walks.{Walk}
 
--- d is the least number of steps from s to x, or the limit where it takes as many steps or more, or there is no walk
+-- d is the least number of steps from s to x, or the limit where it takes as many steps or more, or there is
+-- no walk
 pub record IsDistanceBelow (rows : List (List ℕ)) (s limit x d : ℕ) : Type 0 where
   pub within : d ≤ limit
   pub walk : d < limit → Walk rows s d x
@@ -10,7 +11,8 @@ pub record IsDistanceBelow (rows : List (List ℕ)) (s limit x d : ℕ) : Type 0
 
 -- of each element
 abbrev pub AreDistances : List (List ℕ) → ℕ → ℕ → List ℕ → Type 0
-AreDistances rows s limit depths = (x : ℕ) → x < length depths → IsDistanceBelow rows s limit x (slice_index depths x)
+AreDistances rows s limit depths = (x : ℕ) → x < length depths
+    → IsDistanceBelow rows s limit x (slice_index depths x)
 
 -- x stands in the queue from `head` to `tail`
 pub record IsAmong (queue : List ℕ) (head tail x : ℕ) : Type 0 where

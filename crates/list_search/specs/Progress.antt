@@ -1,5 +1,6 @@
 -- What holds of a search on its way, and what a part of it does.
-use Rattle.std.specs.Prelude.{◌≡◌, ℕ, ◌+◌, ◌<◌, ◌≤◌, ◌⊎◌, true, false, not, List, length, slice_index, slice_index_or, count_by, vec_len}
+use Rattle.std.specs.Prelude.{◌≡◌, ℕ, ◌+◌, ◌<◌, ◌≤◌, ◌⊎◌, true, false, not, List, length, slice_index}
+use Rattle.std.specs.Prelude.{slice_index_or, count_by, vec_len}
 use Rattle.order_graph.specs.Lists.{row, Stands, ticked}
 use Rattle.list_search.specs.Graph.{Graph, Before}
 use Rattle.list_search.specs.declared.searching.state.State.{State}
@@ -32,7 +33,8 @@ pub record IsGood (g : Graph) (s : ℕ) (st : State) : Type 0 where
   pub queued : IsQueued st
   pub known : (k : ℕ) → k < st.tail → slice_index st.queue.items k < g.elements
   pub marks_in : (l : ℕ) → slice_index st.marks.items l ≤ length (row g.rows l)
-  pub covered : (l j x : ℕ) → slice_index st.marks.items l ≤ j → Stands g.rows l j x → IsReached st.queue.items st.tail x
+  pub covered : (l j x : ℕ) → slice_index st.marks.items l ≤ j → Stands g.rows l j x
+      → IsReached st.queue.items st.tail x
   pub unfound : st.found ≡ false → (l j : ℕ) → slice_index st.marks.items l ≤ j → ¬ Stands g.rows l j s
 
 -- the search went on, and each element that it reached, s too, meets P

@@ -1,5 +1,6 @@
 -- The spots of an element stand in order of lists.
-use Rattle.std.proofs.Common.{◌≡◌, ℕ, zero, suc, ◌+◌, ◌<◌, ◌≤◌, Some, List, [], ◌∷◌, ◌++◌, slice_get, arith, inl, inr}
+use Rattle.std.proofs.Common.{◌≡◌, ℕ, zero, suc, ◌+◌, ◌<◌, ◌≤◌, Some, List, [], ◌∷◌, ◌++◌, slice_get, arith}
+use Rattle.std.proofs.Common.{inl, inr}
 use Rattle.std.proofs.lemmas.Option.{none-some}
 use Rattle.order_graph.specs.Spots.{spots_in, spots_from}
 use Rattle.order_graph.specs.declared.spot.Spot.{Spot}
@@ -11,7 +12,8 @@ pub data IsOrdered (xs ys : List Spot) (p q : Spot) : Type 0 where
   across : (i j : ℕ) → slice_get xs i ≡ Some p → slice_get ys j ≡ Some q → IsOrdered xs ys p q
   both_right : (i j : ℕ) → i < j → slice_get ys i ≡ Some p → slice_get ys j ≡ Some q → IsOrdered xs ys p q
 
-ordered_zero : (x : Spot) (xs ys : List Spot) (j : ℕ) (p q : Spot) → Some x ≡ Some p → slice_get (xs ++ ys) j ≡ Some q → IsOrdered (x ∷ xs) ys p q
+ordered_zero : (x : Spot) (xs ys : List Spot) (j : ℕ) (p q : Spot) → Some x ≡ Some p
+    → slice_get (xs ++ ys) j ≡ Some q → IsOrdered (x ∷ xs) ys p q
 ordered_zero x xs ys j p q first second = elim (get_either xs ys j q second) [
   | inl h ↦ both_left zero (suc j) first h
   | inr h ↦ across zero h.0 first h.1
@@ -22,14 +24,17 @@ ordered_more x xs ys p q (both_left i j one two) = both_left (suc i) (suc j) one
 ordered_more x xs ys p q (across i j one two) = across (suc i) j one two
 ordered_more x xs ys p q (both_right i j lt one two) = both_right i j lt one two
 
-pub ordered_in : (xs ys : List Spot) (i j : ℕ) (p q : Spot) → i < j → slice_get (xs ++ ys) i ≡ Some p → slice_get (xs ++ ys) j ≡ Some q → IsOrdered xs ys p q
+pub ordered_in : (xs ys : List Spot) (i j : ℕ) (p q : Spot) → i < j → slice_get (xs ++ ys) i ≡ Some p
+    → slice_get (xs ++ ys) j ≡ Some q → IsOrdered xs ys p q
 ordered_in [] ys i j p q lt first second = both_right i j lt first second
 ordered_in (x ∷ xs) ys i zero p q lt first second = absurd (omega arith)
 ordered_in (x ∷ xs) ys zero (suc j) p q lt first second = ordered_zero x xs ys j p q first second
-ordered_in (x ∷ xs) ys (suc i) (suc j) p q lt first second = ordered_more x xs ys p q (ordered_in xs ys i j p q (omega arith) first second)
+ordered_in (x ∷ xs) ys (suc i) (suc j) p q lt first second =
+    ordered_more x xs ys p q (ordered_in xs ys i j p q (omega arith) first second)
 
 pub lists_in_order : (n : ℕ) (rows : List (List ℕ)) (x i j : ℕ) (p q : Spot) → i < j
-    → slice_get (spots_from n rows x) i ≡ Some p → slice_get (spots_from n rows x) j ≡ Some q → p.list ≤ q.list
+    → slice_get (spots_from n rows x) i ≡ Some p → slice_get (spots_from n rows x) j ≡ Some q
+    → p.list ≤ q.list
 lists_in_order n [] x i j p q lt first second = absurd (none-some p first)
 lists_in_order n (r ∷ rs) x i j p q lt first second =
     elim (ordered_in (spots_in n 0 r x) (spots_from (n + 1) rs x) i j p q lt first second) [

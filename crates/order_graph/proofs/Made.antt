@@ -1,5 +1,5 @@
--- What is kept of a part of a sound recording's operations reads as their responses, so all that holds of these holds
--- of it.
+-- What is kept of a part of a sound recording's operations reads as their responses, so all that holds of
+-- these holds of it.
 use Rattle.std.proofs.Common.{◌≡◌, ◌≢◌, ℕ, List, [], ◌∷◌, length, map, refl, sym, ◌∙◌, ap, subst, arith}
 use Rattle.std.specs.Prelude.{All, AllPairs, Contains}
 use Rattle.std.proofs.lemmas.List.{length-map}
@@ -11,7 +11,8 @@ use Rattle.specification.specs.Faults.{IsSound}
 use Rattle.specification.specs.Elements.{elements, numbers_in}
 use Rattle.specification.specs.Responses.{Returned, responses_of, AreProper}
 use Rattle.specification.proofs.Members.{All-from_members, All-member}
-use Rattle.specification.proofs.OperationNames.{listed-operation, operation_names-rise, Rising-map, AllPairs-from_Rising}
+use Rattle.specification.proofs.OperationNames.{listed-operation, operation_names-rise, Rising-map}
+use Rattle.specification.proofs.OperationNames.{AllPairs-from_Rising}
 use Rattle.specification.proofs.SoundResponses.{sound_responses_are_proper, response-elements}
 use Rattle.specification.proofs.Shown.{elements-once}
 use Rattle.element_numbers.specs.Covering.{IsPart}
@@ -30,7 +31,8 @@ map-twice g f (x ∷ xs) = ap (λ l. g (f x) ∷ l) (map-twice g f xs)
 abbrev pub answers : History → List NameBytes → List Operation → List (List ℕ)
 answers h names = map (λ o. numbers_in names (response h o))
 
-module _ (h : History) (legal : IsLegal h) (sound : IsSound h) (shown : List Operation) (part : IsPart shown (operation_names h)) where
+module _ (h : History) (legal : IsLegal h) (sound : IsSound h) (shown : List Operation)
+    (part : IsPart shown (operation_names h)) where
   abbrev returned_by : Operation → Returned
   returned_by o = record { by = o; names = response h o }
 
@@ -40,19 +42,23 @@ module _ (h : History) (legal : IsLegal h) (sound : IsSound h) (shown : List Ope
   all-proper : AreProper (responses_of h)
   all-proper = sound_responses_are_proper h legal sound
 
-  all-of_part : (P : Returned → Type 0) → All P (responses_of h).returned → All P (responses_on h shown).returned
+  all-of_part : (P : Returned → Type 0) → All P (responses_of h).returned
+      → All P (responses_on h shown).returned
   all-of_part P all =
       All-from_members P (responses_on h shown).returned
-      (λ r i. All-member P (responses_of h).returned r all (In-part r (responses_on h shown).returned (responses_of h).returned part-returned i))
+      (λ r i. All-member P (responses_of h).returned r all
+      (In-part r (responses_on h shown).returned (responses_of h).returned part-returned i))
 
   pub proper-part : AreProper (responses_on h shown)
   proper-part = record {
     distinct = all-proper.distinct;
     few = all-proper.few;
-    in_order = AllPairs-from_Rising (λ (r s : Returned). ComesBefore r.by s.by) (responses_on h shown).returned
+    in_order =
+        AllPairs-from_Rising (λ (r s : Returned). ComesBefore r.by s.by) (responses_on h shown).returned
         (Rising-map ComesBefore (λ (r s : Returned). ComesBefore r.by s.by) returned_by (λ a b lt. lt) shown
         (Rising-part ComesBefore shown (operation_names h) part (operation_names-rise h)));
-    of_elements = all-of_part (λ (r : Returned). All (λ a. Contains (elements h) a) r.names) all-proper.of_elements;
+    of_elements =
+        all-of_part (λ (r : Returned). All (λ a. Contains (elements h) a) r.names) all-proper.of_elements;
     repeat_free = all-of_part (λ (r : Returned). AllPairs (λ a b. a ≢ b) r.names) all-proper.repeat_free;
   }
 
@@ -60,28 +66,45 @@ module _ (h : History) (legal : IsLegal h) (sound : IsSound h) (shown : List Ope
   few-part =
       let all : AreFew (responses_of h) = few-responses h legal in
       record {
-        lists = omega (arith, all.lists, length-part (responses_on h shown).returned (responses_of h).returned part-returned);
-        places = omega (arith, all.places, sum-part (λ (r : Returned). length r.names) (responses_on h shown).returned (responses_of h).returned part-returned);
+        lists = omega (
+          arith,
+          all.lists,
+          length-part (responses_on h shown).returned (responses_of h).returned part-returned,
+        );
+        places =
+            omega (
+              arith,
+              all.places,
+              sum-part (λ (r : Returned). length r.names)
+                  (responses_on h shown).returned (responses_of h).returned part-returned,
+            );
       }
 
-module _ (h : History) (legal : IsLegal h) (sound : IsSound h) (names : List NameBytes) (shown : List Operation) (rows : List (List ℕ))
-    (names_is : names ≡ elements h) (part : IsPart shown (operation_names h)) (rows_is : rows ≡ answers h names shown) where
+module _ (h : History) (legal : IsLegal h) (sound : IsSound h) (names : List NameBytes)
+    (shown : List Operation) (rows : List (List ℕ))
+    (names_is : names ≡ elements h) (part : IsPart shown (operation_names h))
+    (rows_is : rows ≡ answers h names shown) where
   rows-whole : rows ≡ answers h (elements h) shown
   rows-whole = rows_is ∙ ap (λ n. answers h n shown) names_is
 
   whole-is : responses_kept (elements h) shown (answers h (elements h) shown) ≡ responses_on h shown
   whole-is =
-      let back = returned-back (elements h) (response h) shown (elements-once (responses_of h) (sound_responses_are_proper h legal sound))
-      (λ o i a j. response-elements h o legal (sound.right o (listed-operation h o (In-part o shown (operation_names h) part i))).contents a j) in
+      let back =
+      returned-back (elements h) (response h) shown
+      (elements-once (responses_of h) (sound_responses_are_proper h legal sound))
+      (λ o i a j. response-elements h o legal
+      (sound.right o (listed-operation h o (In-part o shown (operation_names h) part i))).contents a j) in
       λ i. record { elements = elements h; returned = back i }
 
   pub kept-is : responses_kept names shown rows ≡ responses_on h shown
-  kept-is = ap (λ n. responses_kept n shown rows) names_is ∙ ap (responses_kept (elements h) shown) rows-whole ∙ whole-is
+  kept-is = ap (λ n. responses_kept n shown rows) names_is ∙ ap (responses_kept (elements h) shown) rows-whole
+      ∙ whole-is
 
   pub kept-lists : lists_of (responses_kept names shown rows) ≡ rows
   kept-lists =
       ap lists_of kept-is
-      ∙ map-twice (λ (r : Returned). numbers_in (elements h) r.names) (λ o. record { by = o; names = response h o }) shown
+      ∙ map-twice (λ (r : Returned). numbers_in (elements h) r.names)
+      (λ o. record { by = o; names = response h o }) shown
       ∙ sym rows-whole
 
   pub kept-proper : AreProper (responses_kept names shown rows)
@@ -91,4 +114,9 @@ module _ (h : History) (legal : IsLegal h) (sound : IsSound h) (names : List Nam
   kept-few = subst AreFew (sym kept-is) (few-part h legal sound shown part)
 
   pub kept-count : length shown ≡ length rows
-  kept-count = omega (arith, ap (λ (l : List (List ℕ)). length l) rows_is, length-map {B = List ℕ} shown (λ o. numbers_in names (response h o)))
+  kept-count =
+      omega (
+        arith,
+        ap (λ (l : List (List ℕ)). length l) rows_is,
+        length-map {B = List ℕ} shown (λ o. numbers_in names (response h o)),
+      )

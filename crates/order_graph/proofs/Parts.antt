@@ -8,7 +8,8 @@ module _ {X : Type 0} where
   pub sum-part : (w : X → ℕ) (xs ys : List X) → IsPart xs ys → sum_by w xs ≤ sum_by w ys
   sum-part w [] ys p = omega arith
   sum-part w (x ∷ xs) [] p = absurd p
-  sum-part w (x ∷ xs) (y ∷ ys) (inl p) = omega (arith, sum-part w xs ys p.1, sum_by-cons w x xs, sum_by-cons w y ys, ap w p.0)
+  sum-part w (x ∷ xs) (y ∷ ys) (inl p) =
+      omega (arith, sum-part w xs ys p.1, sum_by-cons w x xs, sum_by-cons w y ys, ap w p.0)
   sum-part w (x ∷ xs) (y ∷ ys) (inr p) = omega (arith, sum-part w (x ∷ xs) ys p, sum_by-cons w y ys)
 
   pub length-part : (xs ys : List X) → IsPart xs ys → length xs ≤ length ys

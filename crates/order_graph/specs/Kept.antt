@@ -36,6 +36,7 @@ abbrev pub AreSpotsOf : List (List ℕ) → List (Vec Spot Global) → Type 0
 AreSpotsOf rows spots = (x : ℕ) → slice_index_or (map (λ s. s.items) spots) x [] ≡ spots_of rows x
 
 -- that, and the spots are those of the places, where they are listed
-pub record AreKept (names : List NameBytes) (shown : List Operation) (places : Rows ℕ) (spots : Option (Vec (Vec Spot Global) Global)) : Type 0 where
+pub record AreKept (names : List NameBytes) (shown : List Operation) (places : Rows ℕ)
+    (spots : Option (Vec (Vec Spot Global) Global)) : Type 0 where
   pub listed : AreListed names shown places
   pub spots_are : IfSome spots (λ lists. AreSpotsOf (rows_of places) lists.items)

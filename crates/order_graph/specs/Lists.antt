@@ -1,5 +1,7 @@
--- The responses as lists of the elements' numbers, list by list in the order of the operations, and what stands in them.
-use Rattle.std.specs.Prelude.{◌≡◌, ℕ, ◌+◌, ◌*◌, ◌<◌, ◌≤◌, List, [], length, map, min, slice_index, slice_index_or}
+-- The responses as lists of the elements' numbers, list by list in the order of the operations, and what
+-- stands in them.
+use Rattle.std.specs.Prelude.{◌≡◌, ℕ, ◌+◌, ◌*◌, ◌<◌, ◌≤◌, List, [], length, map, min, slice_index}
+use Rattle.std.specs.Prelude.{slice_index_or}
 use Rattle.specification.specs.Elements.{numbers_in}
 use Rattle.specification.specs.Responses.{Responses, place_count}
 use Rattle.events.specs.declared.TheConstants.{MOST_REPLICAS, MOST_ENTRIES, MOST_PLACES}

@@ -6,7 +6,8 @@ use Rattle.order_graph.specs.declared.spot.Spot.{Spot}
 abbrev pub spots_in : ℕ → ℕ → List ℕ → ℕ → List Spot
 spots_in list place [] x = []
 spots_in list place (y ∷ ys) x =
-    (if y == x then record { list = list; place = place } ∷ spots_in list (place + 1) ys x else spots_in list (place + 1) ys x)
+    (if y == x then record { list = list; place = place } ∷ spots_in list (place + 1) ys x else spots_in list
+    (place + 1) ys x)
 
 -- the same over several lists, the first of which has the number `list`
 abbrev pub spots_from : ℕ → List (List ℕ) → ℕ → List Spot

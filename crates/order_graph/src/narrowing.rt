@@ -1,6 +1,7 @@
 //! What is left of lists of numbers where some elements alone are kept, and are numbered anew.
 
-ghost use Rattle.std.specs.Prelude.{◌≡◌, ◌≢◌, ℕ, ◌<◌, ◌^◌, ◌++◌, [], All, AllPairs, IfOk, OnOk, Option, length, map};
+ghost use Rattle.std.specs.Prelude.{◌≡◌, ◌≢◌, ℕ, ◌<◌, ◌^◌, ◌++◌, [], All, AllPairs, IfOk, OnOk, Option};
+ghost use Rattle.std.specs.Prelude.{length, map};
 ghost use Rattle.order_graph.specs.Renumbered.{numbers_left};
 ghost use Rattle.order_graph.specs.Lists.{row};
 ghost use Rattle.element_numbers.specs.Cuts.{rows_of, IsCut};
@@ -42,8 +43,8 @@ pub fn number_of(names: &[Name], name: &Name) -> Option<u32>
     }
 }
 
-/// The new number of each of these names, where those with the kept numbers are numbered anew, in the same order;
-/// none where it is not kept.
+/// The new number of each of these names, where those with the kept numbers are numbered anew, in the same
+/// order; none where it is not kept.
 pub fn new_numbers(alloc: Global, names: &[Name], kept: &[u32]) -> Result<Vec<Option<u32>>, Memory>
     requires distinct { AllPairs (λ a b. a ≢ b) names.now }
     requires few { length names.now < 2 ^ 32 }

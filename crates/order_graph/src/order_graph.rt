@@ -1,6 +1,7 @@
 //! The order graph: each response as a list of numbers of elements.
 
-ghost use Rattle.std.specs.Prelude.{◌≡◌, ℕ, ◌<◌, ◌≤◌, ◌^◌, IfOk, IfSome, MatchOption, length, slice_get, is_some};
+ghost use Rattle.std.specs.Prelude.{◌≡◌, ℕ, ◌<◌, ◌≤◌, ◌^◌, IfOk, IfSome, MatchOption, length, slice_get};
+ghost use Rattle.std.specs.Prelude.{is_some};
 ghost use Rattle.std.specs.Prelude.{option_map, if◌then◌else◌, All, AllPairs};
 ghost use Rattle.events.specs.Operations.{operation_names};
 ghost use Rattle.specification.specs.Faults.{IsSound};
@@ -25,9 +26,9 @@ use std::marker::Model;
 /// empty, and `of_covering` some that cover them. Lists and their places are numbered from 0. A spot of an
 /// element is a place where it stands.
 ///
-/// Its memory is linear in the places of the responses that are kept. Only `of` and `narrowed` take memory: they list
-/// the spots of each element, as the search for a cycle asks for them. `of_covering` doesn't, since an order is found
-/// without them. There each spot is looked for among all places.
+/// Its memory is linear in the places of the responses that are kept. Only `of` and `narrowed` take memory:
+/// they list the spots of each element, as the search for a cycle asks for them. `of_covering` doesn't, since
+/// an order is found without them. There each spot is looked for among all places.
 #[derive(Drop)]
 pub struct OrderGraph {
     names: Vec<Name>,
@@ -68,11 +69,12 @@ impl OrderGraph {
         OrderGraph::on(alloc, recording, names, shown)
     }
 
-    /// The graph of some responses that cover all, whose numbers were found with them, over the elements that were.
+    /// The graph of some responses that cover all, whose numbers were found with them, over the elements that
+    /// were.
     ///
-    /// It has the same orders and cycles as the graph of all responses, and the same least operations that show
-    /// one element before another; it has fewer lists and places. It keeps names and rows as they are: it takes
-    /// no memory and constant time.
+    /// It has the same orders and cycles as the graph of all responses, and the same least operations that
+    /// show one element before another; it has fewer lists and places. It keeps names and rows as they are:
+    /// it takes no memory and constant time.
     pub fn of_covering(recording: &Recording, numbered: NumberedElements) -> OrderGraph
         requires sound { IsSound recording.now }
         requires numbered { IsNumbered recording.now numbered }
@@ -155,8 +157,8 @@ impl OrderGraph {
         self.names.len() as u32
     }
 
-    /// The number of a name; none where it is no element's. It looks at the elements in turn: searches go by numbers
-    /// alone, so that no map of names is kept.
+    /// The number of a name; none where it is no element's. It looks at the elements in turn: searches go by
+    /// numbers alone, so that no map of names is kept.
     pub fn number(&self, name: &Name) -> Option<u32>
         ensures { result ≡ number_in self.now.elements name.now }
     {
@@ -212,8 +214,8 @@ impl OrderGraph {
         Some(x)
     }
 
-    /// How many spots an element has; 0 past the last element. Where spots are not listed it goes through all places
-    /// once.
+    /// How many spots an element has; 0 past the last element. Where spots are not listed it goes through all
+    /// places once.
     pub fn spots(&self, x: u32) -> u32
         ensures { result ≡ length (spots_of (lists_of self.now) x) }
     {
@@ -223,8 +225,8 @@ impl OrderGraph {
         }
     }
 
-    /// The i-th spot of an element, from 0, in order of lists; none past the last. Where spots are not listed it goes
-    /// through all places.
+    /// The i-th spot of an element, from 0, in order of lists; none past the last. Where spots are not listed
+    /// it goes through all places.
     pub fn spot(&self, x: u32, i: u32) -> Option<Spot>
         ensures { result ≡ slice_get (spots_of (lists_of self.now) x) i }
     {

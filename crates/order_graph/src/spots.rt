@@ -55,8 +55,8 @@ fn row_spots(list: u32, row: &[u32], spots: &mut Vec<Vec<Spot>>) -> Result<(), M
     Ok(())
 }
 
-/// The spots of each of so many elements, in order of lists: a list for each element. They are counted first, so that
-/// none has to move.
+/// The spots of each of so many elements, in order of lists: a list for each element. They are counted first,
+/// so that none has to move.
 pub fn all_spots(
     alloc: Global,
     elements: usize,
@@ -116,7 +116,8 @@ fn spot_in(list: u32, row: &[u32], x: u32, i: u32) -> Result<Spot, u32>
     Err(left)
 }
 
-/// The i-th spot of an element, from 0, in order of lists; none past the last. It looks for it among all places.
+/// The i-th spot of an element, from 0, in order of lists; none past the last. It looks for it among all
+/// places.
 pub fn spot_among(places: &Rows<u32>, x: u32, i: u32) -> Option<Spot>
     requires whole { IsCut places.now }
     requires few { length (rows_of places.now) < 2 ^ 32 }

@@ -13,7 +13,8 @@ use Rattle.rehearsal.specs.declared.fault.RehearsalFault.{RehearsalFault}
 use Rattle.rehearsal.specs.declared.fault.RehearsalFault.TheVariants as fault
 use Rattle.rehearsal.specs.declared.recorder.Told.{Told}
 
--- recorders with the first of these passes were started, and told how they went; and this is the foremost of all faults
+-- recorders with the first of these passes were started, and told how they went; and this is the foremost of
+-- all faults
 pub record EndsWith (h : History) (before : List PassShown) (fault : RehearsalFault) : Type 0 where
   pub passes : List PassShown
   pub tolds : List Told
@@ -21,10 +22,12 @@ pub record EndsWith (h : History) (before : List PassShown) (fault : RehearsalFa
   pub started : HasPrefix before passes
   pub told : HaveTold h passes tolds
   pub foremost :
-      fault_of_all (foremost_of_all (map (λ t. replay_fault t.answer) tolds)) watch (nat_eq (length passes) (length before)) ≡ Some fault
+      fault_of_all (foremost_of_all (map (λ t. replay_fault t.answer) tolds)) watch
+      (nat_eq (length passes) (length before)) ≡ Some fault
 
--- the same, of the passes of a session that has the recording's replicas. No value tells which threads ran, and the passes may
--- have seen any entries of other replicas: so, of a legal recording, that one stalled holds exactly where it has a receipt
+-- the same, of the passes of a session that has the recording's replicas. No value tells which threads ran,
+-- and the passes may have seen any entries of other replicas: so, of a legal recording, that one stalled
+-- holds exactly where it has a receipt
 pub record HasEnded (h : History) (fault : RehearsalFault) : Type 0 where
   pub session : Which
   pub replicas : session.replicas ≡ h.replicas
@@ -32,8 +35,8 @@ pub record HasEnded (h : History) (fault : RehearsalFault) : Type 0 where
   pub opened : AreOpened session before
   pub ends : EndsWith h before fault
 
--- what a rehearsal of this recording may end with. No clause can say that memory ran out or that a thread was not started: no value
--- shows either
+-- what a rehearsal of this recording may end with. No clause can say that memory ran out or that a thread was
+-- not started: no value shows either
 abbrev pub IsEndOf : History → RehearsalFault → Type 0
 IsEndOf h fault.Workers = Unit {0}
 IsEndOf h fault.Thread = Unit {0}

@@ -1,6 +1,8 @@
--- What a replay that stopped, a watch that failed, and recorders that could not be started end a rehearsal with.
+-- What a replay that stopped, a watch that failed, and recorders that could not be started end a rehearsal
+-- with.
 use Rattle.std.specs.Prelude.{ℕ, Bool, true, false, Option, Some, None, Result, Ok, Err}
-use Rattle.events.specs.declared.refusal.Refusal.TheVariants.{NoReplica, OwnReceipt, NotYet, EntriesFull, InsertsFull, LongResponse, PlacesFull, Memory}
+use Rattle.events.specs.declared.refusal.Refusal.TheVariants.{NoReplica, OwnReceipt, NotYet, EntriesFull}
+use Rattle.events.specs.declared.refusal.Refusal.TheVariants.{InsertsFull, LongResponse, PlacesFull, Memory}
 use Rattle.sessions.specs.declared.replaying.ReplayFault.{ReplayFault}
 use Rattle.sessions.specs.declared.replaying.ReplayFault.TheVariants.{Stalled, Refused}
 use Rattle.level_search.specs.declared.search_fault.SearchFault.{SearchFault}
@@ -31,5 +33,7 @@ start_fault true = None
 start_fault false = Some fault.Thread
 
 -- the foremost of the recorders', the watch's, and that not all recorders could be started
-abbrev pub fault_of_all : {A : Type 0} → Option RehearsalFault → Result A SearchFault → Bool → Option RehearsalFault
-fault_of_all recorders watch is_whole = foremost_of (foremost_of recorders (watch_fault watch)) (start_fault is_whole)
+abbrev pub fault_of_all : {A : Type 0} → Option RehearsalFault → Result A SearchFault → Bool
+    → Option RehearsalFault
+fault_of_all recorders watch is_whole =
+    foremost_of (foremost_of recorders (watch_fault watch)) (start_fault is_whole)

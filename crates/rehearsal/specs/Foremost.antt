@@ -1,4 +1,5 @@
--- Which of several faults is answered: out of memory before a thread that could not be started, and that before any other.
+-- Which of several faults is answered: out of memory before a thread that could not be started, and that
+-- before any other.
 use Rattle.std.specs.Prelude.{ℕ, ◌<◌, nat_lt, cond, Option, Some, None, List, fold}
 use Rattle.rehearsal.specs.declared.fault.RehearsalFault.{RehearsalFault}
 use Rattle.rehearsal.specs.declared.fault.RehearsalFault.TheVariants.{Workers, Thread, Stalled, Memory}

@@ -4,7 +4,8 @@ use Rattle.events.specs.History.{History, stream}
 use Rattle.sessions.specs.Rule.{total}
 use Rattle.sessions.specs.Shown.{Which, PassShown, hands, mine}
 
--- one pass for each replica of the session, each with nothing recorded; one observer was made, and none has ended
+-- one pass for each replica of the session, each with nothing recorded; one observer was made, and none has
+-- ended
 pub record AreOpened (session : Which) (ps : List PassShown) : Type 0 where
   pub count : length ps ≡ session.replicas
   pub some : 0 < length ps

@@ -10,13 +10,14 @@ use Rattle.rehearsal.specs.declared.fault.RehearsalFault.TheVariants as fault
 use Rattle.rehearsal.specs.declared.recorder.Told.{Told}
 use Rattle.rehearsal.specs.declared.rehearsing.Returns.{Returns}
 
--- the pass is as it was but for what it has seen, and to what it had recorded it added just the stream of its replica
+-- the pass is as it was but for what it has seen, and to what it had recorded it added just the stream of its
+-- replica
 pub record IsReplayed (h : History) (old new : PassShown) : Type 0 where
   pub same : new ≡ record old { seen = new.seen }
   pub recorded : mine new ≡ mine old ++ stream h old.replica
 
--- the pass comes back; where the replay came to its end, it has replayed the stream of its replica, whose length is told, and where
--- it stopped, its first entries, and the next was refused
+-- the pass comes back; where the replay came to its end, it has replayed the stream of its replica, whose
+-- length is told, and where it stopped, its first entries, and the next was refused
 pub record HasReplayed (h : History) (old : PassShown) (told : Told) : Type 0 where
   pub same : told.pass ≡ record old { seen = told.pass.seen }
   pub counted : IfOk told.answer (λ count. count ≡ length (stream h old.replica))
@@ -27,8 +28,9 @@ pub record HasReplayed (h : History) (old : PassShown) (told : Told) : Type 0 wh
 abbrev pub HaveTold : History → List PassShown → List Told → Type 0
 HaveTold h passes tolds = AllZip (HasReplayed h) passes tolds
 
--- the replay of a recorder that began with nothing recorded, in a session that has the recording's replicas, stopped at an entry
--- that was refused, and not for want of memory. Of a legal recording this holds exactly where it has a receipt
+-- the replay of a recorder that began with nothing recorded, in a session that has the recording's replicas,
+-- stopped at an entry that was refused, and not for want of memory. Of a legal recording this holds exactly
+-- where it has a receipt
 pub record HasStalled (h : History) : Type 0 where
   pub old : PassShown
   pub told : Told
@@ -46,4 +48,5 @@ AreReplayed h (p ∷ ps) (q ∷ qs) = IsReplayed h p q × AreReplayed h ps qs
 
 -- what comes back after these passes acted beside this observer
 abbrev pub HaveActed : History → ObserverShown → List PassShown → Returns → Type 0
-HaveActed h observer passes back = AreReplayed h passes back.passes.items × HasJudged observer back.verdicts back.observer
+HaveActed h observer passes back =
+    AreReplayed h passes back.passes.items × HasJudged observer back.verdicts back.observer

@@ -9,8 +9,8 @@ use Rattle.sessions.specs.Shown.{ObserverShown}
 use Rattle.sessions.specs.Watches.{AreVerdicts}
 use Rattle.rehearsal.specs.declared.watcher.Watched.{Watched}
 
--- four verdicts, each on a list of entries of which the list before is a prefix: the first list begins with what the observer
--- had seen, and the last is what it has seen
+-- four verdicts, each on a list of entries of which the list before is a prefix: the first list begins with
+-- what the observer had seen, and the last is what it has seen
 pub record HasJudged (old : ObserverShown) (verdicts : List Verdict) (new : ObserverShown) : Type 0 where
   pub session : new.session ≡ old.session
   pub count : length verdicts ≡ 4
@@ -22,7 +22,8 @@ pub record HasWatched (old : ObserverShown) (watched : Watched) : Type 0 where
   pub judged : IfOk watched.answer (λ verdicts. HasJudged old verdicts watched.observer)
   pub failed : IfErr watched.answer (λ fault. fault ≢ search.Workers)
 
--- four verdicts on lists of entries, each list a prefix of the next, and the last of what was recorded in the end
+-- four verdicts on lists of entries, each list a prefix of the next, and the last of what was recorded in the
+-- end
 pub record WasWatched (closed : History) (verdicts : List Verdict) : Type 0 where
   pub last : List Entry
   pub count : length verdicts ≡ 4

@@ -1,4 +1,5 @@
-//! What the recorders of a rehearsal tell each other: how many operations each has recorded, and who has ended.
+//! What the recorders of a rehearsal tell each other: how many operations each has recorded, and who has
+//! ended.
 //!
 //! A recorder waits only for one that has not ended, and whoever ends wakes all that wait for it. Why nobody
 //! waits for ever stands in docs/DECISIONS.md.
@@ -22,7 +23,8 @@ const NOBODY: u64 = u64::MAX;
 struct Desk {
     /// How many operations it has recorded.
     made: AtomicU64,
-    /// At most the number of the first operation that somebody sleeps for, or `NOBODY`. It is changed under the lock alone.
+    /// At most the number of the first operation that somebody sleeps for, or `NOBODY`. It is changed under
+    /// the lock alone.
     wanted: AtomicU64,
     /// Whether it records no more; and the lock under which others go to sleep.
     has_ended: Mutex<bool>,
@@ -67,7 +69,8 @@ impl Desk {
         self.told.notify_all();
     }
 
-    /// Notes that somebody wants this operation, and then answers whether it is not there. It is called under the lock.
+    /// Notes that somebody wants this operation, and then answers whether it is not there. It is called under
+    /// the lock.
     fn wants(&self, n: u64) -> bool {
         if self.wanted.load(Ordering::SeqCst) > n {
             self.wanted.store(n, Ordering::SeqCst);

@@ -32,8 +32,8 @@ impl Promise<Told> for Replayed {
     ghost kept_by = { λ p told. HasReplayed p.recording.value p.pass.value told };
 }
 
-/// Replays the stream of the pass's replica, and tells the board when that ends. The gate is called before and
-/// after.
+/// Replays the stream of the pass's replica, and tells the board when that ends. The gate is called before
+/// and after.
 pub fn replay_stream<R: Wait, G: Gate>(
     rt: &R,
     alloc: Global,

@@ -1,5 +1,6 @@
 //! The rehearsal: a session is opened, its recorders and its watcher act, and it is closed.
-ghost use Rattle.std.specs.Prelude.{◌≡◌, ◌≤◌, ◌<◌, ◌⊎◌, ◌↔◌, ℕ, List, All, Some, None, Ok, [], IfOk, IfErr, IsErrOf, length};
+ghost use Rattle.std.specs.Prelude.{◌≡◌, ◌≤◌, ◌<◌, ◌⊎◌, ◌↔◌, ℕ, List, All, Some, None, Ok, [], IfOk, IfErr};
+ghost use Rattle.std.specs.Prelude.{IsErrOf, length};
 ghost use Rattle.events.specs.History.{SameStreams, IsLegal};
 ghost use Rattle.sessions.specs.Prefixes.{HasPrefix};
 ghost use Rattle.sessions.specs.Replays.{operations_of};
@@ -40,7 +41,8 @@ struct Returns {
     verdicts: Verdicts,
 }
 
-/// What a rehearsal comes to: what the session has in the end, and the watcher's verdicts, the earliest first.
+/// What a rehearsal comes to: what the session has in the end, and the watcher's verdicts, the earliest
+/// first.
 #[derive(Drop)]
 pub struct Rehearsed {
     pub recording: Recording,
@@ -50,11 +52,11 @@ pub struct Rehearsed {
 /// Replays a recording in a session of its own, and answers what the session then has: a recording with the
 /// same streams.
 ///
-/// For each replica a recorder thread replays its stream; where an operation that it receives is not there yet,
-/// it sleeps until that has been recorded. A watcher judges four snapshots, each with so many workers, 1 to 64.
-/// The gate's `before(r, 0)` and `after(r, 0)` are called round the replay of replica r, by its thread, and by
-/// no search. All threads have ended when it returns. The recording is held twice at the end, and once more
-/// while the watcher judges a snapshot.
+/// For each replica a recorder thread replays its stream; where an operation that it receives is not there
+/// yet, it sleeps until that has been recorded. A watcher judges four snapshots, each with so many workers, 1
+/// to 64. The gate's `before(r, 0)` and `after(r, 0)` are called round the replay of replica r, by its
+/// thread, and by no search. All threads have ended when it returns. The recording is held twice at the end,
+/// and once more while the watcher judges a snapshot.
 pub fn rehearse<H: Threads + Wait + Sync, G: Gate>(
     rt: &H,
     alloc: Global,
@@ -64,7 +66,8 @@ pub fn rehearse<H: Threads + Wait + Sync, G: Gate>(
 ) -> Result<Recording, RehearsalFault>
     ensures streams { IfOk result (λ closed. SameStreams recording.now closed) }
     ensures workers { IsErrOf result RehearsalFault.Workers ↔ ((workers < 1) ⊎ (MOST_WORKERS < workers)) }
-    // `Stalled` is the foremost of what recorders may tell of such replays; no clause ties it to those that ran.
+    // `Stalled` is the foremost of what recorders may tell of such replays; no clause ties it to those that
+    // ran.
     ensures ended { IfErr result (IsEndOf recording.now) }
     ensures stalled { IsErrOf result RehearsalFault.Stalled → HasStalled recording.now }
 {
@@ -79,8 +82,9 @@ pub fn rehearse<H: Threads + Wait + Sync, G: Gate>(
     Ok(closed)
 }
 
-/// As `rehearse`, and hands back the watcher's verdicts too: each is on a list of entries of which the list before is a
-/// prefix, and the last list is a prefix of what the session has in the end. The lists may be empty.
+/// As `rehearse`, and hands back the watcher's verdicts too: each is on a list of entries of which the list
+/// before is a prefix, and the last list is a prefix of what the session has in the end. The lists may be
+/// empty.
 pub fn rehearse_watched<H: Threads + Wait + Sync, G: Gate>(
     rt: &H,
     alloc: Global,
@@ -219,8 +223,8 @@ fn act_in<'s, E, H: Threads + Wait + Sync, G: Gate>(
     returned(back, watched, is_whole)
 }
 
-/// What is answered where all threads have ended: the foremost of the recorders' faults, the watcher's, and that not all
-/// recorders could be started; else what came back.
+/// What is answered where all threads have ended: the foremost of the recorders' faults, the watcher's, and
+/// that not all recorders could be started; else what came back.
 fn returned(back: Back, watched: Watched, is_whole: bool) -> Result<Returns, RehearsalFault>
     ensures none { IfOk result (λ _. fault_of_all back.fault watched.answer is_whole ≡ None) }
     ensures fault { IfErr result (λ fault. fault_of_all back.fault watched.answer is_whole ≡ Some fault) }

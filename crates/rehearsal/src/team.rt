@@ -33,8 +33,9 @@ pub struct Back {
     pub fault: Option<RehearsalFault>,
 }
 
-/// Starts a recorder with each of the passes, which are of all replicas, in order, and have recorded nothing, until one
-/// can't be started; then the others don't wait for those that never begin. There is room for the handles.
+/// Starts a recorder with each of the passes, which are of all replicas, in order, and have recorded nothing,
+/// until one can't be started; then the others don't wait for those that never begin. There is room for the
+/// handles.
 pub fn started<'s, E, R: Wait + Sync, G: Gate>(
     rt: &'s R,
     alloc: Global,
@@ -86,7 +87,8 @@ pub fn started<'s, E, R: Wait + Sync, G: Gate>(
     }
 }
 
-/// Puts a pass that came back at the end, and notes the fault if its replay stopped. There is room for the pass.
+/// Puts a pass that came back at the end, and notes the fault if its replay stopped. There is room for the
+/// pass.
 fn take_back(back: &mut Back, told: Told)
     requires room { vec_len back.old.passes < vec_capacity back.old.passes }
     ensures passes { back.new.passes.items ≡ back.old.passes.items ++ told.pass ∷ [] }
@@ -98,8 +100,8 @@ fn take_back(back: &mut Back, told: Told)
     back.passes.push_reserved(pass);
 }
 
-/// Joins all recorders, and puts their passes into the empty list, which has room for them. The fault is the foremost of
-/// their replays'.
+/// Joins all recorders, and puts their passes into the empty list, which has room for them. The fault is the
+/// foremost of their replays'.
 pub fn joined<R: Threads>(
     rt: &R,
     recording: &Recording,

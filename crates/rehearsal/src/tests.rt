@@ -1,5 +1,5 @@
-//! What no clause says: that recorders run beside one another, that they wake each other, and that the gate is called
-//! round each replay.
+//! What no clause says: that recorders run beside one another, that they wake each other, and that the gate
+//! is called round each replay.
 mod watched;
 
 use super::{RehearsalFault, rehearse};
@@ -128,7 +128,8 @@ fn workers_are_1_to_64(rt: HostRuntime) -> Result<(), Fail> {
     Ok(())
 }
 
-/// The replays that a gate holds up: that of the first until that of the second has begun, or for `TURNS` turns.
+/// The replays that a gate holds up: that of the first until that of the second has begun, or for `TURNS`
+/// turns.
 #[derive(Drop)]
 struct HoldOne {
     first: u32,
@@ -291,8 +292,8 @@ fn receive_and_read(
     recording.record(Entry { replica, body }).ok()
 }
 
-/// A recording in which one replica waits for the first operation of replica 0, another for the second, and replica 0
-/// in between for the first of the one.
+/// A recording in which one replica waits for the first operation of replica 0, another for the second, and
+/// replica 0 in between for the first of the one.
 fn two_wait(alloc: Global, one: u32, other: u32) -> Option<Recording> {
     let mut recording = Recording::new(alloc, 3).ok()?;
     let response = Response::new(alloc);

@@ -9,4 +9,6 @@ ascii-byte : (b : ℕ) → is_name_byte b ≡ true → b < 128
 ascii-byte b h = grind (arith, nat_tests, h)
 
 pub ascii-name : (a : NameBytes) → IsName a → All (λ b. b < 128) a
-ascii-name a h = All-weaker (λ b. is_name_byte b ≡ true) (λ b. b < 128) ascii-byte a (AllPass-from_list_all is_name_byte a h.each_byte)
+ascii-name a h =
+    All-weaker (λ b. is_name_byte b ≡ true) (λ b. b < 128) ascii-byte a
+    (AllPass-from_list_all is_name_byte a h.each_byte)

@@ -1,5 +1,6 @@
 -- Lists of names and of steps as JSON arrays, element by element. No report has a number that is a float.
-use Rattle.std.proofs.Common.{◌≡◌, ℕ, ◌+◌, ◌≤◌, Vec, Global, length, Bool, false, ◌||◌, Some, List, [], ◌∷◌, ◌++◌, map, take, slice_get, refl, sym, ap, ◌∙◌}
+use Rattle.std.proofs.Common.{◌≡◌, ℕ, ◌+◌, ◌≤◌, Vec, Global, length, Bool, false, ◌||◌, Some, List, [], ◌∷◌}
+use Rattle.std.proofs.Common.{◌++◌, map, take, slice_get, refl, sym, ap, ◌∙◌}
 use Rattle.std.proofs.lemmas.List.{map_push, take_all}
 use Rattle.serde_json.specs.Data.{Data, string, item, array}
 use Rattle.serde_json.specs.View.{view, items_of}
@@ -19,7 +20,8 @@ use Rattle.report.specs.JsonReport.{names_json, step_json, steps_json, report_da
 use Rattle.report.specs.Objects.{verdict_object}
 
 -- the views, with one more
-pub values-more : {X : Type 0} (f : X → Data) (values : List Value) (xs : List X) (i : ℕ) (value : Value) (x : X) → map view values ≡ map f (take i xs)
+pub values-more : {X : Type 0} (f : X → Data) (values : List Value) (xs : List X) (i : ℕ) (value : Value)
+    (x : X) → map view values ≡ map f (take i xs)
     → view value ≡ f x → slice_get xs i ≡ Some x → map view (values ++ value ∷ []) ≡ map f (take (i + 1) xs)
 values-more f values xs i value x is one at =
     map_push view values value
@@ -33,11 +35,13 @@ names-listed [] = refl
 names-listed (a ∷ names) = ap (item (string a)) (names-listed names)
 
 -- the views of all names are the array of them
-pub all-listed : (values : Vec Value Global) (names : List NameBytes) (i : ℕ) → map view values.items ≡ map (λ (name : NameBytes). string name) (take i names) → length names ≤ i
+pub all-listed : (values : Vec Value Global) (names : List NameBytes) (i : ℕ)
+    → map view values.items ≡ map (λ (name : NameBytes). string name) (take i names) → length names ≤ i
     → view (Array values) ≡ array (names_json names)
 all-listed values names i is past =
     view-Array values
-    ∙ ap array (ap items_of (is ∙ ap (map (λ (name : NameBytes). string name)) (take_all i names past)) ∙ names-listed names)
+    ∙ ap array (ap items_of (is ∙ ap (map (λ (name : NameBytes). string name)) (take_all i names past))
+    ∙ names-listed names)
 
 pub steps-listed : (h : History) (steps : List Step) → items_of (map (step_json h) steps) ≡ steps_json h steps
 steps-listed h [] = refl
@@ -52,7 +56,8 @@ step-plain h s = ap (λ (b : Bool). b || false) (names-plain (response h s.shown
 
 pub steps-plain : (h : History) (steps : List Step) → items_have_float (steps_json h steps) ≡ false
 steps-plain h [] = refl
-steps-plain h (s ∷ steps) = ap (λ (b : Bool). b || items_have_float (steps_json h steps)) (step-plain h s) ∙ steps-plain h steps
+steps-plain h (s ∷ steps) =
+    ap (λ (b : Bool). b || items_have_float (steps_json h steps)) (step-plain h s) ∙ steps-plain h steps
 
 pub report-plain : (h : History) (v : Verdict) → has_float (report_data h v) ≡ false
 report-plain h (faulty (doubled first again)) = refl
@@ -62,7 +67,8 @@ report-plain h (accepted order) = ap (λ (b : Bool). b || false) (names-plain or
 report-plain h (refused k steps) = ap (λ (b : Bool). b || false) (steps-plain h steps)
 
 -- the data by the counts is the report's
-pub counted : (h : History) (v : Verdict) (replicas operations inserts : ℕ) → replicas ≡ h.replicas → operations ≡ operation_count h → inserts ≡ insert_count h
+pub counted : (h : History) (v : Verdict) (replicas operations inserts : ℕ) → replicas ≡ h.replicas
+    → operations ≡ operation_count h → inserts ≡ insert_count h
     → verdict_object replicas operations inserts h v ≡ report_data h v
 counted h (faulty (doubled first again)) replicas operations inserts r o i = rw (r, o, i) refl
 counted h (faulty (contents at)) replicas operations inserts r o i = rw (r, o, i) refl

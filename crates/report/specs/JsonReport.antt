@@ -40,7 +40,8 @@ steps_json h (s ∷ steps) = json.item (step_json h s) (steps_json h steps)
 -- `strong`, `verdict` and `weak`, the last members
 abbrev pub outcome : Bool → List ℕ → Bool → Members
 outcome strong verdict weak =
-    member (codes "strong") (json.boolean strong) (member (codes "verdict") (json.string verdict) (member (codes "weak") (json.boolean weak) json.no_members))
+    member (codes "strong") (json.boolean strong) (member (codes "verdict") (json.string verdict)
+    (member (codes "weak") (json.boolean weak) json.no_members))
 
 -- the members that every report but that of doubled names has around its own
 abbrev pub fault_json : History → Operation → List ℕ → Data
@@ -70,7 +71,8 @@ report_data h (refused k steps) = json.object
     (member (codes "k") (count_json k)
     (member (codes "operations") (count_json (operation_count h))
     (member (codes "replicas") (count_json h.replicas)
-    (member (codes "steps") (json.array (steps_json h steps)) (outcome false (codes "refused") (not (k == 2))))))))
+    (member (codes "steps") (json.array (steps_json h steps))
+    (outcome false (codes "refused") (not (k == 2))))))))
 
 abbrev pub report_json : History → Verdict → List ℕ
 report_json h v = compact_text (report_data h v) ++ 10 ∷ []

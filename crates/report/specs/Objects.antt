@@ -54,7 +54,11 @@ step_object from response shown to = json.object
 abbrev pub verdict_object : (replicas operations inserts : ℕ) → History → Verdict → Data
 verdict_object replicas operations inserts h (faulty (doubled first again)) =
     doubled_object replicas operations inserts (operation_json first) (operation_json again)
-verdict_object replicas operations inserts h (faulty (contents at)) = faulty_object replicas operations inserts (operation_json at) (codes "contents")
-verdict_object replicas operations inserts h (faulty (position at)) = faulty_object replicas operations inserts (operation_json at) (codes "position")
-verdict_object replicas operations inserts h (accepted order) = accepted_object replicas operations inserts (json.array (names_json order))
-verdict_object replicas operations inserts h (refused k steps) = refused_object replicas operations inserts k (json.array (steps_json h steps))
+verdict_object replicas operations inserts h (faulty (contents at)) =
+    faulty_object replicas operations inserts (operation_json at) (codes "contents")
+verdict_object replicas operations inserts h (faulty (position at)) =
+    faulty_object replicas operations inserts (operation_json at) (codes "position")
+verdict_object replicas operations inserts h (accepted order) =
+    accepted_object replicas operations inserts (json.array (names_json order))
+verdict_object replicas operations inserts h (refused k steps) =
+    refused_object replicas operations inserts k (json.array (steps_json h steps))

@@ -11,7 +11,8 @@ use Rattle.specification.specs.Verdict.{refused}
 -- the line of counts, with its LF
 abbrev pub counts_text : ℕ → ℕ → ℕ → List ℕ
 counts_text replicas operations inserts =
-    (codes "replicas " ++ decimal replicas ++ codes " operations " ++ decimal operations ++ codes " inserts " ++ decimal inserts) ++ 10 ∷ []
+    (codes "replicas " ++ decimal replicas ++ codes " operations " ++ decimal operations ++ codes " inserts "
+    ++ decimal inserts) ++ 10 ∷ []
 
 -- the lines of an operation that is wrong
 abbrev pub faulty_text : List ℕ → Operation → List ℕ
@@ -19,7 +20,8 @@ faulty_text word at = word ++ (operation_text at ++ codes "\nstrong no\nweak no\
 
 -- the lines of an acceptance
 abbrev pub accepted_text : List NameBytes → List ℕ
-accepted_text order = text_of (codes "accepted" ∷ codes "strong yes" ∷ codes "weak yes" ∷ order_line order ∷ [])
+accepted_text order =
+    text_of (codes "accepted" ∷ codes "strong yes" ∷ codes "weak yes" ∷ order_line order ∷ [])
 
 -- and of a refusal
 abbrev pub refused_text : History → ℕ → List Step → List ℕ

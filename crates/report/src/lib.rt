@@ -5,8 +5,8 @@
 //! of `judge`; `run` of `finder_cli` joins the two.
 #![tactic(auto)]
 
-mod json;
 mod counts;
+mod json;
 mod laws;
 mod lines;
 mod object;

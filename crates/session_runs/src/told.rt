@@ -203,8 +203,8 @@ fn opened(alloc: Global) -> Result<(Session, Vec<Pass>)>
     Err(anyhow!("memory"))
 }
 
-/// Whether a body came back in a session since there was no memory. It is an error where the closed recording is not
-/// what the recorders were told.
+/// Whether a body came back in a session since there was no memory. It is an error where the closed recording
+/// is not what the recorders were told.
 fn met_refusal<H: AllocGlobal + Threads + Wait + Sync>(rt: &H, seed: u64) -> Result<bool> {
     let alloc = rt.alloc();
     let told = nothing();

@@ -1,7 +1,9 @@
 -- Lists with the same numbers, each as often, and the numbers below a count.
-use Rattle.std.proofs.Common.{◌≡◌, ℕ, zero, suc, ◌+◌, ◌<◌, ◌≤◌, List, [], ◌∷◌, ◌++◌, ap, subst, arith, ◌∙◌, IsPermutation, All}
+use Rattle.std.proofs.Common.{◌≡◌, ℕ, zero, suc, ◌+◌, ◌<◌, ◌≤◌, List, [], ◌∷◌, ◌++◌, ap, subst, arith, ◌∙◌}
+use Rattle.std.proofs.Common.{IsPermutation, All}
 use Rattle.std.proofs.lemmas.List.Elements.{All-nil, All-cons}
-use Rattle.std.proofs.lemmas.List.Sorted.{IsPermutation-refl, IsPermutation-cons, IsPermutation-trans, IsPermutation-sym, IsPermutation-middle}
+use Rattle.std.proofs.lemmas.List.Sorted.{IsPermutation-refl, IsPermutation-cons, IsPermutation-trans}
+use Rattle.std.proofs.lemmas.List.Sorted.{IsPermutation-sym, IsPermutation-middle}
 use Rattle.std.specs.List.{range_with_len}
 use mathlib.Core.Logic.{dite}
 use native.Mathlib.Decide.{ℕ_discrete}
@@ -27,7 +29,8 @@ pull x (y ∷ ys) h = dite (ℕ_discrete y x)
     let p = pull x ys (omega arith) in
     record {
       rest = y ∷ p.rest;
-      moved = IsPermutation-trans _ _ _ (IsPermutation-cons y ys (x ∷ p.rest) p.moved) (IsPermutation-middle (y ∷ []) x p.rest);
+      moved = IsPermutation-trans _ _ _ (IsPermutation-cons y ys (x ∷ p.rest) p.moved)
+          (IsPermutation-middle (y ∷ []) x p.rest);
       counts = λ z. let b = p.counts z in omega arith;
     })
 
@@ -46,15 +49,19 @@ range_more : (a n : ℕ) → range_with_len a (suc n) ≡ range_with_len a n ++ 
 range_more a zero = let e : a ≡ a + 0 = omega arith in ap (λ (k : ℕ). k ∷ []) e
 range_more a (suc n) =
     let e : (a + 1) + n ≡ a + suc n = omega arith in
-    ap (λ (l : List ℕ). a ∷ l) (subst (λ (k : ℕ). range_with_len (a + 1) (suc n) ≡ range_with_len (a + 1) n ++ k ∷ []) e (range_more (a + 1) n))
+    ap (λ (l : List ℕ). a ∷ l)
+    (subst (λ (k : ℕ). range_with_len (a + 1) (suc n) ≡ range_with_len (a + 1) n ++ k ∷ []) e
+    (range_more (a + 1) n))
 
 -- the next number after those below c
-pub times_next : (x c : ℕ) → times x (range_with_len 0 (c + 1)) ≡ times x (range_with_len 0 c) + times x (c ∷ [])
+pub times_next : (x c : ℕ) → times x (range_with_len 0 (c + 1))
+    ≡ times x (range_with_len 0 c) + times x (c ∷ [])
 times_next x c =
     let up : c + 1 ≡ suc c = omega arith in
     let zero_c : 0 + c ≡ c = omega arith in
     ap (λ (k : ℕ). times x (range_with_len 0 k)) up
-    ∙ (ap (times x) (range_more 0 c) ∙ (times-append x (range_with_len 0 c) ((0 + c) ∷ []) ∙ ap (λ (k : ℕ). times x (range_with_len 0 c) + times x (k ∷ [])) zero_c))
+    ∙ (ap (times x) (range_more 0 c) ∙ (times-append x (range_with_len 0 c) ((0 + c) ∷ [])
+    ∙ ap (λ (k : ℕ). times x (range_with_len 0 c) + times x (k ∷ [])) zero_c))
 
 range_below : (a n x : ℕ) → 0 < times x (range_with_len a n) → x < a + n
 range_below a zero x h = absurd (omega arith)
@@ -66,7 +73,8 @@ range_below a (suc n) x h = dite (ℕ_discrete a x)
     omega arith)
 
 -- where no number is in the list more often than among those below n, all are below n
-pub all_below : (n : ℕ) (xs : List ℕ) → ((x : ℕ) → times x xs ≤ times x (range_with_len 0 n)) → All (λ x. x < n) xs
+pub all_below : (n : ℕ) (xs : List ℕ) → ((x : ℕ) → times x xs ≤ times x (range_with_len 0 n))
+    → All (λ x. x < n) xs
 all_below n [] h = All-nil (λ y. y < n)
 all_below n (x ∷ xs) h =
     let here = h x in

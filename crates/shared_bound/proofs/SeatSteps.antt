@@ -1,5 +1,6 @@
 -- Cutting one seat's knowledge in two and joining two seats' keep the rule, which holds of a new table.
-use Rattle.std.proofs.Common.{◌≡◌, ℕ, zero, suc, ◌+◌, ◌^◌, ◌<◌, ◌≤◌, min, Bool, true, false, ◌||◌, List, [], ◌∷◌, set, sym, refl, ap, ◌∙◌, subst, ⊎_elim, arith, le_refl, if◌then◌else◌}
+use Rattle.std.proofs.Common.{◌≡◌, ℕ, zero, suc, ◌+◌, ◌^◌, ◌<◌, ◌≤◌, min, Bool, true, false, ◌||◌, List, []}
+use Rattle.std.proofs.Common.{◌∷◌, set, sym, refl, ap, ◌∙◌, subst, ⊎_elim, arith, le_refl, if◌then◌else◌}
 use Rattle.std.specs.List.{range_with_len}
 use mathlib.Core.Logic.{dite}
 use mathlib.Core.Option.{some, some-injective, some-ne-none}
@@ -30,17 +31,36 @@ module _ {S : Type 0} (n : ℕ) where
       let within = h.within in
       let bounded = mine.bounded in
       let past = cut (λ (u : Knowledge). u.past) s.views id k (giver k) (newcomer k) at (omega arith) in
-      let left : Knows n c m (giver k) = record { bounded = omega arith; ended = λ p. mine.ended (omega arith); finished = mine.finished; lowered = mine.lowered; nothing = λ z. absurd (omega arith) } in
-      let right : Knows n c m (newcomer k) = record { bounded = omega arith; ended = λ p. mine.ended (omega arith); finished = λ f. absurd (off f); lowered = mine.lowered; nothing = λ z. absurd (omega arith) } in (
+      let left : Knows n c m (giver k) =
+      record {
+        bounded = omega arith;
+        ended = λ p. mine.ended (omega arith);
+        finished =
+            mine.finished;
+        lowered = mine.lowered;
+        nothing = λ z. absurd (omega arith);
+      } in
+      let right : Knows n c m (newcomer k) =
+      record {
+        bounded = omega arith;
+        ended = λ p. mine.ended (omega arith);
+        finished =
+            λ f. absurd (off f);
+        lowered = mine.lowered;
+        nothing = λ z. absurd (omega arith);
+      } in (
         holds.0,
         holds.1,
         record {
           history = h.history;
           leads = h.leads;
-          whole = cut (λ (u : Knowledge). u.parts) s.views id k (giver k) (newcomer k) at (omega arith) ∙ h.whole;
+          whole = cut (λ (u : Knowledge). u.parts) s.views id k (giver k) (newcomer k) at (omega arith)
+              ∙ h.whole;
           within = omega arith;
-          given = λ x. cut (λ (u : Knowledge). times x u.claimed) s.views id k (giver k) (newcomer k) at (omega arith) ∙ h.given x;
-          told = λ x. cut (λ (u : Knowledge). times x u.offered) s.views id k (giver k) (newcomer k) at (omega arith) ∙ h.told x;
+          given = λ x. cut (λ (u : Knowledge). times x u.claimed) s.views id k (giver k) (newcomer k) at
+              (omega arith) ∙ h.given x;
+          told = λ x. cut (λ (u : Knowledge). times x u.offered) s.views id k (giver k) (newcomer k) at
+              (omega arith) ∙ h.told x;
           each = λ j u e.
               ⊎_elim
               (λ was. each_set n c m s.views id (giver k) left (λ i t _ there. h.each i t there) j u was)
@@ -49,7 +69,8 @@ module _ {S : Type 0} (n : ℕ) where
         },
       )
 
-  pub joins : (id other : ℕ) (k l : Knowledge) → 0 < k.parts → Joins {S = S} (Holds n) id k other l (joined k l) nobody
+  pub joins : (id other : ℕ) (k l : Knowledge) → 0 < k.parts
+      → Joins {S = S} (Holds n) id k other l (joined k l) nobody
   joins id other k l some_part s holds at apart there =
       let h = holds.2 in
       let b : Knowledge = joined k l in
@@ -66,12 +87,21 @@ module _ {S : Type 0} (n : ℕ) where
       let past = put (λ (u : Knowledge). u.past) s.views id other k l b at there refl refl in
       let both : Knows n c m b = record {
         bounded = omega arith;
-        ended = λ p. dite (ℕ_discrete k.past 0) (λ z. theirs.ended (omega arith)) (λ some_past. mine.ended (omega arith));
+        ended = λ p. dite (ℕ_discrete k.past 0) (λ z. theirs.ended (omega arith))
+            (λ some_past. mine.ended (omega arith));
         finished = either_done k.done l.done (n ≤ c) mine.finished theirs.finished;
         lowered = omega arith;
         nothing = λ z. absurd (omega arith);
       } in
-      let spent : Knows n c m nobody = record { bounded = omega arith; ended = λ p. absurd (omega arith); finished = λ f. absurd (off f); lowered = top; nothing = λ _. (refl, refl) } in (
+      let spent : Knows n c m nobody =
+      record {
+        bounded = omega arith;
+        ended = λ p. absurd (omega arith);
+        finished =
+            λ f. absurd (off f);
+        lowered = top;
+        nothing = λ _. (refl, refl);
+      } in (
         holds.0,
         holds.1,
         record {
@@ -79,9 +109,12 @@ module _ {S : Type 0} (n : ℕ) where
           leads = h.leads;
           whole = put (λ (u : Knowledge). u.parts) s.views id other k l b at there refl refl ∙ h.whole;
           within = omega arith;
-          given = λ x. put (λ (u : Knowledge). times x u.claimed) s.views id other k l b at there (times-append x k.claimed l.claimed) refl ∙ h.given x;
-          told = λ x. put (λ (u : Knowledge). times x u.offered) s.views id other k l b at there (times-append x k.offered l.offered) refl ∙ h.told x;
-          each = each_set n c m (set s.views id b) other nobody spent (λ j u _ e. each_set n c m s.views id b both (λ i t _ here. h.each i t here) j u e);
+          given = λ x. put (λ (u : Knowledge). times x u.claimed) s.views id other k l b at there
+              (times-append x k.claimed l.claimed) refl ∙ h.given x;
+          told = λ x. put (λ (u : Knowledge). times x u.offered) s.views id other k l b at there
+              (times-append x k.offered l.offered) refl ∙ h.told x;
+          each = each_set n c m (set s.views id b) other nobody spent
+              (λ j u _ e. each_set n c m s.views id b both (λ i t _ here. h.each i t here) j u e);
         },
       )
 
@@ -91,7 +124,8 @@ module _ {S : Type 0} (n : ℕ) where
     refl,
     record {
       history = [];
-      leads = let e : 0 ≡ min 0 n = omega arith in ap (λ (given : ℕ). record { given = given; least = NO_OFFER }) e;
+      leads = let e : 0 ≡ min 0 n =
+          omega arith in ap (λ (given : ℕ). record { given = given; least = NO_OFFER }) e;
       whole = refl;
       within = omega arith;
       given = λ x. let e : min 0 n ≡ 0 = omega arith in ap (λ (z : ℕ). times x (range_with_len 0 z)) (sym e);
@@ -102,7 +136,14 @@ module _ {S : Type 0} (n : ℕ) where
     where
       one : (j : ℕ) (k : Knowledge) → get_elem? (opening_knowledge n ∷ []) j ≡ some k → Knows n 0 NO_OFFER k
       one zero k e = subst (Knows n 0 NO_OFFER) (some-injective _ _ e)
-          record { bounded = omega arith; ended = λ p. absurd (omega arith); finished = λ f. absurd (off f); lowered = le_refl NO_OFFER; nothing = λ z. absurd (omega arith) }
+          record {
+            bounded = omega arith;
+            ended = λ p. absurd (omega arith);
+            finished =
+                λ f. absurd (off f);
+            lowered = le_refl NO_OFFER;
+            nothing = λ z. absurd (omega arith);
+          }
       one (suc j) k e = absurd (some-ne-none k (sym e))
 
 -- a seat that is in use has a part
@@ -110,9 +151,12 @@ pub has_part : (k : Knowledge) (out shares_left : ℕ) → IsTied k out shares_l
 has_part k out shares_left t = go k.is_first refl
   where
     go : (b : Bool) → k.is_first ≡ b → 0 < k.parts
-    go true e = let kept : k.parts + out ≡ MOST_SEATS = t.kept ∙ ap (λ (b : Bool). if b then MOST_SEATS else 1) e in let few = t.few in omega arith
-    go false e = let kept : k.parts + out ≡ 1 = t.kept ∙ ap (λ (b : Bool). if b then MOST_SEATS else 1) e in let own = t.own e in omega arith
+    go true e = let kept : k.parts + out ≡ MOST_SEATS =
+        t.kept ∙ ap (λ (b : Bool). if b then MOST_SEATS else 1) e in let few = t.few in omega arith
+    go false e = let kept : k.parts + out ≡ 1 = t.kept ∙ ap (λ (b : Bool). if b then MOST_SEATS else 1) e in
+        let own = t.own e in omega arith
 
 -- the first seat has all parts but those that are out
-pub first_parts : (k : Knowledge) (out shares_left : ℕ) → IsTied k out shares_left → k.is_first ≡ true → k.parts + out ≡ MOST_SEATS
+pub first_parts : (k : Knowledge) (out shares_left : ℕ) → IsTied k out shares_left → k.is_first ≡ true
+    → k.parts + out ≡ MOST_SEATS
 first_parts k out shares_left t first = t.kept ∙ ap (λ (b : Bool). if b then MOST_SEATS else 1) first

@@ -1,5 +1,6 @@
 -- The bound of one thread: how many sources are given out, and the least offer.
-use Rattle.std.specs.Prelude.{◌≡◌, ℕ, ◌+◌, min, nat_lt, if◌then◌else◌, Option, Some, None, List, [], ◌∷◌, length, IsPermutation}
+use Rattle.std.specs.Prelude.{◌≡◌, ℕ, ◌+◌, min, nat_lt, if◌then◌else◌, Option, Some, None, List, [], ◌∷◌}
+use Rattle.std.specs.Prelude.{length, IsPermutation}
 use Rattle.shared_bound.specs.declared.TheConstants.{NO_OFFER}
 
 pub record BoundState : Type 0 where
@@ -51,7 +52,8 @@ sources_given n s (claim ∷ cs) = with_source (claimed_source n s) (sources_giv
 sources_given n s (look ∷ cs) = sources_given n s cs
 sources_given n s (offer x ∷ cs) = sources_given n (bound_after n s (offer x)) cs
 
--- these calls of one thread are given just the sources that were claimed, offer just what was offered, and leave this least offer
+-- these calls of one thread are given just the sources that were claimed, offer just what was offered, and
+-- leave this least offer
 pub record IsRun (n : ℕ) (claimed offered : List ℕ) (least : ℕ) (calls : List BoundCall) : Type 0 where
   pub leads : bound_after_all n fresh calls ≡ record { given = length claimed; least = least }
   pub given : IsPermutation (sources_given n fresh calls) claimed

@@ -8,9 +8,9 @@ pub record BoundView : Type 0 where
   pub table : TableId
   pub sources : ℕ
 
--- the bound that a seat is of, and whether it is the first; the sources that it claimed and the numbers that it offered, in order;
--- the least number that it knows of; whether it was told that all sources are given out;
--- how many seats it has shared and not taken in, and how many it may still share
+-- the bound that a seat is of, and whether it is the first; the sources that it claimed and the numbers that
+-- it offered, in order; the least number that it knows of; whether it was told that all sources are given
+-- out; how many seats it has shared and not taken in, and how many it may still share
 pub record SeatView : Type 0 where
   pub bound : BoundView
   pub is_first : Bool
@@ -23,7 +23,18 @@ pub record SeatView : Type 0 where
 
 -- a seat that has done nothing yet
 abbrev pub fresh_seat : BoundView → Bool → ℕ → ℕ → SeatView
-fresh_seat bound is_first low shares_left = record { bound = bound; is_first = is_first; claimed = []; offered = []; low = low; done = false; out = 0; shares_left = shares_left }
+fresh_seat bound is_first low shares_left =
+    record {
+      bound = bound;
+      is_first = is_first;
+      claimed = [];
+      offered = [];
+      low = low;
+      done = false;
+      out =
+          0;
+      shares_left = shares_left;
+    }
 
 -- the least number of a list, or `NO_OFFER` where it is empty
 abbrev pub least_offer : List ℕ → ℕ

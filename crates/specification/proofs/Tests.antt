@@ -1,6 +1,8 @@
--- Tests that compute, each with what it decides: of all or some members of a list, of names, operations and lists without
--- repetition. The worked recordings are shown by such tests, and the existence of a verdict goes by them.
-use Rattle.std.proofs.Common.{◌≡◌, ℕ, zero, suc, ◌⊎◌, inl, inr, Bool, true, false, Option, Some, None, List, [], ◌∷◌, map, length, refl, sym, ◌∙◌, arith, ap, subst}
+-- Tests that compute, each with what it decides: of all or some members of a list, of names, operations and
+-- lists without repetition. The worked recordings are shown by such tests, and the existence of a verdict
+-- goes by them.
+use Rattle.std.proofs.Common.{◌≡◌, ℕ, zero, suc, ◌⊎◌, inl, inr, Bool, true, false, Option, Some, None, List}
+use Rattle.std.proofs.Common.{[], ◌∷◌, map, length, refl, sym, ◌∙◌, arith, ap, subst}
 use Rattle.std.specs.Prelude.{Decides, not, ◌&&◌, ◌||◌, ◌==◌, flat_map, filter, cond}
 use Rattle.std.specs.List.{list_all, list_any}
 use Rattle.std.proofs.lemmas.Bool.{false≢true}
@@ -14,13 +16,15 @@ decide_by true d = yes (d.0 refl)
 decide_by false d = no (λ p. false≢true (d.1 p))
 
 module _ {X : Type 0} (test : X → Bool) (P : X → Type 0) where
-  pub Decides-each_of : (xs : List X) → ((x : X) → In x xs → Decides (test x) (P x)) → Decides (list_all test xs) ((x : X) → In x xs → P x)
+  pub Decides-each_of : (xs : List X) → ((x : X) → In x xs → Decides (test x) (P x))
+      → Decides (list_all test xs) ((x : X) → In x xs → P x)
   Decides-each_of [] each = (λ e x i. absurd i, λ all. refl)
   Decides-each_of (y ∷ ys) each =
       Decides-like (test y && list_all test ys)
       (λ h x i. elim i [ inl e ↦ subst (λ z. P z) (sym e) h.0 | inr j ↦ h.1 x j ])
       (λ all. (all y (inl refl), λ x i. all x (inr i)))
-      (Decides-and (test y) (list_all test ys) (each y (inl refl)) (Decides-each_of ys (λ x i. each x (inr i))))
+      (Decides-and (test y) (list_all test ys) (each y (inl refl))
+      (Decides-each_of ys (λ x i. each x (inr i))))
 
 module _ {X : Type 0} (test : X → Bool) (P : X → Type 0) (each : (x : X) → Decides (test x) (P x)) where
   pub Decides-each : (xs : List X) → Decides (list_all test xs) ((x : X) → In x xs → P x)
@@ -29,7 +33,8 @@ module _ {X : Type 0} (test : X → Bool) (P : X → Type 0) (each : (x : X) →
   pub Decides-some : (xs : List X) → Decides (list_any test xs) ((x : X) × In x xs × P x)
   Decides-some [] = (λ e. absurd (false≢true e), λ s. absurd s.1)
   Decides-some (y ∷ ys) =
-      Decides-like (test y || list_any test ys) found lost (Decides-or (test y) (list_any test ys) (each y) (Decides-some ys))
+      Decides-like (test y || list_any test ys) found lost
+      (Decides-or (test y) (list_any test ys) (each y) (Decides-some ys))
     where
       found : P y ⊎ ((x : X) × In x ys × P x) → (x : X) × In x (y ∷ ys) × P x
       found (inl p) = (y, inl refl, p)
@@ -69,7 +74,9 @@ module _ {X : Type 0} (same : X → X → Bool) (is : (x y : X) → Decides (sam
 
   pub Decides-once : (xs : List X) → Decides (is_once same xs) (Once xs)
   Decides-once [] = (λ e. tt, λ o. refl)
-  Decides-once (x ∷ xs) = Decides-and (not (is_in same x xs)) (is_once same xs) (Decides-not (is_in same x xs) (Decides-in x xs)) (Decides-once xs)
+  Decides-once (x ∷ xs) =
+      Decides-and (not (is_in same x xs)) (is_once same xs) (Decides-not (is_in same x xs) (Decides-in x xs))
+      (Decides-once xs)
 
   pub Decides-has_some : (x : X) (o : Option X) → Decides (has_some same x o) (o ≡ Some x)
   Decides-has_some x None = (λ e. absurd (false≢true e), λ e. absurd Prim.cc)
@@ -82,14 +89,16 @@ pub Decides-operation : (f e : Operation) → Decides (is_operation_named f e) (
 Decides-operation f e =
     Decides-like ((f.replica == e.replica) && (f.n == e.n)) (λ h i. record { replica = h.0 i; n = h.1 i })
     (λ h. (ap (λ (o : Operation). o.replica) h, ap (λ (o : Operation). o.n) h))
-    (Decides-and (f.replica == e.replica) (f.n == e.n) (Decides-eqb f.replica e.replica) (Decides-eqb f.n e.n))
+    (Decides-and (f.replica == e.replica) (f.n == e.n) (Decides-eqb f.replica e.replica)
+    (Decides-eqb f.n e.n))
 
 -- the lists of a length with members of a list, in dictionary order
 abbrev pub lists_of : {X : Type 0} → ℕ → List X → List (List X)
 lists_of zero xs = [] ∷ []
 lists_of (suc n) xs = flat_map (λ x. map (λ c. x ∷ c) (lists_of n xs)) xs
 
-pub In-lists_of : {X : Type 0} (n : ℕ) (xs c : List X) → length c ≡ n → ((x : X) → In x c → In x xs) → In c (lists_of n xs)
+pub In-lists_of : {X : Type 0} (n : ℕ) (xs c : List X) → length c ≡ n → ((x : X) → In x c → In x xs)
+    → In c (lists_of n xs)
 In-lists_of zero xs [] e within = inl refl
 In-lists_of zero xs (x ∷ c) e within = absurd (omega arith)
 In-lists_of (suc n) xs [] e within = absurd (omega arith)
@@ -103,7 +112,8 @@ module _ {X : Type 0} (test : X → Bool) where
   In_filter-from x [] i = absurd i
   In_filter-from x (y ∷ ys) i = go (test y) refl i (λ j. In_filter-from x ys j)
     where
-      go : (b : Bool) → test y ≡ b → In x (cond b (y ∷ filter test ys) (filter test ys)) → (In x (filter test ys) → In x ys × (test x ≡ true)) → In x (y ∷ ys) × (test x ≡ true)
+      go : (b : Bool) → test y ≡ b → In x (cond b (y ∷ filter test ys) (filter test ys))
+          → (In x (filter test ys) → In x ys × (test x ≡ true)) → In x (y ∷ ys) × (test x ≡ true)
       go true e (inl f) rest = (inl f, ap test f ∙ e)
       go true e (inr j) rest = (inr (rest j).0, (rest j).1)
       go false e j rest = (inr (rest j).0, (rest j).1)
@@ -112,17 +122,20 @@ module _ {X : Type 0} (test : X → Bool) where
   In-filter x [] i e = absurd i
   In-filter x (y ∷ ys) i e = go (test y) refl i (λ j. In-filter x ys j e)
     where
-      go : (b : Bool) → test y ≡ b → In x (y ∷ ys) → (In x ys → In x (filter test ys)) → In x (cond b (y ∷ filter test ys) (filter test ys))
+      go : (b : Bool) → test y ≡ b → In x (y ∷ ys) → (In x ys → In x (filter test ys))
+          → In x (cond b (y ∷ filter test ys) (filter test ys))
       go true f (inl p) rest = inl p
       go true f (inr j) rest = inr (rest j)
       go false f (inl p) rest = absurd (false≢true (sym f ∙ ap test (sym p) ∙ e))
       go false f (inr j) rest = rest j
 
 -- what is tested where the first holds
-pub Decides-and_then : {P Q : Type 0} (x y : Bool) → Decides x P → (P → Decides y Q) → Decides (x && y) (P × Q)
+pub Decides-and_then : {P Q : Type 0} (x y : Bool) → Decides x P → (P → Decides y Q)
+    → Decides (x && y) (P × Q)
 Decides-and_then true y d k = (λ e. (d.0 refl, (k (d.0 refl)).0 e), λ h. (k h.0).1 h.1)
 Decides-and_then false y d k = (λ e. absurd (false≢true e), λ h. d.1 h.0)
 
-pub Decides-implies : {P Q : Type 0} (x y : Bool) → Decides x P → (P → Decides y Q) → Decides (not x || y) (P → Q)
+pub Decides-implies : {P Q : Type 0} (x y : Bool) → Decides x P → (P → Decides y Q)
+    → Decides (not x || y) (P → Q)
 Decides-implies true y d k = (λ e p. (k p).0 e, λ all. (k (d.0 refl)).1 (all (d.0 refl)))
 Decides-implies false y d k = (λ e p. absurd (false≢true (d.1 p)), λ all. refl)

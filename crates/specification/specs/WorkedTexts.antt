@@ -13,8 +13,10 @@ one_insert = text_of (codes "trace 1" ∷ codes "replicas 2" ∷ codes "0 ins a 
 abbrev pub MalformedLines : Type 0
 MalformedLines =
     IsFirstLineFault [] 1 header × IsFirstLineFault (text_of (codes "trace 1" ∷ [])) 2 replicas
-    × IsFirstLineFault (text_of (codes "trace 2" ∷ [])) 2 replicas × IsFirstLineFault (text_of (codes "trace 3" ∷ [])) 1 header
+    × IsFirstLineFault (text_of (codes "trace 2" ∷ [])) 2 replicas
+    × IsFirstLineFault (text_of (codes "trace 3" ∷ [])) 1 header
     × IsFirstLineFault (codes "tra") 1 cut × IsFirstLineFault (one_replica ++ codes "0 read :") 3 cut
-    × IsFirstLineFault (one_replica ++ text_of ([] ∷ [])) 3 shape × IsFirstLineFault (one_replica ++ text_of (codes "1 read :" ∷ [])) 3 (refused NoReplica)
+    × IsFirstLineFault (one_replica ++ text_of ([] ∷ [])) 3 shape
+    × IsFirstLineFault (one_replica ++ text_of (codes "1 read :" ∷ [])) 3 (refused NoReplica)
     × IsFirstLineFault (one_insert ++ text_of (codes "1 recv 0 2" ∷ [])) 4 (refused (NotYet 1))
     × IsFirstLineFault (one_insert ++ text_of (codes "0 recv 0 1" ∷ [])) 4 (refused OwnReceipt)

@@ -2,7 +2,8 @@
 use Rattle.std.proofs.Common.{◌≡◌, ℕ, ◌+◌, List, [], ◌∷◌, ◌++◌, length, Option, Some, None, IfSome, inl}
 use Rattle.specification.specs.Lines.{Line, text_of, IsOneLine}
 use Rattle.specification.specs.TraceText as format
-use Rattle.specification.specs.TraceText.{IsFaultyLine, IsMissingLine, BeginsSpelling, HasWholeFault, IsCutAt, LacksLine, IsFirstLineFault}
+use Rattle.specification.specs.TraceText.{IsFaultyLine, IsMissingLine, BeginsSpelling, HasWholeFault, IsCutAt}
+use Rattle.specification.specs.TraceText.{LacksLine, IsFirstLineFault}
 use Rattle.format_words.proofs.Places as places
 use Rattle.format_words.proofs.Places.{text-with}
 use Rattle.trace_text.specs.Place.{TakesMemory, TakesMemoryAt}
@@ -12,7 +13,8 @@ never-cut [] line h = h
 never-cut (a ∷ []) line h = h
 never-cut (a ∷ b ∷ lines) line h = h
 
-first-of-whole : (text : List ℕ) (number : ℕ) (lines : List Line) (line : Line) (cause : format.Cause) → IsFaultyLine lines line cause → HasWholeFault text number cause → IsFirstLineFault text number cause
+first-of-whole : (text : List ℕ) (number : ℕ) (lines : List Line) (line : Line) (cause : format.Cause)
+    → IsFaultyLine lines line cause → HasWholeFault text number cause → IsFirstLineFault text number cause
 first-of-whole text number lines line format.header h whole = inl whole
 first-of-whole text number lines line format.replicas h whole = inl whole
 first-of-whole text number lines line format.shape h whole = whole
@@ -20,8 +22,10 @@ first-of-whole text number lines line format.cut h whole = absurd (never-cut lin
 first-of-whole text number lines line (format.refused why) h whole = whole
 
 -- a faulty line after right ones
-faulty-there : (text : List ℕ) (number : ℕ) (lines : List Line) (line rest behind : List ℕ) (cause : format.Cause) →
-    text ≡ text_of lines ++ rest → rest ≡ line ++ 10 ∷ behind → IsOneLine line → number ≡ length lines + 1 → BeginsSpelling lines → IsFaultyLine lines line cause → HasWholeFault text number cause
+faulty-there : (text : List ℕ) (number : ℕ) (lines : List Line) (line rest behind : List ℕ)
+    (cause : format.Cause) →
+    text ≡ text_of lines ++ rest → rest ≡ line ++ 10 ∷ behind → IsOneLine line → number ≡ length lines + 1
+    → BeginsSpelling lines → IsFaultyLine lines line cause → HasWholeFault text number cause
 faulty-there text number lines line rest behind cause whole cut one_line is begins faulty = record {
   good = lines;
   begins = begins;
@@ -34,19 +38,32 @@ faulty-there text number lines line rest behind cause whole cut one_line is begi
 }
 
 -- such a fault is the first of the text
-pub whole-is-first : (text : List ℕ) (number : ℕ) (cause : format.Cause) → HasWholeFault text number cause → IsFirstLineFault text number cause
+pub whole-is-first : (text : List ℕ) (number : ℕ) (cause : format.Cause) → HasWholeFault text number cause
+    → IsFirstLineFault text number cause
 whole-is-first text number cause f = first-of-whole text number f.good f.faulty cause f.is_faulty f
 
-pub line-holds : (text : List ℕ) (number : ℕ) (lines : List Line) (line rest behind : List ℕ) (cause : Option format.Cause) →
-    text ≡ text_of lines ++ rest → rest ≡ line ++ 10 ∷ behind → IsOneLine line → number ≡ length lines + 1 → BeginsSpelling lines → IfSome cause (IsFaultyLine lines line) → IfSome cause (HasWholeFault text number)
+pub line-holds : (text : List ℕ) (number : ℕ) (lines : List Line) (line rest behind : List ℕ)
+    (cause : Option format.Cause) →
+    text ≡ text_of lines ++ rest → rest ≡ line ++ 10 ∷ behind → IsOneLine line → number ≡ length lines + 1
+    → BeginsSpelling lines → IfSome cause (IsFaultyLine lines line)
+    → IfSome cause (HasWholeFault text number)
 line-holds text number lines line rest behind None whole cut one_line is begins faulty = tt
-line-holds text number lines line rest behind (Some cause) whole cut one_line is begins faulty = faulty-there text number lines line rest behind cause whole cut one_line is begins faulty
+line-holds text number lines line rest behind (Some cause) whole cut one_line is begins faulty =
+    faulty-there text number lines line rest behind cause whole cut one_line is begins faulty
 
-pub line-fault : (text : List ℕ) (number : ℕ) (lines : List Line) (line rest behind : List ℕ) (cause : Option format.Cause) →
-    text ≡ text_of lines ++ rest → rest ≡ line ++ 10 ∷ behind → IsOneLine line → number ≡ length lines + 1 → BeginsSpelling lines → IfSome cause (IsFaultyLine lines line) → IfSome cause (IsFirstLineFault text number)
+pub line-fault : (text : List ℕ) (number : ℕ) (lines : List Line) (line rest behind : List ℕ)
+    (cause : Option format.Cause) →
+    text ≡ text_of lines ++ rest → rest ≡ line ++ 10 ∷ behind → IsOneLine line → number ≡ length lines + 1
+    → BeginsSpelling lines → IfSome cause (IsFaultyLine lines line)
+    → IfSome cause (IsFirstLineFault text number)
 line-fault text number lines line rest behind None whole cut one_line is begins faulty = tt
-line-fault text number lines line rest behind (Some cause) whole cut one_line is begins faulty = whole-is-first text number cause (faulty-there text number lines line rest behind cause whole cut one_line is begins faulty)
+line-fault text number lines line rest behind (Some cause) whole cut one_line is begins faulty =
+    whole-is-first text number cause
+    (faulty-there text number lines line rest behind cause whole cut one_line is begins faulty)
 
 pub ended-line : (text : List ℕ) (number : ℕ) (lines : List Line) (line rest behind : List ℕ) →
-    text ≡ text_of lines ++ rest → rest ≡ line ++ 10 ∷ behind → IsOneLine line → number ≡ length lines + 1 → BeginsSpelling lines → TakesMemory lines line → TakesMemoryAt text number
-ended-line text number lines line rest behind whole cut one is begins takes = places.ended-line BeginsSpelling TakesMemory text number lines line rest behind whole cut one is begins takes
+    text ≡ text_of lines ++ rest → rest ≡ line ++ 10 ∷ behind → IsOneLine line → number ≡ length lines + 1
+    → BeginsSpelling lines → TakesMemory lines line → TakesMemoryAt text number
+ended-line text number lines line rest behind whole cut one is begins takes =
+    places.ended-line BeginsSpelling TakesMemory text number lines line rest behind whole cut one is begins
+    takes

@@ -13,7 +13,8 @@ use Rattle.specification.specs.TraceText.{entry_line, body_text, IsEntry}
 use Rattle.specification.specs.Versions.{Version}
 use Rattle.format_words.specs.Words.{Word, words_of}
 use Rattle.format_words.proofs.Bytes.{lacks-literal}
-use Rattle.format_words.proofs.LineWords.{LacksSpace, join-names, name-lacks, names-lack, number-lacks, word-then, last-word, names-words}
+use Rattle.format_words.proofs.LineWords.{LacksSpace, join-names, name-lacks, names-lack, number-lacks}
+use Rattle.format_words.proofs.LineWords.{word-then, last-word, names-words}
 
 abbrev pub body_words : Body → List Word
 body_words (Ins name at response) = codes "ins" ∷ name ∷ decimal at ∷ codes ":" ∷ response
@@ -25,8 +26,11 @@ body_words (Recv seen) = codes "recv" ∷ decimal seen.replica ∷ decimal seen.
 abbrev pub entry_words : Entry → List Word
 entry_words e = decimal e.replica ∷ body_words e.body
 
-place-and-names : (name place names : List ℕ) → name ++ 32 ∷ (place ++ 32 ∷ 58 ∷ names) ≡ ((name ++ 32 ∷ place) ++ codes " :") ++ names
-place-and-names name place names = sym (append_assoc (name ++ 32 ∷ place) (codes " :") names ∙ append_assoc name (32 ∷ place) (codes " :" ++ names))
+place-and-names : (name place names : List ℕ) → name ++ 32 ∷ (place ++ 32 ∷ 58 ∷ names)
+    ≡ ((name ++ 32 ∷ place) ++ codes " :") ++ names
+place-and-names name place names =
+    sym (append_assoc (name ++ 32 ∷ place) (codes " :") names
+    ∙ append_assoc name (32 ∷ place) (codes " :" ++ names))
 
 body-join : (r : List ℕ) (b : Body) → join_with_byte 32 (r ∷ body_words b) ≡ r ++ body_text b
 body-join r (Ins name at response) =
@@ -41,19 +45,24 @@ body-join r (Recv seen) = refl
 
 -- a line with an entry's words is the entry's line
 pub line-by-words : (line : List ℕ) (e : Entry) → words_of line ≡ entry_words e → line ≡ entry_line e
-line-by-words line e h = sym (join_with_byte-slice_split 32 line) ∙ ap (join_with_byte 32) h ∙ body-join (decimal e.replica) e.body
+line-by-words line e h = sym (join_with_byte-slice_split 32 line) ∙ ap (join_with_byte 32) h
+    ∙ body-join (decimal e.replica) e.body
 
 colon-lacks : LacksSpace (codes ":")
 colon-lacks = lacks-literal 32 (codes ":") refl
 
-response-words : (names : List NameBytes) → All IsName names → words_of (codes ":" ++ names_text names) ≡ codes ":" ∷ names
+response-words : (names : List NameBytes) → All IsName names
+    → words_of (codes ":" ++ names_text names) ≡ codes ":" ∷ names
 response-words names h = names-words (codes ":") names colon-lacks (names-lack names h)
 
-body-words : (r : Word) (b : Body) → LacksSpace r → IsWellFormed b → words_of (r ++ body_text b) ≡ r ∷ body_words b
+body-words : (r : Word) (b : Body) → LacksSpace r → IsWellFormed b
+    → words_of (r ++ body_text b) ≡ r ∷ body_words b
 body-words r (Ins name at response) h k =
-    ap (λ l. words_of (r ++ (codes " ins " ++ l))) (sym (place-and-names name (decimal at) (names_text response)))
+    ap (λ l. words_of (r ++ (codes " ins " ++ l)))
+    (sym (place-and-names name (decimal at) (names_text response)))
     ∙ word-then r (codes "ins " ++ (name ++ 32 ∷ (decimal at ++ 32 ∷ 58 ∷ names_text response))) h
-    ∙ ap (λ l. r ∷ codes "ins" ∷ l) (word-then name (decimal at ++ 32 ∷ 58 ∷ names_text response) (name-lacks name k.0)
+    ∙ ap (λ l. r ∷ codes "ins" ∷ l)
+    (word-then name (decimal at ++ 32 ∷ 58 ∷ names_text response) (name-lacks name k.0)
     ∙ ap (λ l. name ∷ l) (word-then (decimal at) (58 ∷ names_text response) (number-lacks at k.1)
     ∙ ap (λ l. decimal at ∷ l) (response-words response k.2)))
 body-words r (Del name response) h k =
@@ -62,14 +71,18 @@ body-words r (Del name response) h k =
     ∙ ap (λ l. r ∷ codes "del" ∷ l) (word-then name (58 ∷ names_text response) (name-lacks name k.0)
     ∙ ap (λ l. name ∷ l) (response-words response k.1))
 body-words r (Read response) h k =
-    word-then r (codes "read " ++ 58 ∷ names_text response) h ∙ ap (λ l. r ∷ codes "read" ∷ l) (response-words response k)
+    word-then r (codes "read " ++ 58 ∷ names_text response) h
+    ∙ ap (λ l. r ∷ codes "read" ∷ l) (response-words response k)
 body-words r (View response) h k =
-    word-then r (codes "view " ++ 58 ∷ names_text response) h ∙ ap (λ l. r ∷ codes "view" ∷ l) (response-words response k)
+    word-then r (codes "view " ++ 58 ∷ names_text response) h
+    ∙ ap (λ l. r ∷ codes "view" ∷ l) (response-words response k)
 body-words r (Recv seen) h k =
     word-then r (codes "recv " ++ (decimal seen.replica ++ 32 ∷ decimal seen.n)) h
-    ∙ ap (λ l. r ∷ codes "recv" ∷ l) (word-then (decimal seen.replica) (decimal seen.n) (number-lacks seen.replica k.0)
+    ∙ ap (λ l. r ∷ codes "recv" ∷ l)
+    (word-then (decimal seen.replica) (decimal seen.n) (number-lacks seen.replica k.0)
     ∙ ap (λ l. decimal seen.replica ∷ l) (last-word (decimal seen.n) (number-lacks seen.n k.2)))
 
 -- an entry's line has the entry's words
-pub words-of-line : (version : Version) (e : Entry) → IsEntry version e → words_of (entry_line e) ≡ entry_words e
+pub words-of-line : (version : Version) (e : Entry) → IsEntry version e
+    → words_of (entry_line e) ≡ entry_words e
 words-of-line version e h = body-words (decimal e.replica) e.body (number-lacks e.replica h.0) h.1

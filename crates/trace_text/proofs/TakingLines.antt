@@ -20,15 +20,21 @@ use Rattle.trace_text.specs.declared.cause.Cause.TheVariants as cause
 use Rattle.trace_text.proofs.Spelled.{line-spells}
 
 -- a line that is read as an entry with names
-pub takes-by-names : (version : Version) (h : History) (line : Line) → IsSpelledIn version h → GivesOne HasEntryNames (entry_at (has_views version) (words_of line)) → TakesMemory (trace_lines version h) line
+pub takes-by-names : (version : Version) (h : History) (line : Line) → IsSpelledIn version h
+    → GivesOne HasEntryNames (entry_at (has_views version) (words_of line))
+    → TakesMemory (trace_lines version h) line
 takes-by-names version h line spelled some = go (entry_at (has_views version) (words_of line)) refl some
   where
-    go : (o : Option Entry) → entry_at (has_views version) (words_of line) ≡ o → GivesOne HasEntryNames o → TakesMemory (trace_lines version h) line
+    go : (o : Option Entry) → entry_at (has_views version) (words_of line) ≡ o → GivesOne HasEntryNames o
+        → TakesMemory (trace_lines version h) line
     go None is k = absurd k
-    go (Some e) is k = let read = line-spells version line e is in (version, h, spelled, refl, e, read.0, read.1, inl k)
+    go (Some e) is k = let read = line-spells version line e is in
+        (version, h, spelled, refl, e, read.0, read.1, inl k)
 
 -- a line whose entry is recorded
-pub takes-by-record : (version : Version) (h : History) (line : Line) (e : Entry) → IsSpelledIn version h → IsEntry version e → line ≡ entry_line e → first_refusal h.replicas h.entries e ≡ None → TakesMemory (trace_lines version h) line
+pub takes-by-record : (version : Version) (h : History) (line : Line) (e : Entry) → IsSpelledIn version h
+    → IsEntry version e → line ≡ entry_line e → first_refusal h.replicas h.entries e ≡ None
+    → TakesMemory (trace_lines version h) line
 takes-by-record version h line e spelled k is none = (version, h, spelled, refl, e, k, is, inr none)
 
 abbrev why_of : Cause → Refusal

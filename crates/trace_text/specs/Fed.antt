@@ -7,8 +7,8 @@ use Rattle.trace_text.specs.Causes.{cause_of}
 use Rattle.trace_text.specs.Kept.{EMPTY, IsKeptOf, Keeps, Kept}
 use Rattle.trace_text.specs.declared.cause.LineFault.{LineFault}
 
--- the right lines so far, what is kept of the line begun, and the fault that each call answers; nothing is kept where
--- memory ran out for the line
+-- the right lines so far, what is kept of the line begun, and the fault that each call answers; nothing is
+-- kept where memory ran out for the line
 pub record ReaderState : Type 0 where
   pub lines : List Line
   pub begun : Option Kept
@@ -29,8 +29,10 @@ pub record HoldsFault (text : List ℕ) (fault : LineFault) : Type 0 where
 
 -- the text ends in a line without its LF, of which this is kept
 abbrev pub EndsIn : List Line → Option Kept → List ℕ → Type 0
-EndsIn lines (Some kept) text = (begun : List ℕ) × IsKeptOf kept begun × IsOneLine begun × (text ≡ text_of lines ++ begun)
-EndsIn lines None text = (begun : List ℕ) × (1 ≤ length begun) × IsOneLine begun × (text ≡ text_of lines ++ begun)
+EndsIn lines (Some kept) text =
+    (begun : List ℕ) × IsKeptOf kept begun × IsOneLine begun × (text ≡ text_of lines ++ begun)
+EndsIn lines None text =
+    (begun : List ℕ) × (1 ≤ length begun) × IsOneLine begun × (text ≡ text_of lines ++ begun)
 
 -- right lines, and then so
 abbrev pub IsOpenAt : List Line → Option Kept → List ℕ → Type 0

@@ -1,4 +1,5 @@
--- What is kept of a line whose LF has not come: a line of bounded length that is judged as the line that came.
+-- What is kept of a line whose LF has not come: a line of bounded length that is judged as the line that
+-- came.
 use Rattle.std.specs.Prelude.{◌≡◌, ℕ, ◌≤◌, ◌⊎◌, false, ◌==◌, All, List, [], ◌∷◌, ◌++◌, length}
 use Rattle.specification.specs.Lines.{Line}
 use Rattle.specification.specs.TraceText as format
@@ -21,10 +22,11 @@ EMPTY = record { whole = []; word = [] }
 abbrev pub GIVEN_UP : Kept
 GIVEN_UP = record { whole = 32 ∷ []; word = [] }
 
--- whatever follows: a fault of the kept line is one of the line, after each right lines; and where the kept line is
--- right, it is the line
+-- whatever follows: a fault of the kept line is one of the line, after each right lines; and where the kept
+-- line is right, it is the line
 pub record StandsFor (kept line : Line) : Type 0 where
-  pub faults : (lines : List Line) (more : Line) (cause : format.Cause) → IsFaultyLine lines (kept ++ more) cause → IsFaultyLine lines (line ++ more) cause
+  pub faults : (lines : List Line) (more : Line) (cause : format.Cause)
+      → IsFaultyLine lines (kept ++ more) cause → IsFaultyLine lines (line ++ more) cause
   pub right : (lines : List Line) (more : Line) → BeginsSpelling (lines ++ (kept ++ more) ∷ []) → kept ≡ line
   pub some : 1 ≤ length kept → 1 ≤ length line
   pub none : 1 ≤ length line → 1 ≤ length kept

@@ -14,9 +14,11 @@ WrittenTextsSpell = (h : History) → IsLegal h → Spells (trace_text h) h
 
 -- a text that spells a recording has no fault
 abbrev pub SpelledTextsHaveNoFault : Type 0
-SpelledTextsHaveNoFault = (text : List ℕ) (h : History) (line : ℕ) (cause : format.Cause) → Spells text h → ¬ IsFirstLineFault text line cause
+SpelledTextsHaveNoFault = (text : List ℕ) (h : History) (line : ℕ) (cause : format.Cause) → Spells text h
+    → ¬ IsFirstLineFault text line cause
 
 -- a text has at most one first fault
 abbrev pub TextsHaveOneFirstFault : Type 0
 TextsHaveOneFirstFault =
-    (text : List ℕ) (line other : ℕ) (cause why : format.Cause) → IsFirstLineFault text line cause → IsFirstLineFault text other why → (line ≡ other) × (cause ≡ why)
+    (text : List ℕ) (line other : ℕ) (cause why : format.Cause) → IsFirstLineFault text line cause
+    → IsFirstLineFault text other why → (line ≡ other) × (cause ≡ why)

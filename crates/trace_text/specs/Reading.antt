@@ -1,12 +1,14 @@
 -- What words say: a number, a name, a response, an entry. Nothing, where they say none.
-use Rattle.std.specs.Prelude.{ℕ, nat_le, Bool, ◌&&◌, if◌then◌else◌, Option, Some, None, List, [], ◌∷◌, codes, bytes_eq}
+use Rattle.std.specs.Prelude.{ℕ, nat_le, Bool, ◌&&◌, if◌then◌else◌, Option, Some, None, List, [], ◌∷◌, codes}
+use Rattle.std.specs.Prelude.{bytes_eq}
 use Rattle.events.specs.Names.{NameBytes}
 use Rattle.events.specs.History.{response_of}
 use Rattle.events.specs.declared.entry.Entry.{Entry}
 use Rattle.events.specs.declared.entry.Body.{Body}
 use Rattle.events.specs.declared.entry.Body.TheVariants.{Ins, Del, Read, View, Recv}
 use Rattle.format_words.specs.Words.{Word}
-use Rattle.format_words.specs.Reading.{◌>>=◌, HasSome, number_of, name_of, word_at, number_at, after_word, no_more, names_at}
+use Rattle.format_words.specs.Reading.{◌>>=◌, HasSome, number_of, name_of, word_at, number_at, after_word}
+use Rattle.format_words.specs.Reading.{no_more, names_at}
 
 -- the response has names, so that it takes memory
 abbrev pub HasNames : Body → Type 0

@@ -9,21 +9,23 @@ use format_words::name_of;
 use std::alloc::Global;
 use std::marker::Model;
 
-/// Whole words of an entry that have this many bytes, or more, hold more names than a response may have. A word of an entry
-/// has at most 32 bytes, and a space after it: so these are 4,102 words at least, of which at most five stand before the
-/// response's names.
+/// Whole words of an entry that have this many bytes, or more, hold more names than a response may have. A
+/// word of an entry has at most 32 bytes, and a space after it: so these are 4,102 words at least, of which
+/// at most five stand before the response's names.
 const LONG_LINE: usize = 135_334;
 
 /// A line that is judged as the line that came so far, whatever follows.
 ///
 /// It is the line itself, as whole words and the word begun, but for these cases.
 ///
-/// A line that begins with a space is given up, and so is one where added bytes leave a word begun of more than 32 bytes. It
-/// can't be right any more. One space stands for it, since no right line begins so, and what follows is not looked at.
+/// A line that begins with a space is given up, and so is one where added bytes leave a word begun of more
+/// than 32 bytes. It can't be right any more. One space stands for it, since no right line begins so, and
+/// what follows is not looked at.
 ///
-/// Added bytes that make what is kept longer than 135,334 bytes are gone through word by word. A word of more than 32 bytes
-/// gives the line up, and behind whole words of 135,334 bytes, or more, any word that is no name does; a name that ends there
-/// is left out. Other bytes are not looked through for such words, which stay as they are.
+/// Added bytes that make what is kept longer than 135,334 bytes are gone through word by word. A word of more
+/// than 32 bytes gives the line up, and behind whole words of 135,334 bytes, or more, any word that is no
+/// name does; a name that ends there is left out. Other bytes are not looked through for such words, which
+/// stay as they are.
 #[derive(Drop)]
 pub struct KeptLine {
     whole: Vec<u8>,
@@ -65,7 +67,8 @@ fn is_name(word: &[u8]) -> bool
 }
 
 impl KeptLine {
-    ghost use Rattle.std.specs.Prelude.{◌≡◌, ◌↔◌, ◌<◌, ◌≤◌, ◌+◌, ◌^◌, ◌∷◌, ◌++◌, [], length, slice_get, OnOk, Some, true};
+    ghost use Rattle.std.specs.Prelude.{◌≡◌, ◌↔◌, ◌<◌, ◌≤◌, ◌+◌, ◌^◌, ◌∷◌, ◌++◌, [], length, slice_get, OnOk};
+    ghost use Rattle.std.specs.Prelude.{Some, true};
     ghost use Rattle.events.specs.Names.{IsName};
     ghost use Rattle.trace_text.specs.Kept.{EMPTY, GIVEN_UP, HasNoSpace, Keeps};
 
@@ -167,8 +170,8 @@ impl KeptLine {
         self.word.clear();
     }
 
-    /// Ends the word begun with a space: puts it after the whole words, or where these are long, leaves out a name and gives
-    /// the line up at any other word.
+    /// Ends the word begun with a space: puts it after the whole words, or where these are long, leaves out a
+    /// name and gives the line up at any other word.
     fn end_word(&mut self) -> Result<(), Memory>
         ensures { OnOk result (Keeps self.old (32 ∷ []) self.new) }
     {
@@ -182,9 +185,10 @@ impl KeptLine {
         Ok(())
     }
 
-    /// Adds bytes of the line. It takes time in proportion to them. Where they end a word, leave one begun of at most 32 bytes,
-    /// and what is kept has at most 135,334 bytes with them, all that they have of whole words is put behind the word begun at
-    /// once. But a line that begins with a space is given up by its first word, which has no byte.
+    /// Adds bytes of the line. It takes time in proportion to them. Where they end a word, leave one begun of
+    /// at most 32 bytes, and what is kept has at most 135,334 bytes with them, all that they have of whole
+    /// words is put behind the word begun at once. But a line that begins with a space is given up by its
+    /// first word, which has no byte.
     pub fn add(&mut self, bytes: &[u8]) -> Result<(), Memory>
         ensures { OnOk result (Keeps self.old bytes.now self.new) }
     {
@@ -211,7 +215,8 @@ impl KeptLine {
 
     /// Whether what is kept has at most 135,334 bytes with these.
     fn has_room(&self, bytes: &[u8]) -> bool
-        ensures { result ≡ true → length self.now.whole + length self.now.word + length bytes.now ≤ LONG_LINE }
+        ensures { result ≡ true
+            → length self.now.whole + length self.now.word + length bytes.now ≤ LONG_LINE }
     {
         match LONG_LINE.checked_sub(bytes.len()) {
             None => false,

@@ -27,8 +27,8 @@ pub struct Moved {
     pub elsewhere: u32,
 }
 
-/// The elements by their place in the order that all groups' editors agree on: the group of who inserts each, and its
-/// name behind a space.
+/// The elements by their place in the order that all groups' editors agree on: the group of who inserts each,
+/// and its name behind a space.
 #[derive(Drop)]
 pub struct Elements {
     authors: Vec<u32>,

@@ -43,7 +43,8 @@ pub fn accepted(alloc: Global, shape: Shape, seed: u64) -> Result<Vec<u8>> {
     Ok(trace_of(alloc, &mut session))
 }
 
-/// All edit together; behind nine tenths of the session one reads a list that lacks its last name, and all go on.
+/// All edit together; behind nine tenths of the session one reads a list that lacks its last name, and all go
+/// on.
 pub fn lacking(alloc: Global, shape: Shape, seed: u64) -> Result<Vec<u8>> {
     let mut session = Session::new(alloc, shape, seed)?;
     let all = all_of(alloc, &shape)?;
@@ -61,8 +62,8 @@ pub fn lacking(alloc: Global, shape: Shape, seed: u64) -> Result<Vec<u8>> {
     Ok(trace_of(alloc, &mut session))
 }
 
-/// Each first types alone as long as a quarter of its places lasts; then all hear of all, and read and delete in long
-/// lists.
+/// Each first types alone as long as a quarter of its places lasts; then all hear of all, and read and delete
+/// in long lists.
 pub fn long_responses(alloc: Global, shape: Shape, seed: u64) -> Result<Vec<u8>> {
     let mut session = Session::new(alloc, shape, seed)?;
     let all = all_of(alloc, &shape)?;
@@ -124,8 +125,8 @@ pub fn exchanged(alloc: Global, shape: Shape, seed: u64) -> Result<Vec<u8>> {
     Ok(trace_of(alloc, &mut session))
 }
 
-/// All edit together; then two insert beside an element that a third deletes, so that three responses can't be right
-/// together.
+/// All edit together; then two insert beside an element that a third deletes, so that three responses can't
+/// be right together.
 pub fn small_cycle(alloc: Global, shape: Shape, seed: u64) -> Result<Vec<u8>> {
     let mut session = Session::new(alloc, shape, seed)?;
     let all = all_of(alloc, &shape)?;
@@ -165,8 +166,8 @@ pub fn small_cycle(alloc: Global, shape: Shape, seed: u64) -> Result<Vec<u8>> {
     Ok(trace_of(alloc, &mut session))
 }
 
-/// Each group edits for itself, shows what it has, hears of the next group, whose elements it puts behind its own, and
-/// goes on.
+/// Each group edits for itself, shows what it has, hears of the next group, whose elements it puts behind its
+/// own, and goes on.
 pub fn ring(alloc: Global, shape: Shape, seed: u64) -> Result<Vec<u8>> {
     let mut session = Session::new(alloc, shape, seed)?;
     let mut groups = Vec::new(alloc);

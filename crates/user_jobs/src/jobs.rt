@@ -128,8 +128,8 @@ pub fn short<H: Threads + Sync>(
     Ok(())
 }
 
-/// Sessions in which two and more responses can't be right together. What groups show is judged on the way too, when they
-/// have heard of each other.
+/// Sessions in which two and more responses can't be right together. What groups show is judged on the way
+/// too, when they have heard of each other.
 pub fn refused<H: Threads + Sync>(
     rt: &H,
     alloc: Global,
@@ -234,8 +234,8 @@ fn live_as_it_grows<H: Threads + Wait + Sync>(
     live(rt, alloc, digest, trace, WORKERS)
 }
 
-/// Awkward sessions: windows of long lists, long names, lists without a name, elements that all come at the same time,
-/// and elements that are gone before another replica shows them.
+/// Awkward sessions: windows of long lists, long names, lists without a name, elements that all come at the
+/// same time, and elements that are gone before another replica shows them.
 pub fn awkward<H: Threads + Sync>(
     rt: &H,
     alloc: Global,

@@ -1,7 +1,7 @@
 //! A seed for each session, so that no two have the same.
 
-/// The seeds of a job's sessions, one after the other. Where the seed that it begins with is below 2 ^ 32, no other such
-/// seed and no other job gives one of them.
+/// The seeds of a job's sessions, one after the other. Where the seed that it begins with is below 2 ^ 32, no
+/// other such seed and no other job gives one of them.
 #[derive(Drop)]
 pub struct Seeds {
     seed: u64,
@@ -24,8 +24,8 @@ impl Seeds {
     }
 }
 
-/// A number all of whose bits hang on all bits of the one given; two numbers never give the same one. It is the last step of
-/// the generator SplitMix64.
+/// A number all of whose bits hang on all bits of the one given; two numbers never give the same one. It is
+/// the last step of the generator SplitMix64.
 fn mixed(number: u64) -> u64 {
     let once = (number ^ number >> 30).wrapping_mul(0xbf58_476d_1ce4_e5b9);
     let twice = (once ^ once >> 27).wrapping_mul(0x94d0_49bb_1331_11eb);

@@ -1,4 +1,5 @@
-//! Sessions that are made up: their editors type, delete, look and hear of each other, and the text of a trace says so.
+//! Sessions that are made up: their editors type, delete, look and hear of each other, and the text of a
+//! trace says so.
 
 use super::elements::{Elements, part};
 use super::random::Random;
@@ -317,8 +318,8 @@ impl Session {
         self.receive(r, *other, n)
     }
 
-    /// What a replica of this group does next, where it keeps so many inserts and places for later: about so long a
-    /// list is wanted that its places are used up with its entries.
+    /// What a replica of this group does next, where it keeps so many inserts and places for later: about so
+    /// long a list is wanted that its places are used up with its entries.
     fn act(
         &mut self,
         r: usize,

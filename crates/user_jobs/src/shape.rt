@@ -13,8 +13,8 @@ pub struct Shape {
     pub places: usize,
     /// How many bytes a name has, 5 to 32.
     pub width: usize,
-    /// How many groups the replicas are dealt out to in turn: each group shows its own elements first, then those of
-    /// the next group, and so on round. With one group all replicas show one order.
+    /// How many groups the replicas are dealt out to in turn: each group shows its own elements first, then
+    /// those of the next group, and so on round. With one group all replicas show one order.
     pub groups: usize,
     /// How many reads in a thousand are views.
     pub views: usize,
@@ -63,8 +63,8 @@ pub const DAY: Shape = Shape {
     grows: false,
 };
 
-/// The shape of a session near all limits but that on inserts: 16 replicas with 262,144 entries in all, which may insert 65,536
-/// elements, and insert some 40,000 of them.
+/// The shape of a session near all limits but that on inserts: 16 replicas with 262,144 entries in all, which
+/// may insert 65,536 elements, and insert some 40,000 of them.
 pub const NEAR_ALL: Shape = Shape {
     replicas: 16,
     entries: 16_384,

@@ -1,5 +1,5 @@
-//! Short sessions, as a property-based test and its shrinker make them: texts of some lines, and these texts with one
-//! line left out.
+//! Short sessions, as a property-based test and its shrinker make them: texts of some lines, and these texts
+//! with one line left out.
 
 use super::families::{accepted, lacking, ring};
 use super::judged::Judged;
@@ -41,7 +41,8 @@ fn short_session(alloc: Global, random: &mut Random, seed: u64) -> Result<Vec<u8
     accepted(alloc, shape, seed)
 }
 
-/// A short session whose text was not judged before, and now counts as judged: sessions are drawn until one is new.
+/// A short session whose text was not judged before, and now counts as judged: sessions are drawn until one
+/// is new.
 pub fn new_session(
     alloc: Global,
     random: &mut Random,

@@ -1,5 +1,5 @@
--- Where no order follows every response there is a conflict number, and it is the length of a shortest cycle. A refusal
--- of responses that cover those of a recording is its verdict.
+-- Where no order follows every response there is a conflict number, and it is the length of a shortest cycle.
+-- A refusal of responses that cover those of a recording is its verdict.
 use Rattle.std.proofs.Common.{ℕ, inl, inr, Some}
 use Rattle.events.specs.History.{History}
 use Rattle.specification.specs.Responses.{Responses, responses_of, AreProper}
@@ -25,7 +25,8 @@ some_conflict v proper none peace =
       | inr q ↦ let cycle = q.2.0 in (conflict_number_is_shortest_cycle v proper).1.0 peace cycle.0 cycle.1
     ]
 
-pub refusal-covers : (h : History) (w : Responses) → IsSound h → AreProper (responses_of h) → AreProper w → IsCoveredBy (responses_of h) w
+pub refusal-covers : (h : History) (w : Responses) → IsSound h → AreProper (responses_of h) → AreProper w
+    → IsCoveredBy (responses_of h) w
     → (found : Conflict) → IsLeastConflict w (Some found) → IsVerdict h (refused found.k found.steps)
 refusal-covers h w sound whole part cover found is = (
   sound,

@@ -23,15 +23,15 @@ use witnesses::Order;
 /// The verdict on a recording.
 ///
 /// The number of workers, 1 to 64, is tested before the recording is looked at. One walk over each replica
-/// checks its contents and finds its responses that cover the others: with more than one worker one half of the
-/// replicas is gone through beside the other, in a second thread; with one all is done in the caller's thread. The
-/// search for the conflict number is made only where no order follows every response; the gate is called round
-/// each of its searches. The least cycle is then found in the caller's thread.
+/// checks its contents and finds its responses that cover the others: with more than one worker one half of
+/// the replicas is gone through beside the other, in a second thread; with one all is done in the caller's
+/// thread. The search for the conflict number is made only where no order follows every response; the gate is
+/// called round each of its searches. The least cycle is then found in the caller's thread.
 ///
-/// Without conflicts its cost is that of `contents_check::check` and linear in the places of the responses that
-/// cover all; where there are, `least_conflict` has the cost of the search. Memory is linear in the places, and
-/// where there are conflicts n * n / 8 bytes more for the n elements that can't be taken in turn for an order,
-/// and linear in these for each worker.
+/// Without conflicts its cost is that of `contents_check::check` and linear in the places of the responses
+/// that cover all; where there are, `least_conflict` has the cost of the search. Memory is linear in the
+/// places, and where there are conflicts n * n / 8 bytes more for the n elements that can't be taken in turn
+/// for an order, and linear in these for each worker.
 pub fn judge<H: Threads + Sync, G: Gate>(
     rt: &H,
     alloc: Global,

@@ -1,4 +1,5 @@
--- Lemmas: on taking free elements in turn, on counts, on lists of successors, from orders of numbers to orders of names, and on what is taken.
+-- Lemmas: on taking free elements in turn, on counts, on lists of successors, from orders of numbers to
+-- orders of names, and on what is taken.
 pub mod InTurn
 pub mod Counting
 pub mod Listing

@@ -1,5 +1,7 @@
--- What stands right after each element, and the edges of a graph that this makes: one from an element to each of its successors, as often as it is listed.
-use Rattle.std.specs.Prelude.{◌≡◌, ℕ, ◌+◌, ◌<◌, ◌==◌, ◌↔◌, List, Vec, All, Contains, map, length, sum_by, count_by, slice_index}
+-- What stands right after each element, and the edges of a graph that this makes: one from an element to each
+-- of its successors, as often as it is listed.
+use Rattle.std.specs.Prelude.{◌≡◌, ℕ, ◌+◌, ◌<◌, ◌==◌, ◌↔◌, List, Vec, All, Contains, map, length, sum_by}
+use Rattle.std.specs.Prelude.{count_by, slice_index}
 use Rattle.std.specs.Global.{Global}
 use Rattle.order_graph.specs.Lists.{row, Stands}
 
@@ -29,7 +31,8 @@ pub record AreSuccessors (rows : List (List ℕ)) (n : ℕ) (successors : List (
 
 -- the last number of each of n elements is listed for it, where it is a number below n
 abbrev pub AreLastListed : ℕ → List (List ℕ) → List ℕ → Type 0
-AreLastListed n successors last = (x : ℕ) → x < n → slice_index last x < n → Contains (row successors x) (slice_index last x)
+AreLastListed n successors last = (x : ℕ) → x < n → slice_index last x < n
+    → Contains (row successors x) (slice_index last x)
 
 -- how often y is in a list
 abbrev pub occurrences : List ℕ → ℕ → ℕ

@@ -43,7 +43,8 @@ fn lower(indegrees: &mut Vec<u64>, free: &mut BTreeSet<u32>, y: u32) -> Result<(
     ensures lowered { indegrees.new.items
         ≡ slice_set indegrees.old.items y (slice_index indegrees.old.items y - 1) }
     ensures free { OnOk result (free.new.keys
-        ≡ (if slice_index indegrees.old.items y == 1 then insert_key nat_cmp free.old.keys y else free.old.keys)) }
+        ≡ (if slice_index indegrees.old.items y == 1 then insert_key nat_cmp free.old.keys y else
+        free.old.keys)) }
 {
     let indegree = indegrees[y as usize] - 1;
     indegrees[y as usize] = indegree;
@@ -64,7 +65,8 @@ pub fn remove_edges(
         → occurrences successors.now y ≤ slice_index indegrees.old.items y }
     ensures size { vec_len indegrees.new ≡ vec_len indegrees.old }
     ensures lowered { OnOk result ((y : ℕ) → y < vec_len indegrees.old
-        → slice_index indegrees.new.items y + occurrences successors.now y ≡ slice_index indegrees.old.items y) }
+        → slice_index indegrees.new.items y + occurrences successors.now y
+        ≡ slice_index indegrees.old.items y) }
     ensures free { OnOk result ((y : ℕ) → Contains free.new.keys y ↔ (Contains free.old.keys y
         ⊎ ((y < vec_len indegrees.old) × (0 < slice_index indegrees.old.items y)
         × (slice_index indegrees.new.items y ≡ 0)))) }

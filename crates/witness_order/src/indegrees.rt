@@ -16,7 +16,8 @@ fn add_edges(indegrees: &mut Vec<u64>, successors: &[u32])
         → slice_index indegrees.old.items y + 2 ^ 32 < 2 ^ 64 }
     ensures size { vec_len indegrees.new ≡ vec_len indegrees.old }
     ensures added { (y : ℕ) → y < vec_len indegrees.old
-        → slice_index indegrees.new.items y ≡ slice_index indegrees.old.items y + occurrences successors.now y }
+        → slice_index indegrees.new.items y ≡ slice_index indegrees.old.items y
+        + occurrences successors.now y }
 {
     for y in successors {
         indegrees[*y as usize] += 1;

@@ -1,6 +1,7 @@
 //! What stands right after each element in some list.
 
-ghost use Rattle.std.specs.Prelude.{◌≡◌, ℕ, ◌+◌, ◌<◌, ◌≤◌, ◌⊎◌, ◌↔◌, ◌^◌, ◌∷◌, ◌++◌, [], All, Contains, IfOk, OnOk};
+ghost use Rattle.std.specs.Prelude.{◌≡◌, ℕ, ◌+◌, ◌<◌, ◌≤◌, ◌⊎◌, ◌↔◌, ◌^◌, ◌∷◌, ◌++◌, [], All, Contains, IfOk};
+ghost use Rattle.std.specs.Prelude.{OnOk};
 ghost use Rattle.std.specs.Prelude.{length, vec_len};
 ghost use Rattle.order_graph.specs.Lists.{lists_of, row};
 ghost use Rattle.witness_order.specs.Edges.{lists_in, IsNext, AreSuccessors, AreLastListed};

@@ -173,7 +173,8 @@ fn rows_that_the_row_before_has(rt: HostRuntime) -> Result<(), Fail> {
     Ok(())
 }
 
-/// The depth of a number, which is the count at most: that of the first pair of the number, or else the count.
+/// The depth of a number, which is the count at most: that of the first pair of the number, or else the
+/// count.
 fn depth_of(known: &[(u32, u32)], count: u32, x: u32) -> u32
     ensures { result ≤ count }
 {

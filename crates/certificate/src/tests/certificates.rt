@@ -169,8 +169,8 @@ fn certificates_by_workers_out_of_range(rt: HostRuntime) {
     }
 }
 
-/// Whether two workers make a certificate between the calls of this gate; where the first try finds no memory, by a
-/// second.
+/// Whether two workers make a certificate between the calls of this gate; where the first try finds no
+/// memory, by a second.
 fn is_made_round<H: Threads + Sync>(rt: &H, alloc: Global, hold: &Hold) -> bool {
     let Ok(recording) = recording(alloc, THREE_WAY_CYCLE) else {
         return false;
@@ -209,7 +209,8 @@ static INSERTING: [(&str, &str); 15] = [
     ("14", "o"),
 ];
 
-/// Three inserts of a replica, and their receipt by another one: `#` stands for its number, `$` for its letter.
+/// Three inserts of a replica, and their receipt by another one: `#` stands for its number, `$` for its
+/// letter.
 const INSERTS: &str = "# ins $0 0 : $0\n# ins $1 1 : $0 $1\n# ins $2 2 : $0 $1 $2\n15 recv # 3\n";
 
 /// A view that shows the last element of a replica, whose letter is `#`, before the first of that of `$`.
@@ -227,9 +228,9 @@ fn push_filled(text: &mut String, pattern: &str, hash: &str, dollar: &str) -> Re
     Ok(())
 }
 
-/// Three elements of each of 15 replicas; then the last replica, which has received all, shows the last element of
-/// each before the first of the next one, once all the way round: 45 elements, more than the 40 rows that four
-/// threads make in a turn.
+/// Three elements of each of 15 replicas; then the last replica, which has received all, shows the last
+/// element of each before the first of the next one, once all the way round: 45 elements, more than the 40
+/// rows that four threads make in a turn.
 fn wide_ring_once(alloc: Global) -> Result<String, Memory> {
     let mut text = String::new(alloc);
     text.push_str("trace 2\nreplicas 16\n")?;

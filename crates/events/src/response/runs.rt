@@ -1,4 +1,5 @@
-//! Runs of names: those of another response that a text goes on with, and how a run is put at the end of a response.
+//! Runs of names: those of another response that a text goes on with, and how a run is put at the end of a
+//! response.
 
 ghost use Rattle.std.specs.Prelude.{◌≡◌, ℕ, ◌+◌, ◌-◌, ◌<◌, ◌≤◌, ◌^◌, ◌++◌, Some, All, IfOk, OnOk, OnErr};
 ghost use Rattle.std.specs.Prelude.{List, length, map, take, drop, slice_get, slice_index, vec_len};

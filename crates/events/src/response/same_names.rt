@@ -17,8 +17,8 @@ const LANES: usize = 16;
 impl Response {
     /// How many names follow one another alike in this response from place `i` and in the other from place
     /// `j` on: the most, and 0 where either place is past the end. It takes no memory, and time linear in the
-    /// bytes of these names and of the one that differs, and a binary search among the places of this response
-    /// from `i` on.
+    /// bytes of these names and of the one that differs, and a binary search among the places of this
+    /// response from `i` on.
     pub fn same_names(&self, i: usize, other: &Response, j: usize) -> usize
         ensures within { result ≤ length (drop i self.now) × result ≤ length (drop j other.now) }
         ensures same { take result (drop i self.now) ≡ take result (drop j other.now) }
@@ -99,7 +99,8 @@ fn same_within(a: &[u8], b: &[u8], most: usize) -> usize
         if more < LANES {
             return same + more;
         }
-        // `more` is `LANES` here; with the constant the processor goes on to the next sixteen before it knows it.
+        // `more` is `LANES` here; with the constant the processor goes on to the next sixteen before it knows
+        // it.
         same += LANES;
     }
     let last = most - LANES;

@@ -16,11 +16,11 @@ use crate::{MOST_BYTES, Memory};
 const AT_ONCE: usize = 64;
 
 impl Response {
-    /// Puts at the end the names that the text begins with, up to 64 of them: each after one space, and the last one
-    /// before a space or the end of the text. It answers how many they are and how many bytes they take, none where no
-    /// name stands there. Where memory is wanted, as where all names together would have more than `u32::MAX` bytes with
-    /// their spaces, the response is as it was. It takes time linear in the bytes of these
-    /// names and of the word that is none.
+    /// Puts at the end the names that the text begins with, up to 64 of them: each after one space, and the
+    /// last one before a space or the end of the text. It answers how many they are and how many bytes they
+    /// take, none where no name stands there. Where memory is wanted, as where all names together would have
+    /// more than `u32::MAX` bytes with their spaces, the response is as it was. It takes time linear in the
+    /// bytes of these names and of the word that is none.
     pub fn push_names(&mut self, text: &[u8]) -> Result<Run, Memory>
         ensures ok { IfOk result (λ run. (names : List NameBytes)
             × AreFirstNames 64 text.now names run.names run.bytes × (self.new ≡ self.old ++ names)) }
@@ -33,8 +33,8 @@ impl Response {
     }
 }
 
-/// The names that the text begins with, up to 64 of them. For each there is put into `ends` how many bytes of the text
-/// there are up to its end, spaces counted.
+/// The names that the text begins with, up to 64 of them. For each there is put into `ends` how many bytes of
+/// the text there are up to its end, spaces counted.
 fn first_names(text: &[u8], ends: &mut [u32]) -> Run
     requires { length ends.old ≡ AT_ONCE }
     ensures size { length ends.new ≡ AT_ONCE }
@@ -55,11 +55,12 @@ fn first_names(text: &[u8], ends: &mut [u32]) -> Run
     Run { names, bytes }
 }
 
-/// How many bytes the name has that the text begins with, after one space and before a space or the end of the text;
-/// 0 where no name stands there.
+/// How many bytes the name has that the text begins with, after one space and before a space or the end of
+/// the text; 0 where no name stands there.
 fn name_size(text: &[u8]) -> usize
     ensures few { result ≤ MOST_BYTES }
-    ensures some { 0 < result → (a : NameBytes) × (length a ≡ result) × IsName a × BeginsWith text.now (a ∷ []) }
+    ensures some { 0 < result → (a : NameBytes) × (length a ≡ result) × IsName a
+        × BeginsWith text.now (a ∷ []) }
     ensures none { result ≡ 0 → (a : NameBytes) → IsName a → BeginsWith text.now (a ∷ []) → ⊥ }
 {
     let Some((space, word)) = text.split_first() else {

@@ -75,8 +75,8 @@ fn put_names(made: &mut Response, text: &[u8]) -> Option<Run> {
     }
 }
 
-/// Whether the text begins with these names, which take so many of its bytes, and a response of one name has them after
-/// it.
+/// Whether the text begins with these names, which take so many of its bytes, and a response of one name has
+/// them after it.
 fn begins_with_names(alloc: Global, text: &[u8], names: &[&str], bytes: usize) -> bool {
     let (Some(mut made), Some(own)) = (of_names(alloc, &["first"]), of_names(alloc, names)) else {
         return false;
@@ -121,7 +121,8 @@ fn names_of_texts_are_put(rt: HostRuntime) {
     assert!(rt; begins_with_names(alloc, more, &["a"], 2));
 }
 
-/// Whether of a text of so many names, all `a`, so many are put at once; of more than 65 names it says nothing.
+/// Whether of a text of so many names, all `a`, so many are put at once; of more than 65 names it says
+/// nothing.
 fn puts_so_many(alloc: Global, names: u8, put: usize) -> Option<bool> {
     let mut text = [b'a'; 130];
     for i in 0..65 {
@@ -139,8 +140,8 @@ fn at_most_64_names_are_put_at_once(rt: HostRuntime) {
     assert!(rt; puts_so_many(rt.alloc(), 65, 64) == Some(true));
 }
 
-/// How many names there are in a word of 18 bytes that has this byte at a place, and is followed by another one: both,
-/// or none where the byte may not stand in a name.
+/// How many names there are in a word of 18 bytes that has this byte at a place, and is followed by another
+/// one: both, or none where the byte may not stand in a name.
 fn names_with(alloc: Global, byte: u8, place: usize) -> Option<usize> {
     let mut text = *b" eighteen_letters_x b";
     if place < 18 {

@@ -17,8 +17,8 @@ const LARGE: usize = 4096;
 const TRACE: &str =
     "trace 1\nreplicas 3\n0 ins x 0 : x\n1 recv 0 1\n2 recv 0 1\n1 ins a 0 : a x\n2 ins b 1 : x b\n0 del x :\n0 recv 1 1\n0 recv 2 1\n0 read : b a\n";
 
-/// Counts the replays of each of three replicas, begun and then ended, and calls that name something else or come
-/// in another order.
+/// Counts the replays of each of three replicas, begun and then ended, and calls that name something else or
+/// come in another order.
 #[derive(Drop)]
 struct Counts {
     begun: [AtomicU64; 3],

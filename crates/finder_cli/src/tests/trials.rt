@@ -51,8 +51,8 @@ fn answered<H: Threads + Sync>(
     run(rt, alloc, &mut source, &mut sink, 4, Form::Text)
 }
 
-/// A run on the trace, or a check of the certificate that is given, in which these calls fail; where the first
-/// finds no memory, the second.
+/// A run on the trace, or a check of the certificate that is given, in which these calls fail; where the
+/// first finds no memory, the second.
 pub fn tried<'t, 'c, H: Threads + Sync>(
     rt: &H,
     alloc: Global,

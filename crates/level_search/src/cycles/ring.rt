@@ -36,7 +36,8 @@ fn first_source(
     ensures lowest { (t : ℕ) → t < length graph.now.elements → HasCycle (lists_of graph.now) t k
         → result ≤ t }
     ensures looked { looked.new ≤ looked.old + length graph.now.elements * (2 * length graph.now.elements) }
-    ensures looks { HaveLooked (length graph.now.elements) (lists_of graph.now) (k + 1) (result + 1) looked.old looked.new }
+    ensures looks { HaveLooked (length graph.now.elements) (lists_of graph.now) (k + 1)
+        (result + 1) looked.old looked.new }
 {
     for element in 0..graph.elements() {
         let mut bound = PlainBound { least: k + 1 };

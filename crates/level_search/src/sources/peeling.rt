@@ -17,8 +17,8 @@ const NONE: u32 = u32::MAX;
 struct Peeling {
     /// The elements that were taken away.
     gone: BitSet,
-    /// For each element the last that stood before it and was left when that was looked up: all that stand before it
-    /// above that one are gone. `NONE` where none was looked up.
+    /// For each element the last that stood before it and was left when that was looked up: all that stand
+    /// before it above that one are gone. `NONE` where none was looked up.
     awaited: Vec<u32>,
     /// For each element the first of those that await it.
     first: Vec<u32>,
@@ -87,8 +87,8 @@ impl Peeling {
     }
 
     /// Lets an element that is left await the last that stands before it and is left; where there is none
-    /// it is free. Where it awaited another, all that stand before it above that one are gone, so only those below
-    /// are looked at.
+    /// it is free. Where it awaited another, all that stand before it above that one are gone, so only those
+    /// below are looked at.
     fn await_one(&mut self, graph: &OrderGraph, table: &BeforeTable, x: u32) -> Result<(), Memory>
         requires { length table.now ≡ length graph.now.elements }
     {

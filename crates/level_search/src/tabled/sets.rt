@@ -1,6 +1,7 @@
 //! The sets of elements on which a search over a table writes.
 
-ghost use Rattle.std.specs.Prelude.{◌≡◌, ℕ, ◌+◌, ◌*◌, ◌<◌, ◌≤◌, ◌⊎◌, ◌↔◌, IfNone, IfOk, IfSome, false, length};
+ghost use Rattle.std.specs.Prelude.{◌≡◌, ℕ, ◌+◌, ◌*◌, ◌<◌, ◌≤◌, ◌⊎◌, ◌↔◌, IfNone, IfOk, IfSome, false};
+ghost use Rattle.std.specs.Prelude.{length};
 ghost use Rattle.order_graph.specs.Lists.{lists_of};
 ghost use Rattle.bit_tables.specs.Sets.{Has};
 ghost use Rattle.bit_tables.specs.Lists.{row_of};
@@ -14,9 +15,9 @@ use events::Memory;
 use order_graph::{Looked, OrderGraph};
 use std::alloc::Global;
 
-/// Where a search over a table is, so that it takes no memory itself: `reached` has the elements from which no more steps than the level lead
-/// to the source, and `near` those from which fewer do. The layer is what `near` lacks. `next` is for the
-/// layer after it.
+/// Where a search over a table is, so that it takes no memory itself: `reached` has the elements from which
+/// no more steps than the level lead to the source, and `near` those from which fewer do. The layer is what
+/// `near` lacks. `next` is for the layer after it.
 #[derive(Drop)]
 pub struct Sets {
     pub near: BitSet,
@@ -41,8 +42,10 @@ impl Sets {
     pub fn next_in_layer(&self, graph: &OrderGraph, from: u32) -> Option<u32>
         ensures some { IfSome result (λ x. (from ≤ x) × IsInLayer (length graph.now.elements) self.now x) }
         ensures small { IfSome result (λ x. x < u32.MAX) }
-        ensures first { IfSome result (λ x. (y : ℕ) → from ≤ y → y < x → Has self.now.reached y → Has self.now.near y) }
-        ensures none { IfNone result ((y : ℕ) → from ≤ y → y < length graph.now.elements → Has self.now.reached y
+        ensures first { IfSome result (λ x. (y : ℕ) → from ≤ y → y < x → Has self.now.reached y
+            → Has self.now.near y) }
+        ensures none { IfNone result ((y : ℕ) → from ≤ y → y < length graph.now.elements
+            → Has self.now.reached y
             → Has self.now.near y) }
     {
         self.reached

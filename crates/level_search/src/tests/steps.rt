@@ -165,8 +165,9 @@ fn looks_in_the_ring_of_four(
     })
 }
 
-/// The first search finds the cycle of four in seven looks. Then the bound is 4, and each of the three others looks twice in
-/// two layers and once in the third, since a fourth could only give a cycle that is no shorter: five looks.
+/// The first search finds the cycle of four in seven looks. Then the bound is 4, and each of the three others
+/// looks twice in two layers and once in the third, since a fourth could only give a cycle that is no
+/// shorter: five looks.
 #[test]
 fn looks_of_all_searches_of_the_ring_of_four(rt: HostRuntime) -> Result<(), Fail> {
     assert_eq!(rt;
@@ -176,8 +177,8 @@ fn looks_of_all_searches_of_the_ring_of_four(rt: HostRuntime) -> Result<(), Fail
     Ok(())
 }
 
-/// One worker's search is held until the other has ended three, of which the first finds the cycle: seven looks and five of
-/// each other, whoever made them.
+/// One worker's search is held until the other has ended three, of which the first finds the cycle: seven
+/// looks and five of each other, whoever made them.
 #[test]
 fn looks_of_two_workers_are_added(rt: HostRuntime) -> Result<(), Fail> {
     let hold = Hold::until(0, 3);

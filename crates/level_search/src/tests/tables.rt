@@ -58,8 +58,8 @@ fn found_by_table<B: BoundSource>(
     Ok((found, looked.count()))
 }
 
-/// Round the ring each of four layers has one element. Its row is looked at twice, but in the last layer, where the cycle
-/// closes at the first look.
+/// Round the ring each of four layers has one element. Its row is looked at twice, but in the last layer,
+/// where the cycle closes at the first look.
 #[test]
 fn rows_that_a_search_of_the_ring_of_four_looks_at(rt: HostRuntime) -> Result<(), Fail> {
     let alloc = rt.alloc();
@@ -70,8 +70,9 @@ fn rows_that_a_search_of_the_ring_of_four_looks_at(rt: HostRuntime) -> Result<()
     Ok(())
 }
 
-/// The bound is 5 before the first layer, below which the cycle of four is, and 3 from the second on: two rows are looked
-/// at in the first layer, and in the second one, since a third layer could only give a cycle that is no shorter than 3.
+/// The bound is 5 before the first layer, below which the cycle of four is, and 3 from the second on: two
+/// rows are looked at in the first layer, and in the second one, since a third layer could only give a cycle
+/// that is no shorter than 3.
 #[test]
 fn a_search_by_a_table_reads_its_bound_again(rt: HostRuntime) -> Result<(), Fail> {
     let alloc = rt.alloc();
@@ -126,7 +127,8 @@ fn wait_for(count: &AtomicU64, number: u64) {
     }
 }
 
-/// A worker's seat at the shared bound, which lets another worker offer between its first answer and the second.
+/// A worker's seat at the shared bound, which lets another worker offer between its first answer and the
+/// second.
 #[derive(Drop)]
 struct MetSeat<'a> {
     seat: BoundSeat<'a>,
@@ -161,8 +163,8 @@ fn bound(alloc: Global) -> Result<(Bound, Seat), Fail>
     }
 }
 
-/// What a search from the first element finds, at how many rows of the table it looks, and how often it asks for its
-/// bound, where another worker offers this length once it asks for the second time.
+/// What a search from the first element finds, at how many rows of the table it looks, and how often it asks
+/// for its bound, where another worker offers this length once it asks for the second time.
 fn found_beside_an_offer(
     rt: &(impl Threads + Sync),
     alloc: Global,
@@ -187,8 +189,8 @@ fn found_beside_an_offer(
     Ok((found, looked, meeting.asked.load(Ordering::SeqCst)))
 }
 
-/// The same as with a bound that falls, where it is the workers' bound, and another worker's offer lowers it in the midst
-/// of the search.
+/// The same as with a bound that falls, where it is the workers' bound, and another worker's offer lowers it
+/// in the midst of the search.
 #[test]
 fn an_offer_ends_another_workers_search(rt: HostRuntime) -> Result<(), Fail> {
     let alloc = rt.alloc();

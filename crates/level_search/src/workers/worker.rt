@@ -9,16 +9,16 @@ ghost use Rattle.level_search.specs.Team.{IsLength, IsReady, SameSeat};
 ghost use Rattle.list_search.specs.Walks.{NoneShorter};
 
 use super::bound_seat::BoundSeat;
-use crate::gate::Gate;
 use crate::before_table::BeforeTable;
+use crate::gate::Gate;
 use crate::tabled::{Sets, search_by_table};
 use events::Memory;
 use order_graph::{Looked, OrderGraph};
 use shared_bound::{Bound, NO_OFFER, Seat};
 use std::alloc::Global;
 
-/// One of those who search for the conflict number: its number, its seat at the shared bound, what its searches write
-/// on, and how many steps they have taken.
+/// One of those who search for the conflict number: its number, its seat at the shared bound, what its
+/// searches write on, and how many steps they have taken.
 #[derive(Drop)]
 pub struct Worker<'a> {
     pub number: u32,

@@ -37,7 +37,8 @@ fn meets(one: &AtomicU64, other: &AtomicU64) -> bool {
     false
 }
 
-/// Records the first entry of replica 0, some time after the other thread came. Answers whether that was recorded.
+/// Records the first entry of replica 0, some time after the other thread came. Answers whether that was
+/// recorded.
 fn records_late<H: AllocGlobal + Wait>(
     rt: &H,
     session: &Session,
@@ -58,7 +59,8 @@ fn records_late<H: AllocGlobal + Wait>(
     record_copy(rt, session, &mut first, recording.stream(0, 0)) == Ok(1)
 }
 
-/// Replays the stream of replica 1, which begins with a receipt of that entry; none where the other thread doesn't come.
+/// Replays the stream of replica 1, which begins with a receipt of that entry; none where the other thread
+/// doesn't come.
 fn replays<H: AllocGlobal + Wait>(
     rt: &H,
     session: &Session,

@@ -42,8 +42,8 @@ fn first_of_three(alloc: Global) -> Option<(Session, Pass)>
     Some((session, first))
 }
 
-/// How the first replica's part of the three-way cycle is replayed with nobody else there, who waits, and how many
-/// entries there are then.
+/// How the first replica's part of the three-way cycle is replayed with nobody else there, who waits, and how
+/// many entries there are then.
 fn alone<H: AllocGlobal + Wait>(
     rt: &H,
     tries: u32,

@@ -1,6 +1,7 @@
--- The worked texts with a fault: the right lines before it begin the spelling of a recording, which is legal by its test, and
--- the faulty line is named with what makes it faulty.
-use Rattle.std.proofs.Common.{◌≡◌, ◌≢◌, ℕ, ◌≤◌, inl, inr, Bool, true, false, List, [], ◌∷◌, ◌++◌, length, refl, sym, ◌∙◌, arith, ap, lit<, lit≤, length-append}
+-- The worked texts with a fault: the right lines before it begin the spelling of a recording, which is legal
+-- by its test, and the faulty line is named with what makes it faulty.
+use Rattle.std.proofs.Common.{◌≡◌, ◌≢◌, ℕ, ◌≤◌, inl, inr, Bool, true, false, List, [], ◌∷◌, ◌++◌, length}
+use Rattle.std.proofs.Common.{refl, sym, ◌∙◌, arith, ap, lit<, lit≤, length-append}
 use Rattle.std.specs.Prelude.{All, Decides, codes, decimal, not, ◌==◌}
 use Rattle.std.specs.List.{list_all}
 use Rattle.std.specs.Fmt.{digits}
@@ -9,7 +10,9 @@ use Rattle.std.proofs.lemmas.Bool.Decides.{Decides-eqb}
 use Rattle.std.proofs.lemmas.Slice.Eq.{bytes_eq-Decides}
 use Rattle.events.specs.History.{History, is_view}
 use Rattle.specification.specs.Lines.{Line, text_of, IsOneLine}
-use Rattle.specification.specs.TraceText.{header_line, trace_lines, body_text, entry_line, IsOfVersion, IsSpelledIn, IsFaultyLine, IsFirstLineFault, header, replicas, shape, cut, refused}
+use Rattle.specification.specs.TraceText.{header_line, trace_lines, body_text, entry_line, IsOfVersion}
+use Rattle.specification.specs.TraceText.{IsSpelledIn, IsFaultyLine, IsFirstLineFault, header, replicas}
+use Rattle.specification.specs.TraceText.{shape, cut, refused}
 use Rattle.specification.specs.Versions.{Version, one, two}
 use Rattle.events.specs.declared.entry.Entry.{Entry}
 use Rattle.events.specs.declared.entry.Body.{Body}
@@ -24,30 +27,58 @@ use Rattle.specification.proofs.Legality.{is_legal, legal-from}
 
 -- a line without LF
 one_line : (line : Line) → is_in ◌==◌ 10 line ≡ false → IsOneLine line
-one_line line none c = false≢true (sym none ∙ (Decides-in ◌==◌ Decides-eqb 10 line).1 (In-from_Contains line 10 c))
+one_line line none c =
+    false≢true (sym none ∙ (Decides-in ◌==◌ Decides-eqb 10 line).1 (In-from_Contains line 10 c))
 
 -- a recording without views, in version one
-spelled : (h : History) → is_legal h ≡ true → list_all (λ e. not (is_view e.body)) h.entries ≡ true → IsSpelledIn one h
-spelled h legal none =
-    (legal-from h legal, All-from_members (IsOfVersion one) h.entries ((Decides-each (λ e. not (is_view e.body)) (IsOfVersion one) (λ e. Decides-no (is_view e.body)) h.entries).0 none))
+spelled : (h : History) → is_legal h ≡ true → list_all (λ e. not (is_view e.body)) h.entries ≡ true
+    → IsSpelledIn one h
+spelled h legal none = (
+  legal-from h legal,
+  All-from_members (IsOfVersion one) h.entries
+      ((Decides-each (λ e. not (is_view e.body)) (IsOfVersion one)
+      (λ e. Decides-no (is_view e.body)) h.entries).0 none),
+)
   where
     Decides-no : (t : Bool) → Decides (not t) (t ≡ false)
     Decides-no true = (λ e. absurd (false≢true e), λ e. absurd (false≢true (sym e)))
     Decides-no false = (λ e. refl, λ e. refl)
 
 missing_header : IsFirstLineFault [] 1 header
-missing_header = inr (record { good = []; begins = (one, recording 1 [], spelled (recording 1 []) refl refl, trace_lines one (recording 1 []), refl); text_is = refl; number = refl; missing = tt })
+missing_header =
+    inr (record {
+      good = [];
+      begins =
+          (one, recording 1 [], spelled (recording 1 []) refl refl, trace_lines one (recording 1 []), refl);
+      text_is = refl;
+      number = refl;
+      missing = tt;
+    })
 
 missing_replicas : IsFirstLineFault (text_of (codes "trace 1" ∷ [])) 2 replicas
 unfolding digits
 missing_replicas =
-    inr (record { good = codes "trace 1" ∷ []; begins = (one, recording 1 [], spelled (recording 1 []) refl refl, codes "replicas 1" ∷ [], refl); text_is = refl; number = refl; missing = tt })
+    inr (record {
+      good = codes "trace 1" ∷ [];
+      begins =
+          (one, recording 1 [], spelled (recording 1 []) refl refl, codes "replicas 1" ∷ [], refl);
+      text_is =
+          refl;
+      number = refl;
+      missing = tt;
+    })
 
 missing_replicas_of_two : IsFirstLineFault (text_of (codes "trace 2" ∷ [])) 2 replicas
 unfolding digits
 missing_replicas_of_two = inr (record {
   good = codes "trace 2" ∷ [];
-  begins = (two, recording 1 [], (legal-from (recording 1 []) refl, λ i e lt. absurd (omega arith)), codes "replicas 1" ∷ [], refl);
+  begins = (
+    two,
+    recording 1 [],
+    (legal-from (recording 1 []) refl, λ i e lt. absurd (omega arith)),
+    codes "replicas 1" ∷ [],
+    refl,
+  );
   text_is = refl;
   number = refl;
   missing = tt;
@@ -122,7 +153,8 @@ empty_line = record {
   is_faulty = λ version e first is. some_byte e;
 }
 
-unknown_replica : IsFirstLineFault (worked.one_replica ++ text_of (codes "1 read :" ∷ [])) 3 (refused NoReplica)
+unknown_replica : IsFirstLineFault (worked.one_replica ++ text_of (codes "1 read :" ∷ [])) 3
+    (refused NoReplica)
 unfolding digits
 unknown_replica = record {
   good = codes "trace 1" ∷ codes "replicas 1" ∷ [];
@@ -132,7 +164,16 @@ unknown_replica = record {
   more = [];
   text_is = refl;
   number = refl;
-  is_faulty = (one, recording 1 [], spelled (recording 1 []) refl refl, refl, read 1 [], (lit< tt, (λ k x lt. absurd (omega arith)), refl), refl, refl);
+  is_faulty = (
+    one,
+    recording 1 [],
+    spelled (recording 1 []) refl refl,
+    refl,
+    read 1 [],
+    (lit< tt, (λ k x lt. absurd (omega arith)), refl),
+    refl,
+    refl,
+  );
 }
 
 abbrev inserted_once : History
@@ -142,7 +183,10 @@ abbrev inserting_once : List Line
 inserting_once = codes "trace 1" ∷ codes "replicas 2" ∷ codes "0 ins a 0 : a" ∷ []
 
 -- a line after one insert that is refused
-fourth_line : (line : Line) (why : Refusal) → is_in ◌==◌ 10 line ≡ false → worked.one_insert ++ text_of (line ∷ []) ≡ text_of inserting_once ++ line ++ 10 ∷ [] → IsFaultyLine inserting_once line (refused why) → IsFirstLineFault (worked.one_insert ++ text_of (line ∷ [])) 4 (refused why)
+fourth_line : (line : Line) (why : Refusal) → is_in ◌==◌ 10 line ≡ false
+    → worked.one_insert ++ text_of (line ∷ []) ≡ text_of inserting_once ++ line ++ 10 ∷ []
+    → IsFaultyLine inserting_once line (refused why)
+    → IsFirstLineFault (worked.one_insert ++ text_of (line ∷ [])) 4 (refused why)
 unfolding digits
 fourth_line line why whole is faulty = record {
   good = inserting_once;
@@ -155,15 +199,45 @@ fourth_line line why whole is faulty = record {
   is_faulty = faulty;
 }
 
-early_receipt : IsFirstLineFault (worked.one_insert ++ text_of (codes "1 recv 0 2" ∷ [])) 4 (refused (NotYet 1))
+early_receipt : IsFirstLineFault (worked.one_insert ++ text_of (codes "1 recv 0 2" ∷ [])) 4
+    (refused (NotYet 1))
 unfolding digits
 early_receipt =
-    fourth_line (codes "1 recv 0 2") (NotYet 1) refl refl (one, inserted_once, spelled inserted_once refl refl, refl, recv 1 0 2, (lit< tt, (lit< tt, lit≤ tt, lit< tt), refl), refl, refl)
+    fourth_line (codes "1 recv 0 2") (NotYet 1) refl refl (
+      one,
+      inserted_once,
+      spelled inserted_once refl refl,
+      refl,
+      recv 1 0 2,
+      (lit< tt, (lit< tt, lit≤ tt, lit< tt), refl),
+      refl,
+      refl,
+    )
 
 own_receipt : IsFirstLineFault (worked.one_insert ++ text_of (codes "0 recv 0 1" ∷ [])) 4 (refused OwnReceipt)
 unfolding digits
 own_receipt =
-    fourth_line (codes "0 recv 0 1") OwnReceipt refl refl (one, inserted_once, spelled inserted_once refl refl, refl, recv 0 0 1, (lit< tt, (lit< tt, lit≤ tt, lit< tt), refl), refl, refl)
+    fourth_line (codes "0 recv 0 1") OwnReceipt refl refl (
+      one,
+      inserted_once,
+      spelled inserted_once refl refl,
+      refl,
+      recv 0 0 1,
+      (lit< tt, (lit< tt, lit≤ tt, lit< tt), refl),
+      refl,
+      refl,
+    )
 
 pub malformed_lines : worked.MalformedLines
-malformed_lines = (missing_header, missing_replicas, missing_replicas_of_two, other_header, cut_header, cut_entry, empty_line, unknown_replica, early_receipt, own_receipt)
+malformed_lines = (
+  missing_header,
+  missing_replicas,
+  missing_replicas_of_two,
+  other_header,
+  cut_header,
+  cut_entry,
+  empty_line,
+  unknown_replica,
+  early_receipt,
+  own_receipt,
+)

@@ -19,7 +19,8 @@ const NAMES: Pieces = Pieces {
     back: b"",
 };
 
-/// The bytes of a text in which `N` stands for `NAMES` and `X` for `THIRTY`. So `Xaa` has 32 bytes, and `Xaaa` 33; and
+/// The bytes of a text in which `N` stands for `NAMES` and `X` for `THIRTY`. So `Xaa` has 32 bytes, and
+/// `Xaaa` 33; and
 /// `NXaa Xaa `, `NXaa Xa a ` and `NXaa Xa ab ` have 135,333, 135,334 and 135,335.
 fn bytes_once(alloc: Global, text: &str) -> Result<Vec<u8>, Memory> {
     let mut bytes = Vec::new(alloc);
@@ -99,7 +100,8 @@ fn lines_with_spaces(rt: HostRuntime) -> Result<(), Fail> {
     Ok(())
 }
 
-/// Last words of 32 bytes and of 33. A whole word of 33 bytes stays where whole words are put behind the word begun at once.
+/// Last words of 32 bytes and of 33. A whole word of 33 bytes stays where whole words are put behind the word
+/// begun at once.
 const LAST_WORDS: &[Row] = &[
     (&["Xaa"], "", "Xaa"),
     (&["Xaaa"], " ", ""),
@@ -123,7 +125,8 @@ fn last_words_of_a_piece(rt: HostRuntime) -> Result<(), Fail> {
     Ok(())
 }
 
-/// Lines of 135,333, 135,334 and 135,335 bytes, and longer ones, with words of more than 32 bytes that end within a piece.
+/// Lines of 135,333, 135,334 and 135,335 bytes, and longer ones, with words of more than 32 bytes that end
+/// within a piece.
 const LONG_WORDS: &[Row] = &[
     (&["NXaaa Xa "], "NXaaa Xa ", ""),
     (&["NXaaa Xaa "], "NXaaa Xaa ", ""),
@@ -183,7 +186,8 @@ fn words_behind_a_long_front(rt: HostRuntime) -> Result<(), Fail> {
     Ok(())
 }
 
-/// Whether one space stands for a line with this first piece, and then another piece so many times, from the first piece on.
+/// Whether one space stands for a line with this first piece, and then another piece so many times, from the
+/// first piece on.
 fn is_one_space_once(alloc: Global, first: &str, piece: &str, times: u32) -> Result<bool, Memory> {
     let more = bytes_of(alloc, piece)?;
     let mut line = KeptLine::new(alloc);
@@ -289,8 +293,9 @@ impl Begun {
         )
     }
 
-    /// Whether of the line that goes on with this tail, cut in two, the same is kept as word by word; or where it has a word of
-    /// more than 32 bytes, a line of the wrong shape both times. Where the first try finds no memory, by a second.
+    /// Whether of the line that goes on with this tail, cut in two, the same is kept as word by word; or
+    /// where it has a word of more than 32 bytes, a line of the wrong shape both times. Where the first try
+    /// finds no memory, by a second.
     fn is_as_by_words(&self, alloc: Global, tail: &[u8], at: usize) -> Result<bool, Memory> {
         match self.is_as_by_words_once(alloc, tail, at) {
             Err(Memory) => self.is_as_by_words_once(alloc, tail, at),

@@ -7,13 +7,18 @@ use Rattle.bit_tables.proofs.depths.layers_by_depth.Goals as goal
 pub loop-x-init : goal.loop-x-init
 loop-x-init c = record {
   count = c.in_ok-layers.ensures.count;
-  layers = λ d x lt. (λ h. absurd (empty-none c.in_ok-layers.layers.items c.args.count c.in_ok-layers.ensures.empty d x h), λ p. absurd (let none = p.1.1 in omega arith));
+  layers =
+      λ d x lt. (
+        λ h. absurd (empty-none c.in_ok-layers.layers.items c.args.count c.in_ok-layers.ensures.empty d x h),
+        λ p. absurd (let none = p.1.1 in omega arith),
+      );
 }
 
 pub bounds-depths-x : goal.bounds-depths-x
 bounds-depths-x c =
     let noted : List ℕ = c.args.noted.now in
-    let there : Contains noted (get_or noted c.loop-x.x-index 0) = Contains-get_or noted c.loop-x.x-index 0 c.loop-x-test.true in
+    let there : Contains noted (get_or noted c.loop-x.x-index 0) =
+    Contains-get_or noted c.loop-x.x-index 0 c.loop-x-test.true in
     let p = (c.requires.noted (get_or noted c.loop-x.x-index 0)).0 there in
     omega (arith, p.0)
 
@@ -22,7 +27,10 @@ loop-x-preserved c =
     let inv = c.loop-x.invariant in
     let i : ℕ = c.loop-x.x-index in record {
       count = omega (arith, c.in_ok-put.ensures.count, inv.count);
-      layers = λ d x lt. more-numbers c.args.depths.now c.args.noted.now c.loop-x.layers.items c.put.new.layers.items c.args.first i d x c.loop-x-test.true (inv.layers d x lt) (c.in_ok-put.ensures.layers d x (omega (arith, inv.count)));
+      layers =
+          λ d x lt. more-numbers c.args.depths.now c.args.noted.now c.loop-x.layers.items
+          c.put.new.layers.items c.args.first i d x c.loop-x-test.true (inv.layers d x lt)
+          (c.in_ok-put.ensures.layers d x (omega (arith, inv.count)));
     }
 
 pub returns-clause-layers : goal.returns-clause-layers

@@ -9,7 +9,8 @@ pub insert-requires : goal.insert-requires
 insert-requires c =
     let few = c.args.few.now in
     let room : get_or few c.loop-y.y-index 0 < 64 * length c.args.all.now =
-    Has-room c.args.all.now (get_or few c.loop-y.y-index 0) (c.requires.within (get_or few c.loop-y.y-index 0) (Contains-get_or few c.loop-y.y-index 0 c.loop-y-test.true)) in
+    Has-room c.args.all.now (get_or few c.loop-y.y-index 0) (c.requires.within (get_or few c.loop-y.y-index 0)
+    (Contains-get_or few c.loop-y.y-index 0 c.loop-y-test.true)) in
     let len = c.loop-y.invariant.len in
     let width = c.requires.width in
     omega arith
@@ -17,4 +18,5 @@ insert-requires c =
 pub returns-clause-few : goal.returns-clause-few
 returns-clause-few c y contains =
     subst (Has c.loop-y.set) (sym (get_or_default_zero c.args.few.now contains.0 y contains.1) ∙ contains.2)
-    (c.loop-y.invariant.few contains.0 (let test = c.loop-y-test.false in let within = contains.1 in omega arith))
+    (c.loop-y.invariant.few contains.0 (let test = c.loop-y-test.false in let within = contains.1 in
+    omega arith))

@@ -8,5 +8,6 @@ use Rattle.bit_tables.proofs.layers.add_successors.Given as goal
 abbrev pub invariant-numbers : goal.invariant-numbers
 invariant-numbers l = record {
   len : length l.into ≡ length l.fn.into;
-  has : (y : ℕ) → l.first ≤ y → Has l.into y ↔ (Has l.fn.into y ⊎ ((x : ℕ) × IsAmongFirst l.i l.layer x × Has (row_of l.table x) y));
+  has : (y : ℕ) → l.first ≤ y
+      → Has l.into y ↔ (Has l.fn.into y ⊎ ((x : ℕ) × IsAmongFirst l.i l.layer x × Has (row_of l.table x) y));
 }

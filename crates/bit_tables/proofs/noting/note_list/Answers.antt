@@ -12,12 +12,14 @@ places-preserved c =
     let new = c.note_place.new.rows in
     let back : c.places.i ≡ i + 1 = omega arith in
     let noted : AreNoted i w c.args.rows.now new =
-    noted_step i w c.args.rows.now rows new inv.len c.in_ok-note_place.ensures.noted (subst (λ (j : ℕ). AreNoted j w c.args.rows.now rows) back inv.noted) in
+    noted_step i w c.args.rows.now rows new inv.len c.in_ok-note_place.ensures.noted
+    (subst (λ (j : ℕ). AreNoted j w c.args.rows.now rows) back inv.noted) in
     record {
       len = c.note_place.ensures.len ∙ inv.len;
       width = c.note_place.ensures.width ∙ inv.width;
       sized = c.note_place.ensures.sized;
-      known = list_stays c.args.known.now i w c.args.rows.now new (c.note_place.ensures.len ∙ inv.len) noted c.requires.known;
+      known = list_stays c.args.known.now i w c.args.rows.now new
+          (c.note_place.ensures.len ∙ inv.len) noted c.requires.known;
       noted = noted;
       back = c.in_ok-note_place.ensures.back;
     }
@@ -25,4 +27,5 @@ places-preserved c =
 pub returns-clause-shown : goal.returns-clause-shown
 returns-clause-shown c =
     noted_all c.args.list.now c.args.rows.now c.places.rows
-    (subst (λ (j : ℕ). AreNoted j c.args.list.now c.args.rows.now c.places.rows) (omega (arith, c.places-test.false)) c.places.invariant.noted)
+    (subst (λ (j : ℕ). AreNoted j c.args.list.now c.args.rows.now c.places.rows)
+    (omega (arith, c.places-test.false)) c.places.invariant.noted)

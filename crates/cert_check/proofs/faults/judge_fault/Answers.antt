@@ -10,9 +10,12 @@ use Rattle.cert_check.proofs.faults.judge_fault.Goals as goal
 
 pub returns-then-names : goal.returns-then-names
 returns-then-names c = λ d outlines version h first.
-    let same : d ≡ names_fault (fault_of c.args.fault.now) = (named_is c.args.outline.now d (fault_of c.args.fault.now) outlines).0 (c.if-names.ensures.0 refl) in
+    let same : d ≡ names_fault (fault_of c.args.fault.now) =
+    (named_is c.args.outline.now d (fault_of c.args.fault.now) outlines).0 (c.if-names.ensures.0 refl) in
     (subst (IsValid version h) (sym same) first, ap kind_of same ∙ sym c.kind.ensures)
 
 pub returns-else-names : goal.returns-else-names
 returns-else-names c = λ d outlines version h first.
-    wrong_fault h d (fault_of c.args.fault.now) first (λ e. false≢true (c.if-names.ensures.1 ((named_is c.args.outline.now d (fault_of c.args.fault.now) outlines).1 e)))
+    wrong_fault h d (fault_of c.args.fault.now) first
+    (λ e. false≢true
+    (c.if-names.ensures.1 ((named_is c.args.outline.now d (fault_of c.args.fault.now) outlines).1 e)))

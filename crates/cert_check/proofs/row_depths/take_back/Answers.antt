@@ -23,11 +23,15 @@ loop-number-preserved c =
     let noted : List ℕ = c.args.noted.now in
     let i : ℕ = c.loop-number.number-index in
     let there : Contains noted (get_or noted i 0) = Contains-get_or noted i 0 c.loop-number-test.true in
-    let within : get_or noted i 0 < length c.args.depths.now = ((c.requires.noted (get_or noted i 0)).0 there).0 in
+    let within : get_or noted i 0 < length c.args.depths.now =
+    ((c.requires.noted (get_or noted i 0)).0 there).0 in
     record {
       len = length-set c.loop-number.depths (get_or noted i 0) c.args.unset ∙ c.loop-number.invariant.len;
-      left = left-next c.loop-number.depths noted c.args.unset i c.loop-number-test.true (omega (arith, within, c.loop-number.invariant.len)) c.loop-number.invariant.left;
+      left = left-next c.loop-number.depths noted c.args.unset i c.loop-number-test.true
+          (omega (arith, within, c.loop-number.invariant.len)) c.loop-number.invariant.left;
     }
 
 pub returns-clause-unset : goal.returns-clause-unset
-returns-clause-unset c = left-none c.loop-number.depths c.args.noted.now c.args.unset c.loop-number.number-index (omega arith) c.loop-number.invariant.left
+returns-clause-unset c =
+    left-none c.loop-number.depths c.args.noted.now c.args.unset c.loop-number.number-index
+    (omega arith) c.loop-number.invariant.left

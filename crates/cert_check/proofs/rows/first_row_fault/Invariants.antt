@@ -16,5 +16,6 @@ invariant-loop-i l = record {
   fresh : IsUnset (length l.numbered.names.items) (l.k - 1) l.depths;
   judged : (layers : List Row) → All (IsRow l.k) layers → l.rows ≡ text_of (map row_line layers) →
       (l.rest ≡ text_of (map row_line (drop l.i layers)))
-      × ((h : History) → IsOf h l.numbered → RowsRightBefore (version_in l.version) (responses_of h) l.k layers l.i);
+      × ((h : History) → IsOf h l.numbered
+      → RowsRightBefore (version_in l.version) (responses_of h) l.k layers l.i);
 }

@@ -28,8 +28,12 @@ returns-then-not-is_noted-clause-meets c = λ row says h a of at. (
   λ rule.
       let v : Responses = responses_of h in
       let names : List NameBytes = c.args.numbered.now.names.items in
-      let from = from-rule v (sound_responses_are_proper h of.legal of.sound) c.args.k c.args.source a row at (version_in c.args.version) rule in
-      let can : CanBeNoted names (pairs_from 0 row) = subst (λ (ns : List NameBytes). CanBeNoted ns (pairs_from 0 row)) (sym of.names) (can_rule (elements h) row from.of_elements from.once) in
+      let from =
+      from-rule v (sound_responses_are_proper h of.legal of.sound) c.args.k c.args.source a row at
+      (version_in c.args.version) rule in
+      let can : CanBeNoted names (pairs_from 0 row) =
+      subst (λ (ns : List NameBytes). CanBeNoted ns (pairs_from 0 row)) (sym of.names)
+      (can_rule (elements h) row from.of_elements from.once) in
       let none = rw c.if-not-is_noted.true at c.in_ok-is_noted.ensures.row in
       absurd (none says.words (omega (arith, says.layers)) (subst (CanBeNoted names) (sym says.pairs) can)),
 )
@@ -44,40 +48,59 @@ returns-then-not-are_from-clause-meets c = λ row says h a of at. (
       let names : List NameBytes = c.args.numbered.now.names.items in
       let depths : List ℕ = c.note_row.new.row.depths.items in
       let noted : List ℕ = c.note_row.new.row.noted.items in
-      let got : Holds names (c.args.k - 1) (pairs_of 0 (words_behind c.args.words.now)) depths = rw c.if-not-is_noted.false at c.in_ok-is_noted.ensures.row in
-      let some : Holds names (c.args.k - 1) (pairs_from 0 row) depths = subst (λ (ps : List Noted). Holds names (c.args.k - 1) ps depths) says.pairs got in
-      let holds : Holds (elements h) (c.args.k - 1) (pairs_from 0 row) depths = subst (λ (ns : List NameBytes). Holds ns (c.args.k - 1) (pairs_from 0 row) depths) of.names some in
+      let got : Holds names (c.args.k - 1) (pairs_of 0 (words_behind c.args.words.now)) depths =
+      rw c.if-not-is_noted.false at c.in_ok-is_noted.ensures.row in
+      let some : Holds names (c.args.k - 1) (pairs_from 0 row) depths =
+      subst (λ (ps : List Noted). Holds names (c.args.k - 1) ps depths) says.pairs got in
+      let holds : Holds (elements h) (c.args.k - 1) (pairs_from 0 row) depths =
+      subst (λ (ns : List NameBytes). Holds ns (c.args.k - 1) (pairs_from 0 row) depths) of.names some in
       let from : MeetsRuleFrom v first c.args.k a row =
       subst (λ (n : ℕ). MeetsRuleFrom v n c.args.k a row) (sym c.first_of-first.ensures)
-      (from-rule v (sound_responses_are_proper h of.legal of.sound) c.args.k c.args.source a row at version rule) in
-      let has : HaveDepths depths (c.args.k - 1) noted = c.in_ok-is_noted.ensures.numbers c.if-not-is_noted.false in
-      let all : All (λ n. first ≤ n) noted = noted_from (elements h) (c.args.k - 1) first row depths noted (once-elements h of.legal of.sound) holds has from.from in
-      absurd (false≢true (c.if-not-are_from.ensures.1 (subst (λ (l : List ℕ). All (λ n. first ≤ n) l) (sym c.deref.ensures.value) all))),
+      (from-rule v (sound_responses_are_proper h of.legal of.sound) c.args.k c.args.source a row at version
+      rule) in
+      let has : HaveDepths depths (c.args.k - 1) noted =
+      c.in_ok-is_noted.ensures.numbers c.if-not-is_noted.false in
+      let all : All (λ n. first ≤ n) noted =
+      noted_from (elements h) (c.args.k - 1) first row depths noted
+      (once-elements h of.legal of.sound) holds has from.from in
+      absurd (false≢true
+      (c.if-not-are_from.ensures.1
+      (subst (λ (l : List ℕ). All (λ n. first ≤ n) l) (sym c.deref.ensures.value) all))),
 )
 
 pub are_deep-requires-clause-noted : goal.are_deep-requires-clause-noted
 are_deep-requires-clause-noted c =
-    let has : HaveDepths c.note_row.new.row.depths.items (c.args.k - 1) c.note_row.new.row.noted.items = c.in_ok-is_noted.ensures.numbers c.if-not-is_noted.false in
+    let has : HaveDepths c.note_row.new.row.depths.items (c.args.k - 1) c.note_row.new.row.noted.items =
+    c.in_ok-is_noted.ensures.numbers c.if-not-is_noted.false in
     subst (λ (l : List ℕ). HaveDepths l (c.args.k - 1) c.deref-3.result.now) (sym c.deref-2.ensures.value)
-    (subst (λ (l : List ℕ). HaveDepths c.note_row.new.row.depths.items (c.args.k - 1) l) (sym c.deref-3.ensures.value) has)
+    (subst (λ (l : List ℕ). HaveDepths c.note_row.new.row.depths.items (c.args.k - 1) l)
+    (sym c.deref-3.ensures.value) has)
 
 pub are_deep-requires-clause-most : goal.are_deep-requires-clause-most
 are_deep-requires-clause-most c =
-    let got : Holds c.args.numbered.now.names.items (c.args.k - 1) (pairs_of 0 (words_behind c.args.words.now)) c.note_row.new.row.depths.items = rw c.if-not-is_noted.false at c.in_ok-is_noted.ensures.row in
+    let got : Holds c.args.numbered.now.names.items (c.args.k - 1)
+    (pairs_of 0 (words_behind c.args.words.now)) c.note_row.new.row.depths.items =
+    rw c.if-not-is_noted.false at c.in_ok-is_noted.ensures.row in
     subst (λ (ds : List ℕ). All (λ d. d ≤ c.args.k - 1) ds) (sym c.deref-2.ensures.value)
-    (depths-most c.args.numbered.now.names.items (c.args.k - 1) (pairs_of 0 (words_behind c.args.words.now)) c.note_row.new.row.depths.items got)
+    (depths-most c.args.numbered.now.names.items (c.args.k - 1)
+    (pairs_of 0 (words_behind c.args.words.now)) c.note_row.new.row.depths.items got)
 
 pub clear-requires-clause-noted : goal.clear-requires-clause-noted
 clear-requires-clause-noted c = c.in_ok-is_noted.ensures.numbers c.if-not-is_noted.false
 
 pub clear-requires-clause-most : goal.clear-requires-clause-most
 clear-requires-clause-most c =
-    let got : Holds c.args.numbered.now.names.items (c.args.k - 1) (pairs_of 0 (words_behind c.args.words.now)) c.note_row.new.row.depths.items = rw c.if-not-is_noted.false at c.in_ok-is_noted.ensures.row in
-    depths-most c.args.numbered.now.names.items (c.args.k - 1) (pairs_of 0 (words_behind c.args.words.now)) c.note_row.new.row.depths.items got
+    let got : Holds c.args.numbered.now.names.items (c.args.k - 1)
+    (pairs_of 0 (words_behind c.args.words.now)) c.note_row.new.row.depths.items =
+    rw c.if-not-is_noted.false at c.in_ok-is_noted.ensures.row in
+    depths-most c.args.numbered.now.names.items (c.args.k - 1)
+    (pairs_of 0 (words_behind c.args.words.now)) c.note_row.new.row.depths.items got
 
 pub returns-clause-fresh : goal.returns-clause-fresh
 returns-clause-fresh c = λ meets.
-    let got : Holds c.args.numbered.now.names.items (c.args.k - 1) (pairs_of 0 (words_behind c.args.words.now)) c.note_row.new.row.depths.items = rw c.if-not-is_noted.false at c.in_ok-is_noted.ensures.row in
+    let got : Holds c.args.numbered.now.names.items (c.args.k - 1)
+    (pairs_of 0 (words_behind c.args.words.now)) c.note_row.new.row.depths.items =
+    rw c.if-not-is_noted.false at c.in_ok-is_noted.ensures.row in
     subst (λ (n : ℕ). IsUnset n (c.args.k - 1) c.clear.new.self) got.size c.clear.ensures
 
 pub returns-clause-meets : goal.returns-clause-meets
@@ -90,23 +113,38 @@ returns-clause-meets c = λ row says h a of at.
     let depths : List ℕ = c.deref-2.result.now in
     let noted : List ℕ = c.note_row.new.row.noted.items in
     let names : List NameBytes = t.names.items in
-    let got : Holds names (c.args.k - 1) (pairs_of 0 (words_behind c.args.words.now)) c.note_row.new.row.depths.items = rw c.if-not-is_noted.false at c.in_ok-is_noted.ensures.row in
-    let some : Holds names (c.args.k - 1) (pairs_from 0 row) c.note_row.new.row.depths.items = subst (λ (ps : List Noted). Holds names (c.args.k - 1) ps c.note_row.new.row.depths.items) says.pairs got in
-    let lent : Holds names (c.args.k - 1) (pairs_from 0 row) depths = subst (Holds names (c.args.k - 1) (pairs_from 0 row)) (sym c.deref-2.ensures.value) some in
-    let holds : Holds (elements h) (c.args.k - 1) (pairs_from 0 row) depths = subst (λ (ns : List NameBytes). Holds ns (c.args.k - 1) (pairs_from 0 row) depths) of.names lent in
-    let within : AreWithin (length depths) t = subst (λ (n : ℕ). AreWithin n t) (sym lent.size) c.requires.within in
-    let table : IsTableOf (length depths) (lists_of t) c.args.table.now = subst (λ (n : ℕ). IsTableOf n (lists_of t) c.args.table.now) (sym lent.size) c.requires.table in
-    let has : HaveDepths depths (c.args.k - 1) noted = subst (λ (l : List ℕ). HaveDepths l (c.args.k - 1) noted) (sym c.deref-2.ensures.value) (c.in_ok-is_noted.ensures.numbers c.if-not-is_noted.false) in
-    let all : All (λ n. first ≤ n) noted = subst (λ (l : List ℕ). All (λ n. first ≤ n) l) c.deref.ensures.value (c.if-not-are_from.ensures.0 refl) in
-    let deep : IsTrue c.in_ok-deep.deep ↔ MeetsRule (lists_of t) first c.args.source (c.args.k - 1) (λ x. slice_index_or depths x (c.args.k - 1)) = c.in_ok-deep.ensures (lists_of t) table in (
+    let got : Holds names (c.args.k - 1) (pairs_of 0 (words_behind c.args.words.now))
+    c.note_row.new.row.depths.items = rw c.if-not-is_noted.false at c.in_ok-is_noted.ensures.row in
+    let some : Holds names (c.args.k - 1) (pairs_from 0 row) c.note_row.new.row.depths.items =
+    subst (λ (ps : List Noted). Holds names (c.args.k - 1) ps c.note_row.new.row.depths.items) says.pairs
+    got in
+    let lent : Holds names (c.args.k - 1) (pairs_from 0 row) depths =
+    subst (Holds names (c.args.k - 1) (pairs_from 0 row)) (sym c.deref-2.ensures.value) some in
+    let holds : Holds (elements h) (c.args.k - 1) (pairs_from 0 row) depths =
+    subst (λ (ns : List NameBytes). Holds ns (c.args.k - 1) (pairs_from 0 row) depths) of.names lent in
+    let within : AreWithin (length depths) t =
+    subst (λ (n : ℕ). AreWithin n t) (sym lent.size) c.requires.within in
+    let table : IsTableOf (length depths) (lists_of t) c.args.table.now =
+    subst (λ (n : ℕ). IsTableOf n (lists_of t) c.args.table.now) (sym lent.size) c.requires.table in
+    let has : HaveDepths depths (c.args.k - 1) noted =
+    subst (λ (l : List ℕ). HaveDepths l (c.args.k - 1) noted) (sym c.deref-2.ensures.value)
+    (c.in_ok-is_noted.ensures.numbers c.if-not-is_noted.false) in
+    let all : All (λ n. first ≤ n) noted =
+    subst (λ (l : List ℕ). All (λ n. first ≤ n) l) c.deref.ensures.value
+    (c.if-not-are_from.ensures.0 refl) in
+    let deep : IsTrue c.in_ok-deep.deep ↔ MeetsRule (lists_of t) first c.args.source (c.args.k - 1)
+    (λ x. slice_index_or depths x (c.args.k - 1)) = c.in_ok-deep.ensures (lists_of t) table in (
       λ yes. to-rule v proper c.args.k c.args.source a row at version
           (subst (λ (n : ℕ). MeetsRuleFrom v n c.args.k a row) c.first_of-first.ensures
           (rule_from_lists h t of c.args.k first row depths says.row_is.layers holds c.args.source a at
-          (names_from (elements h) (c.args.k - 1) first row depths noted (once-elements h of.legal of.sound) holds has all)
+          (names_from (elements h) (c.args.k - 1) first row depths noted
+          (once-elements h of.legal of.sound) holds has all)
           (lists_from_table t depths first c.args.source (c.args.k - 1) within (deep.0 yes)))),
       λ rule.
           let from : MeetsRuleFrom v first c.args.k a row =
-          subst (λ (n : ℕ). MeetsRuleFrom v n c.args.k a row) (sym c.first_of-first.ensures) (from-rule v proper c.args.k c.args.source a row at version rule) in
+          subst (λ (n : ℕ). MeetsRuleFrom v n c.args.k a row) (sym c.first_of-first.ensures)
+          (from-rule v proper c.args.k c.args.source a row at version rule) in
           deep.1 (table_from_lists t depths first c.args.source (c.args.k - 1) within
-          (lists_from_rule h t of c.args.k first row depths says.row_is.layers holds c.args.source a at from)),
+          (lists_from_rule h t of c.args.k first row depths says.row_is.layers holds c.args.source a at
+          from)),
     )

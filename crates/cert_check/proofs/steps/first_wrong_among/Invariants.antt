@@ -10,4 +10,6 @@ use Rattle.cert_check.proofs.steps.first_wrong_among.Given as goal
 abbrev pub invariant-loop-i : goal.invariant-loop-i
 invariant-loop-i l =
     SaidSoFar l.lines l.rest l.i
-    × (2 ≤ l.k → (steps : List Step) → length steps ≡ l.k → All IsStep steps → l.lines ≡ text_of (map step_line steps) → StepsSoFar l.recording steps l.begin (step_said l.step) l.rest l.i)
+    × (2 ≤ l.k → (steps : List Step) → length steps ≡ l.k → All IsStep steps
+    → l.lines ≡ text_of (map step_line steps)
+    → StepsSoFar l.recording steps l.begin (step_said l.step) l.rest l.i)

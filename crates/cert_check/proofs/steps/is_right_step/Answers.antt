@@ -9,8 +9,10 @@ use Rattle.cert_check.proofs.steps.is_right_step.Goals as goal
 pub returns-then-eq : goal.returns-then-eq
 returns-then-eq c = λ steps i after within at there begins.
     let same = (slice_eq-Decides Decides-eqb _ _ _ c.eq.ensures).0 c.if-eq.true in (
-      λ t. right_step c.args.recording.now c.requires.legal steps i _ after within at there (same ∙ sym begins) (c.shows.ensures.0 t),
-      λ right. c.shows.ensures.1 (right_shows c.args.recording.now c.requires.legal steps i _ after within at there right),
+      λ t. right_step c.args.recording.now c.requires.legal steps i _ after within at there
+          (same ∙ sym begins) (c.shows.ensures.0 t),
+      λ right. c.shows.ensures.1
+          (right_shows c.args.recording.now c.requires.legal steps i _ after within at there right),
     )
 
 pub returns-else-eq : goal.returns-else-eq
@@ -18,5 +20,6 @@ returns-else-eq c = λ steps i after within at there begins. (
   λ t. absurd (false≢true (sym c.if-eq.false ∙ t)),
   λ right.
       let joins = right_joins c.args.recording.now c.requires.legal steps i _ after within at there right in
-      absurd (false≢true (sym c.if-eq.false ∙ (slice_eq-Decides Decides-eqb _ _ _ c.eq.ensures).1 (joins ∙ begins))),
+      absurd (false≢true (sym c.if-eq.false
+      ∙ (slice_eq-Decides Decides-eqb _ _ _ c.eq.ensures).1 (joins ∙ begins))),
 )

@@ -9,5 +9,6 @@ use Rattle.certificate.proofs.certifying.certify.Goals as goal
 pub returns-clause-valid : goal.returns-clause-valid
 returns-clause-valid c =
     IfOk-weaker c.certificate_for.result _ _
-    (λ d is. certificates_are_valid two c.args.recording.now (verdict_of c.args.verdict.now) (certificate_of d) c.replicas.ensures.legal c.requires.verdict is)
+    (λ d is. certificates_are_valid two c.args.recording.now (verdict_of c.args.verdict.now)
+    (certificate_of d) c.replicas.ensures.legal c.requires.verdict is)
     c.certificate_for.ensures

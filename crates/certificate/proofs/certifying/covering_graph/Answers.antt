@@ -8,4 +8,5 @@ use Rattle.certificate.proofs.certifying.covering_graph.Goals as goal
 pub unreachable-requires : goal.unreachable-requires
 unreachable-requires c =
     let h = c.args.recording.now in
-    sound_or_fault h (fault_of c.in-Faulty.field-0) c.requires (subst (IsChecked h) c.in-Faulty.is c.in_ok-numbered.ensures)
+    sound_or_fault h (fault_of c.in-Faulty.field-0) c.requires
+    (subst (IsChecked h) c.in-Faulty.is c.in_ok-numbered.ensures)

@@ -23,5 +23,6 @@ returns c =
     let h = c.args.recording.now in
     let v : Verdict = verdict_of c.args.verdict.now in
     IfOk-weaker c.rows_of_layers.result _ _
-    (λ rows are. with_exact_rows h v c.in-Some.k rows.items c.in-Some.ensures (covered-rows (responses_of h) c.in_ok-graph.graph c.in_ok-graph.ensures c.in-Some.k rows.items are))
+    (λ rows are. with_exact_rows h v c.in-Some.k rows.items c.in-Some.ensures
+    (covered-rows (responses_of h) c.in_ok-graph.graph c.in_ok-graph.ensures c.in-Some.k rows.items are))
     c.rows_of_layers.ensures

@@ -11,5 +11,6 @@ loop-x-preserved c =
     let x : ℕ = get_or c.args.numbers.now c.loop-x.x-index 0 in
     let a : NameBytes = c.in-Some.name in
     let at : slice_get elements x ≡ Some a = sym c.name.ensures ∙ c.in-Some.is in
-    mapped_more (λ x. get_or elements x []) c.args.numbers.now c.loop-x.names.items c.push.new.self.items c.loop-x.x-index 0 a (omega arith)
+    mapped_more (λ x. get_or elements x []) c.args.numbers.now c.loop-x.names.items c.push.new.self.items
+    c.loop-x.x-index 0 a (omega arith)
     (get_or_from_slice_get elements x a [] at) c.loop-x.invariant c.in_ok-push.ensures.items

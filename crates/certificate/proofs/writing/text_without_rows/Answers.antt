@@ -15,7 +15,10 @@ write-requires c =
     let v : Verdict = verdict_of c.args.verdict.now in
     let without : certificate_of c.in_ok-head.head ≡ certificate_with [] v =
     c.in_ok-head.ensures ∙ ap (λ (rows : List Row). certificate_with rows v) c.new.ensures.items in
-    record { spellable = subst IsSpellable (sym without) (spellable_without_rows h v c.replicas.ensures.legal c.requires) }
+    record {
+      spellable =
+          subst IsSpellable (sym without) (spellable_without_rows h v c.replicas.ensures.legal c.requires);
+    }
 
 pub returns : goal.returns
 returns c =

@@ -7,11 +7,17 @@ use Rattle.certificate.proofs.writing.texts_by.Goals as goal
 
 pub returns-in_default : goal.returns-in_default
 returns-in_default g c =
-    let one : joined c.push.new.self.items ≡ c.in_ok-head.head.items = joined_one c.new-texts.result.items c.push.new.self.items c.in_ok-head.head c.new-texts.ensures.items c.in_ok-push.ensures.items in
-    is_text_without c.args.recording.now (verdict_of c.args.verdict.now) (joined c.push.new.self.items) c.replicas.ensures.legal c.requires.verdict c.in_default.ensures (one ∙ c.in_ok-head.ensures)
+    let one : joined c.push.new.self.items ≡ c.in_ok-head.head.items =
+    joined_one c.new-texts.result.items c.push.new.self.items c.in_ok-head.head c.new-texts.ensures.items
+    c.in_ok-push.ensures.items in
+    is_text_without c.args.recording.now (verdict_of c.args.verdict.now) (joined c.push.new.self.items)
+    c.replicas.ensures.legal c.requires.verdict c.in_default.ensures (one ∙ c.in_ok-head.ensures)
 
 pub returns : goal.returns
 returns g c =
-    let one : joined c.push.new.self.items ≡ c.in_ok-head.head.items = joined_one c.new-texts.result.items c.push.new.self.items c.in_ok-head.head c.new-texts.ensures.items c.in_ok-push.ensures.items in
-    is_text_with c.args.recording.now (verdict_of c.args.verdict.now) c.in_ok-graph.graph c.in-Some.k (joined c.push.new.self.items) (joined c.push_rows_by.new.texts.items)
+    let one : joined c.push.new.self.items ≡ c.in_ok-head.head.items =
+    joined_one c.new-texts.result.items c.push.new.self.items c.in_ok-head.head c.new-texts.ensures.items
+    c.in_ok-push.ensures.items in
+    is_text_with c.args.recording.now (verdict_of c.args.verdict.now) c.in_ok-graph.graph c.in-Some.k
+    (joined c.push.new.self.items) (joined c.push_rows_by.new.texts.items)
     c.in-Some.ensures c.in_ok-graph.ensures (one ∙ c.in_ok-head.ensures) c.in_ok-push_rows_by.ensures

@@ -7,12 +7,17 @@ use Rattle.certificate.proofs.writing.write_certificate.Goals as goal
 
 pub returns-in_default : goal.returns-in_default
 returns-in_default c =
-    is_text_without c.args.recording.now (verdict_of c.args.verdict.now) c.in_ok-text.text.items c.replicas.ensures.legal c.requires.verdict c.in_default.ensures c.in_ok-text.ensures
+    is_text_without c.args.recording.now (verdict_of c.args.verdict.now) c.in_ok-text.text.items
+    c.replicas.ensures.legal c.requires.verdict c.in_default.ensures c.in_ok-text.ensures
 
 pub returns : goal.returns
 returns c =
     let maker = c.in_ok-maker.maker in
-    let added = subst (λ (v : Responses). AppendsRows v c.in-Some.k v.elements c.in_ok-text.text.items c.push_rows.new.text.items) c.in_ok-maker.ensures.0
-    (subst (λ n. AppendsRows maker.graph.now n maker.graph.now.elements c.in_ok-text.text.items c.push_rows.new.text.items) c.in_ok-maker.ensures.1 c.in_ok-push_rows.ensures) in
-    is_text_with c.args.recording.now (verdict_of c.args.verdict.now) c.in_ok-graph.graph c.in-Some.k c.in_ok-text.text.items c.push_rows.new.text.items
+    let added =
+    subst (λ (v : Responses). AppendsRows v c.in-Some.k v.elements c.in_ok-text.text.items
+    c.push_rows.new.text.items) c.in_ok-maker.ensures.0
+    (subst (λ n. AppendsRows maker.graph.now n maker.graph.now.elements c.in_ok-text.text.items
+    c.push_rows.new.text.items) c.in_ok-maker.ensures.1 c.in_ok-push_rows.ensures) in
+    is_text_with c.args.recording.now (verdict_of c.args.verdict.now) c.in_ok-graph.graph c.in-Some.k
+    c.in_ok-text.text.items c.push_rows.new.text.items
     c.in-Some.ensures c.in_ok-graph.ensures c.in_ok-text.ensures added

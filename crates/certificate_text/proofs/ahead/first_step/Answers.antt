@@ -9,7 +9,8 @@ use Rattle.certificate_text.proofs.FirstSteps.{no-line, step-cut}
 use Rattle.certificate_text.proofs.ahead.first_step.Goals as goal
 
 pub returns-in_default-split_line : goal.returns-in_default-split_line
-returns-in_default-split_line c = λ s more good is. no-line (step_line s) more (subst IsOneLine is c.in_default-split_line.ensures)
+returns-in_default-split_line c =
+    λ s more good is. no-line (step_line s) more (subst IsOneLine is c.in_default-split_line.ensures)
 
 pub returns-in-Ok : goal.returns-in-Ok
 returns-in-Ok c =
@@ -18,6 +19,8 @@ returns-in-Ok c =
 
 pub returns-in-Err : goal.returns-in-Err
 returns-in-Err c = λ s more good is.
-    let cut = step-cut s more c.in-Some-split_line.line.now c.in-Some-split_line.rest.now good c.in-Some-split_line.ensures.0 (sym c.in-Some-split_line.ensures.1 ∙ is) in
+    let cut =
+    step-cut s more c.in-Some-split_line.line.now c.in-Some-split_line.rest.now good
+    c.in-Some-split_line.ensures.0 (sym c.in-Some-split_line.ensures.1 ∙ is) in
     let bad : None ≡ Some s = sym c.in-Err.ensures ∙ ap (λ l. step_at (words_of l)) cut ∙ step-again s good in
     absurd Prim.cc

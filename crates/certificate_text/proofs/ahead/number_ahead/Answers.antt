@@ -9,5 +9,6 @@ returns c =
     let text : List ℕ = c.args.text.now in
     let place : ℕ = c.in_ok-place.place in
     let spelled = number_of-is (take place text) c.in_ok-number.number (sym c.in_ok-number.ensures) in
-    (parts-at c.args.end text place (sym c.in_ok-place.ensures)).1 ∙ ap (λ l. l ++ c.args.end ∷ drop (place + 1) text) spelled.0
+    (parts-at c.args.end text place (sym c.in_ok-place.ensures)).1
+    ∙ ap (λ l. l ++ c.args.end ∷ drop (place + 1) text) spelled.0
     ∙ ap (λ l. decimal c.in_ok-number.number ++ c.args.end ∷ l) (sym (take_rest text (place + 1)))

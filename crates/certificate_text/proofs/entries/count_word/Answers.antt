@@ -15,17 +15,22 @@ pub returns-in_err-name_of-clause-shape : goal.returns-in_err-name_of-clause-sha
 returns-in_err-name_of-clause-shape c =
     let p = err_from_is_err_and c.from_residual.result c.from_residual.ensures.1 in
     let ne : c.args.word.now ≢ codes "/" =
-    λ e. false≢true (sym c.if-eq.false ∙ (slice_eq-Decides Decides-eqb _ _ _ c.eq.ensures).1 (e ∙ sym c.as_slice.ensures)) in
+    λ e. false≢true (sym c.if-eq.false
+    ∙ (slice_eq-Decides Decides-eqb _ _ _ c.eq.ensures).1 (e ∙ sym c.as_slice.ensures)) in
     rw p.1 (λ layer ws. no-layers layer c.args.word.now ws ne c.in_err-name_of.ensures)
 
 pub returns-then-form-eq0-clause-ok : goal.returns-then-form-eq0-clause-ok
 returns-then-form-eq0-clause-ok c =
     let ne : c.args.word.now ≢ codes "/" =
-    λ e. false≢true (sym c.if-eq.false ∙ (slice_eq-Decides Decides-eqb _ _ _ c.eq.ensures).1 (e ∙ sym c.as_slice.ensures)) in
-    λ row layer h. by-first row layer c.args.word.now c.in_ok-name_of.field-0 c.args.form ne c.in_ok-name_of.ensures c.if-form-eq0.true h
+    λ e. false≢true (sym c.if-eq.false
+    ∙ (slice_eq-Decides Decides-eqb _ _ _ c.eq.ensures).1 (e ∙ sym c.as_slice.ensures)) in
+    λ row layer h. by-first row layer c.args.word.now c.in_ok-name_of.field-0 c.args.form ne
+    c.in_ok-name_of.ensures c.if-form-eq0.true h
 
 pub returns-else-form-eq0-clause-ok : goal.returns-else-form-eq0-clause-ok
 returns-else-form-eq0-clause-ok c =
     let ne : c.args.word.now ≢ codes "/" =
-    λ e. false≢true (sym c.if-eq.false ∙ (slice_eq-Decides Decides-eqb _ _ _ c.eq.ensures).1 (e ∙ sym c.as_slice.ensures)) in
-    λ row layer h. by-later row layer c.args.word.now c.in_ok-name_of.field-0 c.args.form ne c.in_ok-name_of.ensures c.if-form-eq0.false h
+    λ e. false≢true (sym c.if-eq.false
+    ∙ (slice_eq-Decides Decides-eqb _ _ _ c.eq.ensures).1 (e ∙ sym c.as_slice.ensures)) in
+    λ row layer h. by-later row layer c.args.word.now c.in_ok-name_of.field-0 c.args.form ne
+    c.in_ok-name_of.ensures c.if-form-eq0.false h

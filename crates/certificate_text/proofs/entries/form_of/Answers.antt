@@ -20,6 +20,7 @@ returns-clause-ok c =
     let none : length c.loop-rest.rest.now ≡ 0 = grind (arith, common_steps) in
     let counted = c.loop-rest.invariant.counted in (
       counted.0 ++ counted.1 ∷ [],
-      counted.3 ∙ ap (λ ws. onto_layers counted.0 (layers_at counted.1 ws)) (none-behind c.loop-rest.rest.now none) ∙ last-onto counted.0 counted.1,
+      counted.3 ∙ ap (λ ws. onto_layers counted.0 (layers_at counted.1 ws))
+          (none-behind c.loop-rest.rest.now none) ∙ last-onto counted.0 counted.1,
       whole-form counted.0 counted.1 c.loop-rest.form counted.2,
     )

@@ -8,7 +8,8 @@ use Rattle.certificate_text.proofs.entries.form_of.Given as goal
 abbrev pub invariant-loop-rest : goal.invariant-loop-rest
 invariant-loop-rest l = record {
   small : l.form.0 + l.form.1 + length l.rest ≤ length l.fn.rest;
-  counted : (row : Row) × (layer : List NameBytes) × HasForm row layer l.form × (layers_at [] (words_behind l.fn.rest) ≡ onto_layers row (layers_at layer (words_behind l.rest)));
+  counted : (row : Row) × (layer : List NameBytes) × HasForm row layer l.form
+      × (layers_at [] (words_behind l.fn.rest) ≡ onto_layers row (layers_at layer (words_behind l.rest)));
 }
 
 abbrev pub decreases-loop-rest : goal.decreases-loop-rest

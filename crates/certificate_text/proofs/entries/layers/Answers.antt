@@ -15,6 +15,8 @@ pub returns : goal.returns
 returns c =
     let none : length c.loop-rest.rest.now ≡ 0 = grind (arith, common_steps) in
     c.loop-rest.invariant
-    ∙ ap (λ ws. onto_layers c.loop-rest.row.items (layers_at c.loop-rest.layer.items ws)) (none-behind c.loop-rest.rest.now none)
+    ∙ ap (λ ws. onto_layers c.loop-rest.row.items (layers_at c.loop-rest.layer.items ws))
+    (none-behind c.loop-rest.rest.now none)
     ∙ ap (onto_layers c.loop-rest.row.items) (last-layer c.loop-rest.layer.items)
-    ∙ ap Some (sym (c.in_ok-push.ensures.items ∙ ap (λ l. c.loop-rest.row.items ++ l ∷ []) c.from_items.ensures))
+    ∙ ap Some
+    (sym (c.in_ok-push.ensures.items ∙ ap (λ l. c.loop-rest.row.items ++ l ∷ []) c.from_items.ensures))

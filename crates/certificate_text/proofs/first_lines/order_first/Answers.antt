@@ -14,7 +14,9 @@ unread line = order_at (words_of line) ≡ None
 pub returns-in-Ok-clause-ok : goal.returns-in-Ok-clause-ok
 returns-in-Ok-clause-ok c =
     let found = c.in-Ok.ensures.ok in
-    let p = order-spells _ found.0 found.1 in (found.0, p.0, found.2, line-is _ _ _ _ c.in_ok-line.ensures.ok.1 p.1)
+    let p = order-spells _ found.0 found.1 in
+    (found.0, p.0, found.2, line-is _ _ _ _ c.in_ok-line.ensures.ok.1 p.1)
 
 pub returns-in-Err-clause-cause : goal.returns-in-Err-clause-cause
-returns-in-Err-clause-cause c = unread-line cause.Shape unread _ _ _ c.in_ok-line.ensures.ok c.in-Err.ensures.shape
+returns-in-Err-clause-cause c =
+    unread-line cause.Shape unread _ _ _ c.in_ok-line.ensures.ok c.in-Err.ensures.shape

@@ -17,4 +17,5 @@ returns-then-is_row-clause-shorter c = shorter-rest _ _ _ c.in_ok-line.ensures.o
 
 pub returns-else-is_row-clause-cause : goal.returns-else-is_row-clause-cause
 returns-else-is_row-clause-cause c =
-    unread-line cause.Shape (λ (line : Line). row_at c.args.k (words_of line) ≡ None) _ _ _ c.in_ok-line.ensures.ok (untold c.is_row.result _ c.is_row.ensures c.if-is_row.false)
+    unread-line cause.Shape (λ (line : Line). row_at c.args.k (words_of line) ≡ None) _ _ _
+    c.in_ok-line.ensures.ok (untold c.is_row.result _ c.is_row.ensures c.if-is_row.false)

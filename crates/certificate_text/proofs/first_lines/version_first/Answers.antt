@@ -14,4 +14,5 @@ pub returns-in-Some-clause-ok : goal.returns-in-Some-clause-ok
 returns-in-Some-clause-ok c = line-is _ _ _ _ c.in_ok-line.ensures.ok.1 c.in-Some.ensures
 
 pub returns-in-None-clause-cause : goal.returns-in-None-clause-cause
-returns-in-None-clause-cause c = unread-line cause.Header unread _ _ _ c.in_ok-line.ensures.ok c.in-None.ensures
+returns-in-None-clause-cause c =
+    unread-line cause.Header unread _ _ _ c.in_ok-line.ensures.ok c.in-None.ensures

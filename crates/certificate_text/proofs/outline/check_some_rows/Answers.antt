@@ -1,4 +1,5 @@
-use Rattle.std.proofs.Common.{◌≡◌, ◌<◌, ◌≤◌, ◌^◌, ◌++◌, ◌∷◌, [], length, map, refl, ap, ◌∙◌, sym, arith, length-append}
+use Rattle.std.proofs.Common.{◌≡◌, ◌<◌, ◌≤◌, ◌^◌, ◌++◌, ◌∷◌, [], length, map, refl, ap, ◌∙◌, sym, arith}
+use Rattle.std.proofs.Common.{length-append}
 use Rattle.std.proofs.lemmas.Grind.{common_steps}
 use Rattle.std.proofs.lemmas.List.Elements.{All-nil, All-push}
 use Rattle.specification.specs.Lines.{text_of}
@@ -29,10 +30,14 @@ returns-in-Err-clause-fault c = λ version steps many each.
     let so_far = c.loop-rest.invariant.rows in
     let high : c.args.k < 2 ^ 32 = omega arith in
     let some : 1 ≤ length c.loop-rest.rest.now = grind (arith, common_steps) in
-    row-fault version c.args.k steps so_far.0 c.args.text.now c.loop-rest.rest.now c.loop-rest.line c.in-Err.cause c.requires high many each so_far.2 so_far.1 some so_far.3 c.in-Err.ensures.cause
+    row-fault version c.args.k steps so_far.0 c.args.text.now c.loop-rest.rest.now c.loop-rest.line
+    c.in-Err.cause c.requires high many each so_far.2 so_far.1 some so_far.3 c.in-Err.ensures.cause
 
 pub returns-clause-ok : goal.returns-clause-ok
 returns-clause-ok c =
     let none : length c.loop-rest.rest.now ≡ 0 = grind (arith, common_steps) in
-    let all = c.loop-rest.invariant.rows in
-    (all.0, all.2, nothing-left c.args.text.now (text_of (map row_line all.0)) c.loop-rest.rest.now all.3 none)
+    let all = c.loop-rest.invariant.rows in (
+      all.0,
+      all.2,
+      nothing-left c.args.text.now (text_of (map row_line all.0)) c.loop-rest.rest.now all.3 none,
+    )

@@ -15,11 +15,19 @@ returns-in-Ok-check_rows-clause-ok c =
       gives_cycle c.args.k steps.0 rows.0,
       (c.requires, high, steps.1, steps.2, rows.1, rows.2),
       cycle-text (kind_line (kind.Refused c.args.k)) steps.0 rows.0 c.args.text.now _ steps.3 rows.3,
-      (steps.0, rows.0, refl, c.split_at.ensures.front ∙ front-text (text_of (map step_line steps.0)) c.args.text.now _ _ steps.3 refl, rows.3),
+      (
+        steps.0,
+        rows.0,
+        refl,
+        c.split_at.ensures.front
+            ∙ front-text (text_of (map step_line steps.0)) c.args.text.now _ _ steps.3 refl,
+        rows.3,
+      ),
     )
 
 pub returns-in-Err-check_rows-clause-fault : goal.returns-in-Err-check_rows-clause-fault
 returns-in-Err-check_rows-clause-fault c = λ version.
     let steps = c.in-Ok.ensures.ok in
     let fault = c.in-Err-check_rows.fault in
-    fault-after-steps version c.args.k steps.0 c.args.text.now _ fault.line fault.cause steps.3 (c.in-Err-check_rows.ensures.fault version steps.0 steps.1 steps.2)
+    fault-after-steps version c.args.k steps.0 c.args.text.now _ fault.line fault.cause steps.3
+    (c.in-Err-check_rows.ensures.fault version steps.0 steps.1 steps.2)

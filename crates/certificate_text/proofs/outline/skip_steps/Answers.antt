@@ -22,7 +22,9 @@ pub returns-in-Err-clause-fault : goal.returns-in-Err-clause-fault
 returns-in-Err-clause-fault c = λ version.
     let so_far = c.loop-i.invariant in
     let high : c.args.k < 2 ^ 32 = omega arith in
-    step-fault version c.args.k so_far.0 c.args.text.now c.loop-i.rest.now _ c.in-Err.cause c.requires high (omega (arith, so_far.1, c.loop-i-test.true)) so_far.2 (omega (arith, so_far.1)) so_far.3 c.in-Err.ensures.cause
+    step-fault version c.args.k so_far.0 c.args.text.now c.loop-i.rest.now _ c.in-Err.cause c.requires high
+    (omega (arith, so_far.1, c.loop-i-test.true)) so_far.2
+    (omega (arith, so_far.1)) so_far.3 c.in-Err.ensures.cause
 
 pub returns-clause-ok : goal.returns-clause-ok
 returns-clause-ok c =

@@ -23,10 +23,14 @@ returns-in-Ok-clause-ok c =
 
 pub returns-in-Err-clause-fault : goal.returns-in-Err-clause-fault
 returns-in-Err-clause-fault c =
-    let behind : format.CertCause → Type 0 = IsWrongBehind (version_line (version_in c.args.version) ∷ codes "accepted" ∷ []) c.args.line.now in
+    let behind : format.CertCause → Type 0 =
+    IsWrongBehind (version_line (version_in c.args.version) ∷ codes "accepted" ∷ []) c.args.line.now in
     subst (λ (e : CertCause). IfSome (cause_of e) behind) (sym c.cause_of_stop.ensures)
-    (stop-fault HasSome cause.Shape c.in-Err.stop (order_at (words_of c.args.line.now)) behind c.in-Err.ensures (λ none. (refl, no-order (version_in c.args.version) c.args.line.now none)))
+    (stop-fault HasSome cause.Shape c.in-Err.stop (order_at (words_of c.args.line.now)) behind
+    c.in-Err.ensures (λ none. (refl, no-order (version_in c.args.version) c.args.line.now none)))
 
 pub returns-in-Err-clause-memory : goal.returns-in-Err-clause-memory
 returns-in-Err-clause-memory c =
-    λ is. order-takes (version_in c.args.version) c.args.line.now (stop-takes HasSome cause.Shape c.in-Err.stop (order_at (words_of c.args.line.now)) (λ e. cc) c.in-Err.ensures (sym c.cause_of_stop.ensures ∙ is))
+    λ is. order-takes (version_in c.args.version) c.args.line.now
+    (stop-takes HasSome cause.Shape c.in-Err.stop (order_at (words_of c.args.line.now))
+    (λ e. cc) c.in-Err.ensures (sym c.cause_of_stop.ensures ∙ is))

@@ -8,6 +8,7 @@ use Rattle.certificate_text.proofs.writing.push_rows.Goals.{in-Some+in_ok-push_r
 pub loop-i-preserved : goal.loop-i-preserved
 loop-i-preserved c = elim c.match-get.branch [
   | in-Some+in_ok-push_row w ↦
-      line-added row_line c.args.text.now.items c.loop-i.text.items _ c.args.layers.now c.loop-i.i w.in-Some.row.now (rw w.text-is w.in_ok-push_row.ensures) c.loop-i.invariant (sym w.in-Some.ensures)
+      line-added row_line c.args.text.now.items c.loop-i.text.items _ c.args.layers.now c.loop-i.i
+      w.in-Some.row.now (rw w.text-is w.in_ok-push_row.ensures) c.loop-i.invariant (sym w.in-Some.ensures)
   | in_default w ↦ absurd (not-past c.args.layers.now c.loop-i.i (omega arith) (sym w.in_default.ensures))
 ]

@@ -4,13 +4,16 @@ use Rattle.command_line.proofs.Positives.{IsNoPositive, empty-word, low-word, hi
 use Rattle.command_line.proofs.words.number_of.Goals as goal
 
 pub returns-in_default : goal.returns-in_default
-returns-in_default c = subst IsNoPositive c.as_bytes.ensures.value (empty-word c.as_bytes.result.now (omega arith))
+returns-in_default c =
+    subst IsNoPositive c.as_bytes.ensures.value (empty-word c.as_bytes.result.now (omega arith))
 
 pub returns-in_default-2 : goal.returns-in_default-2
-returns-in_default-2 c = subst IsNoPositive c.as_bytes.ensures.value (low-word c.as_bytes.result.now (omega arith))
+returns-in_default-2 c =
+    subst IsNoPositive c.as_bytes.ensures.value (low-word c.as_bytes.result.now (omega arith))
 
 pub returns-in_default-3 : goal.returns-in_default-3
-returns-in_default-3 c = subst IsNoPositive c.as_bytes.ensures.value (high-word c.as_bytes.result.now (omega arith))
+returns-in_default-3 c =
+    subst IsNoPositive c.as_bytes.ensures.value (high-word c.as_bytes.result.now (omega arith))
 
 pub returns : goal.returns
 returns c =
@@ -19,4 +22,5 @@ returns c =
     let some : 0 < length word = subst (λ l. 0 < length l) same (omega arith) in
     let low : 48 < get_or word 0 0 = subst (λ l. 48 < get_or l 0 0) same (omega arith) in
     let high : get_or word 0 0 ≤ 57 = subst (λ l. get_or l 0 0 ≤ 57) same (omega arith) in
-    read-positive word _ (c.ok.ensures.value ∙ parsed-number word c.parse.result c.parse.ensures.value.0 some low high) low
+    read-positive word _ (c.ok.ensures.value
+    ∙ parsed-number word c.parse.result c.parse.ensures.value.0 some low high) low

@@ -18,19 +18,29 @@ pub returns-in-Wrong : goal.returns-in-Wrong
 returns-in-Wrong c =
     let h = c.args.recording.now in
     let elements = c.args.elements in
-    wrong-checked h c.requires.legal elements c.requires.elements c.in-Wrong.fault (subst (IsWalked h (element_names elements) (numbers_from 0 h.replicas)) c.in-Wrong.is c.requires.walked)
+    wrong-checked h c.requires.legal elements c.requires.elements c.in-Wrong.fault
+    (subst (IsWalked h (element_names elements) (numbers_from 0 h.replicas)) c.in-Wrong.is
+    c.requires.walked)
 
 pub returns-in_ok-numbered-in-Right : goal.returns-in_ok-numbered-in-Right
 returns-in_ok-numbered-in-Right c =
     let h = c.args.recording.now in
     let elements = c.args.elements in
-    let sound = right-sound h c.requires.legal elements c.requires.elements c.in-Right.covering (subst (IsWalked h (element_names elements) (numbers_from 0 h.replicas)) c.in-Right.is c.requires.walked) in
+    let sound =
+    right-sound h c.requires.legal elements c.requires.elements c.in-Right.covering
+    (subst (IsWalked h (element_names elements) (numbers_from 0 h.replicas)) c.in-Right.is
+    c.requires.walked) in
     let numbered = c.in_ok-numbered-in-Right.numbered in
     let given = c.in_ok-numbered-in-Right.ensures in (
       sound.0,
       record {
         names = given.names ∙ c.requires.elements.listed;
-        numbers = λ a. ap (λ m. get (pointwise ◌==◌) m a) given.numbers ∙ numbers-are elements c.requires.elements.numbers a ∙ ap (λ (l : List NameBytes). number_in l a) c.requires.elements.listed;
-        covers = subst (λ (k : Covering). Covers h (named.elements h) (operation_names h) k) (sym given.covering) sound.1;
+        numbers =
+            λ a. ap (λ m. get (pointwise ◌==◌) m a) given.numbers
+            ∙ numbers-are elements c.requires.elements.numbers a
+            ∙ ap (λ (l : List NameBytes). number_in l a) c.requires.elements.listed;
+        covers =
+            subst (λ (k : Covering). Covers h (named.elements h) (operation_names h) k)
+            (sym given.covering) sound.1;
       },
     )

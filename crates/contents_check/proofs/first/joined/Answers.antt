@@ -12,8 +12,10 @@ use Rattle.contents_check.proofs.first.joined.Goals as goal
 pub loop-piece-init : goal.loop-piece-init
 loop-piece-init c =
     let none : 0 * c.args.size ≡ 0 = omega arith in
-    subst (λ (n : ℕ). IsWalked c.args.recording.now (element_names c.args.elements.now) (take n c.args.replicas.now) (Right c.new-covering.result)) (sym none)
-    (none-walked c.args.recording.now (element_names c.args.elements.now) c.new-covering.result c.new-covering.ensures.operations c.new-covering.ensures.cut c.new-covering.ensures.rows)
+    subst (λ (n : ℕ). IsWalked c.args.recording.now (element_names c.args.elements.now)
+    (take n c.args.replicas.now) (Right c.new-covering.result)) (sym none)
+    (none-walked c.args.recording.now (element_names c.args.elements.now) c.new-covering.result
+    c.new-covering.ensures.operations c.new-covering.ensures.cut c.new-covering.ensures.rows)
 
 pub loop-piece-preserved : goal.loop-piece-preserved
 loop-piece-preserved c =
@@ -23,12 +25,17 @@ loop-piece-preserved c =
     let size : ℕ = c.args.size in
     let n : ℕ = c.loop-piece.piece-index in
     let part : List ℕ = take size (drop (n * size) all) in
-    let found = subst (λ piece. IfOk piece (IsWalked h names part)) (sym c.piece-item.is) (c.requires n c.piece-item.result (omega arith)) in
+    let found =
+    subst (λ piece. IfOk piece (IsWalked h names part)) (sym c.piece-item.is)
+    (c.requires n c.piece-item.result (omega arith)) in
     let made = subst (λ piece. IfOk piece (IsWalked h names part)) c.in-Ok.is found in
     let added = c.in_ok-append-in-Right.ensures in
     let next : (n + 1) * size ≡ n * size + size = grind arith in
-    subst (λ (l : List ℕ). IsWalked h names l (Right c.append.new.self)) (sym (ap (λ m. take m all) next ∙ take-add (n * size) size all))
-    (walked-more h names (take (n * size) all) part c.loop-piece.covering c.in-Right.more c.append.new.self c.loop-piece.invariant (subst (IsWalked h names part) c.in-Right.is made) added.operations added.cut added.rows)
+    subst (λ (l : List ℕ). IsWalked h names l (Right c.append.new.self))
+    (sym (ap (λ m. take m all) next ∙ take-add (n * size) size all))
+    (walked-more h names (take (n * size) all) part c.loop-piece.covering c.in-Right.more c.append.new.self
+    c.loop-piece.invariant (subst (IsWalked h names part) c.in-Right.is made) added.operations added.cut
+    added.rows)
 
 pub returns-in-Wrong : goal.returns-in-Wrong
 returns-in-Wrong c =
@@ -39,16 +46,21 @@ returns-in-Wrong c =
     let n : ℕ = c.loop-piece.piece-index in
     let count : ℕ = length c.args.pieces.now in
     let part : List ℕ = take size (drop (n * size) all) in
-    let found = subst (λ piece. IfOk piece (IsWalked h names part)) (sym c.piece-item.is) (c.requires n c.piece-item.result (omega arith)) in
+    let found =
+    subst (λ piece. IfOk piece (IsWalked h names part)) (sym c.piece-item.is)
+    (c.requires n c.piece-item.result (omega arith)) in
     let made = subst (λ piece. IfOk piece (IsWalked h names part)) c.in-Ok.is found in
     let wrong = subst (IsWalked h names part) c.in-Wrong.is made in
     let left : ℕ = count - (n + 1) in
     let counted : count ≡ n + 1 + left = omega (arith, c.loop-piece-test.true) in
     let places : count * size ≡ n * size + size + left * size = ap (λ m. m * size) counted ∙ grind arith in
-    wrong-behind h names (take (n * size) all) part (take (left * size) (drop (n * size + size) all)) (take (count * size) all) c.in-Wrong.fault
+    wrong-behind h names (take (n * size) all) part (take (left * size) (drop (n * size + size) all))
+    (take (count * size) all) c.in-Wrong.fault
     (take-parts (n * size) size (left * size) (count * size) all places) c.loop-piece.invariant.0 wrong
 
 pub returns : goal.returns
 returns c =
     let done : c.loop-piece.piece-index ≡ length c.args.pieces.now = omega arith in
-    subst (λ (n : ℕ). IsWalked c.args.recording.now (element_names c.args.elements.now) (take (n * c.args.size) c.args.replicas.now) (Right c.loop-piece.covering)) done c.loop-piece.invariant
+    subst (λ (n : ℕ). IsWalked c.args.recording.now (element_names c.args.elements.now)
+    (take (n * c.args.size) c.args.replicas.now) (Right c.loop-piece.covering)) done
+    c.loop-piece.invariant

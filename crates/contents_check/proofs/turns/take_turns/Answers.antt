@@ -5,7 +5,8 @@ use Rattle.contents_check.specs.declared.turns.OnTheWay.{OnTheWay}
 use Rattle.contents_check.specs.Turns.{AreOnTheWay, IsOnTheWay}
 use Rattle.contents_check.proofs.InTurns.{way_at, one_goes_on}
 use Rattle.contents_check.proofs.turns.take_turns.Goals as goal
-use Rattle.contents_check.proofs.turns.take_turns.Goals.{then-k-end+in_ok-go_on+then-is_some, then-k-end+in_ok-go_on+else-is_some, else-k-end}
+use Rattle.contents_check.proofs.turns.take_turns.Goals.{then-k-end+in_ok-go_on+then-is_some}
+use Rattle.contents_check.proofs.turns.take_turns.Goals.{then-k-end+in_ok-go_on+else-is_some, else-k-end}
 
 pub go_on-requires-clause-on_the_way : goal.go_on-requires-clause-on_the_way
 go_on-requires-clause-on_the_way c =
@@ -13,8 +14,10 @@ go_on-requires-clause-on_the_way c =
     let ways = c.loop-i.ways.items in
     let way = c.index_mut-way.result.now in
     let there : c.in-Some.k < length ways = omega (arith, c.if-k-end.true, c.loop-i.invariant.end) in
-    subst (λ (w : OnTheWay). IsOnTheWay h c.args.sight.now c.args.elements.now w) (sym c.index_mut-way.ensures.value)
-    (way_at h c.args.sight.now c.args.elements.now c.args.replicas.now ways c.in-Some.k way there c.loop-i.invariant.on_the_way)
+    subst (λ (w : OnTheWay). IsOnTheWay h c.args.sight.now c.args.elements.now w)
+    (sym c.index_mut-way.ensures.value)
+    (way_at h c.args.sight.now c.args.elements.now c.args.replicas.now ways c.in-Some.k way there
+    c.loop-i.invariant.on_the_way)
 
 pub loop-i-preserved : goal.loop-i-preserved
 loop-i-preserved c =
@@ -27,17 +30,32 @@ loop-i-preserved c =
     let are = c.loop-i.invariant.on_the_way in
     elim c.if-k-end.branch [
       | then-k-end+in_ok-go_on+then-is_some w ↦ record {
-        end = subst (λ v. c.if-k-end.end ≤ length v.items) (sym w.ways-is) (omega (arith, w.end-is, w.if-k-end.true, c.loop-i.invariant.end, length-set ways k w.go_on.new.self));
+        end = subst (λ v. c.if-k-end.end ≤ length v.items) (sym w.ways-is)
+            (omega (
+              arith,
+              w.end-is,
+              w.if-k-end.true,
+              c.loop-i.invariant.end,
+              length-set ways k w.go_on.new.self,
+            ));
         on_the_way = subst (λ v. AreOnTheWay h table elements all v.items) (sym w.ways-is)
-            (one_goes_on h table elements all ways k w.go_on.new.self w.index_mut-way.result.now (w.in_ok-go_on.ensures.replica ∙ ap (λ (o : OnTheWay). o.replica) w.index_mut-way.ensures.value) are w.in_ok-go_on.ensures.on_the_way);
+            (one_goes_on h table elements all ways k w.go_on.new.self w.index_mut-way.result.now
+            (w.in_ok-go_on.ensures.replica
+            ∙ ap (λ (o : OnTheWay). o.replica) w.index_mut-way.ensures.value) are
+            w.in_ok-go_on.ensures.on_the_way);
       }
       | then-k-end+in_ok-go_on+else-is_some w ↦ record {
-        end = subst (λ v. c.if-k-end.end ≤ length v.items) (sym w.ways-is) (omega (arith, w.end-is, c.loop-i.invariant.end, length-set ways k w.go_on.new.self));
+        end = subst (λ v. c.if-k-end.end ≤ length v.items) (sym w.ways-is)
+            (omega (arith, w.end-is, c.loop-i.invariant.end, length-set ways k w.go_on.new.self));
         on_the_way = subst (λ v. AreOnTheWay h table elements all v.items) (sym w.ways-is)
-            (one_goes_on h table elements all ways k w.go_on.new.self w.index_mut-way.result.now (w.in_ok-go_on.ensures.replica ∙ ap (λ (o : OnTheWay). o.replica) w.index_mut-way.ensures.value) are w.in_ok-go_on.ensures.on_the_way);
+            (one_goes_on h table elements all ways k w.go_on.new.self w.index_mut-way.result.now
+            (w.in_ok-go_on.ensures.replica
+            ∙ ap (λ (o : OnTheWay). o.replica) w.index_mut-way.ensures.value) are
+            w.in_ok-go_on.ensures.on_the_way);
       }
       | else-k-end w ↦ record {
-        end = subst (λ v. c.if-k-end.end ≤ length v.items) (sym w.ways-is) (omega (arith, w.end-is, c.loop-i.invariant.end));
+        end = subst (λ v. c.if-k-end.end ≤ length v.items) (sym w.ways-is)
+            (omega (arith, w.end-is, c.loop-i.invariant.end));
         on_the_way = subst (λ v. AreOnTheWay h table elements all v.items) (sym w.ways-is) are;
       }
     ]

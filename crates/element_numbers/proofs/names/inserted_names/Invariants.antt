@@ -5,4 +5,6 @@ use Rattle.events.specs.Operations.{operation}
 use Rattle.element_numbers.proofs.names.inserted_names.Given as goal
 
 abbrev pub invariant-loop-operation : goal.invariant-loop-operation
-invariant-loop-operation l = l.names.items ≡ filter_map (λ o. option_and_then inserted_name (operation l.recording o)) (take l.operation-index l.operations)
+invariant-loop-operation l =
+    l.names.items ≡ filter_map (λ o. option_and_then inserted_name (operation l.recording o))
+    (take l.operation-index l.operations)

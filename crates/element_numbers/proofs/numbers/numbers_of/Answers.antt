@@ -1,5 +1,6 @@
 -- One name more has their count as its number, and no other name's number changes.
-use Rattle.std.proofs.Common.{◌≡◌, ◌==◌, ℕ, ◌+◌, ◌<◌, cond, Option, Some, List, [], ◌∷◌, ◌++◌, take, length, sym, ◌∙◌, ap, subst, arith}
+use Rattle.std.proofs.Common.{◌≡◌, ◌==◌, ℕ, ◌+◌, ◌<◌, cond, Option, Some, List, [], ◌∷◌, ◌++◌, take, length}
+use Rattle.std.proofs.Common.{sym, ◌∙◌, ap, subst, arith}
 use Rattle.std.specs.Prelude.{bytes_eq}
 use Rattle.std.specs.Cmp.Lexicographic.{pointwise}
 use Rattle.indexmap.specs.IndexMap.{get}
@@ -19,7 +20,8 @@ loop-i-preserved c = (
       let x : NameBytes = c.index-names-i.result in
       let lt : k < length xs = omega arith in
       let next : take (k + 1) xs ≡ take k xs ++ x ∷ [] = take-next xs k x lt c.index-names-i.is in
-      let once : Once (take k xs ++ x ∷ []) = subst Once next (Once-take (k + 1) xs (Once-from_AllPairs xs c.requires.distinct)) in
+      let once : Once (take k xs ++ x ∷ []) =
+      subst Once next (Once-take (k + 1) xs (Once-from_AllPairs xs c.requires.distinct)) in
       let size : k ≡ length (take k xs) = omega (arith, length-take-le k xs) in
       c.in_ok-insert.ensures.updates.0 a
       ∙ ap (λ n. cond (bytes_eq x a) (Some n) (get (pointwise ◌==◌) c.loop-i.numbers a)) size

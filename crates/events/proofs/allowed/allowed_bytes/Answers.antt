@@ -10,22 +10,54 @@ use Rattle.events.proofs.allowed.allowed_bytes.Goals as goal
 
 pub returns-then-marks-ne0 : goal.returns-then-marks-ne0
 returns-then-marks-ne0 c =
-    let long : 16 ≤ length c.after.result.now = omega (arith, ap length c.after.ensures, length-drop c.lanes.allowed c.args.bytes.now, c.lanes-test.true) in
-    ap (λ n. c.lanes.allowed + n) (stops-there is_name_byte c.after.result.now c.not_allowed-marks.result long c.not_allowed-marks.ensures c.if-marks-ne0.true ∙ ap (prefix_len is_name_byte) c.after.ensures)
+    let long : 16 ≤ length c.after.result.now =
+    omega (
+      arith,
+      ap length c.after.ensures,
+      length-drop c.lanes.allowed c.args.bytes.now,
+      c.lanes-test.true,
+    ) in
+    ap (λ n. c.lanes.allowed + n)
+    (stops-there is_name_byte c.after.result.now c.not_allowed-marks.result long
+    c.not_allowed-marks.ensures c.if-marks-ne0.true ∙ ap (prefix_len is_name_byte) c.after.ensures)
     ∙ sym c.lanes.invariant.passed
 
 pub lanes-preserved : goal.lanes-preserved
 lanes-preserved c =
-    let long : 16 ≤ length c.after.result.now = omega (arith, ap length c.after.ensures, length-drop c.lanes.allowed c.args.bytes.now, c.lanes-test.true) in
-    let more : prefix_len is_name_byte c.after.result.now ≡ 16 + prefix_len is_name_byte (drop 16 c.after.result.now) = goes-on is_name_byte c.after.result.now c.not_allowed-marks.result long c.not_allowed-marks.ensures c.if-marks-ne0.false in
-    let behind : drop 16 c.after.result.now ≡ drop (c.lanes.allowed + 16) c.args.bytes.now = ap (drop 16) c.after.ensures ∙ drop-drop 16 c.lanes.allowed c.args.bytes.now in
+    let long : 16 ≤ length c.after.result.now =
+    omega (
+      arith,
+      ap length c.after.ensures,
+      length-drop c.lanes.allowed c.args.bytes.now,
+      c.lanes-test.true,
+    ) in
+    let more : prefix_len is_name_byte c.after.result.now ≡ 16
+    + prefix_len is_name_byte (drop 16 c.after.result.now) =
+    goes-on is_name_byte c.after.result.now c.not_allowed-marks.result long c.not_allowed-marks.ensures
+    c.if-marks-ne0.false in
+    let behind : drop 16 c.after.result.now ≡ drop (c.lanes.allowed + 16) c.args.bytes.now =
+    ap (drop 16) c.after.ensures ∙ drop-drop 16 c.lanes.allowed c.args.bytes.now in
     record {
       within = omega (arith, c.lanes-test.true, c.lanes.invariant.within);
-      passed = omega (arith, c.lanes.invariant.passed, ap (prefix_len is_name_byte) c.after.ensures, more, ap (prefix_len is_name_byte) behind);
+      passed =
+          omega (
+            arith,
+            c.lanes.invariant.passed,
+            ap (prefix_len is_name_byte) c.after.ensures,
+            more,
+            ap (prefix_len is_name_byte) behind,
+          );
     }
 
 pub overflow_add-result-2 : goal.overflow_add-result-2
 overflow_add-result-2 c =
     let within : c.lanes.allowed + c.allowed_in_few.result ≤ length c.args.bytes.now =
-    omega (arith, c.allowed_in_few.ensures, prefix_len-le-length is_name_byte c.after-2.result.now, ap length c.after-2.ensures, length-drop c.lanes.allowed c.args.bytes.now, c.lanes.invariant.within) in
+    omega (
+      arith,
+      c.allowed_in_few.ensures,
+      prefix_len-le-length is_name_byte c.after-2.result.now,
+      ap length c.after-2.ensures,
+      length-drop c.lanes.allowed c.args.bytes.now,
+      c.lanes.invariant.within,
+    ) in
     grind (arith, common_steps, within)

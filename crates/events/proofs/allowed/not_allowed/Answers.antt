@@ -15,9 +15,14 @@ returns c =
     let own : v ≡ map (λ x. x) v = sym (map-id v) in
     bits-of-bytes _ (λ b. not (is_name_byte b)) v
     (top-of-maps _ _ _ v 7
-    (sel-of-maps _ _ _ v (top-of-maps _ _ _ v 7 (zip2_of_maps _ _ _ v (zip2_of_maps _ _ _ v own (splat_is_map v 16 32 long)) (splat_is_map v 16 97 long)) (splat_is_map v 16 25 long)) (splat_is_map v 16 0 long)
-    (sel-of-maps _ _ _ v (top-of-maps _ _ _ v 7 (zip2_of_maps _ _ _ v own (splat_is_map v 16 48 long)) (splat_is_map v 16 9 long)) (splat_is_map v 16 0 long)
-    (sel-of-maps _ _ _ v (top-of-maps _ _ _ v 7 (zip2_of_maps _ _ _ v own (splat_is_map v 16 45 long)) (splat_is_map v 16 1 long)) (splat_is_map v 16 0 long)
-    (sel-of-maps _ _ _ v (top-of-maps _ _ _ v 7 own (splat_is_map v 16 95 long)) (splat_is_map v 16 0 long) (splat_is_map v 16 255 long)))))
+    (sel-of-maps _ _ _ v
+    (top-of-maps _ _ _ v 7 (zip2_of_maps _ _ _ v (zip2_of_maps _ _ _ v own (splat_is_map v 16 32 long))
+    (splat_is_map v 16 97 long)) (splat_is_map v 16 25 long)) (splat_is_map v 16 0 long)
+    (sel-of-maps _ _ _ v (top-of-maps _ _ _ v 7 (zip2_of_maps _ _ _ v own (splat_is_map v 16 48 long))
+    (splat_is_map v 16 9 long)) (splat_is_map v 16 0 long)
+    (sel-of-maps _ _ _ v (top-of-maps _ _ _ v 7 (zip2_of_maps _ _ _ v own (splat_is_map v 16 45 long))
+    (splat_is_map v 16 1 long)) (splat_is_map v 16 0 long)
+    (sel-of-maps _ _ _ v (top-of-maps _ _ _ v 7 own (splat_is_map v 16 95 long)) (splat_is_map v 16 0 long)
+    (splat_is_map v 16 255 long)))))
     (splat_is_map v 16 0 long))
     (omega (arith, long)) (first-bytes 16 c.args.bytes.now (λ i. Fits.fits (c.type_inv.bytes i))) refl

@@ -9,5 +9,6 @@ loop-i-preserved c =
     let r = c.args.r in
     let i = c.loop-i.i in
     c.in_ok-push.ensures.items ∙ ap (λ l. l ++ record { replica = r; n = i + 1 } ∷ []) c.loop-i.invariant
-    ∙ append_assoc c.args.names.now.items (map (λ n. record { replica = r; n = n }) (numbers_from 1 i)) (record { replica = r; n = i + 1 } ∷ [])
+    ∙ append_assoc c.args.names.now.items (map (λ n. record { replica = r; n = n }) (numbers_from 1 i))
+    (record { replica = r; n = i + 1 } ∷ [])
     ∙ ap (λ l. c.args.names.now.items ++ l) (names_push r i)

@@ -11,9 +11,11 @@ pub loop-preserved : goal.loop-preserved
 loop-preserved c = record {
   len = omega (arith, c.in_ok-push.ensures.len);
   empty = λ r lane e.
-      elim (push-slice_get c.loop.lanes.items c.new.result lane r (ap (λ ls. slice_get ls r) (sym c.in_ok-push.ensures.items) ∙ e)) [
+      elim (push-slice_get c.loop.lanes.items c.new.result lane r
+      (ap (λ ls. slice_get ls r) (sym c.in_ok-push.ensures.items) ∙ e)) [
         | inl was ↦ c.loop.invariant.empty r lane was
         | inr is ↦ subst (λ (l : Lane). IsLaneOf [] [] l) (sym is.1)
-            (empty_lane c.new.result c.new.ensures.entries c.new.ensures.operations c.new.ensures.inserts c.new.ensures.places)
+            (empty_lane c.new.result c.new.ensures.entries c.new.ensures.operations c.new.ensures.inserts
+            c.new.ensures.places)
       ];
 }

@@ -8,8 +8,10 @@ pub loop-text-preserved : goal.loop-text-preserved
 loop-text-preserved g c =
     let text = c.text-item.result in
     let is = c.deref.ensures.value ∙ ap (λ (t : Vec ℕ Global). t.items) c.text-item.is in
-    written_next c.args.sink.now.bytes c.loop-text.sink.bytes c.write_whole.new.self.bytes c.args.texts.now c.loop-text.text-index text c.loop-text-test.true c.loop-text.invariant
-    (subst (λ (l : List ℕ). Appends c.loop-text.sink.bytes c.write_whole.new.self.bytes l) is c.in-Ok.ensures.ok.0)
+    written_next c.args.sink.now.bytes c.loop-text.sink.bytes c.write_whole.new.self.bytes c.args.texts.now
+    c.loop-text.text-index text c.loop-text-test.true c.loop-text.invariant
+    (subst (λ (l : List ℕ). Appends c.loop-text.sink.bytes c.write_whole.new.self.bytes l) is
+    c.in-Ok.ensures.ok.0)
 
 pub returns-in-Err-clause-err : goal.returns-in-Err-clause-err
 returns-in-Err-clause-err g c =
@@ -17,6 +19,8 @@ returns-in-Err-clause-err g c =
     let is = c.deref.ensures.value ∙ ap (λ (t : Vec ℕ Global). t.items) c.text-item.is in (
       refl,
       c.in-Err.ensures.err.1,
-      written_front c.args.sink.now.bytes c.loop-text.sink.bytes c.write_whole.new.self.bytes c.args.texts.now c.loop-text.text-index text c.loop-text-test.true c.loop-text.invariant
-          (subst (λ (l : List ℕ). AppendsFront c.loop-text.sink.bytes c.write_whole.new.self.bytes l) is c.in-Err.ensures.err.0),
+      written_front c.args.sink.now.bytes c.loop-text.sink.bytes c.write_whole.new.self.bytes c.args.texts.now
+          c.loop-text.text-index text c.loop-text-test.true c.loop-text.invariant
+          (subst (λ (l : List ℕ). AppendsFront c.loop-text.sink.bytes c.write_whole.new.self.bytes l) is
+          c.in-Err.ensures.err.0),
     )

@@ -26,7 +26,8 @@ loop-n-preserved g c =
       Consumes-trans _ _ _ so_far.0 came so_far.1 read.bytes.0,
       c.feed.ensures.fed so_far.0 so_far.2,
       c.in_ok-feed.ensures.none,
-      read-more _ _ _ so_far.0 came _ so_far.4 (omega (arith, c.if-n-eq0.false, read.within, length-take {A = ℕ}))
+      read-more _ _ _ so_far.0 came _ so_far.4
+          (omega (arith, c.if-n-eq0.false, read.within, length-take {A = ℕ}))
           (read.asked (read.went.2 (omega (arith, c.if-n-eq0.false))) some),
     )
 
@@ -37,7 +38,8 @@ returns-in_err-feed-clause-trace g c =
     let so_far = c.loop-n.invariant in
     let came = take c.in-Some.n c.read.new.buffer in
     rw (p.1, p.2) (names-of-front c.args.source.now.bytes c.read.new.self.bytes (so_far.0 ++ came) fault
-    (Consumes-trans c.args.source.now.bytes c.loop-n.source.bytes c.read.new.self.bytes so_far.0 came so_far.1 c.in-Some.ensures.bytes.0)
+    (Consumes-trans c.args.source.now.bytes c.loop-n.source.bytes c.read.new.self.bytes so_far.0 came so_far.1
+    c.in-Some.ensures.bytes.0)
     (λ more. c.in_err-feed.ensures.trace so_far.0 more so_far.2))
 
 pub returns-in_err-feed-clause-place : goal.returns-in_err-feed-clause-place
@@ -47,6 +49,8 @@ returns-in_err-feed-clause-place g c =
     let read = c.in-Some.ensures in
     let came = take c.in-Some.n c.read.new.buffer in
     let some : 0 < length c.read.new.buffer = search rules in
-    rw (p.1, p.2) (λ memory. ran-out c.args.source.now c.loop-n.source c.read.new.self so_far.0 came _ so_far.1 read.bytes.0 so_far.4
+    rw (p.1, p.2)
+    (λ memory. ran-out c.args.source.now c.loop-n.source c.read.new.self so_far.0 came _ so_far.1
+    read.bytes.0 so_far.4
     (read.asked (read.went.2 (omega (arith, c.if-n-eq0.false))) some).1
     (c.in_err-feed.ensures.place so_far.3 memory so_far.0 so_far.2))

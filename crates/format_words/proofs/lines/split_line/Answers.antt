@@ -12,5 +12,6 @@ returns c =
     let end : ℕ = c.in_ok-end.end in
     let first = c.in_ok-end.ensures in (
       line-before text end first.0,
-      line-parts text end first.0.high first.1 ∙ ap (λ l. take end text ++ 10 ∷ l) (sym (take_rest text (end + 1))),
+      line-parts text end first.0.high first.1
+          ∙ ap (λ l. take end text ++ 10 ∷ l) (sym (take_rest text (end + 1))),
     )

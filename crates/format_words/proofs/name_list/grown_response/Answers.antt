@@ -9,8 +9,10 @@ use Rattle.format_words.proofs.name_list.grown_response.Goals as goal
 
 pub returns-in_err-behind : goal.returns-in_err-behind
 returns-in_err-behind c =
-    let p = err_from_is_err_and c.from_residual-in_err-behind.result c.from_residual-in_err-behind.ensures.1 in
-    rw (p.1, p.2) (λ is. c.loop-rest.invariant ∙ ap (onto c.loop-rest.names) (c.in_err-behind.ensures.stop is))
+    let p = err_from_is_err_and c.from_residual-in_err-behind.result
+    c.from_residual-in_err-behind.ensures.1 in
+    rw (p.1, p.2) (λ is. c.loop-rest.invariant
+    ∙ ap (onto c.loop-rest.names) (c.in_err-behind.ensures.stop is))
 
 pub loop-rest-preserved : goal.loop-rest-preserved
 loop-rest-preserved c = c.loop-rest.invariant ∙ c.in_ok-behind.ensures.names
@@ -18,4 +20,5 @@ loop-rest-preserved c = c.loop-rest.invariant ∙ c.in_ok-behind.ensures.names
 pub returns : goal.returns
 returns c =
     let none : length c.loop-rest.rest.now ≡ 0 = grind (arith, common_steps) in
-    names-end c.loop-rest.names (words_behind c.loop-rest.rest.now) _ c.loop-rest.invariant (none-behind c.loop-rest.rest.now none)
+    names-end c.loop-rest.names (words_behind c.loop-rest.rest.now) _ c.loop-rest.invariant
+    (none-behind c.loop-rest.rest.now none)

@@ -6,4 +6,5 @@ use Rattle.format_words.proofs.verdicts.push_faulty.Goals as goal
 pub returns : goal.returns
 returns c =
     joined c.args.text.now.items c.args.word.now (operation_text c.args.at) c.args.end.now _ _ _
-    c.in_ok-extend_from_slice.ensures.items c.in_ok-push_operation.ensures c.in_ok-extend_from_slice-2.ensures.items
+    c.in_ok-extend_from_slice.ensures.items c.in_ok-push_operation.ensures
+    c.in_ok-extend_from_slice-2.ensures.items

@@ -8,4 +8,5 @@ loop-name-preserved c =
     let names : List NameBytes = c.args.names.now in
     let name : NameBytes = c.name-item.result in
     c.in_ok-push_name.ensures
-    ∙ name-next c.args.text.now.items c.loop-name.text.items names c.loop-name.name-index name c.loop-name.invariant c.loop-name-test.true c.name-item.is
+    ∙ name-next c.args.text.now.items c.loop-name.text.items names c.loop-name.name-index name
+    c.loop-name.invariant c.loop-name-test.true c.name-item.is

@@ -5,4 +5,5 @@ pub returns-clause-words : goal.returns-clause-words
 returns-clause-words c =
     let place = c.unwrap_or-end.ensures in
     let cut = c.split_at.ensures in
-    Prim.rw (cut.front, cut.back) (first-word c.args.text.now c.unwrap_or-end.result (Prim.rw (← c.place_of.ensures) place))
+    Prim.rw (cut.front, cut.back)
+    (first-word c.args.text.now c.unwrap_or-end.result (Prim.rw (← c.place_of.ensures) place))

@@ -4,16 +4,21 @@ use Rattle.level_search.proofs.conflict.least_conflict.Goals as goal
 
 pub least_cycle_by_table-requires-clause-shortest : goal.least_cycle_by_table-requires-clause-shortest
 least_cycle_by_table-requires-clause-shortest g c =
-    shortest c.in_ok-found.found.core.graph c.in_ok-found.found.least c.in_ok-found.ensures.least.least c.if-found.false
+    shortest c.in_ok-found.found.core.graph c.in_ok-found.found.least c.in_ok-found.ensures.least.least
+    c.if-found.false
 
 pub returns-then-found-clause-conflict : goal.returns-then-found-clause-conflict
-returns-then-found-clause-conflict g c = no_conflict c.args.graph.now c.in_ok-found.found c.in_ok-found.ensures.least c.if-found.true
+returns-then-found-clause-conflict g c =
+    no_conflict c.args.graph.now c.in_ok-found.found c.in_ok-found.ensures.least c.if-found.true
 
 pub returns-clause-conflict : goal.returns-clause-conflict
 returns-clause-conflict g c =
     let is = c.in_ok-found.ensures.least in
-    let made = c.in_ok-steps.ensures in
-    (some_conflict c.args.graph.now c.in_ok-found.found is c.if-found.false, least_steps c.args.graph.now c.in_ok-found.found is c.in_ok-steps.steps made.0, made.1)
+    let made = c.in_ok-steps.ensures in (
+      some_conflict c.args.graph.now c.in_ok-found.found is c.if-found.false,
+      least_steps c.args.graph.now c.in_ok-found.found is c.in_ok-steps.steps made.0,
+      made.1,
+    )
 
 pub returns-clause-looked : goal.returns-clause-looked
 returns-clause-looked g c =

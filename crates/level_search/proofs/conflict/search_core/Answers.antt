@@ -15,7 +15,8 @@ returns-clause-least g c =
     let core = c.in_ok-core.ensures in
     let numbers : List ℕ = c.in_ok-core.core.elements.items in
     let whole : Responses = c.in_ok-core.core.graph in
-    let size : length whole.elements ≡ length numbers = ap (λ (w : Responses). length w.elements) core.graph ∙ length-map numbers (name v) in
+    let size : length whole.elements ≡ length numbers =
+    ap (λ (w : Responses). length w.elements) core.graph ∙ length-map numbers (name v) in
     record {
       proper = c.elements.ensures.proper;
       core = core.elements;
@@ -24,5 +25,7 @@ returns-clause-least g c =
       table = c.in_ok-table.ensures;
       least = c.in_ok-searched.ensures.least;
       looked = c.in_ok-searched.ensures.looked;
-      few = within-searches v (length whole.elements) (lists_of whole) c.in_ok-searched.searched.least c.in_ok-searched.searched.looked (subst (λ n. n ≤ length v.elements) (sym size) core.few.0) (subst (λ n. n ≤ place_count v) (sym size) core.few.1) c.in_ok-searched.ensures.looked;
+      few = within-searches v (length whole.elements) (lists_of whole) c.in_ok-searched.searched.least
+          c.in_ok-searched.searched.looked (subst (λ n. n ≤ length v.elements) (sym size) core.few.0)
+          (subst (λ n. n ≤ place_count v) (sym size) core.few.1) c.in_ok-searched.ensures.looked;
     }

@@ -12,7 +12,10 @@ loop-x-preserved c =
     let is = sym c.in_ok-push.ensures.items in
     record {
       known = subst (λ (l : List ℕ). All (λ s. s < length c.args.graph.now.elements) l) is
-          (All-push (λ s. s < length c.args.graph.now.elements) xs n c.loop-x.invariant.known (omega (arith, c.elements-x-end.ensures.value)));
-      few = (let more = c.loop-x.invariant.few in let long = length-append xs (n ∷ []) in let same = ap length is in omega arith);
-      all = λ y under. subst (λ (l : List ℕ). Contains l y) is (listed-next xs n y (c.loop-x.invariant.all y) under);
+          (All-push (λ s. s < length c.args.graph.now.elements) xs n c.loop-x.invariant.known
+          (omega (arith, c.elements-x-end.ensures.value)));
+      few = (let more = c.loop-x.invariant.few in let long = length-append xs (n ∷ []) in
+          let same = ap length is in omega arith);
+      all = λ y under. subst (λ (l : List ℕ). Contains l y) is
+          (listed-next xs n y (c.loop-x.invariant.all y) under);
     }

@@ -17,16 +17,21 @@ ranks-within ranks t out = elim (cases_lt t (length ranks)) [
   | inr past ↦ absurd (let none : slice_index ranks t ≡ 0 = get_or_past ranks t 0 past in omega arith)
 ]
 
-left-out_meet : (rows : List (List ℕ)) (made ranks sources : List ℕ) (elements : ℕ) → ranks ≡ made → ((l : ℕ) → Rises rows made l)
-    → ((x : ℕ) → x < length ranks → slice_index ranks x ≡ UNRANKED → Contains sources x) → MeetsCycles rows elements sources
+left-out_meet : (rows : List (List ℕ)) (made ranks sources : List ℕ) (elements : ℕ) → ranks ≡ made
+    → ((l : ℕ) → Rises rows made l)
+    → ((x : ℕ) → x < length ranks → slice_index ranks x ≡ UNRANKED → Contains sources x)
+    → MeetsCycles rows elements sources
 left-out_meet rows made ranks sources elements same rise all = λ s n known cycle.
-    let found = cycle-leaves_out rows ranks (λ l. subst (λ (r : List ℕ). Rises rows r l) (sym same) (rise l)) s n cycle in
+    let found =
+    cycle-leaves_out rows ranks (λ l. subst (λ (r : List ℕ). Rises rows r l) (sym same) (rise l)) s n
+    cycle in
     (found.0, all found.0 (ranks-within ranks found.0 found.1) found.1, found.2)
 
 pub returns-clause-met : goal.returns-clause-met
 returns-clause-met c =
     let v : Responses = c.args.graph.now in
     IfOk-weaker c.unranked.result _ _
-    (λ sources all. left-out_meet (lists_of v) c.in_ok-ranks.ranks.items c.deref-2.result.now sources.items (length v.elements)
+    (λ sources all. left-out_meet (lists_of v) c.in_ok-ranks.ranks.items c.deref-2.result.now sources.items
+    (length v.elements)
     c.deref-2.ensures.value c.in_ok-ranks.ensures.rise all)
     c.unranked.ensures.all

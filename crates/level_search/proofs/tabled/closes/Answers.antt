@@ -1,5 +1,6 @@
 -- One element of the layer more is looked at; those before it are none of the layer.
-use Rattle.std.proofs.Common.{◌≡◌, ℕ, ◌+◌, ◌<◌, ◌≤◌, ◌∙◌, List, length, inl, inr, refl, sym, ap, subst, arith, true≢false}
+use Rattle.std.proofs.Common.{◌≡◌, ℕ, ◌+◌, ◌<◌, ◌≤◌, ◌∙◌, List, length, inl, inr, refl, sym, ap, subst, arith}
+use Rattle.std.proofs.Common.{true≢false}
 use Rattle.std.proofs.lemmas.Bool.{cases_lt}
 use Rattle.bit_tables.specs.Lists.{row_of}
 use Rattle.bit_tables.specs.Sets.{Has}
@@ -21,13 +22,19 @@ returns-then-contains-clause-found c =
       x,
       record {
         here = some.1;
-        before = shown_before rows s x ((c.requires.shown s x some.1.known).0 (subst (λ (row : List ℕ). Has row s) c.before-in-Some.ensures (c.if-contains.ensures.0 refl)));
+        before =
+            shown_before rows s x ((c.requires.shown s x some.1.known).0
+            (subst (λ (row : List ℕ). Has row s) c.before-in-Some.ensures (c.if-contains.ensures.0 refl)));
         first = λ y low layer. elim (cases_lt y c.layer.from) [
-          | inl less ↦ λ before. inv.missed y less layer.reached layer.not_near ((c.requires.shown s y layer.known).1 (before_shown rows s y before))
+          | inl less ↦
+              λ before. inv.missed y less layer.reached layer.not_near
+              ((c.requires.shown s y layer.known).1 (before_shown rows s y before))
           | inr from ↦ absurd (layer.not_near (c.in-Some.ensures.first y from low layer.reached))
         ];
       },
-      c.expand.ensures.ticked ∙ ap ticked inv.looked ∙ counted-next _ _ c.args.looked.now (layer-next sets c.layer.from x some.0 c.in-Some.ensures.first some.1.reached some.1.not_near),
+      c.expand.ensures.ticked ∙ ap ticked inv.looked
+          ∙ counted-next _ _ c.args.looked.now
+          (layer-next sets c.layer.from x some.0 c.in-Some.ensures.first some.1.reached some.1.not_near),
     )
 
 pub layer-preserved : goal.layer-preserved
@@ -38,7 +45,10 @@ layer-preserved c =
     let inv = c.layer.invariant in
     record {
       within = (let known = some.1.known in omega (arith, known));
-      looked = c.expand.ensures.ticked ∙ ap ticked inv.looked ∙ counted-next _ _ c.args.looked.now (layer-next sets c.layer.from x some.0 c.in-Some.ensures.first some.1.reached some.1.not_near);
+      looked =
+          c.expand.ensures.ticked ∙ ap ticked inv.looked
+          ∙ counted-next _ _ c.args.looked.now
+          (layer-next sets c.layer.from x some.0 c.in-Some.ensures.first some.1.reached some.1.not_near);
       missed = λ y low reached not_near. elim (cases_lt y c.layer.from) [
         | inl before ↦ inv.missed y before reached not_near
         | inr from ↦ elim (cases_lt y x) [
@@ -46,7 +56,9 @@ layer-preserved c =
           | inr past ↦ λ has.
               let e : y ≡ x = omega (arith, low, past) in
               let here = subst (λ (i : ℕ). Has (row_of c.args.table.now i) c.args.element) e has in
-              true≢false (sym (c.if-contains.ensures.1 (subst (λ (row : List ℕ). Has row c.args.element) (sym c.before-in-Some.ensures) here)))
+              true≢false
+              (sym (c.if-contains.ensures.1
+              (subst (λ (row : List ℕ). Has row c.args.element) (sym c.before-in-Some.ensures) here)))
         ]
       ];
     }
@@ -55,4 +67,6 @@ pub returns-clause-looked : goal.returns-clause-looked
 returns-clause-looked c =
     let n : ℕ = length c.args.graph.now.elements in
     let inv = c.layer.invariant in
-    λ _. inv.looked ∙ ap (λ k. counted k c.args.looked.now) (sym (layer-gap c.args.sets.now c.layer.from n inv.within c.in_default.ensures.none))
+    λ _. inv.looked
+    ∙ ap (λ k. counted k c.args.looked.now)
+    (sym (layer-gap c.args.sets.now c.layer.from n inv.within c.in_default.ensures.none))

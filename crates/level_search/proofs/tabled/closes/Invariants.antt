@@ -8,7 +8,8 @@ abbrev pub invariant-layer : goal.invariant-layer
 invariant-layer l = record {
   within : l.from ≤ length l.graph.elements;
   looked : l.looked ≡ counted (layer_size l.from l.sets) l.fn.looked;
-  missed : (y : ℕ) → y < l.from → Has l.sets.reached y → ¬ Has l.sets.near y → ¬ Has (row_of l.table y) l.element;
+  missed : (y : ℕ) → y < l.from → Has l.sets.reached y → ¬ Has l.sets.near y
+      → ¬ Has (row_of l.table y) l.element;
 }
 
 abbrev pub decreases-layer : goal.decreases-layer

@@ -1,4 +1,5 @@
-use Rattle.std.proofs.Common.{◌≡◌, ℕ, ap, sym, subst, ◌∙◌, arith, All, List, [], ◌∷◌, Bool, ◌||◌, min, length, length-append}
+use Rattle.std.proofs.Common.{◌≡◌, ℕ, ap, sym, subst, ◌∙◌, arith, All, List, [], ◌∷◌, Bool, ◌||◌, min, length}
+use Rattle.std.proofs.Common.{length-append}
 use Rattle.order_graph.specs.Lists.{lists_of}
 use Rattle.shared_bound.specs.Seats.{SeatView}
 use Rattle.level_search.specs.Team.{AreLooksOfClaims, Honest}
@@ -21,16 +22,23 @@ loop-other-preserved c =
     let long' = length-append c.pop.new.self.items (c.in-Some.other ∷ []) in
     let out = inv.2 in
     let out' = c.take_in.ensures.out in
-    let low : c.take_in.new.first.low ≡ min c.loop-other.first.low c.into_seat-seat.result.0.low = ap (λ (s : SeatView). s.low) e in (
+    let low : c.take_in.new.first.low ≡ min c.loop-other.first.low c.into_seat-seat.result.0.low =
+    ap (λ (s : SeatView). s.low) e in (
       ap (λ (s : SeatView). s.bound) e ∙ inv.0,
       ap (λ (s : SeatView). s.is_first) e ∙ inv.1,
       omega arith,
       ap (λ (s : SeatView). s.done) e ∙ ap (λ (b : Bool). b || c.into_seat-seat.result.0.done) inv.3,
-      taken_in rows c.args.sources.now c.loop-other.first c.into_seat-seat.result.0 c.take_in.new.first inv.4 (subst (Honest rows c.args.sources.now) (sym c.into_seat-seat.ensures.seat) front.1.2)
-          (ap (λ (s : SeatView). s.claimed) e) (ap (λ (s : SeatView). s.offered) e) (omega arith) (omega arith),
-      looks_taken_in n rows c.args.sources.now c.loop-other.first c.into_seat-seat.result.0 c.take_in.new.first c.loop-other.looked c.into_seat-seat.result.1 c.saturating_add-looked.result (ap (λ (s : SeatView). s.claimed) e) (omega arith) (omega arith) inv.5
-          (subst (λ (s : SeatView). AreLooksOfClaims n rows c.args.sources.now s c.into_seat-seat.result.1) (sym c.into_seat-seat.ensures.seat)
-          (subst (λ m. AreLooksOfClaims n rows c.args.sources.now c.in-Some.other.seat m) (sym c.into_seat-seat.ensures.looked) front.1.3))
+      taken_in rows c.args.sources.now c.loop-other.first c.into_seat-seat.result.0 c.take_in.new.first inv.4
+          (subst (Honest rows c.args.sources.now) (sym c.into_seat-seat.ensures.seat) front.1.2)
+          (ap (λ (s : SeatView). s.claimed) e) (ap (λ (s : SeatView). s.offered) e) (omega arith)
+          (omega arith),
+      looks_taken_in n rows c.args.sources.now c.loop-other.first c.into_seat-seat.result.0
+          c.take_in.new.first c.loop-other.looked c.into_seat-seat.result.1 c.saturating_add-looked.result
+          (ap (λ (s : SeatView). s.claimed) e) (omega arith) (omega arith) inv.5
+          (subst (λ (s : SeatView). AreLooksOfClaims n rows c.args.sources.now s c.into_seat-seat.result.1)
+          (sym c.into_seat-seat.ensures.seat)
+          (subst (λ m. AreLooksOfClaims n rows c.args.sources.now c.in-Some.other.seat m)
+          (sym c.into_seat-seat.ensures.looked) front.1.3))
           c.saturating_add-looked.ensures,
       front.0,
     )

@@ -10,10 +10,13 @@ pub loop-number-preserved : goal.loop-number-preserved
 loop-number-preserved c =
     let inv = c.loop-number.invariant in
     let e = c.share-seat.ensures.first in
-    let other : c.in_ok-new.field-0.seat ≡ fresh_seat c.args.bound.now false c.loop-number.first.low 0 = c.in_ok-new.ensures.seat ∙ c.share-seat.ensures.other in
-    let P : Worker → Type 0 = λ w. (w.seat.bound ≡ c.args.bound.now) × (w.seat.is_first ≡ false) × IsReady c.args.graph.now c.args.sources.now w in
+    let other : c.in_ok-new.field-0.seat ≡ fresh_seat c.args.bound.now false c.loop-number.first.low 0 =
+    c.in_ok-new.ensures.seat ∙ c.share-seat.ensures.other in
+    let P : Worker → Type 0 = λ w. (w.seat.bound ≡ c.args.bound.now) × (w.seat.is_first ≡ false)
+    × IsReady c.args.graph.now c.args.sources.now w in
     let out : c.share-seat.new.first.out ≡ c.loop-number.first.out + 1 = ap (λ (s : SeatView). s.out) e in
-    let left : c.share-seat.new.first.shares_left ≡ c.loop-number.first.shares_left - 1 = ap (λ (s : SeatView). s.shares_left) e in
+    let left : c.share-seat.new.first.shares_left ≡ c.loop-number.first.shares_left - 1 =
+    ap (λ (s : SeatView). s.shares_left) e in
     let more = c.in_ok-push.ensures.len in
     let test = c.loop-number-test.true in
     let was = inv.5 in
@@ -28,8 +31,14 @@ loop-number-preserved c =
       omega arith,
       omega arith,
       subst (All P) (sym c.in_ok-push.ensures.items)
-          (All-push P c.loop-number.team.items c.in_ok-new.field-0 inv.8 (ap (λ (s : SeatView). s.bound) other, ap (λ (s : SeatView). s.is_first) other, c.in_ok-new.ensures.ready c.args.sources.now)),
-      subst AreNumbered (sym c.in_ok-push.ensures.items) (numbered-push c.loop-number.team.items c.in_ok-new.field-0 inv.9 (c.in_ok-new.ensures.number ∙ omega arith)),
+          (All-push P c.loop-number.team.items c.in_ok-new.field-0 inv.8 (
+            ap (λ (s : SeatView). s.bound) other,
+            ap (λ (s : SeatView). s.is_first) other,
+            c.in_ok-new.ensures.ready c.args.sources.now,
+          )),
+      subst AreNumbered (sym c.in_ok-push.ensures.items)
+          (numbered-push c.loop-number.team.items c.in_ok-new.field-0 inv.9
+          (c.in_ok-new.ensures.number ∙ omega arith)),
     )
 
 pub returns : goal.returns
@@ -42,8 +51,11 @@ returns c =
     let was = inv.5 in
     let sum = inv.6 in
     let count = inv.7 in
-    subst (IsTeam c.args.bound.now c.args.graph.now c.args.sources.now (c.args.workers - 1)) (sym c.in_ok-push-2.ensures.items)
+    subst (IsTeam c.args.bound.now c.args.graph.now c.args.sources.now (c.args.workers - 1))
+    (sym c.in_ok-push-2.ensures.items)
     (
-    team_grown c.args.bound.now c.args.graph.now c.args.sources.now (c.args.workers - 1) c.loop-number.team.items c.in_ok-new-2.field-0 inv.8 inv.9 (omega arith)
-    (ap (λ (s : SeatView). s.bound) e ∙ inv.0) (ap (λ (s : SeatView). s.is_first) e ∙ inv.1) (omega arith) (c.in_ok-new-2.ensures.ready c.args.sources.now) c.in_ok-new-2.ensures.number
+    team_grown c.args.bound.now c.args.graph.now c.args.sources.now
+    (c.args.workers - 1) c.loop-number.team.items c.in_ok-new-2.field-0 inv.8 inv.9 (omega arith)
+    (ap (λ (s : SeatView). s.bound) e ∙ inv.0) (ap (λ (s : SeatView). s.is_first) e ∙ inv.1) (omega arith)
+    (c.in_ok-new-2.ensures.ready c.args.sources.now) c.in_ok-new-2.ensures.number
     )

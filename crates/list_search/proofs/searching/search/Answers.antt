@@ -10,15 +10,18 @@ use Rattle.list_search.proofs.searching.search.Goals as goal
 
 pub returns-clause-answer : goal.returns-clause-answer
 returns-clause-answer g c =
-    search_answer c.args.graph.now c.elements-elements.ensures.proper c.args.element (g.B.BoundSource.last c.search_by_number.new.bound) c.search_by_number.result c.requires.element
+    search_answer c.args.graph.now c.elements-elements.ensures.proper c.args.element
+    (g.B.BoundSource.last c.search_by_number.new.bound) c.search_by_number.result c.requires.element
     c.search_by_number.ensures.answer
 
 named-none : (v : Responses) → AreProper v → (s bound : ℕ) (r : Option ℕ)
-    → IfNone r (length v.elements < bound → (n : ℕ) → ¬ HasCycle (lists_of v) s n) → IfNone r (length v.elements < bound → (cycle : List NameBytes) → ¬ IsCycleThrough v s cycle)
+    → IfNone r (length v.elements < bound → (n : ℕ) → ¬ HasCycle (lists_of v) s n)
+    → IfNone r (length v.elements < bound → (cycle : List NameBytes) → ¬ IsCycleThrough v s cycle)
 named-none v proper s bound None none = λ above. no_cycle_through v proper s (none above)
 named-none v proper s bound (Some m) none = none
 
 pub returns-clause-none : goal.returns-clause-none
 returns-clause-none g c =
-    named-none c.args.graph.now c.elements-elements.ensures.proper c.args.element (g.B.BoundSource.last c.search_by_number.new.bound) c.search_by_number.result
+    named-none c.args.graph.now c.elements-elements.ensures.proper c.args.element
+    (g.B.BoundSource.last c.search_by_number.new.bound) c.search_by_number.result
     c.search_by_number.ensures.none

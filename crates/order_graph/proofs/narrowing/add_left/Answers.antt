@@ -18,4 +18,5 @@ loop-x-preserved c =
     let f = λ (x : ℕ). get_or anew x None in
     c.in_ok-add_number.ensures ∙ ap (λ l. l ++ cons_option number []) c.loop-x.invariant
     ∙ append_assoc old (numbers_left anew (take k row)) (cons_option number [])
-    ∙ ap (λ l. old ++ l) (sym (filter_map-append f (take k row) (x ∷ [])) ∙ ap (filter_map f) (sym (take_more row k 0 c.loop-x-test.true)))
+    ∙ ap (λ l. old ++ l) (sym (filter_map-append f (take k row) (x ∷ []))
+    ∙ ap (filter_map f) (sym (take_more row k 0 c.loop-x-test.true)))

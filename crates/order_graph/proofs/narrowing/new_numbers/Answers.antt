@@ -1,5 +1,6 @@
 -- At first none is kept; each kept element then gets the next number.
-use Rattle.std.proofs.Common.{◌≡◌, ℕ, ◌+◌, ◌<◌, ◌≤◌, Some, List, [], ◌∷◌, ◌++◌, length, take, set, get_or, map, sym, subst, arith}
+use Rattle.std.proofs.Common.{◌≡◌, ℕ, ◌+◌, ◌<◌, ◌≤◌, Some, List, [], ◌∷◌, ◌++◌, length, take, set, get_or}
+use Rattle.std.proofs.Common.{map, sym, subst, arith}
 use Rattle.std.proofs.lemmas.List.{length-map, length-take-le, take_all, take_more}
 use Rattle.events.specs.Names.{NameBytes}
 use Rattle.specification.specs.Elements.{number_in}
@@ -18,7 +19,8 @@ pub overflow_cast-i : goal.overflow_cast-i
 overflow_cast-i c =
     let names : List NameBytes = c.args.names.now in
     let kept : List ℕ = c.args.kept.now in
-    let most : length (names_at names kept) ≤ length names = count-kept names c.requires.distinct kept c.requires.rising c.requires.known in
+    let most : length (names_at names kept) ≤ length names =
+    count-kept names c.requires.distinct kept c.requires.rising c.requires.known in
     let same : length (names_at names kept) ≡ length kept = length-map kept (λ y. get_or names y []) in
     omega (arith, most, same, c.requires.few, c.loop-i-test.true)
 
@@ -30,7 +32,8 @@ loop-i-preserved c =
     let x : ℕ = get_or kept i 0 in
     let next : take (i + 1) kept ≡ take i kept ++ x ∷ [] = take_more kept i 0 c.loop-i-test.true in
     let once : Once (names_at names (take i kept ++ x ∷ [])) =
-    subst (λ l. Once (names_at names l)) next (once-first names kept (i + 1) (once-kept names c.requires.distinct kept c.requires.rising c.requires.known)) in
+    subst (λ l. Once (names_at names l)) next (once-first names kept (i + 1)
+    (once-kept names c.requires.distinct kept c.requires.rising c.requires.known)) in
     let low : x < length names = c.requires.known i 0 c.loop-i-test.true in
     let size : length (take i kept) ≡ i = omega (arith, length-take-le i kept, c.loop-i-test.true) in
     subst (λ l. AreNew names l (set c.loop-i.anew.items x (Some i))) (sym next)
@@ -42,4 +45,5 @@ returns c =
     let names : List NameBytes = c.args.names.now in
     let kept : List ℕ = c.args.kept.now in
     let all : take c.loop-i.i kept ≡ kept = take_all c.loop-i.i kept (omega (arith, c.loop-i-test.false)) in
-    subst (λ l. c.loop-i.anew.items ≡ map (number_in (names_at names l)) names) all (all-new names (take c.loop-i.i kept) c.loop-i.anew.items c.loop-i.invariant)
+    subst (λ l. c.loop-i.anew.items ≡ map (number_in (names_at names l)) names) all
+    (all-new names (take c.loop-i.i kept) c.loop-i.anew.items c.loop-i.invariant)

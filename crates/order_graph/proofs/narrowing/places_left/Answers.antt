@@ -1,5 +1,6 @@
 -- What is left of one row more is a row more.
-use Rattle.std.proofs.Common.{◌≡◌, ℕ, ◌<◌, ◌≤◌, Option, List, [], ◌∷◌, ◌++◌, get_or, take, map, length, sym, ◌∙◌, ap, arith}
+use Rattle.std.proofs.Common.{◌≡◌, ℕ, ◌<◌, ◌≤◌, Option, List, [], ◌∷◌, ◌++◌, get_or, take, map, length, sym}
+use Rattle.std.proofs.Common.{◌∙◌, ap, arith}
 use Rattle.std.proofs.lemmas.List.{map_push, take_more, take_all}
 use Rattle.element_numbers.specs.Cuts.{rows_of}
 use Rattle.order_graph.specs.Renumbered.{numbers_left}
@@ -17,8 +18,10 @@ loop-list-preserved c =
     let within : k < length rows = omega (arith, length-cut 0 t.ends.items t.items.items) in
     let old : Rows ℕ = c.loop-list.left in
     let new : Rows ℕ = c.end_row.new.self in
-    let items : new.items.items ≡ old.items.items ++ numbers_left anew r = c.in_ok-end_row.ensures.items ∙ c.in_ok-add_left.ensures ∙ ap (λ w. old.items.items ++ numbers_left anew w) c.row.ensures in
-    let ends : new.ends.items ≡ old.ends.items ++ (length new.items.items) ∷ [] = c.in_ok-end_row.ensures.ends ∙ ap (λ n. old.ends.items ++ n ∷ []) (ap length (sym c.in_ok-end_row.ensures.items)) in
+    let items : new.items.items ≡ old.items.items ++ numbers_left anew r = c.in_ok-end_row.ensures.items
+    ∙ c.in_ok-add_left.ensures ∙ ap (λ w. old.items.items ++ numbers_left anew w) c.row.ensures in
+    let ends : new.ends.items ≡ old.ends.items ++ (length new.items.items) ∷ [] = c.in_ok-end_row.ensures.ends
+    ∙ ap (λ n. old.ends.items ++ n ∷ []) (ap length (sym c.in_ok-end_row.ensures.items)) in
     let both = row-ended old new (numbers_left anew r) c.loop-list.invariant.cut items ends in
     record {
       cut = both.1;

@@ -8,7 +8,8 @@ use Rattle.element_numbers.proofs.Cuts.{length-cut}
 use Rattle.order_graph.proofs.spots.all_spots.Goals as goal
 
 pub overflow_cast-list : goal.overflow_cast-list
-overflow_cast-list c = let t = c.args.places.now in omega (arith, length-cut 0 t.ends.items t.items.items, c.requires.few)
+overflow_cast-list c = let t =
+    c.args.places.now in omega (arith, length-cut 0 t.ends.items t.items.items, c.requires.few)
 
 pub loop-list-preserved : goal.loop-list-preserved
 loop-list-preserved c =

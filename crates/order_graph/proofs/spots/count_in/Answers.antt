@@ -14,7 +14,13 @@ loop-y-preserved c =
     elim c.if-y-x.branch [
       | then-y-x w ↦
           record {
-            counted = λ list. omega (arith, c.loop-y.invariant.counted list, count-more list row j c.args.x c.loop-y-test.true w.if-y-x.true, w.count-is);
+            counted =
+                λ list. omega (
+                  arith,
+                  c.loop-y.invariant.counted list,
+                  count-more list row j c.args.x c.loop-y-test.true w.if-y-x.true,
+                  w.count-is,
+                );
             few = omega (arith, c.loop-y.invariant.few, w.count-is);
           }
       | else-y-x w ↦
@@ -22,7 +28,13 @@ loop-y-preserved c =
             counted = λ list.
                 elim (eqb_tells (get_or row j 0) c.args.x) [
                   | inl h ↦ absurd (w.if-y-x.false h.1)
-                  | inr h ↦ omega (arith, c.loop-y.invariant.counted list, count-same list row j c.args.x c.loop-y-test.true h.0, w.count-is)
+                  | inr h ↦
+                      omega (
+                        arith,
+                        c.loop-y.invariant.counted list,
+                        count-same list row j c.args.x c.loop-y-test.true h.0,
+                        w.count-is,
+                      )
                 ];
             few = omega (arith, c.loop-y.invariant.few, w.count-is);
           }
@@ -30,4 +42,5 @@ loop-y-preserved c =
 
 pub returns : goal.returns
 returns c = λ list.
-    c.loop-y.invariant.counted list ∙ ap (λ (r : List ℕ). length (spots_in list 0 r c.args.x)) (take_all c.loop-y.y-index c.args.row.now (omega (arith, c.loop-y-test.false)))
+    c.loop-y.invariant.counted list ∙ ap (λ (r : List ℕ). length (spots_in list 0 r c.args.x))
+    (take_all c.loop-y.y-index c.args.row.now (omega (arith, c.loop-y-test.false)))

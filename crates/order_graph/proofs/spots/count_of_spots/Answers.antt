@@ -1,5 +1,6 @@
 -- The spots of one list more; no more than all.
-use Rattle.std.proofs.Common.{◌≡◌, ℕ, ◌+◌, ◌<◌, ◌≤◌, ◌^◌, List, length, take, sym, ◌∙◌, ap, subst, arith, length-append}
+use Rattle.std.proofs.Common.{◌≡◌, ℕ, ◌+◌, ◌<◌, ◌≤◌, ◌^◌, List, length, take, sym, ◌∙◌, ap, subst, arith}
+use Rattle.std.proofs.Common.{length-append}
 use Rattle.std.proofs.lemmas.List.{take_all}
 use Rattle.element_numbers.specs.Cuts.{rows_of}
 use Rattle.element_numbers.specs.declared.rows.Rows.{Rows}
@@ -12,7 +13,8 @@ use Rattle.order_graph.proofs.OneSpot.{front-few}
 use Rattle.order_graph.proofs.spots.count_of_spots.Goals as goal
 
 -- with the spots of the next list, those of one list more
-one-more : (places : Rows ℕ) (l x count more : ℕ) (here : List ℕ) → l < length places.ends.items → here ≡ row (rows_of places) l
+one-more : (places : Rows ℕ) (l x count more : ℕ) (here : List ℕ) → l < length places.ends.items
+    → here ≡ row (rows_of places) l
     → count ≡ length (spots_from 0 (take l (rows_of places)) x) → more ≡ length (spots_in l 0 here x)
     → count + more ≡ length (spots_from 0 (take (l + 1) (rows_of places)) x)
 one-more places l x count more here within is counted found =
@@ -28,7 +30,8 @@ one-more places l x count more here within is counted found =
     )
 
 pub count_in-count-requires : goal.count_in-count-requires
-count_in-count-requires c = subst (λ (r : List ℕ). length r < 2 ^ 32) (sym c.row.ensures) (c.requires.short c.loop-list.list)
+count_in-count-requires c =
+    subst (λ (r : List ℕ). length r < 2 ^ 32) (sym c.row.ensures) (c.requires.short c.loop-list.list)
 
 pub overflow_add-count : goal.overflow_add-count
 overflow_add-count c =
@@ -37,7 +40,9 @@ overflow_add-count c =
     let x : ℕ = c.args.x in
     omega (
       arith,
-      one-more t l x c.loop-list.count c.count_in-count.result c.row.result.now (omega (arith, c.loop-list-test.true, c.len-list-end.ensures)) c.row.ensures c.loop-list.invariant (c.count_in-count.ensures l),
+      one-more t l x c.loop-list.count c.count_in-count.result c.row.result.now
+          (omega (arith, c.loop-list-test.true, c.len-list-end.ensures)) c.row.ensures c.loop-list.invariant
+          (c.count_in-count.ensures l),
       front-few (rows_of t) (l + 1) x,
       c.requires.count,
     )
@@ -45,11 +50,20 @@ overflow_add-count c =
 pub loop-list-preserved : goal.loop-list-preserved
 loop-list-preserved c =
     let l : ℕ = c.loop-list.list in
-    one-more c.args.places.now l c.args.x c.loop-list.count c.count_in-count.result c.row.result.now (omega (arith, c.loop-list-test.true, c.len-list-end.ensures)) c.row.ensures c.loop-list.invariant (c.count_in-count.ensures l)
+    one-more c.args.places.now l c.args.x c.loop-list.count c.count_in-count.result c.row.result.now
+    (omega (arith, c.loop-list-test.true, c.len-list-end.ensures)) c.row.ensures c.loop-list.invariant
+    (c.count_in-count.ensures l)
 
 pub returns : goal.returns
 returns c =
     let t = c.args.places.now in
     let rows : List (List ℕ) = rows_of t in
-    let all : length rows ≤ c.loop-list.list = omega (arith, length-cut 0 t.ends.items t.items.items, c.loop-list-test.false, c.len-list-end.ensures) in
-    c.loop-list.invariant ∙ ap (λ (rs : List (List ℕ)). length (spots_from 0 rs c.args.x)) (take_all c.loop-list.list rows all)
+    let all : length rows ≤ c.loop-list.list =
+    omega (
+      arith,
+      length-cut 0 t.ends.items t.items.items,
+      c.loop-list-test.false,
+      c.len-list-end.ensures,
+    ) in
+    c.loop-list.invariant
+    ∙ ap (λ (rs : List (List ℕ)). length (spots_from 0 rs c.args.x)) (take_all c.loop-list.list rows all)

@@ -6,5 +6,6 @@ abbrev pub invariant-loop-j : goal.invariant-loop-j
 invariant-loop-j l = record {
   count : vec_len l.spots ≡ vec_len l.fn.spots;
   spots : (x : ℕ) → x < vec_len l.fn.spots
-      → slice_index_or (map (λ s. s.items) l.spots.items) x [] ≡ slice_index_or (map (λ s. s.items) l.fn.spots.items) x [] ++ spots_in l.list 0 (take l.j l.row) x;
+      → slice_index_or (map (λ s. s.items) l.spots.items) x []
+      ≡ slice_index_or (map (λ s. s.items) l.fn.spots.items) x [] ++ spots_in l.list 0 (take l.j l.row) x;
 }

@@ -1,5 +1,6 @@
 -- What is left is looked for in the lists behind.
-use Rattle.std.proofs.Common.{◌≡◌, ℕ, ◌+◌, ◌<◌, ◌≤◌, ◌^◌, Some, List, length, take, slice_get, sym, ◌∙◌, ap, subst, arith, length-append}
+use Rattle.std.proofs.Common.{◌≡◌, ℕ, ◌+◌, ◌<◌, ◌≤◌, ◌^◌, Some, List, length, take, slice_get, sym, ◌∙◌, ap}
+use Rattle.std.proofs.Common.{subst, arith, length-append}
 use Rattle.std.proofs.lemmas.List.{take_all}
 use Rattle.std.proofs.lemmas.Option.{slice_get_past}
 use Rattle.element_numbers.specs.Cuts.{rows_of}
@@ -12,7 +13,8 @@ use Rattle.order_graph.proofs.OneSpot.{spot-of_list}
 use Rattle.order_graph.proofs.spots.spot_among.Goals as goal
 
 pub overflow_cast-list : goal.overflow_cast-list
-overflow_cast-list c = let t = c.args.places.now in omega (arith, length-cut 0 t.ends.items t.items.items, c.requires.few)
+overflow_cast-list c = let t =
+    c.args.places.now in omega (arith, length-cut 0 t.ends.items t.items.items, c.requires.few)
 
 pub spot_in-requires : goal.spot_in-requires
 spot_in-requires c =
@@ -24,10 +26,18 @@ returns-in-Ok c =
     let t = c.args.places.now in
     let rows : List (List ℕ) = rows_of t in
     let l : ℕ = c.loop-list.list in
-    let within : l < length rows = omega (arith, length-cut 0 t.ends.items t.items.items, c.loop-list-test.true, c.len-list-end.ensures) in
+    let within : l < length rows =
+    omega (
+      arith,
+      length-cut 0 t.ends.items t.items.items,
+      c.loop-list-test.true,
+      c.len-list-end.ensures,
+    ) in
     let got : slice_get (spots_in l 0 (row rows l) c.args.x) c.loop-list.left ≡ Some c.in-Ok.spot =
-    subst (λ (r : List ℕ). slice_get (spots_in l 0 r c.args.x) c.loop-list.left ≡ Some c.in-Ok.spot) c.row.ensures c.in-Ok.ensures in
-    sym (ap (slice_get (spots_of rows c.args.x)) c.loop-list.invariant ∙ spot-of_list rows l c.args.x c.loop-list.left c.in-Ok.spot within got)
+    subst (λ (r : List ℕ). slice_get (spots_in l 0 r c.args.x) c.loop-list.left ≡ Some c.in-Ok.spot)
+    c.row.ensures c.in-Ok.ensures in
+    sym (ap (slice_get (spots_of rows c.args.x)) c.loop-list.invariant
+    ∙ spot-of_list rows l c.args.x c.loop-list.left c.in-Ok.spot within got)
 
 pub loop-list-preserved : goal.loop-list-preserved
 loop-list-preserved c =
@@ -35,11 +45,20 @@ loop-list-preserved c =
     let rows : List (List ℕ) = rows_of t in
     let l : ℕ = c.loop-list.list in
     let x : ℕ = c.args.x in
-    let within : l < length rows = omega (arith, length-cut 0 t.ends.items t.items.items, c.loop-list-test.true, c.len-list-end.ensures) in
+    let within : l < length rows =
+    omega (
+      arith,
+      length-cut 0 t.ends.items t.items.items,
+      c.loop-list-test.true,
+      c.len-list-end.ensures,
+    ) in
     let left : c.loop-list.left ≡ length (spots_in l 0 (row rows l) x) + c.in-Err.more =
-    subst (λ (r : List ℕ). c.loop-list.left ≡ length (spots_in l 0 r x) + c.in-Err.more) c.row.ensures c.in-Err.ensures in
-    let more : length (spots_from 0 (take l rows) x) + length (spots_in l 0 (row rows l) x) ≡ length (spots_from 0 (take (l + 1) rows) x) =
-    sym (length-append (spots_from 0 (take l rows) x) (spots_in l 0 (row rows l) x)) ∙ ap (λ (s : List Spot). length s) (one_more_list rows l x within) in
+    subst (λ (r : List ℕ). c.loop-list.left ≡ length (spots_in l 0 r x) + c.in-Err.more) c.row.ensures
+    c.in-Err.ensures in
+    let more : length (spots_from 0 (take l rows) x) + length (spots_in l 0 (row rows l) x)
+    ≡ length (spots_from 0 (take (l + 1) rows) x) =
+    sym (length-append (spots_from 0 (take l rows) x) (spots_in l 0 (row rows l) x))
+    ∙ ap (λ (s : List Spot). length s) (one_more_list rows l x within) in
     omega (arith, c.loop-list.invariant, left, more)
 
 pub returns : goal.returns
@@ -47,6 +66,13 @@ returns c =
     let t = c.args.places.now in
     let rows : List (List ℕ) = rows_of t in
     let x : ℕ = c.args.x in
-    let all : length rows ≤ c.loop-list.list = omega (arith, length-cut 0 t.ends.items t.items.items, c.loop-list-test.false, c.len-list-end.ensures) in
-    let whole : length (spots_from 0 (take c.loop-list.list rows) x) ≡ length (spots_of rows x) = ap (λ (rs : List (List ℕ)). length (spots_from 0 rs x)) (take_all c.loop-list.list rows all) in
+    let all : length rows ≤ c.loop-list.list =
+    omega (
+      arith,
+      length-cut 0 t.ends.items t.items.items,
+      c.loop-list-test.false,
+      c.len-list-end.ensures,
+    ) in
+    let whole : length (spots_from 0 (take c.loop-list.list rows) x) ≡ length (spots_of rows x) =
+    ap (λ (rs : List (List ℕ)). length (spots_from 0 rs x)) (take_all c.loop-list.list rows all) in
     sym (slice_get_past (spots_of rows x) c.args.i (omega (arith, whole, c.loop-list.invariant)))

@@ -1,4 +1,5 @@
-use Rattle.std.proofs.Common.{rules, ◌≡◌, ◌≤◌, ◌<◌, ◌⊎◌, ◌↔◌, ℕ, List, All, IfOk, ◌+◌, ◌-◌, length, slice_index_or, slice_set, sym, ap, ◌∙◌, arith}
+use Rattle.std.proofs.Common.{rules, ◌≡◌, ◌≤◌, ◌<◌, ◌⊎◌, ◌↔◌, ℕ, List, All, IfOk, ◌+◌, ◌-◌, length}
+use Rattle.std.proofs.Common.{slice_index_or, slice_set, sym, ap, ◌∙◌, arith}
 use Rattle.events.specs.History.{SameStreams, IsLegal}
 use Rattle.sessions.specs.Prefixes.{HasPrefix}
 use Rattle.sessions.specs.Shown.{PassShown}
@@ -9,25 +10,37 @@ use Rattle.rehearsal.proofs.rehearsing.close.Goals as goal
 pub close-requires : goal.close-requires
 close-requires c =
     let r = c.requires.replayed in
-    let done = ended_of c.args.session c.args.recording.now r.0 c.args.passes.items c.index_mut.result.now c.end.new.pass c.end.new.pass.seen r.1 r.2 c.index_mut.ensures.value c.end.ensures.same c.end.ensures.mine in
+    let done =
+    ended_of c.args.session c.args.recording.now r.0 c.args.passes.items c.index_mut.result.now
+    c.end.new.pass c.end.new.pass.seen r.1 r.2 c.index_mut.ensures.value c.end.ensures.same
+    c.end.ensures.mine in
     done.of_session
 
 pub unreachable-requires : goal.unreachable-requires
 unreachable-requires c =
     let r = c.requires.replayed in
-    let done = ended_of c.args.session c.args.recording.now r.0 c.args.passes.items c.index_mut.result.now c.end.new.pass c.end.new.pass.seen r.1 r.2 c.index_mut.ensures.value c.end.ensures.same c.end.ensures.mine in
+    let done =
+    ended_of c.args.session c.args.recording.now r.0 c.args.passes.items c.index_mut.result.now
+    c.end.new.pass c.end.new.pass.seen r.1 r.2 c.index_mut.ensures.value c.end.ensures.same
+    c.end.ensures.mine in
     c.in_default.ensures.exactly done.all
 
 pub returns-clause-streams : goal.returns-clause-streams
 returns-clause-streams c =
     let r = c.requires.replayed in
-    let done = ended_of c.args.session c.args.recording.now r.0 c.args.passes.items c.index_mut.result.now c.end.new.pass c.end.new.pass.seen r.1 r.2 c.index_mut.ensures.value c.end.ensures.same c.end.ensures.mine in
-    closes_with c.args.session c.args.recording.now c.in-Ok.closed _ done c.requires.replicas c.in-Ok.ensures.replicas c.in-Ok.ensures.streams c.requires.legal c.replicas.ensures.legal
+    let done =
+    ended_of c.args.session c.args.recording.now r.0 c.args.passes.items c.index_mut.result.now
+    c.end.new.pass c.end.new.pass.seen r.1 r.2 c.index_mut.ensures.value c.end.ensures.same
+    c.end.ensures.mine in
+    closes_with c.args.session c.args.recording.now c.in-Ok.closed _ done c.requires.replicas
+    c.in-Ok.ensures.replicas c.in-Ok.ensures.streams c.requires.legal c.replicas.ensures.legal
 
 pub returns-clause-watched : goal.returns-clause-watched
 returns-clause-watched c =
     let r = c.requires.replayed in
     let count = replayed_length c.args.recording.now r.0 c.args.passes.items r.2 in
     let some : 0 < length c.args.passes.items = omega (arith, count, r.1.some) in
-    let seen = first-of-set (λ (p : PassShown). HasPrefix c.in-Ok.closed.entries p.seen) c.args.passes.items c.end.new.pass some c.in-Ok.ensures.begins in
+    let seen =
+    first-of-set (λ (p : PassShown). HasPrefix c.in-Ok.closed.entries p.seen) c.args.passes.items
+    c.end.new.pass some c.in-Ok.ensures.begins in
     prefix_through c.in-Ok.closed.entries c.end.new.pass.seen c.args.observer.seen seen c.end.ensures.told

@@ -8,8 +8,12 @@ use Rattle.report.proofs.counts.counts_of.Given as goal
 
 abbrev pub invariant-loop-r : goal.invariant-loop-r
 invariant-loop-r l = record {
-  operations : l.operations ≡ length (flat_map (λ (q : ℕ). first_operations q (count l.recording q)) (numbers_from 0 l.r));
-  inserts : l.inserts ≡ length (inserted_by l.recording (flat_map (λ (q : ℕ). first_operations q (count l.recording q)) (numbers_from 0 l.r)));
+  operations : l.operations
+      ≡ length (flat_map (λ (q : ℕ). first_operations q (count l.recording q)) (numbers_from 0 l.r));
+  inserts : l.inserts
+      ≡ length
+      (inserted_by l.recording
+      (flat_map (λ (q : ℕ). first_operations q (count l.recording q)) (numbers_from 0 l.r)));
   few : l.operations ≤ l.r * MOST_ENTRIES;
   fewer : l.inserts ≤ l.operations;
 }

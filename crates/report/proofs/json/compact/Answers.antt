@@ -14,5 +14,6 @@ returns c =
     let h : History = c.args.recording.now in
     let v : Verdict = verdict_of c.args.verdict.now in
     let counts = c.counts_of-counts.ensures in
-    let built : view c.in_ok-object.object ≡ report_data h v = c.in_ok-object.ensures ∙ counted h v _ _ _ refl counts.operations counts.inserts in
+    let built : view c.in_ok-object.object ≡ report_data h v =
+    c.in_ok-object.ensures ∙ counted h v _ _ _ refl counts.operations counts.inserts in
     c.in_ok-text.ensures.text (ap has_float built ∙ report-plain h v) ∙ ap compact_text built

@@ -14,7 +14,9 @@ pub loop-i-preserved : goal.loop-i-preserved
 loop-i-preserved c = elim c.match-get.branch [
   | in-Some+in_ok-step_value+in_ok-push w ↦
       rw (w.values-is, w.in_ok-push.ensures.items)
-      (values-more (step_json c.args.recording.now) c.loop-i.values.items c.args.steps.now c.loop-i.i w.in_ok-step_value.field-0 w.in-Some.step.now c.loop-i.invariant w.in_ok-step_value.ensures (sym w.in-Some.ensures))
+      (values-more (step_json c.args.recording.now) c.loop-i.values.items c.args.steps.now c.loop-i.i
+      w.in_ok-step_value.field-0 w.in-Some.step.now c.loop-i.invariant w.in_ok-step_value.ensures
+      (sym w.in-Some.ensures))
   | in_default w ↦ absurd (not-past c.args.steps.now c.loop-i.i (omega arith) (sym w.in_default.ensures))
 ]
 
@@ -22,4 +24,5 @@ pub returns : goal.returns
 returns c =
     let whole = take_all c.loop-i.i c.args.steps.now (omega arith) in
     view-Array c.loop-i.values
-    ∙ ap array (ap items_of (c.loop-i.invariant ∙ ap (map (step_json c.args.recording.now)) whole) ∙ steps-listed c.args.recording.now c.args.steps.now)
+    ∙ ap array (ap items_of (c.loop-i.invariant ∙ ap (map (step_json c.args.recording.now)) whole)
+    ∙ steps-listed c.args.recording.now c.args.steps.now)

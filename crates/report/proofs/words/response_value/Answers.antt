@@ -11,7 +11,9 @@ pub loop-i-preserved : goal.loop-i-preserved
 loop-i-preserved c = elim c.match-get.branch [
   | in-Some+in_ok-name_value+in_ok-push w ↦
       rw (w.names-is, w.in_ok-push.ensures.items)
-      (values-more (λ (name : NameBytes). string name) c.loop-i.names.items c.args.response.now c.loop-i.i w.in_ok-name_value.field-0 w.in-Some.name c.loop-i.invariant w.in_ok-name_value.ensures (sym w.in-Some.ensures))
+      (values-more (λ (name : NameBytes). string name) c.loop-i.names.items c.args.response.now c.loop-i.i
+      w.in_ok-name_value.field-0 w.in-Some.name c.loop-i.invariant w.in_ok-name_value.ensures
+      (sym w.in-Some.ensures))
   | in_default w ↦ absurd (not-past c.args.response.now c.loop-i.i (omega arith) (sym w.in_default.ensures))
 ]
 

@@ -8,5 +8,6 @@ use Rattle.trace_text.proofs.pieces.take_lines.Goals as goal
 pub returns-clause-ok : goal.returns-clause-ok
 returns-clause-ok c =
     let cut = c.in_ok-rest.ensures.ok in
-    ends-anew (good c.read_lines.new.reading) c.add.new.self (text_of (good c.args.reading.now) ++ c.args.piece.now) c.in_ok-rest.rest.now cut.0
+    ends-anew (good c.read_lines.new.reading) c.add.new.self
+    (text_of (good c.args.reading.now) ++ c.args.piece.now) c.in_ok-rest.rest.now cut.0
     (subst (λ old. IsAdded old c.in_ok-rest.rest.now c.add.new.self) c.requires c.add.ensures) cut.1

@@ -12,8 +12,11 @@ returns-in_err-replicas-clause-shape c =
 
 pub returns-in-Ok-clause-ok : goal.returns-in-Ok-clause-ok
 returns-in-Ok-clause-ok c =
-    let made = c.in-Ok.ensures.ok in
-    (made.1, replicas-spells c.args.line.now c.in_ok-replicas.replicas c.in_ok-replicas.ensures ∙ ap replicas_line (sym made.0))
+    let made = c.in-Ok.ensures.ok in (
+      made.1,
+      replicas-spells c.args.line.now c.in_ok-replicas.replicas c.in_ok-replicas.ensures
+          ∙ ap replicas_line (sym made.0),
+    )
 
 pub returns-in-Err-NoReplicas-clause-shape : goal.returns-in-Err-NoReplicas-clause-shape
 returns-in-Err-NoReplicas-clause-shape c =
@@ -22,11 +25,13 @@ returns-in-Err-NoReplicas-clause-shape c =
 
 pub returns-in-Err-ManyReplicas-clause-shape : goal.returns-in-Err-ManyReplicas-clause-shape
 returns-in-Err-ManyReplicas-clause-shape c =
-    let many = c.new.ensures.many_replicas.0 (c.in-Err-ManyReplicas.is ∙ ap Err c.in-Err-ManyReplicas.field-0-is) in
+    let many =
+    c.new.ensures.many_replicas.0 (c.in-Err-ManyReplicas.is ∙ ap Err c.in-Err-ManyReplicas.field-0-is) in
     λ _. bad-number c.args.line.now c.in_ok-replicas.replicas c.in_ok-replicas.ensures (inr many)
 
 pub returns-in-Err-Memory-clause-memory : goal.returns-in-Err-Memory-clause-memory
 returns-in-Err-Memory-clause-memory c =
     let wanted = c.in-Err-Memory.is ∙ ap Err c.in-Err-Memory.field-0-is in
     λ _. good-number c.args.line.now c.in_ok-replicas.replicas c.in_ok-replicas.ensures
-    (λ none. not-none c.new.result wanted (c.new.ensures.no_replicas.1 none)) (λ many. not-many c.new.result wanted (c.new.ensures.many_replicas.1 many))
+    (λ none. not-none c.new.result wanted (c.new.ensures.no_replicas.1 none))
+    (λ many. not-many c.new.result wanted (c.new.ensures.many_replicas.1 many))

@@ -4,4 +4,8 @@ use Rattle.order_graph.proofs.Covers.{covered-least_order}
 use Rattle.verdict.proofs.judging.accepted.Goals as goal
 
 pub returns-clause-verdict : goal.returns-clause-verdict
-returns-clause-verdict c = (c.requires.sound, covered-least_order (responses_of c.args.recording.now) c.args.graph.now c.requires.covered c.args.order c.requires.least)
+returns-clause-verdict c = (
+  c.requires.sound,
+  covered-least_order (responses_of c.args.recording.now) c.args.graph.now c.requires.covered c.args.order
+      c.requires.least,
+)

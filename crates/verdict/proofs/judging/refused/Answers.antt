@@ -6,11 +6,15 @@ use Rattle.verdict.proofs.Refusals.{refusal-covers, some_conflict}
 use Rattle.verdict.proofs.judging.refused.Goals as goal
 
 pub unreachable-requires : goal.unreachable-requires
-unreachable-requires c = some_conflict c.args.graph.now c.elements.ensures.proper c.requires.disordered (subst (IsLeastConflict c.args.graph.now) c.in-None.is c.requires.found)
+unreachable-requires c =
+    some_conflict c.args.graph.now c.elements.ensures.proper c.requires.disordered
+    (subst (IsLeastConflict c.args.graph.now) c.in-None.is c.requires.found)
 
 pub returns : goal.returns
 returns c =
     let h = c.args.recording.now in
     let w = c.args.graph.now in
-    refusal-covers h w c.requires.sound (sound_responses_are_proper h c.replicas.ensures.legal c.requires.sound) c.elements.ensures.proper c.requires.covered c.in-Some.conflict
+    refusal-covers h w c.requires.sound
+    (sound_responses_are_proper h c.replicas.ensures.legal c.requires.sound) c.elements.ensures.proper
+    c.requires.covered c.in-Some.conflict
     (subst (IsLeastConflict w) c.in-Some.is c.requires.found)

@@ -13,7 +13,8 @@ overflow_add-index_mut c =
     let cur : List ℕ = c.loop-y.indegrees.items in
     let size = c.loop-y.invariant.size in
     let within : y < vec_len c.args.indegrees.now = c.requires.known i 0 c.loop-y-test.true in
-    let here : c.index_mut.result.now ≡ get_or cur y 0 = c.index_mut.ensures.value ∙ get_or_default_zero cur y c.index_mut.result.now (omega arith) in
+    let here : c.index_mut.result.now ≡ get_or cur y 0 =
+    c.index_mut.ensures.value ∙ get_or_default_zero cur y c.index_mut.result.now (omega arith) in
     let added = c.loop-y.invariant.added y within in
     let le = occurrences-take xs i y in
     let all = count_by-le-length (λ z. eqb z y) xs in
@@ -28,7 +29,8 @@ loop-y-preserved c =
     let size : vec_len c.loop-y.indegrees ≡ vec_len c.args.indegrees.now = c.loop-y.invariant.size in
     let within : z < vec_len c.args.indegrees.now = c.requires.known i 0 c.loop-y-test.true in
     let known : z < length cur = omega (arith, within, size) in
-    let here : c.index_mut.result.now ≡ get_or cur z 0 = c.index_mut.ensures.value ∙ get_or_default_zero cur z c.index_mut.result.now known in
+    let here : c.index_mut.result.now ≡ get_or cur z 0 =
+    c.index_mut.ensures.value ∙ get_or_default_zero cur z c.index_mut.result.now known in
     let new : List ℕ = set cur z (c.index_mut.result.now + 1) in
     record {
       size = size;

@@ -5,4 +5,6 @@ use Rattle.witness_order.proofs.least_order.order.Goals as goal
 
 pub returns-then-not-are_all_taken : goal.returns-then-not-are_all_taken
 returns-then-not-are_all_taken c =
-    c.in_ok-taken.ensures.some (λ e. false≢true (c.if-not-are_all_taken.ensures.1 (omega (arith, c.as_slice.ensures.len, c.in_ok-taken.taken.ok))))
+    c.in_ok-taken.ensures.some
+    (λ e. false≢true
+    (c.if-not-are_all_taken.ensures.1 (omega (arith, c.as_slice.ensures.len, c.in_ok-taken.taken.ok))))

@@ -12,6 +12,15 @@ taken_in_turn-requires-clause-free c =
       length-map c.in_ok-successors.successors.items (λ (v : Vec ℕ Global). v.items),
       c.in_ok-successors.ensures.successors.size,
     ) in
-    let all : length c.as_slice-2.result.now ≡ length c.args.graph.now.elements = omega (arith, many, ap (λ (l : List ℕ). length l) c.as_slice-2.ensures.value, c.in_ok-indegrees.ensures.size) in
-    subst (λ n. (x : ℕ) → Contains c.in_ok-free.free.keys x ↔ ((x < n) × (get_or c.in_ok-indegrees.indegrees.items x 0 ≡ 0))) all
-    (subst (λ (l : List ℕ). (x : ℕ) → Contains c.in_ok-free.free.keys x ↔ ((x < length c.as_slice-2.result.now) × (get_or l x 0 ≡ 0))) c.as_slice-2.ensures.value c.in_ok-free.ensures)
+    let all : length c.as_slice-2.result.now ≡ length c.args.graph.now.elements =
+    omega (
+      arith,
+      many,
+      ap (λ (l : List ℕ). length l) c.as_slice-2.ensures.value,
+      c.in_ok-indegrees.ensures.size,
+    ) in
+    subst (λ n. (x : ℕ) → Contains c.in_ok-free.free.keys x
+    ↔ ((x < n) × (get_or c.in_ok-indegrees.indegrees.items x 0 ≡ 0))) all
+    (subst (λ (l : List ℕ). (x : ℕ) → Contains c.in_ok-free.free.keys x
+    ↔ ((x < length c.as_slice-2.result.now) × (get_or l x 0 ≡ 0))) c.as_slice-2.ensures.value
+    c.in_ok-free.ensures)

@@ -1,11 +1,13 @@
 -- What is taken in turn is the least order, or there is none.
-use Rattle.std.proofs.Common.{◌≡◌, ℕ, ◌+◌, ◌<◌, inl, inr, List, [], ◌∷◌, Vec, Global, length, get_or, vec_len, sym, ◌∙◌, ap, refl, subst, arith, length-append}
+use Rattle.std.proofs.Common.{◌≡◌, ℕ, ◌+◌, ◌<◌, inl, inr, List, [], ◌∷◌, Vec, Global, length, get_or, vec_len}
+use Rattle.std.proofs.Common.{sym, ◌∙◌, ap, refl, subst, arith, length-append}
 use Rattle.std.specs.Prelude.{All}
 use Rattle.std.proofs.lemmas.List.{length-map}
 use Rattle.specification.proofs.Members.{In, In-from_Contains, Contains-from_In, All-member, All-from_members}
 use Rattle.order_graph.specs.Lists.{lists_of, row}
 use Rattle.witness_order.specs.Edges.{lists_in, AreSuccessors, occurrences, edges}
-use Rattle.witness_order.proofs.InTurn.{InTurn, AreRemoved, term_le, begins, next, less_taken, ends_first, ends_closed}
+use Rattle.witness_order.proofs.InTurn.{InTurn, AreRemoved, term_le, begins, next, less_taken, ends_first}
+use Rattle.witness_order.proofs.InTurn.{ends_closed}
 use Rattle.witness_order.proofs.Followed.{least_from_first, none_from_closed}
 use Rattle.witness_order.proofs.Earlier.{taken_in_turn, others_led}
 use Rattle.witness_order.proofs.Listing.{row-vector}
@@ -18,38 +20,47 @@ loop-x-init c =
     let degrees : List ℕ = c.args.indegrees.items in
     record {
       size = c.requires.size;
-      state = subst (λ taken. InTurn (edges (lists_in c.args.successors.now)) n taken free degrees) (sym c.in_ok-taken.ensures.items)
+      state = subst (λ taken. InTurn (edges (lists_in c.args.successors.now)) n taken free degrees)
+          (sym c.in_ok-taken.ensures.items)
           (begins (edges (lists_in c.args.successors.now)) n free degrees c.requires.counted
-          (λ z i. (c.requires.free z).0 (Contains-from_In free z i)) (λ z lt none. In-from_Contains free z ((c.requires.free z).1 (lt, none))));
+          (λ z i. (c.requires.free z).0 (Contains-from_In free z i))
+          (λ z lt none. In-from_Contains free z ((c.requires.free z).1 (lt, none))));
     }
 
 -- the least free element is left, and its successors are gone through
-module _ (n : ℕ) (rows : List (List ℕ)) (all : List (Vec ℕ Global)) (are : AreSuccessors rows n (lists_in all)) (taken free more degrees : List ℕ) (x : ℕ)
+module _ (n : ℕ) (rows : List (List ℕ)) (all : List (Vec ℕ Global))
+    (are : AreSuccessors rows n (lists_in all)) (taken free more degrees : List ℕ) (x : ℕ)
     (state : InTurn (edges (lists_in all)) n taken free degrees) (first : free ≡ x ∷ more) where
   first_left : In x state.left
   first_left = state.free_left x (subst (λ (l : List ℕ). In x l) (sym first) (inl refl))
 
   first_within : x < length all
-  first_within = let low : x < n = state.left_below x first_left in omega (arith, low, are.size, length-map all (λ (v : Vec ℕ Global). v.items))
+  first_within = let low : x < n = state.left_below x first_left in
+      omega (arith, low, are.size, length-map all (λ (v : Vec ℕ Global). v.items))
 
-  entries : (v : Vec ℕ Global) (slice : List ℕ) → v ≡ get_or all x v → slice ≡ v.items → row (lists_in all) x ≡ slice
+  entries : (v : Vec ℕ Global) (slice : List ℕ) → v ≡ get_or all x v → slice ≡ v.items
+      → row (lists_in all) x ≡ slice
   entries v slice is value = row-vector all x v first_within is ∙ sym value
 
 pub bounds-successors-x : goal.bounds-successors-x
 bounds-successors-x c =
-    first_within (length c.args.graph.now.elements) (lists_of c.args.graph.now) c.args.successors.now c.requires.successors c.loop-x.taken.items c.loop-x.free.keys
-    c.take_least.new.free.keys c.loop-x.indegrees.items c.in-Some.x c.loop-x.invariant.state c.in-Some.ensures.first
+    first_within (length c.args.graph.now.elements) (lists_of c.args.graph.now) c.args.successors.now
+    c.requires.successors c.loop-x.taken.items c.loop-x.free.keys
+    c.take_least.new.free.keys c.loop-x.indegrees.items c.in-Some.x c.loop-x.invariant.state
+    c.in-Some.ensures.first
 
 pub remove_edges-requires-clause-known : goal.remove_edges-requires-clause-known
 remove_edges-requires-clause-known c =
     let all : List (Vec ℕ Global) = c.args.successors.now in
     let x : ℕ = c.in-Some.x in
     let is : row (lists_in all) x ≡ c.as_slice.result.now =
-    entries (length c.args.graph.now.elements) (lists_of c.args.graph.now) all c.requires.successors c.loop-x.taken.items c.loop-x.free.keys
+    entries (length c.args.graph.now.elements) (lists_of c.args.graph.now) all c.requires.successors
+    c.loop-x.taken.items c.loop-x.free.keys
     c.take_least.new.free.keys c.loop-x.indegrees.items x c.loop-x.invariant.state c.in-Some.ensures.first
     c.index-successors-x.result c.as_slice.result.now c.index-successors-x.is c.as_slice.ensures.value in
     subst (λ (l : List ℕ). All (λ y. y < vec_len c.loop-x.indegrees) l) is
-    (subst (λ n. All (λ y. y < n) (row (lists_in all) x)) (sym c.loop-x.invariant.size) (c.requires.successors.known x))
+    (subst (λ n. All (λ y. y < n) (row (lists_in all) x)) (sym c.loop-x.invariant.size)
+    (c.requires.successors.known x))
 
 pub remove_edges-requires-clause-counted : goal.remove_edges-requires-clause-counted
 remove_edges-requires-clause-counted c = λ y lt.
@@ -57,21 +68,32 @@ remove_edges-requires-clause-counted c = λ y lt.
     let x : ℕ = c.in-Some.x in
     let state = c.loop-x.invariant.state in
     let is : row (lists_in all) x ≡ c.as_slice.result.now =
-    entries (length c.args.graph.now.elements) (lists_of c.args.graph.now) all c.requires.successors c.loop-x.taken.items c.loop-x.free.keys
+    entries (length c.args.graph.now.elements) (lists_of c.args.graph.now) all c.requires.successors
+    c.loop-x.taken.items c.loop-x.free.keys
     c.take_least.new.free.keys c.loop-x.indegrees.items x state c.in-Some.ensures.first
     c.index-successors-x.result c.as_slice.result.now c.index-successors-x.is c.as_slice.ensures.value in
-    let same : edges (lists_in all) x y ≡ occurrences c.as_slice.result.now y = ap (λ (l : List ℕ). occurrences l y) is in
+    let same : edges (lists_in all) x y ≡ occurrences c.as_slice.result.now y =
+    ap (λ (l : List ℕ). occurrences l y) is in
     let counted = state.counted y (omega (arith, lt, c.loop-x.invariant.size)) in
-    let left : In x state.left = state.free_left x (subst (λ (l : List ℕ). In x l) (sym c.in-Some.ensures.first) (inl refl)) in
+    let left : In x state.left =
+    state.free_left x (subst (λ (l : List ℕ). In x l) (sym c.in-Some.ensures.first) (inl refl)) in
     omega (arith, counted, same, term_le (λ z. edges (lists_in all) z y) state.left x left)
 
 pub loop-x-smaller : goal.loop-x-smaller
 loop-x-smaller c =
     let n : ℕ = length c.args.graph.now.elements in
     let E : ℕ → ℕ → ℕ = edges (lists_in c.args.successors.now) in
-    let state : InTurn E n c.loop-x.taken.items (c.in-Some.x ∷ c.take_least.new.free.keys) c.loop-x.indegrees.items =
-    subst (λ free. InTurn E n c.loop-x.taken.items free c.loop-x.indegrees.items) c.in-Some.ensures.first c.loop-x.invariant.state in
-    omega (arith, less_taken E n c.loop-x.taken.items c.take_least.new.free.keys c.loop-x.indegrees.items c.in-Some.x state, ap (λ (l : List ℕ). length l) c.in_ok-push.ensures.items, length-append {A = ℕ})
+    let state :
+    InTurn E n c.loop-x.taken.items (c.in-Some.x ∷ c.take_least.new.free.keys) c.loop-x.indegrees.items =
+    subst (λ free. InTurn E n c.loop-x.taken.items free c.loop-x.indegrees.items) c.in-Some.ensures.first
+    c.loop-x.invariant.state in
+    omega (
+      arith,
+      less_taken E n c.loop-x.taken.items c.take_least.new.free.keys c.loop-x.indegrees.items c.in-Some.x
+          state,
+      ap (λ (l : List ℕ). length l) c.in_ok-push.ensures.items,
+      length-append {A = ℕ},
+    )
 
 pub loop-x-preserved : goal.loop-x-preserved
 loop-x-preserved c =
@@ -86,11 +108,14 @@ loop-x-preserved c =
     let size : vec_len c.loop-x.indegrees ≡ n = c.loop-x.invariant.size in
     let made = c.in_ok-remove_edges.ensures in
     let is : row (lists_in c.args.successors.now) x ≡ c.as_slice.result.now =
-    entries n (lists_of c.args.graph.now) c.args.successors.now c.requires.successors taken c.loop-x.free.keys free degrees x c.loop-x.invariant.state c.in-Some.ensures.first
+    entries n (lists_of c.args.graph.now) c.args.successors.now c.requires.successors taken c.loop-x.free.keys
+    free degrees x c.loop-x.invariant.state c.in-Some.ensures.first
     c.index-successors-x.result c.as_slice.result.now c.index-successors-x.is c.as_slice.ensures.value in
-    let state : InTurn E n taken (x ∷ free) degrees = subst (λ l. InTurn E n taken l degrees) c.in-Some.ensures.first c.loop-x.invariant.state in
+    let state : InTurn E n taken (x ∷ free) degrees =
+    subst (λ l. InTurn E n taken l degrees) c.in-Some.ensures.first c.loop-x.invariant.state in
     let removed : AreRemoved E n x degrees free lowered more = record {
-      lowered_by = λ y lt. ap (λ (l : List ℕ). get_or lowered y 0 + occurrences l y) is ∙ made.lowered y (omega arith);
+      lowered_by = λ y lt. ap (λ (l : List ℕ). get_or lowered y 0 + occurrences l y) is
+          ∙ made.lowered y (omega arith);
       stays_free = λ z i. In-from_Contains more z ((made.free z).1 (inl (Contains-from_In free z i)));
       gets_free = λ z lt some none. In-from_Contains more z ((made.free z).1 (inr (omega arith, some, none)));
       only_free = λ z i. elim ((made.free z).0 (Contains-from_In more z i)) [
@@ -117,8 +142,14 @@ returns c =
     let end : InTurn E n taken [] degrees = subst (λ free. InTurn E n taken free degrees) none state in
     record {
       known = All-from_members (λ x. x < n) taken state.taken_below;
-      all = λ e. least_from_first c.args.graph.now proper (lists_in c.args.successors.now) c.requires.successors taken state.taken_below (ends_first E n taken c.loop-x.free.keys degrees state e);
-      some = λ some. none_from_closed c.args.graph.now proper (lists_in c.args.successors.now) c.requires.successors (ends_closed E n taken degrees end some);
-      after = taken_in_turn c.args.graph.now proper (lists_in c.args.successors.now) c.requires.successors taken c.loop-x.free.keys degrees state;
-      others = others_led c.args.graph.now proper (lists_in c.args.successors.now) c.requires.successors taken degrees end;
+      all = λ e. least_from_first c.args.graph.now proper (lists_in c.args.successors.now)
+          c.requires.successors taken state.taken_below
+          (ends_first E n taken c.loop-x.free.keys degrees state e);
+      some = λ some. none_from_closed c.args.graph.now proper
+          (lists_in c.args.successors.now) c.requires.successors (ends_closed E n taken degrees end some);
+      after = taken_in_turn c.args.graph.now proper (lists_in c.args.successors.now) c.requires.successors
+          taken c.loop-x.free.keys degrees state;
+      others =
+          others_led c.args.graph.now proper (lists_in c.args.successors.now) c.requires.successors taken
+          degrees end;
     }

@@ -15,7 +15,8 @@ loop-j-preserved c =
     record {
       count = made.count ∙ inv.count;
       size = made.size ∙ inv.size;
-      last = subst (λ n. AreLastListed n (lists_in c.note.new.successors.items) c.note.new.last.items) inv.count made.last;
+      last = subst (λ n. AreLastListed n (lists_in c.note.new.successors.items) c.note.new.last.items)
+          inv.count made.last;
       listed = λ x y. both-more (made.listed x y) (inv.listed x y) (next-more list j x y low high);
       short = λ x. omega (arith, made.short x, inv.short x);
       within = omega arith;

@@ -10,7 +10,9 @@ invariant-loop-j l = record {
   count : vec_len l.successors ≡ vec_len l.fn.successors;
   size : vec_len l.last ≡ vec_len l.fn.successors;
   last : AreLastListed (vec_len l.fn.successors) (lists_in l.successors.items) l.last.items;
-  listed : (x y : ℕ) → Contains (row (lists_in l.successors.items) x) y ↔ (Contains (row (lists_in l.fn.successors.items) x) y ⊎ IsNextBelow l.list l.j x y);
-  short : (x : ℕ) → length (row (lists_in l.successors.items) x) + 1 ≤ length (row (lists_in l.fn.successors.items) x) + l.j;
+  listed : (x y : ℕ) → Contains (row (lists_in l.successors.items) x) y
+      ↔ (Contains (row (lists_in l.fn.successors.items) x) y ⊎ IsNextBelow l.list l.j x y);
+  short : (x : ℕ) → length (row (lists_in l.successors.items) x) + 1
+      ≤ length (row (lists_in l.fn.successors.items) x) + l.j;
   within : l.j ≤ length l.list + 1;
 }

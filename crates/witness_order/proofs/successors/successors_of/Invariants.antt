@@ -10,6 +10,8 @@ invariant-loop-list l = record {
   count : vec_len l.successors ≡ length l.graph.elements;
   size : vec_len l.last ≡ length l.graph.elements;
   last : AreLastListed (length l.graph.elements) (lists_in l.successors.items) l.last.items;
-  listed : (x y : ℕ) → Contains (row (lists_in l.successors.items) x) y ↔ AreNeighboursBelow (lists_of l.graph) l.list x y;
-  short : (x : ℕ) → length (row (lists_in l.successors.items) x) ≤ sum_by (λ r. length r) (take l.list (lists_of l.graph));
+  listed : (x y : ℕ) → Contains (row (lists_in l.successors.items) x) y
+      ↔ AreNeighboursBelow (lists_of l.graph) l.list x y;
+  short : (x : ℕ) → length (row (lists_in l.successors.items) x)
+      ≤ sum_by (λ r. length r) (take l.list (lists_of l.graph));
 }

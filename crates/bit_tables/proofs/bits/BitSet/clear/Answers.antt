@@ -7,5 +7,6 @@ pub returns-clause-empty : goal.returns-clause-empty
 returns-clause-empty c =
     let new = c.empty.new.words in
     let old = c.self.inside.words.items in
-    let whole : take c.self.inside.words.len (new ++ drop (length new) old) ≡ new = take_at new _ _ (omega (arith, c.empty.ensures.len, c.deref_mut.ensures.len)) in
+    let whole : take c.self.inside.words.len (new ++ drop (length new) old) ≡ new =
+    take_at new _ _ (omega (arith, c.empty.ensures.len, c.deref_mut.ensures.len)) in
     rw whole (λ x. Has-zero new x (c.empty.ensures.zero (x / 64)))

@@ -15,5 +15,7 @@ pub returns-else-n-len : goal.returns-else-n-len
 returns-else-n-len c =
     let words = c.self.inside.words.items in
     let past : length words ≤ c.args.n / 64 = omega (arith, c.self.inside.words.ok.0) in
-    rw (← c.self.view_is)
-    (λ no. absurd (true≢false (sym no)), λ has. absurd (Has-zero words c.args.n (get_or_past words (c.args.n / 64) 0 past) has))
+    rw (← c.self.view_is) (
+      λ no. absurd (true≢false (sym no)),
+      λ has. absurd (Has-zero words c.args.n (get_or_past words (c.args.n / 64) 0 past) has),
+    )

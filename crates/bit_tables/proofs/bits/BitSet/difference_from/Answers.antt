@@ -8,9 +8,11 @@ use Rattle.bit_tables.proofs.bits.BitSet.difference_from.Goals as goal
 pub numbers-init : goal.numbers-init
 numbers-init c = record {
   within = c.requires.within;
-  those = subst (AreThoseBelow (IsOutside c.args.self.now c.args.other.now c.args.n) c.args.first) (sym c.new-numbers.ensures.items)
+  those = subst (AreThoseBelow (IsOutside c.args.self.now c.args.other.now c.args.n) c.args.first)
+      (sym c.new-numbers.ensures.items)
       (those_past (IsOutside c.args.self.now c.args.other.now c.args.n) 0 c.args.first [] (omega arith)
-      (λ y low high is. is.1.1 (c.requires.none y high is.1.0)) (those_none (IsOutside c.args.self.now c.args.other.now c.args.n)));
+      (λ y low high is. is.1.1 (c.requires.none y high is.1.0))
+      (those_none (IsOutside c.args.self.now c.args.other.now c.args.n)));
 }
 
 pub numbers-preserved : goal.numbers-preserved
@@ -22,8 +24,13 @@ numbers-preserved c =
     those_past P c.numbers.from x c.numbers.numbers.items found.0
     (λ y from before is. is.1.1 (c.in-Some.ensures.first y from before is.1.0))
     c.numbers.invariant.those in
-    let more : AreThoseBelow P (x + 1) (c.numbers.numbers.items ++ x ∷ []) = those_more P x c.numbers.numbers.items (found.1, (found.2, found.3)) past in
-    record { within = omega (arith, found.1); those = subst (AreThoseBelow P (x + 1)) (sym c.in_ok-push.ensures.items) more }
+    let more : AreThoseBelow P (x + 1) (c.numbers.numbers.items ++ x ∷ []) =
+    those_more P x c.numbers.numbers.items (found.1, (found.2, found.3)) past in
+    record {
+      within = omega (arith, found.1);
+      those =
+          subst (AreThoseBelow P (x + 1)) (sym c.in_ok-push.ensures.items) more;
+    }
 
 pub returns : goal.returns
 returns c =
@@ -33,4 +40,5 @@ returns c =
     those_past P c.numbers.from c.args.n c.numbers.numbers.items c.numbers.invariant.within
     (λ y from before is. is.1.1 (none y from before is.1.0))
     c.numbers.invariant.those in
-    those_below (λ x. Has c.args.self.now x × (¬ Has c.args.other.now x)) c.args.n c.args.n c.numbers.numbers.items (omega arith) all
+    those_below (λ x. Has c.args.self.now x × (¬ Has c.args.other.now x)) c.args.n c.args.n
+    c.numbers.numbers.items (omega arith) all

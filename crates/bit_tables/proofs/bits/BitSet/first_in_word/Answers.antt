@@ -9,7 +9,8 @@ use Rattle.bit_tables.proofs.bits.BitSet.first_in_word.Goals as goal
 
 pub returns-then-rest-eq0-clause-none : goal.returns-then-rest-eq0-clause-none
 returns-then-rest-eq0-clause-none c = λ y here from has.
-    rest-none c.args.self.now c.args.other.now c.args.word c.word-bits.result c.word.result c.word-bits.ensures c.word.ensures
+    rest-none c.args.self.now c.args.other.now c.args.word c.word-bits.result c.word.result
+    c.word-bits.ensures c.word.ensures
     (omega (arith, c.word.type_inv)) c.args.place c.requires c.if-rest-eq0.true y here from has
 
 pub returns-clause-some : goal.returns-clause-some
@@ -21,11 +22,17 @@ returns-clause-some c =
     let small : c.word.result < 2 ^ 64 = omega (arith, c.word.type_inv) in
     let fits : c.word-bits.result < 2 ^ 64 = omega (arith, c.word-bits.type_inv) in
     let rest : ℕ = bit_and c.word-bits.result (bit_not w64 c.word.result) / 2 ^ place in
-    let below : rest < 2 ^ 64 = rest-small set other word c.word-bits.result c.word.result c.word-bits.ensures c.word.ensures small place c.requires fits in
+    let below : rest < 2 ^ 64 =
+    rest-small set other word c.word-bits.result c.word.result c.word-bits.ensures c.word.ensures small
+    place c.requires fits in
     let least = bit_at-trailing_zeros w64 rest (omega (arith, c.if-rest-eq0.false)) below in
     let i : ℕ = trailing_zeros w64 rest in
-    let within : place + i < 64 = rest-within set other word c.word-bits.result c.word.result c.word-bits.ensures c.word.ensures small place c.requires i fits least.1 in
-    let found = rest-first set other word c.word-bits.result c.word.result c.word-bits.ensures c.word.ensures small place c.requires i within least.1 in
+    let within : place + i < 64 =
+    rest-within set other word c.word-bits.result c.word.result c.word-bits.ensures c.word.ensures small
+    place c.requires i fits least.1 in
+    let found =
+    rest-first set other word c.word-bits.result c.word.result c.word-bits.ensures c.word.ensures small
+    place c.requires i within least.1 in
     let x : ℕ = 64 * c.from.result + c.from-2.result + c.from-3.result in
     let is : 64 * word + place + i ≡ x = omega (arith, c.from.ensures, c.from-2.ensures, c.from-3.ensures) in
     let has = subst (λ y. Has set y × (¬ Has other y)) is found in
@@ -40,8 +47,11 @@ returns-clause-first c = λ y here from before has.
     let small : c.word.result < 2 ^ 64 = omega (arith, c.word.type_inv) in
     let fits : c.word-bits.result < 2 ^ 64 = omega (arith, c.word-bits.type_inv) in
     let rest : ℕ = bit_and c.word-bits.result (bit_not w64 c.word.result) / 2 ^ place in
-    let below : rest < 2 ^ 64 = rest-small set other word c.word-bits.result c.word.result c.word-bits.ensures c.word.ensures small place c.requires fits in
+    let below : rest < 2 ^ 64 =
+    rest-small set other word c.word-bits.result c.word.result c.word-bits.ensures c.word.ensures small
+    place c.requires fits in
     let least = bit_at-trailing_zeros w64 rest (omega (arith, c.if-rest-eq0.false)) below in
     let i : ℕ = trailing_zeros w64 rest in
-    rest-before set other word c.word-bits.result c.word.result c.word-bits.ensures c.word.ensures small place c.requires i least.2 y here from
+    rest-before set other word c.word-bits.result c.word.result c.word-bits.ensures c.word.ensures small place
+    c.requires i least.2 y here from
     (omega (arith, here, before, c.from.ensures, c.from-2.ensures, c.from-3.ensures)) has

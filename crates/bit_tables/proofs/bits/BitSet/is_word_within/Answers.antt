@@ -9,4 +9,5 @@ returns c = λ yes y e has.
     let others = c.word.ensures in
     let same : bit_and c.word-bits.result c.word.result ≡ c.word-bits.result = eqb-true _ _ yes in
     Has-word_within c.args.self.now c.args.other.now c.args.word y
-    (ap (λ w. bit_and w (get_or c.args.other.now c.args.word 0)) (sym own) ∙ ap (bit_and c.word-bits.result) (sym others) ∙ same ∙ own) e has
+    (ap (λ w. bit_and w (get_or c.args.other.now c.args.word 0)) (sym own)
+    ∙ ap (bit_and c.word-bits.result) (sym others) ∙ same ∙ own) e has

@@ -1,5 +1,6 @@
 -- The list is shown beside those that were.
-use Rattle.std.proofs.Common.{◌≡◌, ◌++◌, ◌∙◌, ◌+◌, ◌/◌, ◌⊎◌, ℕ, inr, List, length, take, drop, ap, subst, arith}
+use Rattle.std.proofs.Common.{◌≡◌, ◌++◌, ◌∙◌, ◌+◌, ◌/◌, ◌⊎◌, ℕ, inr, List, length, take, drop, ap, subst}
+use Rattle.std.proofs.Common.{arith}
 use Rattle.std.specs.Prelude.{◌↔◌}
 use Rattle.std.proofs.lemmas.List.{take_at}
 use Rattle.std.proofs.lemmas.Result.{on_ok_weaker}
@@ -15,11 +16,13 @@ returns-clause-table c =
     take_at new _ _ (omega (arith, c.note.ensures.len, c.deref_mut.ensures.len)) in
     let same : c.deref_mut.result.now ≡ c.args.self.now = c.deref_mut.ensures.value ∙ c.self.view_is in
     let len : length new ≡ length c.args.self.now = c.note.ensures.len ∙ ap length same in
-    let width : HaveWidth (length c.args.self.now / 64 + 1) new = subst (λ (rows : List (List ℕ)). HaveWidth (length rows / 64 + 1) new) same c.note.ensures.width in
+    let width : HaveWidth (length c.args.self.now / 64 + 1) new =
+    subst (λ (rows : List (List ℕ)). HaveWidth (length rows / 64 + 1) new) same c.note.ensures.width in
     rw whole
     (on_ok_weaker c.note.result
     (λ noted lists is. table_more lists c.args.list.now c.args.self.now new len width
-    (λ a b low. subst (λ (rows : List (List ℕ)). Has (row_of new a) b ↔ (Has (row_of rows a) b ⊎ HasInOrder c.args.list.now a b)) same
+    (λ a b low. subst (λ (rows : List (List ℕ)). Has (row_of new a) b
+    ↔ (Has (row_of rows a) b ⊎ HasInOrder c.args.list.now a b)) same
     (noted a b (omega (arith, low, ap length same)))) is)
     c.note.ensures.shown)
 
@@ -29,4 +32,5 @@ returns-clause-known c =
     let whole : take c.self.inside.rows.len (new ++ drop (length new) c.self.inside.rows.items) ≡ new =
     take_at new _ _ (omega (arith, c.note.ensures.len, c.deref_mut.ensures.len)) in
     rw whole
-    (on_ok_weaker c.note.result (λ noted a b low shown. (noted a b (omega (arith, low, c.note.ensures.len))).1 (inr shown)) c.note.ensures.shown)
+    (on_ok_weaker c.note.result (λ noted a b low shown. (noted a b (omega (arith, low, c.note.ensures.len))).1
+    (inr shown)) c.note.ensures.shown)

@@ -3,4 +3,6 @@ use Rattle.bit_tables.specs.Rule.{HaveDepths}
 use Rattle.bit_tables.proofs.tests.tables.are_all_deep.Goals as goal
 
 pub are_deep-requires-clause-noted : goal.are_deep-requires-clause-noted
-are_deep-requires-clause-noted c = subst (λ (l : List ℕ). HaveDepths c.args.depths.now c.args.count l) (sym c.deref.ensures.value) c.in_ok-noted.ensures
+are_deep-requires-clause-noted c =
+    subst (λ (l : List ℕ). HaveDepths c.args.depths.now c.args.count l)
+    (sym c.deref.ensures.value) c.in_ok-noted.ensures

@@ -1,10 +1,12 @@
-use Rattle.std.proofs.Common.{◌≡◌, ◌∙◌, ◌<◌, ◌-◌, List, ℕ, arith, drop, false, length, length-take, length-drop, sym, take, true≢false}
+use Rattle.std.proofs.Common.{◌≡◌, ◌∙◌, ◌<◌, ◌-◌, List, ℕ, arith, drop, false, length, length-take}
+use Rattle.std.proofs.Common.{length-drop, sym, take, true≢false}
 use Rattle.byte_streams.proofs.Calls.{written-more, write-failed}
 use Rattle.byte_streams.proofs.Fronts.{front-grows}
 use Rattle.byte_streams.proofs.sink.Sink.write_whole.Goals as goal
 
 -- before the end something is left
-some-left : (bytes : List ℕ) (at : ℕ) → at < length bytes → 0 < length (take (length bytes - at) (drop at bytes))
+some-left : (bytes : List ℕ) (at : ℕ) → at < length bytes
+    → 0 < length (take (length bytes - at) (drop at bytes))
 some-left bytes at before = omega (arith, before, length-take {A = ℕ}, length-drop {A = ℕ})
 
 pub returns-in_default-clause-made : goal.returns-in_default-clause-made

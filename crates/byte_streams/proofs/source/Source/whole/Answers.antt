@@ -1,4 +1,5 @@
-use Rattle.std.proofs.Common.{◌≡◌, ◌≢◌, ◌∙◌, ◌<◌, ◌≤◌, List, [], ◌++◌, ℕ, ap, arith, inl, inr, length, length-append, length-take, rules, subst, sym, take, unwrap_or}
+use Rattle.std.proofs.Common.{◌≡◌, ◌≢◌, ◌∙◌, ◌<◌, ◌≤◌, List, [], ◌++◌, ℕ, ap, arith, inl, inr, length}
+use Rattle.std.proofs.Common.{length-append, length-take, rules, subst, sym, take, unwrap_or}
 use Rattle.std.proofs.KnownBytes.{Consumes-trans}
 use Rattle.std.proofs.Math.Nat.{eq-or-lt_of_le}
 use Rattle.byte_streams.specs.Streams.{IsClosed}
@@ -11,12 +12,14 @@ returns-then-n-eq0-clause-made g c = λ fresh.
     let read = c.in-Some.ensures in
     let some : 0 < length c.read.new.buffer = search rules in
     let none : take c.in-Some.n c.read.new.buffer ≡ [] = ap (λ n. take n c.read.new.buffer) c.if-n-eq0.true in
-    read-ended c.args.self.now c.loop-n.self c.read.new.self c.loop-n.all.items (take c.in-Some.n c.read.new.buffer) _
+    read-ended c.args.self.now c.loop-n.self c.read.new.self c.loop-n.all.items
+    (take c.in-Some.n c.read.new.buffer) _
     (c.loop-n.invariant.reads fresh) none (read.asked (read.went.3 (c.loop-n.invariant.still fresh).1) some)
 
 -- a read that gives something leaves something
 read-some : (all buffer : List ℕ) (n : ℕ) → n ≢ 0 → n ≤ length buffer → 0 < length (all ++ take n buffer)
-read-some all buffer n some within = omega (arith, some, within, length-append all (take n buffer), length-take {A = ℕ})
+read-some all buffer n some within =
+    omega (arith, some, within, length-append all (take n buffer), length-take {A = ℕ})
 
 pub returns-then-is_err-clause-memory : goal.returns-then-is_err-clause-memory
 returns-then-is_err-clause-memory g c = λ _.
@@ -40,7 +43,8 @@ returns-then-is_err-clause-made g c = λ fresh.
     let more = read-some c.loop-n.all.items c.read.new.buffer c.in-Some.n c.if-n-eq0.false read.within in
     let all : ReadSoFar c.args.self.now c.read.new.self (c.loop-n.all.items ++ came) =
     read-more c.args.self.now c.loop-n.self c.read.new.self c.loop-n.all.items came _
-    (c.loop-n.invariant.reads fresh) (omega (arith, c.if-n-eq0.false, read.within, length-take {A = ℕ})) (read.asked (read.went.3 (c.loop-n.invariant.still fresh).1) some) in
+    (c.loop-n.invariant.reads fresh) (omega (arith, c.if-n-eq0.false, read.within, length-take {A = ℕ}))
+    (read.asked (read.went.3 (c.loop-n.invariant.still fresh).1) some) in
     (all.calls, all.made, all.count, (all.came, subst (λ l. 0 < length l) (sym all.gave) more))
 
 pub loop-n-preserved : goal.loop-n-preserved

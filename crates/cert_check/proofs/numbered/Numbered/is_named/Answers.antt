@@ -12,4 +12,5 @@ returns-in-Some c = λ t.
     let found = c.in-Some.ensures.lookup in
     let there : slice_get c.deref.result.now c.args.number ≡ Some c.in-Some.name.now =
     slice_get-within c.deref.result.now c.args.number c.in-Some.name.now found.3.0 found.1 in
-    ap (λ l. slice_get l c.args.number) (sym c.deref.ensures.value) ∙ there ∙ ap Some (sym c.bytes.ensures.value ∙ decides.0 t)
+    ap (λ l. slice_get l c.args.number) (sym c.deref.ensures.value) ∙ there
+    ∙ ap Some (sym c.bytes.ensures.value ∙ decides.0 t)

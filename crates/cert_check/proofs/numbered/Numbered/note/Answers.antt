@@ -7,24 +7,34 @@ use Rattle.cert_check.proofs.numbered.Numbered.note.Goals as goal
 pub returns-in_default-clause-noted : goal.returns-in_default-clause-noted
 returns-in_default-clause-noted c = λ noted holds name can.
     let none = rw c.in_default.is at c.find.ensures in
-    none_unknown c.args.self.now.names.items noted c.args.word.now c.args.value c.requires.numbering.once (none name) can
+    none_unknown c.args.self.now.names.items noted c.args.word.now c.args.value c.requires.numbering.once
+    (none name) can
 
 pub bounds-values-number : goal.bounds-values-number
 bounds-values-number c =
-    let lt : c.in-Some.number < length c.args.self.now.names.items = slice_get_within c.args.self.now.names.items c.in-Some.number c.args.word.now c.in-Some.ensures in
+    let lt : c.in-Some.number < length c.args.self.now.names.items =
+    slice_get_within c.args.self.now.names.items c.in-Some.number c.args.word.now c.in-Some.ensures in
     omega (arith, lt, c.requires.room)
 
 pub returns-then-values-number-clause-noted : goal.returns-then-values-number-clause-noted
 returns-then-values-number-clause-noted c = λ noted holds name can.
-    none_twice c.args.self.now.names.items c.args.unset noted c.args.values.now c.requires.numbering.once holds c.args.word.now c.in-Some.number c.args.value c.in-Some.ensures c.if-values-number.true can
+    none_twice c.args.self.now.names.items c.args.unset noted c.args.values.now c.requires.numbering.once
+    holds c.args.word.now c.in-Some.number c.args.value c.in-Some.ensures c.if-values-number.true can
 
 pub returns-clause-noted : goal.returns-clause-noted
 returns-clause-noted c = λ noted holds.
-    hold_more c.args.self.now.names.items c.args.unset noted c.args.values.now c.requires.numbering.once holds c.args.word.now c.in-Some.number c.args.value c.in-Some.ensures c.if-values-number.false c.requires.below
+    hold_more c.args.self.now.names.items c.args.unset noted c.args.values.now c.requires.numbering.once holds
+    c.args.word.now c.in-Some.number c.args.value c.in-Some.ensures c.if-values-number.false
+    c.requires.below
 
 pub returns-clause-written : goal.returns-clause-written
 returns-clause-written c = record {
-  within = omega (arith, slice_get_within c.args.self.now.names.items c.in-Some.number c.args.word.now c.in-Some.ensures, c.requires.room);
+  within =
+      omega (
+        arith,
+        slice_get_within c.args.self.now.names.items c.in-Some.number c.args.word.now c.in-Some.ensures,
+        c.requires.room,
+      );
   free = c.if-values-number.false;
   written = refl;
 }

@@ -17,14 +17,17 @@ loop-rest-init c =
     let names = c.args.self.now.names.items in
     record {
       below = c.requires.some;
-      noted = state-start names c.args.unset (words_behind c.args.words.now) c.args.row.now.depths.items (hold-fresh names c.args.unset c.args.row.now c.requires.fresh);
+      noted = state-start names c.args.unset (words_behind c.args.words.now) c.args.row.now.depths.items
+          (hold-fresh names c.args.unset c.args.row.now c.requires.fresh);
       numbers = none-noted (length names) c.args.unset c.args.row.now c.requires.fresh;
     }
 
 pub returns-in_default-found-clause-row : goal.returns-in_default-found-clause-row
 returns-in_default-found-clause-row c = λ each few can.
     let none = rw c.in_default-found.is at c.in_ok-found.ensures.noted in
-    state-stop c.args.self.now.names.items c.args.unset (words_behind c.args.words.now) c.loop-rest.row.depths.items c.loop-rest.at.depth (words_behind c.loop-rest.rest.now) c.in-Ok.word.now (words_behind c.in-Ok.behind.now) c.in-Ok.ensures.word c.loop-rest.invariant.noted
+    state-stop c.args.self.now.names.items c.args.unset (words_behind c.args.words.now)
+    c.loop-rest.row.depths.items c.loop-rest.at.depth (words_behind c.loop-rest.rest.now) c.in-Ok.word.now
+    (words_behind c.in-Ok.behind.now) c.in-Ok.ensures.word c.loop-rest.invariant.noted
     (λ noted holds row. none noted holds row) each few can
 
 pub loop-rest-preserved : goal.loop-rest-preserved
@@ -32,7 +35,10 @@ loop-rest-preserved c =
     let goes = rw c.in-Some.is at c.in_ok-found.ensures.noted in
     record {
       below = rw c.in-Some.is at c.in_ok-found.ensures.below;
-      noted = state-next c.args.self.now.names.items c.args.unset (words_behind c.args.words.now) c.loop-rest.row.depths.items c.loop-rest.at.depth (words_behind c.loop-rest.rest.now) c.in-Ok.word.now (words_behind c.in-Ok.behind.now) c.in-Ok.ensures.word c.loop-rest.invariant.noted
+      noted = state-next c.args.self.now.names.items c.args.unset
+          (words_behind c.args.words.now) c.loop-rest.row.depths.items c.loop-rest.at.depth
+          (words_behind c.loop-rest.rest.now) c.in-Ok.word.now
+          (words_behind c.in-Ok.behind.now) c.in-Ok.ensures.word c.loop-rest.invariant.noted
           c.note_word.new.row.depths.items c.in-Some.next.depth goes;
       numbers = rw c.in-Some.is at c.in_ok-found.ensures.numbers;
     }

@@ -7,7 +7,8 @@ use Rattle.cert_check.proofs.numbered.Numbered.note_row.Given as goal
 abbrev pub invariant-loop-rest : goal.invariant-loop-rest
 invariant-loop-rest l = record {
   below : l.at.depth < l.unset;
-  noted : State l.self.names.items l.unset (words_behind l.words) l.row.depths.items l.at.depth (words_behind l.rest);
+  noted : State l.self.names.items l.unset (words_behind l.words) l.row.depths.items l.at.depth
+      (words_behind l.rest);
   numbers : HaveDepths l.row.depths.items l.unset l.row.noted.items;
 }
 

@@ -31,5 +31,6 @@ returns c =
       cut = covers.rows.cut;
       places = covers.rows.rows_are;
       within = subst (λ (ns : List NameBytes). All (λ list. All (λ x. x < length ns) list) places) (sym is)
-          (lists-within h legal c.requires.sound c.args.found.covering.operations.items covers.operations.part places covers.rows.rows_are);
+          (lists-within h legal c.requires.sound c.args.found.covering.operations.items covers.operations.part
+          places covers.rows.rows_are);
     }

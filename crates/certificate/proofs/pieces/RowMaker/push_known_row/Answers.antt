@@ -3,4 +3,6 @@ use Rattle.certificate.proofs.pieces.RowMaker.push_known_row.Goals as goal
 
 pub returns : goal.returns
 returns c =
-    row_at c.args.self.now.graph.now c.args.self.now.k c.args.source c.args.text.now.items c.push_row.new.text.items c.in_ok-row.row c.requires.known c.in_ok-row.ensures c.in_ok-push_row.ensures
+    row_at c.args.self.now.graph.now c.args.self.now.k c.args.source c.args.text.now.items
+    c.push_row.new.text.items c.in_ok-row.row c.requires.known c.in_ok-row.ensures
+    c.in_ok-push_row.ensures

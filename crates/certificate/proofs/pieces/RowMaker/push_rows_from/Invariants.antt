@@ -3,4 +3,6 @@ use Rattle.certificate.specs.ByRows.{AppendsRows}
 use Rattle.certificate.proofs.pieces.RowMaker.push_rows_from.Given as goal
 
 abbrev pub invariant-loop-i : goal.invariant-loop-i
-invariant-loop-i l = AppendsRows l.self.graph.now l.self.k (take l.i (drop l.first l.self.graph.now.elements)) l.fn.text.items l.text.items
+invariant-loop-i l =
+    AppendsRows l.self.graph.now l.self.k (take l.i (drop l.first l.self.graph.now.elements)) l.fn.text.items
+    l.text.items

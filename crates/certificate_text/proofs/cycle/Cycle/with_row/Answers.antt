@@ -21,24 +21,38 @@ returns-in-Ok-push-clause-ok c =
     let cycle = c.args.self in
     let line = c.args.line.now in
     let p = row-spells cycle.k line c.in-Ok.row c.in-Ok.ensures in
-    subst (λ (rows : List Row). IsPartOfCycle cycle.k cycle.steps.items rows × (certificate_lines (version_in cycle.version) (gives_cycle cycle.k cycle.steps.items rows) ≡ certificate_lines (version_in cycle.version) (gives_cycle cycle.k cycle.steps.items cycle.rows.items) ++ line ∷ []))
+    subst (λ (rows : List Row). IsPartOfCycle cycle.k cycle.steps.items rows
+    × (certificate_lines (version_in cycle.version) (gives_cycle cycle.k cycle.steps.items rows)
+    ≡ certificate_lines (version_in cycle.version)
+    (gives_cycle cycle.k cycle.steps.items cycle.rows.items) ++ line ∷ []))
     (sym c.in-Ok-push.ensures.items)
-    (row-more (version_in cycle.version) cycle.k cycle.steps.items cycle.rows.items c.in-Ok.row line c.requires.right c.requires.steps c.requires.long p.0 p.1)
+    (row-more (version_in cycle.version) cycle.k cycle.steps.items cycle.rows.items c.in-Ok.row line
+    c.requires.right c.requires.steps c.requires.long p.0 p.1)
 
 pub returns-in-Err-clause-fault : goal.returns-in-Err-clause-fault
 returns-in-Err-clause-fault c =
     let cycle = c.args.self in
     let behind : format.CertCause → Type 0 = IsWrongBehind (cycle_lines cycle) c.args.line.now in
     subst (λ (e : CertCause). IfSome (cause_of e) behind) (sym c.cause_of_stop.ensures)
-    (stop-fault (λ (row : Row). Unit {0}) cause.Shape c.in-Err.stop (row_at cycle.k (words_of c.args.line.now)) behind c.in-Err.ensures (λ none. (refl, no-row (version_in cycle.version) cycle.k cycle.steps.items cycle.rows.items c.args.line.now c.requires.right c.requires.steps none)))
+    (stop-fault (λ (row : Row). Unit {0}) cause.Shape c.in-Err.stop
+    (row_at cycle.k (words_of c.args.line.now)) behind c.in-Err.ensures
+    (λ none. (
+      refl,
+      no-row (version_in cycle.version) cycle.k cycle.steps.items cycle.rows.items c.args.line.now
+          c.requires.right c.requires.steps none,
+    )))
 
 pub returns-in-Err-clause-memory : goal.returns-in-Err-clause-memory
 returns-in-Err-clause-memory c =
     let cycle = c.args.self in
-    λ is. some-row-takes (version_in cycle.version) cycle.k cycle.steps.items cycle.rows.items c.args.line.now c.requires.right c.requires.steps c.requires.long
-    (stop-takes (λ (row : Row). Unit {0}) cause.Shape c.in-Err.stop (row_at cycle.k (words_of c.args.line.now)) (λ e. cc) c.in-Err.ensures (sym c.cause_of_stop.ensures ∙ is))
+    λ is. some-row-takes (version_in cycle.version) cycle.k cycle.steps.items cycle.rows.items c.args.line.now
+    c.requires.right c.requires.steps c.requires.long
+    (stop-takes (λ (row : Row). Unit {0}) cause.Shape c.in-Err.stop
+    (row_at cycle.k (words_of c.args.line.now)) (λ e. cc) c.in-Err.ensures
+    (sym c.cause_of_stop.ensures ∙ is))
 
 pub returns-in-Err-push-clause-memory : goal.returns-in-Err-push-clause-memory
 returns-in-Err-push-clause-memory c =
     let cycle = c.args.self in
-    λ _. row-takes (version_in cycle.version) cycle.k cycle.steps.items cycle.rows.items c.in-Ok.row c.args.line.now c.requires.right c.requires.steps c.requires.long c.in-Ok.ensures
+    λ _. row-takes (version_in cycle.version) cycle.k cycle.steps.items cycle.rows.items c.in-Ok.row
+    c.args.line.now c.requires.right c.requires.steps c.requires.long c.in-Ok.ensures

@@ -12,6 +12,12 @@ returns c = record {
   size = search rules;
   missing = grind (arith, common_steps);
   extra = grind (arith, common_steps);
-  each = each_written (λ (y : Standing). record { inserted = y.inserted; deleted = y.deleted; shown = c.args.shown }) c.args.self.now.list.items c.args.number c.index_mut.result.now
-      (slice_get-within c.args.self.now.list.items c.args.number _ c.requires.within c.index_mut.ensures.value);
+  each = each_written (λ (y : Standing). record {
+    inserted = y.inserted;
+    deleted = y.deleted;
+    shown =
+        c.args.shown;
+  }) c.args.self.now.list.items c.args.number c.index_mut.result.now
+      (slice_get-within c.args.self.now.list.items c.args.number _ c.requires.within
+      c.index_mut.ensures.value);
 }

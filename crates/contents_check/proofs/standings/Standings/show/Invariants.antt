@@ -5,8 +5,8 @@ use Rattle.contents_check.specs.Known.{element_names}
 use Rattle.contents_check.specs.Shown.{joined, OnlyNotes, ShowJust}
 use Rattle.contents_check.proofs.standings.Standings.show.Given as goal
 
--- the names of the one up to its place, and those of the other from its place on, are noted; the row has the numbers of the
--- first; and as long as no name was new, the one is a part of the other where what is left is
+-- the names of the one up to its place, and those of the other from its place on, are noted; the row has the
+-- numbers of the first; and as long as no name was new, the one is a part of the other where what is left is
 abbrev pub invariant-runs : goal.invariant-runs
 invariant-runs l = record {
   notes : OnlyNotes l.elements l.fn.self l.self;

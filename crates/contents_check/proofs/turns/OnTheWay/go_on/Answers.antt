@@ -12,5 +12,7 @@ returns-clause-on_the_way c =
     let elements = c.args.elements.now in
     let old = c.args.self.now in
     let none : is_some old.fault ≡ false = sym c.is_some.ensures ∙ c.if-is_some.false in
-    judged_next h table elements old.replica old.judged old.walk c.judge.new.self c.in_ok-self.field-0 (omega (arith, c.if-self-count.false, c.count.ensures))
-    (no_fault h table elements old.replica old.judged old.walk old.fault none c.requires.on_the_way) c.in_ok-self.ensures
+    judged_next h table elements old.replica old.judged old.walk c.judge.new.self c.in_ok-self.field-0
+    (omega (arith, c.if-self-count.false, c.count.ensures))
+    (no_fault h table elements old.replica old.judged old.walk old.fault none c.requires.on_the_way)
+    c.in_ok-self.ensures

@@ -10,12 +10,14 @@ use Rattle.contents_check.proofs.Showings.{if_ok-three, shown-as}
 use Rattle.contents_check.proofs.walk.Walk.show.Goals as goal
 
 pub shows_live-requires-clause-few : goal.shows_live-requires-clause-few
-shows_live-requires-clause-few c = few-elements c.args.recording.now c.args.elements.now c.requires.judge.legal c.requires.judge.elements_are
+shows_live-requires-clause-few c =
+    few-elements c.args.recording.now c.args.elements.now c.requires.judge.legal c.requires.judge.elements_are
 
 pub shows_live-requires-clause-shown : goal.shows_live-requires-clause-shown
 shows_live-requires-clause-shown c =
     subst (ShowJust c.args.elements.now c.advance.new.self.list.items) (sym c.last_response.ensures)
-    (just_kept c.args.elements.now c.args.self.now.standings.list.items c.advance.new.self.list.items _ c.advance.ensures.shown c.requires.walk.shown)
+    (just_kept c.args.elements.now c.args.self.now.standings.list.items c.advance.new.self.list.items _
+    c.advance.ensures.shown c.requires.walk.shown)
 
 pub returns : goal.returns
 returns c =
@@ -29,11 +31,14 @@ returns c =
     (λ shown counts go_on shows.
     let seen = subst (IsSeenBy table e) (sym counts) c.advance.ensures.seen in
     let behind = go_on h c.advance.ensures.behind in
-    let parts = showing-iff h legal elements c.requires.judge.elements_are table c.requires.judge.sight e new behind seen c.args.w.now c.requires.response in
+    let parts =
+    showing-iff h legal elements c.requires.judge.elements_are table c.requires.judge.sight e new behind
+    seen c.args.w.now c.requires.response in
     record {
       behind = behind;
       earlier = seen_from h legal table c.requires.judge.sight e c.requires.operation new.counts seen;
-      shows = shown-as _ _ parts.0 parts.1 elements c.last_response.result.now _ c.args.w.now _ c.last_response.ensures c.requires.response new c.shows_live.new.next.items shown shows;
+      shows = shown-as _ _ parts.0 parts.1 elements c.last_response.result.now _ c.args.w.now _
+          c.last_response.ensures c.requires.response new c.shows_live.new.next.items shown shows;
       covering = refl;
       none = c.requires.walk.none;
     })

@@ -13,4 +13,5 @@ loop-name-preserved c =
     let k = c.loop-name.name-index in
     let xs = c.args.names.now in
     let x = c.name-item.result in
-    c.add.ensures ∙ ap (λ key. key_with key x) c.loop-name.invariant ∙ sym (key-more (take k xs) (x ∷ [])) ∙ ap key_of (sym (take-next xs k x c.loop-name-test.true c.name-item.is))
+    c.add.ensures ∙ ap (λ key. key_with key x) c.loop-name.invariant ∙ sym (key-more (take k xs) (x ∷ []))
+    ∙ ap key_of (sym (take-next xs k x c.loop-name-test.true c.name-item.is))

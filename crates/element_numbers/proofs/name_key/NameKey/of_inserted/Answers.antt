@@ -23,4 +23,5 @@ loop-operation-preserved c =
     c.add_inserted.ensures ∙ ap (λ key. fold key_with key (cons_option (f o) [])) c.loop-operation.invariant
     ∙ sym (key-more (filter_map f (take k xs)) (cons_option (f o) []))
     ∙ ap key_of (sym (filter_map-append f (take k xs) (o ∷ [])))
-    ∙ ap (λ some. key_of (filter_map f some)) (sym (take-next xs k o c.loop-operation-test.true c.operation-item.is))
+    ∙ ap (λ some. key_of (filter_map f some))
+    (sym (take-next xs k o c.loop-operation-test.true c.operation-item.is))

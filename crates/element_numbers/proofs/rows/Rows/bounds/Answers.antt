@@ -14,7 +14,8 @@ returns-in-None g c =
     record {
       rising = omega arith;
       within = omega arith;
-      row = get_or_past (cut 0 t.ends.items t.items.items) c.args.number [] (omega (arith, length-cut 0 t.ends.items t.items.items));
+      row = get_or_past (cut 0 t.ends.items t.items.items) c.args.number []
+          (omega (arith, length-cut 0 t.ends.items t.items.items));
     }
 
 pub returns-in-Some : goal.returns-in-Some
@@ -29,7 +30,9 @@ returns-in-Some g c =
     record {
       rising = omega (arith, lies.rising);
       within = omega (arith, lies.within);
-      row = lies.row_is ∙ ap (λ k. take (get_or t.ends.items n 0 - begin_of 0 t.ends.items n) (drop k t.items.items)) none
-          ∙ ap (λ e. take (e - begin_of 0 t.ends.items n) (drop (begin_of 0 t.ends.items n) t.items.items)) (sym end)
+      row = lies.row_is
+          ∙ ap (λ k. take (get_or t.ends.items n 0 - begin_of 0 t.ends.items n) (drop k t.items.items)) none
+          ∙ ap (λ e. take (e - begin_of 0 t.ends.items n) (drop (begin_of 0 t.ends.items n) t.items.items))
+          (sym end)
           ∙ ap (λ b. take (c.in-Some.end.now - b) (drop b t.items.items)) (sym begin);
     }

@@ -9,8 +9,12 @@ returns-clause-cut g c =
     let old = c.args.self.now in
     let new = c.end_row.new.self in
     on_ok_weaker c.end_row.result
-    (λ ends. (row-ended old new c.args.row.now c.requires (c.end_row.ensures.items ∙ c.in_ok-extend_from_slice.ensures.items ∙ ap (λ items. items ++ c.args.row.now) c.make_first_room.ensures.items)
-    (ends ∙ ap (λ n. c.make_first_room.new.self.ends.items ++ n ∷ []) (ap length (sym c.end_row.ensures.items))
+    (λ ends.
+    (row-ended old new c.args.row.now c.requires (c.end_row.ensures.items
+    ∙ c.in_ok-extend_from_slice.ensures.items
+    ∙ ap (λ items. items ++ c.args.row.now) c.make_first_room.ensures.items)
+    (ends ∙ ap (λ n. c.make_first_room.new.self.ends.items ++ n ∷ [])
+    (ap length (sym c.end_row.ensures.items))
     ∙ ap (λ ends. ends ++ length new.items.items ∷ []) c.make_first_room.ensures.ends)).1)
     c.end_row.ensures.ends
 
@@ -19,7 +23,11 @@ returns-clause-rows g c =
     let old = c.args.self.now in
     let new = c.end_row.new.self in
     on_ok_weaker c.end_row.result
-    (λ ends. (row-ended old new c.args.row.now c.requires (c.end_row.ensures.items ∙ c.in_ok-extend_from_slice.ensures.items ∙ ap (λ items. items ++ c.args.row.now) c.make_first_room.ensures.items)
-    (ends ∙ ap (λ n. c.make_first_room.new.self.ends.items ++ n ∷ []) (ap length (sym c.end_row.ensures.items))
+    (λ ends.
+    (row-ended old new c.args.row.now c.requires (c.end_row.ensures.items
+    ∙ c.in_ok-extend_from_slice.ensures.items
+    ∙ ap (λ items. items ++ c.args.row.now) c.make_first_room.ensures.items)
+    (ends ∙ ap (λ n. c.make_first_room.new.self.ends.items ++ n ∷ [])
+    (ap length (sym c.end_row.ensures.items))
     ∙ ap (λ ends. ends ++ length new.items.items ∷ []) c.make_first_room.ensures.ends)).0)
     c.end_row.ensures.ends

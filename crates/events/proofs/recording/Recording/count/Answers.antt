@@ -8,4 +8,12 @@ pub overflow_cast-result : goal.overflow_cast-result
 overflow_cast-result c =
     let bodies = stream c.args.self.now c.args.r in
     let places = places-length _ _ _ c.in-Some.ensures.lane.operations in
-    omega (arith, places, length-filter is_operation bodies, count_by-le-length is_operation bodies, c.in-Some.ensures.limits.entries, c.len.ensures, c.in-Some.lane.now.operations.ok)
+    omega (
+      arith,
+      places,
+      length-filter is_operation bodies,
+      count_by-le-length is_operation bodies,
+      c.in-Some.ensures.limits.entries,
+      c.len.ensures,
+      c.in-Some.lane.now.operations.ok,
+    )

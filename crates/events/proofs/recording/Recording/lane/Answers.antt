@@ -9,5 +9,6 @@ use Rattle.events.proofs.recording.Recording.lane.Goals as goal
 pub returns-clause-lane : goal.returns-clause-lane
 returns-clause-lane c =
     let at = c.lane_at.ensures ∙ ap (λ lanes. slice_get lanes c.args.r) c.deref.ensures.value in
-    subst (λ (h : History). MatchOption c.lane_at.result (stream h c.args.r ≡ []) (λ lane. IsLaneOf h.entries (stream h c.args.r) lane.now)) c.self.view_is
+    subst (λ (h : History). MatchOption c.lane_at.result (stream h c.args.r ≡ [])
+    (λ lane. IsLaneOf h.entries (stream h c.args.r) lane.now)) c.self.view_is
     (lane_found _ _ c.args.r c.lane_at.result c.self.invariant at)

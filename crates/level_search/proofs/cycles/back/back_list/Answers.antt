@@ -18,12 +18,21 @@ places-preserved c =
       ];
       seen = λ h. elim (after.seen h) [
         | inl was ↦ let old = before.seen was in let low = old.from in
-            record { at = old.at; from = omega arith; element = old.element; stands = old.stands; is_marked = old.is_marked }
+            record {
+              at = old.at;
+              from = omega arith;
+              element = old.element;
+              stands = old.stands;
+              is_marked =
+                  old.is_marked;
+            }
         | inr here ↦ here
       ];
       keeps = λ x h. after.keeps x (before.keeps x h);
       marks = λ p q x y low lt first second marked. elim (cases_eq p j) [
-        | inl same ↦ after.marks (before.sees q y (omega arith) second marked) x (subst (λ i. Stands rows list i x) same first)
+        | inl same ↦
+            after.marks (before.sees q y (omega arith) second marked) x
+            (subst (λ i. Stands rows list i x) same first)
         | inr other ↦ after.keeps x (before.marks p q x y (omega arith) lt first second marked)
       ];
       only = λ x h. elim (after.only x h) [
@@ -33,11 +42,21 @@ places-preserved c =
             let low = seen.from in
             inr (record {
               to = seen.element;
-              before = record { list = list; place = j; later = seen.at; in_order = omega arith; first = new.1; second = seen.stands };
+              before =
+                  record {
+                    list = list;
+                    place = j;
+                    later = seen.at;
+                    in_order = omega arith;
+                    first =
+                        new.1;
+                    second = seen.stands;
+                  };
               is_marked = seen.is_marked;
             })
       ];
     }
 
 pub returns-clause-marks : goal.returns-clause-marks
-returns-clause-marks c = λ p q x y lt first second marked. c.places.invariant.marks p q x y (omega arith) lt first second marked
+returns-clause-marks c =
+    λ p q x y lt first second marked. c.places.invariant.marks p q x y (omega arith) lt first second marked

@@ -1,4 +1,5 @@
-use Rattle.std.proofs.Common.{◌≡◌, ◌⊎◌, ℕ, ◌<◌, Some, true, false, get_or, length, slice_get, subst, sym, arith, inl, inr}
+use Rattle.std.proofs.Common.{◌≡◌, ◌⊎◌, ℕ, ◌<◌, Some, true, false, get_or, length, slice_get, subst, sym}
+use Rattle.std.proofs.Common.{arith, inl, inr}
 use Rattle.std.proofs.lemmas.Bool.{cases_eq}
 use Rattle.std.proofs.lemmas.Option.{slice_get_within}
 use Rattle.order_graph.specs.Lists.{lists_of, Stands}
@@ -16,11 +17,15 @@ loop-i-preserved c =
     let falls = after.falls in
     record {
       least = λ k q y low get follows marked. elim (cases_eq k i) [
-        | inl same ↦ after.least q y (subst (λ n. slice_get (spots_of rows c.args.a) n ≡ Some q) same get) follows marked
+        | inl same ↦
+            after.least q y (subst (λ n. slice_get (spots_of rows c.args.a) n ≡ Some q) same get) follows
+            marked
         | inr other ↦ let old = before.least k q y (omega arith) get follows marked in omega arith
       ];
       first = elim after.first [
-        | inl same ↦ subst (λ n. (n ≡ (length c.args.graph.now.elements)) ⊎ (Before rows c.args.a n × (get_or c.args.marked.now n false ≡ true))) (sym same) before.first
+        | inl same ↦
+            subst (λ n. (n ≡ (length c.args.graph.now.elements))
+            ⊎ (Before rows c.args.a n × (get_or c.args.marked.now n false ≡ true))) (sym same) before.first
         | inr new ↦ inr new
       ];
     }
@@ -29,9 +34,15 @@ pub returns-clause-least : goal.returns-clause-least
 returns-clause-least c = λ y leads marked.
     let rows = (lists_of c.args.graph.now) in
     let among = spots_complete rows c.args.a leads.list leads.place leads.first in
-    let within : among.at < length (spots_of rows c.args.a) = slice_get_within (spots_of rows c.args.a) among.at among.spot among.get in
+    let within : among.at < length (spots_of rows c.args.a) =
+    slice_get_within (spots_of rows c.args.a) among.at among.spot among.get in
     let place = among.place_is in
     let order = leads.in_order in
     c.loop-i.invariant.least among.at among.spot y (omega arith) among.get
-    (record { later = leads.later; in_order = omega arith; stands = subst (λ l. Stands rows l leads.later y) (sym among.list_is) leads.second })
+    (record {
+      later = leads.later;
+      in_order = omega arith;
+      stands =
+          subst (λ l. Stands rows l leads.later y) (sym among.list_is) leads.second;
+    })
     marked

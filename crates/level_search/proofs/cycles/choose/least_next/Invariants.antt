@@ -8,7 +8,9 @@ use Rattle.level_search.proofs.cycles.choose.least_next.Given as goal
 
 abbrev pub invariant-loop-i : goal.invariant-loop-i
 invariant-loop-i l = record {
-  least : (k : ℕ) (q : Spot) (y : ℕ) → k < l.i → slice_get (spots_of (lists_of l.graph) l.a) k ≡ Some q → IsAfter (lists_of l.graph) q.list q.place y
+  least : (k : ℕ) (q : Spot) (y : ℕ) → k < l.i → slice_get (spots_of (lists_of l.graph) l.a) k ≡ Some q
+      → IsAfter (lists_of l.graph) q.list q.place y
       → slice_index_or l.marked y false ≡ true → l.least ≤ y;
-  first : (l.least ≡ (length l.graph.elements)) ⊎ (Before (lists_of l.graph) l.a l.least × (slice_index_or l.marked l.least false ≡ true));
+  first : (l.least ≡ (length l.graph.elements))
+      ⊎ (Before (lists_of l.graph) l.a l.least × (slice_index_or l.marked l.least false ≡ true));
 }

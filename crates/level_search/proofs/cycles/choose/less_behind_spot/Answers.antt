@@ -5,7 +5,8 @@ use Rattle.order_graph.proofs.AllSpots.{spots_sound}
 use Rattle.level_search.proofs.cycles.choose.less_behind_spot.Goals as goal
 
 pub less_behind-requires-clause-inside : goal.less_behind-requires-clause-inside
-less_behind-requires-clause-inside c = (spots_sound (lists_of c.args.graph.now) c.args.a c.args.i c.in-Some.spot (sym c.in-Some.ensures)).within
+less_behind-requires-clause-inside c =
+    (spots_sound (lists_of c.args.graph.now) c.args.a c.args.i c.in-Some.spot (sym c.in-Some.ensures)).within
 
 pub returns-in-Some-clause-first : goal.returns-in-Some-clause-first
 returns-in-Some-clause-first c =
@@ -15,6 +16,18 @@ returns-in-Some-clause-first c =
     elim c.less_behind.ensures.first [
       | inl same ↦ inl same
       | inr less ↦
-          let after : IsAfter (lists_of c.args.graph.now) spot.list spot.place c.less_behind.result = less.0 in
-          inr (record { list = spot.list; place = spot.place; later = after.later; in_order = after.in_order; first = here; second = after.stands }, less.1)
+          let after : IsAfter (lists_of c.args.graph.now) spot.list spot.place c.less_behind.result =
+          less.0 in
+          inr (
+            record {
+              list = spot.list;
+              place = spot.place;
+              later = after.later;
+              in_order =
+                  after.in_order;
+              first = here;
+              second = after.stands;
+            },
+            less.1,
+          )
     ]

@@ -9,19 +9,26 @@ use Rattle.level_search.proofs.ShortestFew.{shortest-fits}
 use Rattle.level_search.proofs.cycles.ring.first_source.Goals as goal
 
 pub overflow_add-bound : goal.overflow_add-bound
-overflow_add-bound c = omega (arith, shortest-fits c.args.graph.now c.elements-element-end.ensures.proper c.args.k c.requires.least)
+overflow_add-bound c =
+    omega (
+      arith,
+      shortest-fits c.args.graph.now c.elements-element-end.ensures.proper c.args.k c.requires.least,
+    )
 
 pub returns-then-is_some-clause-cycle : goal.returns-then-is_some-clause-cycle
 returns-then-is_some-clause-cycle c =
     let v = c.args.graph.now in
     let count = c.elements-element-end.ensures.value in
-    let below : c.loop-element.element < length v.elements = let low = c.loop-element-test.true in omega arith in
-    found-here v c.elements-element-end.ensures.proper c.args.k c.loop-element.element c.search_by_table.new.bound.least c.search_by_table.result c.requires.least below
+    let below : c.loop-element.element < length v.elements = let low = c.loop-element-test.true in
+    omega arith in
+    found-here v c.elements-element-end.ensures.proper c.args.k c.loop-element.element
+    c.search_by_table.new.bound.least c.search_by_table.result c.requires.least below
     c.search_by_table.ensures.reads c.search_by_table.ensures.answer c.if-is_some.ensures
 
 pub unreachable-requires : goal.unreachable-requires
 unreachable-requires c =
-    let all = shortest_of_all c.args.graph.now c.elements-element-end.ensures.proper c.args.k c.requires.least in
+    let all =
+    shortest_of_all c.args.graph.now c.elements-element-end.ensures.proper c.args.k c.requires.least in
     let past = c.loop-element-test.false in
     let known = all.known in
     let count = c.elements-element-end.ensures.value in
@@ -37,13 +44,22 @@ loop-element-preserved c =
     record {
       fits = search.fits;
       looked = omega (arith, inv.looked, search.looked, add-mul s 1 (2 * n));
-      looks = subst (λ k. HaveLooked n (lists_of v) (c.args.k + 1) k c.args.looked.now c.search_by_table.new.looked) (sym (add-one s))
-          (c.loop-element.looked, inv.looks, c.search_by_table.new.sets, c.search_by_table.result, subst (λ low. HasLooked n (lists_of v) s low c.search_by_table.new.sets c.search_by_table.result c.loop-element.looked c.search_by_table.new.looked) search.reads search.looks);
+      looks = subst
+          (λ k. HaveLooked n (lists_of v) (c.args.k + 1) k c.args.looked.now c.search_by_table.new.looked)
+          (sym (add-one s)) (
+            c.loop-element.looked,
+            inv.looks,
+            c.search_by_table.new.sets,
+            c.search_by_table.result,
+            subst (λ low. HasLooked n (lists_of v) s low c.search_by_table.new.sets c.search_by_table.result
+                c.loop-element.looked c.search_by_table.new.looked) search.reads search.looks,
+          );
       none = λ t low. elim (cases_lt t s) [
         | inl less ↦ inv.none t less
         | inr more ↦ λ cycle.
             let e : t ≡ s = omega (arith, low, more) in
-            none-here v c.elements-element-end.ensures.proper c.args.k s c.search_by_table.new.bound.least c.search_by_table.result search.reads search.answer c.if-is_some.ensures
+            none-here v c.elements-element-end.ensures.proper c.args.k s c.search_by_table.new.bound.least
+            c.search_by_table.result search.reads search.answer c.if-is_some.ensures
             (subst (λ x. HasCycle (lists_of v) x c.args.k) e cycle)
       ];
     }
@@ -53,5 +69,13 @@ returns-then-is_some-clause-looks c =
     let v = c.args.graph.now in
     let s : ℕ = c.loop-element.element in
     let search = c.search_by_table.ensures in
-    subst (λ k. HaveLooked (length v.elements) (lists_of v) (c.args.k + 1) k c.args.looked.now c.search_by_table.new.looked) (sym (add-one s))
-    (c.loop-element.looked, c.loop-element.invariant.looks, c.search_by_table.new.sets, c.search_by_table.result, subst (λ low. HasLooked (length v.elements) (lists_of v) s low c.search_by_table.new.sets c.search_by_table.result c.loop-element.looked c.search_by_table.new.looked) search.reads search.looks)
+    subst (λ k. HaveLooked (length v.elements) (lists_of v) (c.args.k + 1) k c.args.looked.now
+    c.search_by_table.new.looked) (sym (add-one s)) (
+      c.loop-element.looked,
+      c.loop-element.invariant.looks,
+      c.search_by_table.new.sets,
+      c.search_by_table.result,
+      subst (λ low. HasLooked (length v.elements) (lists_of v) s low c.search_by_table.new.sets
+          c.search_by_table.result c.loop-element.looked c.search_by_table.new.looked) search.reads
+          search.looks,
+    )

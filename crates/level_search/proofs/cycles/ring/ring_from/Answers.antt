@@ -1,4 +1,5 @@
-use Rattle.std.proofs.Common.{◌≡◌, ℕ, ◌+◌, ◌-◌, ◌<◌, ◌≤◌, ◌++◌, [], ◌∷◌, Bool, List, length, get_or, map, subst, sym, ap, ◌∙◌, arith, inl, inr}
+use Rattle.std.proofs.Common.{◌≡◌, ℕ, ◌+◌, ◌-◌, ◌<◌, ◌≤◌, ◌++◌, [], ◌∷◌, Bool, List, length, get_or, map}
+use Rattle.std.proofs.Common.{subst, sym, ap, ◌∙◌, arith, inl, inr}
 use Rattle.std.proofs.lemmas.Bool.{cases_eq}
 use Rattle.std.proofs.lemmas.Grind.{common_steps}
 use Rattle.std.proofs.lemmas.List.{get_or_append_left, get_or_push, length_push}
@@ -14,13 +15,15 @@ loop-i-init c =
     let k : ℕ = c.args.k in
     let s : ℕ = c.args.element in
     let rows = (lists_of c.args.graph.now) in
-    let pushed : c.push.new.self.items ≡ s ∷ [] = grind (arith, common_steps, c.in_ok-push.ensures.items, c.new-ring.ensures.items) in
+    let pushed : c.push.new.self.items ≡ s ∷ [] =
+    grind (arith, common_steps, c.in_ok-push.ensures.items, c.new-ring.ensures.items) in
     let some : 1 ≤ k = c.requires.cycle.0 in
     record {
       count = ap length pushed;
       first = ap (λ (l : List ℕ). get_or l 0 0) pushed;
       last = ap (λ (l : List ℕ). get_or l 0 0) pushed;
-      on = subst (λ n. Reaches rows s n s) (let e : k ≡ k - 1 + 1 = omega arith in e) (reaches_walk rows s k s c.requires.cycle.1);
+      on = subst (λ n. Reaches rows s n s) (let e : k ≡ k - 1 + 1 = omega arith in e)
+          (reaches_walk rows s k s c.requires.cycle.1);
       chosen = λ j low high. absurd (omega arith);
     }
 
@@ -32,8 +35,10 @@ next_of_ring-a-requires-clause-table c =
     let below : n < c.args.k = omega arith in
     let count = c.in_ok-all.ensures.count in
     let is : get_or (map bits_of c.in_ok-all.all.items) n [] ≡ c.as_slice.result.now =
-    table_at c.in_ok-all.all.items n c.index.result.now (omega arith) c.index.ensures ∙ sym c.as_slice.ensures.value in
-    subst (λ (t : List Bool). IsTableOf (graph_of c.args.graph.now) c.args.element n t) is (c.in_ok-all.ensures.tables n below)
+    table_at c.in_ok-all.all.items n c.index.result.now (omega arith) c.index.ensures
+    ∙ sym c.as_slice.ensures.value in
+    subst (λ (t : List Bool). IsTableOf (graph_of c.args.graph.now) c.args.element n t) is
+    (c.in_ok-all.ensures.tables n below)
 
 pub loop-i-preserved : goal.loop-i-preserved
 loop-i-preserved c =
@@ -51,14 +56,17 @@ loop-i-preserved c =
     let high : i < k = c.loop-i-test.true in
     let pushed : more ≡ ring ++ b ∷ [] = grind (arith, common_steps, c.in_ok-push-2.ensures.items) in
     let old : (j : ℕ) → j < i → get_or ring j 0 ≡ get_or more j 0 =
-    λ j h. sym (get_or_append_left ring (b ∷ []) 0 j (omega arith)) ∙ ap (λ (l : List ℕ). get_or l j 0) (sym pushed) in
-    let last : b ≡ get_or more i 0 = sym (get_or_push ring b 0 i count) ∙ ap (λ (l : List ℕ). get_or l i 0) (sym pushed) in
+    λ j h. sym (get_or_append_left ring (b ∷ []) 0 j (omega arith))
+    ∙ ap (λ (l : List ℕ). get_or l j 0) (sym pushed) in
+    let last : b ≡ get_or more i 0 =
+    sym (get_or_push ring b 0 i count) ∙ ap (λ (l : List ℕ). get_or l i 0) (sym pushed) in
     let chosen : IsLeastNext rows s (k - i) a b = c.next_of_ring-a.ensures in
     record {
       count = let e = ap length pushed ∙ length_push ring b in omega arith;
       first = sym (old 0 (omega arith)) ∙ before.first;
       last = ap (λ j. get_or more j 0) (let e : i + 1 - 1 ≡ i = omega arith in e) ∙ sym last;
-      on = subst (λ n. Reaches rows s n b) (let e : k - i ≡ k - (i + 1) + 1 = omega arith in e) chosen.reaches;
+      on = subst (λ n. Reaches rows s n b) (let e : k - i ≡ k - (i + 1) + 1 = omega arith in
+          e) chosen.reaches;
       chosen = λ j from to. elim (cases_eq j i) [
         | inl same ↦
             let here : a ≡ get_or more (i - 1) 0 = sym before.last ∙ old (i - 1) (omega arith) in
@@ -66,7 +74,9 @@ loop-i-preserved c =
             let two = subst (λ x. IsLeastNext rows s (k - i) (get_or more (i - 1) 0) x) last one in
             subst (λ n. IsLeastNext rows s (k - n) (get_or more (n - 1) 0) (get_or more n 0)) (sym same) two
         | inr other ↦
-            let one = subst (λ x. IsLeastNext rows s (k - j) x (get_or ring j 0)) (old (j - 1) (omega arith)) (before.chosen j from (omega arith)) in
+            let one =
+            subst (λ x. IsLeastNext rows s (k - j) x (get_or ring j 0)) (old (j - 1) (omega arith))
+            (before.chosen j from (omega arith)) in
             subst (λ x. IsLeastNext rows s (k - j) (get_or more (j - 1) 0) x) (old j (omega arith)) one
       ];
     }

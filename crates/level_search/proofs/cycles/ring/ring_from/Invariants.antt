@@ -9,5 +9,7 @@ invariant-loop-i l = record {
   first : slice_index l.ring.items 0 ≡ l.element;
   last : slice_index l.ring.items (l.i - 1) ≡ l.a;
   on : Reaches (lists_of l.graph) l.element (l.k - l.i + 1) l.a;
-  chosen : (j : ℕ) → 0 < j → j < l.i → IsLeastNext (lists_of l.graph) l.element (l.k - j) (slice_index l.ring.items (j - 1)) (slice_index l.ring.items j);
+  chosen : (j : ℕ) → 0 < j → j < l.i
+      → IsLeastNext (lists_of l.graph) l.element (l.k - j) (slice_index l.ring.items (j - 1))
+      (slice_index l.ring.items j);
 }

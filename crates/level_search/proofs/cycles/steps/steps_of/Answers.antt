@@ -22,12 +22,16 @@ loop-i-preserved c =
     let steps : List Step = c.loop-i.steps.items in
     let step : Step = c.step_between-step.result in
     let count : length steps ≡ i = c.loop-i.invariant.count in
-    let pushed : c.push.new.self.items ≡ steps ++ step ∷ [] = grind (arith, common_steps, c.in_ok-push.ensures.items) in
+    let pushed : c.push.new.self.items ≡ steps ++ step ∷ [] =
+    grind (arith, common_steps, c.in_ok-push.ensures.items) in
     let here : IsStepBetween c.args.graph.now (get_or ring i 0) (next_in ring i) step =
-    subst (λ b. IsStepBetween c.args.graph.now (get_or ring i 0) b step) c.behind.ensures c.step_between-step.ensures in
-    let last : IsStepBetween c.args.graph.now (get_or ring (length steps) 0) (next_in ring (length steps)) step =
+    subst (λ b. IsStepBetween c.args.graph.now (get_or ring i 0) b step) c.behind.ensures
+    c.step_between-step.ensures in
+    let last : IsStepBetween c.args.graph.now (get_or ring (length steps) 0)
+    (next_in ring (length steps)) step =
     subst (λ n. IsStepBetween c.args.graph.now (get_or ring n 0) (next_in ring n) step) (sym count) here in
     record {
       count = let e = ap length pushed in let f = length_push steps step in omega arith;
-      steps = subst (λ l. AreStepsOf c.args.graph.now ring l) (sym pushed) (steps-push c.args.graph.now ring steps step c.loop-i.invariant.steps last);
+      steps = subst (λ l. AreStepsOf c.args.graph.now ring l) (sym pushed)
+          (steps-push c.args.graph.now ring steps step c.loop-i.invariant.steps last);
     }

@@ -13,16 +13,21 @@ use Rattle.level_search.proofs.workers.worker.search_from.Goals.{in-Some, in_def
 pub returns-clause-offers : goal.returns-clause-offers
 returns-clause-offers g c =
     let P : ℕ → Type 0 = IsLength (lists_of c.args.graph.now) in
-    let read : c.search_by_table.new.bound.offered ≡ c.args.worker.now.seat.offered = ap (λ (s : SeatView). s.offered) c.search_by_table.ensures.reads in
+    let read : c.search_by_table.new.bound.offered ≡ c.args.worker.now.seat.offered =
+    ap (λ (s : SeatView). s.offered) c.search_by_table.ensures.reads in
     λ all. (
     elim c.match-search_by_table.branch [
       | in-Some w ↦ (
-          let told : w.offer.new.self.offered ≡ c.search_by_table.new.bound.offered ++ w.in-Some.length ∷ [] = ap (λ (s : SeatView). s.offered) w.offer.ensures.seat in
-          let here : c.match-search_by_table.worker.seat.offered ≡ w.offer.new.self.offered = ap (λ (k : Worker). k.seat.offered) w.worker-is in
-          subst (All P) (sym (here ∙ (told ∙ ap (λ (l : List ℕ). l ++ w.in-Some.length ∷ []) read))) (All-push P _ w.in-Some.length all (c.args.source, w.in-Some.ensures.answer.0.cycle))
+          let told : w.offer.new.self.offered ≡ c.search_by_table.new.bound.offered ++ w.in-Some.length ∷ [] =
+          ap (λ (s : SeatView). s.offered) w.offer.ensures.seat in
+          let here : c.match-search_by_table.worker.seat.offered ≡ w.offer.new.self.offered =
+          ap (λ (k : Worker). k.seat.offered) w.worker-is in
+          subst (All P) (sym (here ∙ (told ∙ ap (λ (l : List ℕ). l ++ w.in-Some.length ∷ []) read)))
+          (All-push P _ w.in-Some.length all (c.args.source, w.in-Some.ensures.answer.0.cycle))
           )
       | in_default w ↦ (
-          let here : c.match-search_by_table.worker.seat.offered ≡ c.search_by_table.new.bound.offered = ap (λ (k : Worker). k.seat.offered) w.worker-is in
+          let here : c.match-search_by_table.worker.seat.offered ≡ c.search_by_table.new.bound.offered =
+          ap (λ (k : Worker). k.seat.offered) w.worker-is in
           subst (All P) (sym (here ∙ read)) all
           )
     ]
@@ -38,10 +43,15 @@ returns-clause-looks g c =
     let sets : Sets = c.search_by_table.new.sets in
     let new : ℕ = c.search_by_table.new.looked in
     let looks = c.search_by_table.ensures.looks in
-    let P : Worker → Type 0 = λ w. (answer : Option ℕ) × HasLooked n rows c.args.source w.seat.low w.sets answer old w.looked in
+    let P : Worker → Type 0 =
+    λ w. (answer : Option ℕ) × HasLooked n rows c.args.source w.seat.low w.sets answer old w.looked in
     elim c.match-search_by_table.branch [
       | in-Some w ↦
           let less = w.offer.ensures.low in
-          subst P (sym w.worker-is) (c.search_by_table.result, looked-lower n rows c.args.source low w.offer.new.self.low sets c.search_by_table.result old new (omega (arith, less)) looks)
+          subst P (sym w.worker-is) (
+            c.search_by_table.result,
+            looked-lower n rows c.args.source low w.offer.new.self.low sets c.search_by_table.result old new
+                (omega (arith, less)) looks,
+          )
       | in_default w ↦ subst P (sym w.worker-is) (c.search_by_table.result, looks)
     ]

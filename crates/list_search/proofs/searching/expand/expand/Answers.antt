@@ -9,7 +9,8 @@ pub returns-clause-expanded : goal.returns-clause-expanded
 returns-clause-expanded c = λ l p stands.
     let rows = (lists_of c.args.graph.now) in
     let among = spots_complete rows c.args.x l p stands in
-    let within : among.at < length (spots_of rows c.args.x) = slice_get_within (spots_of rows c.args.x) among.at among.spot among.get in
+    let within : among.at < length (spots_of rows c.args.x) =
+    slice_get_within (spots_of rows c.args.x) among.at among.spot among.get in
     let done = c.loop-i.invariant.mark among.at among.spot (omega arith) among.get in
     let at_list : slice_index c.loop-i.state.marks.items l ≤ among.spot.place + 1 =
     subst (λ i. slice_index c.loop-i.state.marks.items i ≤ among.spot.place + 1) among.list_is done in

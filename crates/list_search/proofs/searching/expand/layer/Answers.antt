@@ -26,7 +26,8 @@ loop-k-preserved c =
     let is_a : x ≡ slice_index a.queue.items k = is_b ∙ before.grows.kept k old_tail in
     let step : Grows P s b d =
     grows_weaker (Before rows x) P s b d
-    (λ z leads. record { at = k; from = low; to = high; before = subst (λ y. Before rows y z) is_a leads }) after.grows in
+    (λ z leads. record { at = k; from = low; to = high; before = subst (λ y. Before rows y z) is_a leads })
+    after.grows in
     let kept : (i : ℕ) → i < c.args.end → slice_index d.queue.items i ≡ slice_index b.queue.items i =
     λ i h. step.kept i (let t = before.grows.tail in omega arith) in
     record {
@@ -36,11 +37,14 @@ loop-k-preserved c =
         | inl same ↦ subst (λ y. IsExpanded rows d.marks.items y)
             (is_b ∙ sym (kept k high) ∙ ap (λ j. slice_index d.queue.items j) (sym same)) after.expanded
         | inr other ↦ subst (λ y. IsExpanded rows d.marks.items y) (sym (kept i (omega arith)))
-            (still_expanded P s b d rows (slice_index b.queue.items i) step (before.expanded i from (omega arith)))
+            (still_expanded P s b d rows (slice_index b.queue.items i) step
+            (before.expanded i from (omega arith)))
       ];
       forward = let h = after.forward in let g = before.forward in omega arith;
-      works = works_next a b d c.args.looked.now c.loop-k.looked c.expand.new.looked before.works after.forward after.works;
-      one = λ h. works_step a b d c.args.looked.now c.loop-k.looked c.expand.new.looked before.works after.works;
+      works = works_next a b d c.args.looked.now c.loop-k.looked c.expand.new.looked before.works
+          after.forward after.works;
+      one = λ h. works_step a b d c.args.looked.now c.loop-k.looked c.expand.new.looked before.works
+          after.works;
       cost = let h = after.cost in let g = before.cost in omega arith;
     }
 

@@ -25,13 +25,18 @@ loop-j-preserved c =
       grows = grows_both (IsAfter rows list place) c.args.element a b d before.grows step;
       reached = λ k x low high stands. elim (cases_eq k j) [
         | inl same ↦ after.reached x (subst (λ i. Stands rows list i x) same stands)
-        | inr other ↦ still_reached (IsAfter rows list place) c.args.element x b d step (before.reached k x low (omega arith) stands)
+        | inr other ↦
+            still_reached (IsAfter rows list place) c.args.element x b d step
+            (before.reached k x low (omega arith) stands)
       ];
       missed = λ e k low high stands. elim (cases_eq k j) [
         | inl same ↦ after.missed e (subst (λ i. Stands rows list i c.args.element) same stands)
-        | inr other ↦ before.missed (still_unfound (IsAfter rows list place) c.args.element b d step e) k low (omega arith) stands
+        | inr other ↦
+            before.missed (still_unfound (IsAfter rows list place) c.args.element b d step e) k low
+            (omega arith) stands
       ];
       marks = after.marks ∙ before.marks;
-      works = works_both a b d c.args.looked.now c.loop-j.looked c.read_one.new.looked before.works after.works;
+      works = works_both a b d c.args.looked.now c.loop-j.looked c.read_one.new.looked before.works
+          after.works;
       cost = let h = before.cost in let k = after.cost in omega arith;
     }

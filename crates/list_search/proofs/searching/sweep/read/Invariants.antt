@@ -8,8 +8,10 @@ abbrev pub invariant-loop-j : goal.invariant-loop-j
 invariant-loop-j l = record {
   good : IsGood (graph_of l.graph) l.element l.state;
   grows : Grows (IsAfter (lists_of l.graph) l.spot.list l.spot.place) l.element l.fn.state l.state;
-  reached : (j x : ℕ) → l.spot.place < j → j < l.j → Stands (lists_of l.graph) l.spot.list j x → IsReached l.state.queue.items l.state.tail x;
-  missed : l.state.found ≡ false → (j : ℕ) → l.spot.place < j → j < l.j → ¬ Stands (lists_of l.graph) l.spot.list j l.element;
+  reached : (j x : ℕ) → l.spot.place < j → j < l.j → Stands (lists_of l.graph) l.spot.list j x
+      → IsReached l.state.queue.items l.state.tail x;
+  missed : l.state.found ≡ false → (j : ℕ) → l.spot.place < j → j < l.j
+      → ¬ Stands (lists_of l.graph) l.spot.list j l.element;
   marks : l.state.marks ≡ l.fn.state.marks;
   works : Works l.fn.state l.state l.fn.looked l.looked;
   cost : l.looked + (l.spot.place + 1) ≤ l.fn.looked + l.j;

@@ -5,4 +5,5 @@ use Rattle.order_graph.specs.declared.spot.Spot.{Spot}
 use Rattle.order_graph.proofs.order_graph.OrderGraph.first_list.Given as goal
 
 abbrev pub invariant-loop-i : goal.invariant-loop-i
-invariant-loop-i l = (k : ℕ) (q : Spot) → k < l.i → slice_get (spots_of (lists_of l.self) l.a) k ≡ Some q → ¬ IsBehind (row (lists_of l.self) q.list) q.place l.b
+invariant-loop-i l = (k : ℕ) (q : Spot) → k < l.i → slice_get (spots_of (lists_of l.self) l.a) k ≡ Some q
+    → ¬ IsBehind (row (lists_of l.self) q.list) q.place l.b

@@ -12,7 +12,8 @@ use Rattle.order_graph.proofs.Covers.{covers-all}
 use Rattle.order_graph.proofs.Made.{answers, kept-is, kept-lists, kept-proper, kept-few, kept-count}
 use Rattle.order_graph.proofs.order_graph.OrderGraph.of_covering.Goals as goal
 
-rows-are : (h : History) (names : List NameBytes) (shown : List Operation) (rows : List (List ℕ)) → names ≡ elements h
+rows-are : (h : History) (names : List NameBytes) (shown : List Operation) (rows : List (List ℕ))
+    → names ≡ elements h
     → rows ≡ answers h (elements h) shown → rows ≡ answers h names shown
 rows-are h names shown rows e is = is ∙ ap (λ n. answers h n shown) (sym e)
 
@@ -45,5 +46,8 @@ returns c =
     let shown : List Operation = c.args.numbered.covering.operations.items in
     let rows : List (List ℕ) = rows_of c.args.numbered.covering.rows in
     let is : names ≡ elements h = c.requires.numbered.names in
-    let kept = kept-is h c.replicas.ensures.legal c.requires.sound names shown rows is covers.operations.part (rows-are h names shown rows is covers.rows.rows_are) in
-    subst (λ (w : Responses). IsCoveredBy (responses_of h) w) (sym kept) (covers-all h shown covers.operations)
+    let kept =
+    kept-is h c.replicas.ensures.legal c.requires.sound names shown rows is covers.operations.part
+    (rows-are h names shown rows is covers.rows.rows_are) in
+    subst (λ (w : Responses). IsCoveredBy (responses_of h) w) (sym kept)
+    (covers-all h shown covers.operations)

@@ -12,5 +12,7 @@ pub returns : goal.returns
 returns c =
     let g = c.self.inside in
     let got : c.copied.result ≡ slice_get g.shown.items c.args.list = grind (arith, common_steps, gets) in
-    got ∙ sym (shown_of g.names.items g.shown.items (rows_of g.places) c.args.list c.self.invariant.listed.count)
-    ∙ ap (λ (v : Responses). option_map (λ (r : Returned). r.by) (slice_get v.returned c.args.list)) c.self.view_is
+    got ∙ sym
+    (shown_of g.names.items g.shown.items (rows_of g.places) c.args.list c.self.invariant.listed.count)
+    ∙ ap (λ (v : Responses). option_map (λ (r : Returned). r.by) (slice_get v.returned c.args.list))
+    c.self.view_is

@@ -23,8 +23,12 @@ returns-in-Some c =
     let rows : List (List ℕ) = rows_of g.places in
     let v : Responses = responses_kept g.names.items g.shown.items rows in
     let are : AreSpotsOf rows c.in-Some.spots.items =
-    subst (λ (s : Option (Vec (Vec Spot Global) Global)). IfSome s (λ lists. AreSpotsOf rows lists.items)) c.in-Some.is c.self.invariant.spots_are in
-    c.spot_at.ensures ∙ ap (λ (l : List (Vec Spot Global)). slice_get (get_or (map items_of l) c.args.x []) c.args.i) c.deref.ensures.value
+    subst (λ (s : Option (Vec (Vec Spot Global) Global)). IfSome s (λ lists. AreSpotsOf rows lists.items))
+    c.in-Some.is c.self.invariant.spots_are in
+    c.spot_at.ensures
+    ∙ ap (λ (l : List (Vec Spot Global)). slice_get (get_or (map items_of l) c.args.x []) c.args.i)
+    c.deref.ensures.value
     ∙ ap (λ l. slice_get l c.args.i) (are c.args.x)
-    ∙ ap (λ (l : List (List ℕ)). slice_get (spots_of l c.args.x) c.args.i) (sym c.self.invariant.listed.lists_are)
+    ∙ ap (λ (l : List (List ℕ)). slice_get (spots_of l c.args.x) c.args.i)
+    (sym c.self.invariant.listed.lists_are)
     ∙ ap (λ (w : Responses). slice_get (spots_of (lists_of w) c.args.x) c.args.i) c.self.view_is

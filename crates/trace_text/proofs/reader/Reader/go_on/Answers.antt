@@ -4,4 +4,5 @@ use Rattle.trace_text.proofs.reader.Reader.go_on.Goals as goal
 
 pub returns-in-Some-clause-fed : goal.returns-in-Some-clause-fed
 returns-in-Some-clause-fed c = λ text fed.
-    fed-after-fault c.args.self.now text c.args.piece.now c.in-Some.fault (sym (ap (λ r. r.fault) c.self.view_is) ∙ c.in-Some.is) fed
+    fed-after-fault c.args.self.now text c.args.piece.now c.in-Some.fault
+    (sym (ap (λ r. r.fault) c.self.view_is) ∙ c.in-Some.is) fed

@@ -7,10 +7,15 @@ use Rattle.trace_text.proofs.FaultyLines.{nothing-begins, header-begins, lines-b
 use Rattle.trace_text.proofs.reading.Reading.next_line.Goals as goal
 
 pub returns-in-Start-clause-begins : goal.returns-in-Start-clause-begins
-returns-in-Start-clause-begins c = subst (λ (r : Reading). BeginsSpelling (good r)) (sym c.in-Start.is) nothing-begins
+returns-in-Start-clause-begins c =
+    subst (λ (r : Reading). BeginsSpelling (good r)) (sym c.in-Start.is) nothing-begins
 
 pub returns-in-Headed-clause-begins : goal.returns-in-Headed-clause-begins
-returns-in-Headed-clause-begins c = subst (λ (r : Reading). BeginsSpelling (good r)) (sym c.in-Headed.is) (header-begins (version_in c.in-Headed.field-0))
+returns-in-Headed-clause-begins c =
+    subst (λ (r : Reading). BeginsSpelling (good r)) (sym c.in-Headed.is)
+    (header-begins (version_in c.in-Headed.field-0))
 
 pub returns-in-Entries-clause-begins : goal.returns-in-Entries-clause-begins
-returns-in-Entries-clause-begins c = subst (λ (r : Reading). BeginsSpelling (good r)) (sym c.in-Entries.is) (lines-begin _ _ c.next_line.ensures.spelled)
+returns-in-Entries-clause-begins c =
+    subst (λ (r : Reading). BeginsSpelling (good r)) (sym c.in-Entries.is)
+    (lines-begin _ _ c.next_line.ensures.spelled)

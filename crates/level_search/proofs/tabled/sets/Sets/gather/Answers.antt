@@ -19,7 +19,8 @@ layer-preserved c =
     let table : List (List ℕ) = c.args.table.now in
     let some = c.in-Some.ensures.some in
     let none : (y : ℕ) → from ≤ y → y < x → Has sets.reached y → Has sets.near y =
-    λ y low high has. subst (λ (s : List ℕ). Has s y) inv.near (c.in-Some.ensures.first y low high (subst (λ (s : List ℕ). Has s y) (sym inv.reached) has)) in
+    λ y low high has. subst (λ (s : List ℕ). Has s y) inv.near
+    (c.in-Some.ensures.first y low high (subst (λ (s : List ℕ). Has s y) (sym inv.reached) has)) in
     let here : IsInLayer (x + 1) sets x = record {
       known = omega arith;
       reached = subst (λ (s : List ℕ). Has s x) inv.reached some.1.reached;
@@ -31,12 +32,16 @@ layer-preserved c =
     record {
       within = (let k = some.1.known in omega (arith, k));
       fits = record { near = inv.fits.near; reached = inv.fits.reached; next = joined.len ∙ inv.fits.next };
-      looked = c.expand.ensures.ticked ∙ ap ticked inv.looked ∙ counted-next _ _ c.args.looked.now (layer-next sets from x some.0 none here.reached here.not_near);
+      looked =
+          c.expand.ensures.ticked ∙ ap ticked inv.looked
+          ∙ counted-next _ _ c.args.looked.now
+          (layer-next sets from x some.0 none here.reached here.not_near);
       near = inv.near;
       reached = inv.reached;
       next = λ y. (
         λ has. elim ((joined.has y).0 has) [
-          | inl was ↦ let o = (inv.next y).0 was in (o.0, layer_to from (x + 1) sets o.0 (omega (arith, some.0)) o.1, o.2)
+          | inl was ↦ let o =
+              (inv.next y).0 was in (o.0, layer_to from (x + 1) sets o.0 (omega (arith, some.0)) o.1, o.2)
           | inr now ↦ (x, here, subst (λ (s : List ℕ). Has s y) is now)
         ],
         λ o. (joined.has y).1 (elim (cases_eq o.0 x) [
@@ -53,5 +58,6 @@ returns-clause-looked c =
     let from : ℕ = c.layer.from in
     let n : ℕ = length c.args.graph.now.elements in
     let none : (y : ℕ) → from ≤ y → y < n → Has sets.reached y → Has sets.near y =
-    λ y low high has. subst (λ (s : List ℕ). Has s y) inv.near (c.in_default.ensures.none y low high (subst (λ (s : List ℕ). Has s y) (sym inv.reached) has)) in
+    λ y low high has. subst (λ (s : List ℕ). Has s y) inv.near
+    (c.in_default.ensures.none y low high (subst (λ (s : List ℕ). Has s y) (sym inv.reached) has)) in
     inv.looked ∙ ap (λ k. counted k c.args.looked.now) (sym (layer-gap sets from n inv.within none))

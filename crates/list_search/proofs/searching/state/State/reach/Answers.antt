@@ -13,4 +13,6 @@ pub returns-clause-queued : goal.returns-clause-queued
 returns-clause-queued c = (queued_more c.args.y c.args.self.now c.requires.queued (known c) (unseen c), refl)
 
 pub returns-clause-reached : goal.returns-clause-reached
-returns-clause-reached c = reached_last c.args.y c.args.self.now (tail_within c.args.y c.args.self.now c.requires.queued (known c) (unseen c))
+returns-clause-reached c =
+    reached_last c.args.y c.args.self.now
+    (tail_within c.args.y c.args.self.now c.requires.queued (known c) (unseen c))
