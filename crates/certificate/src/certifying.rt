@@ -38,8 +38,8 @@ use witnesses::{Order, Steps};
 /// new, n / 64 steps. New is an element that the response before has not, or in another order. Each row then
 /// costs n / 64 steps for each layer and each name in it but those of the last layer, and memory for its
 /// names. So the memory may be quadratic in the elements: of 4,096, rows of up to 2,048 names of 33 bytes
-/// each on average, and it answers
-/// `Memory` where that is not to be had. For the text alone `write_certificate` keeps one row at a time.
+/// each on average, and it answers `Memory` where that is not to be had. For the text alone
+/// `write_certificate` keeps one row at a time.
 pub fn certify(
     alloc: Global,
     recording: &Recording,

@@ -73,8 +73,7 @@ pub fn verdict<H: Threads + Sync>(
 }
 
 /// Has a trace certified as `cert` does, and takes in the verdict's report and the certificate; and has this
-/// checked as
-/// `verify` does, which must say yes, and takes in which yes it says.
+/// checked as `verify` does, which must say yes, and takes in which yes it says.
 pub fn certify<H: Threads + Sync>(
     rt: &H,
     alloc: Global,

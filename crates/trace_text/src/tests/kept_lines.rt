@@ -20,8 +20,7 @@ const NAMES: Pieces = Pieces {
 };
 
 /// The bytes of a text in which `N` stands for `NAMES` and `X` for `THIRTY`. So `Xaa` has 32 bytes, and
-/// `Xaaa` 33; and
-/// `NXaa Xaa `, `NXaa Xa a ` and `NXaa Xa ab ` have 135,333, 135,334 and 135,335.
+/// `Xaaa` 33; and `NXaa Xaa `, `NXaa Xa a ` and `NXaa Xa ab ` have 135,333, 135,334 and 135,335.
 fn bytes_once(alloc: Global, text: &str) -> Result<Vec<u8>, Memory> {
     let mut bytes = Vec::new(alloc);
     for byte in text.as_bytes() {
