@@ -199,7 +199,8 @@ fn check_rows(k: u32, text: &[u8]) -> Result<(), CertFault>
         × (text.now ≡ text_of (map row_line rows))) }
     ensures fault { IfErr result (λ fault. (version : versions.Version) (steps : List conflict.Step)
         → length steps ≡ k → All IsStep steps
-        → IsFaultBehind (certificate_lines version (gives_cycle k steps [])) text.now fault.line fault.cause) }
+        → IsFaultBehind (certificate_lines version (gives_cycle k steps [])) text.now fault.line
+        fault.cause) }
 {
     if k > 2 {
         return check_some_rows(k, text);
@@ -217,7 +218,8 @@ fn check_some_rows(k: u32, text: &[u8]) -> Result<(), CertFault>
         × (text.now ≡ text_of (map row_line rows))) }
     ensures fault { IfErr result (λ fault. (version : versions.Version) (steps : List conflict.Step)
         → length steps ≡ k → All IsStep steps
-        → IsFaultBehind (certificate_lines version (gives_cycle k steps [])) text.now fault.line fault.cause) }
+        → IsFaultBehind (certificate_lines version (gives_cycle k steps [])) text.now fault.line
+        fault.cause) }
 {
     let mut line = u64::from(k) + 3;
     let mut rest = text;

@@ -32,7 +32,8 @@ impl Covering {
     /// Adds an operation whose response has these numbers.
     pub fn add(&mut self, operation: OpName, row: &[u32]) -> Result<(), Memory>
         requires { IsCut self.old.rows }
-        ensures operations { OnOk result (self.new.operations.items ≡ self.old.operations.items ++ operation ∷ []) }
+        ensures operations { OnOk result (self.new.operations.items
+            ≡ self.old.operations.items ++ operation ∷ []) }
         ensures cut { OnOk result (IsCut self.new.rows) }
         ensures rows { OnOk result (rows_of self.new.rows ≡ rows_of self.old.rows ++ row.now ∷ []) }
     {

@@ -13,11 +13,12 @@ use super::output::{status_of, write_texts};
 use super::status::{RunFault, Status};
 use super::trace_source::recording_from;
 use byte_streams::{Reader, Sink, Source, Writer};
-use certificate::{Certified, NoGate, SearchFault, judge_and_write};
+use certificate::{Certified, judge_and_write};
 use command_line::WORKERS;
 use events::{Memory, Recording};
 use std::alloc::Global;
 use std::thread::Threads;
+use verdict::{NoGate, SearchFault};
 
 /// Reads a trace to its end, and writes the certificate of its verdict, in version two. Four workers search,
 /// and rows are made in four threads. What follows a faulty line may be left unread.

@@ -5,10 +5,10 @@ use super::live::live;
 use super::run::run;
 use super::status::{RunFault, Status};
 use byte_streams::{Reader, Sink, Source, Writer};
-use certificate::NoGate;
 use command_line::Form;
 use std::sync::Wait;
 use std::thread::Threads;
+use verdict::NoGate;
 
 /// What reads one trace and writes what it finds.
 #[derive(Clone, Copy, Debug)]

@@ -15,7 +15,6 @@ use super::output::{Output, status_of, verdict_on, write_output};
 use super::status::{RunFault, Status};
 use super::trace_source::recording_from;
 use byte_streams::{Reader, Sink, Source, Writer};
-use certificate::Gate;
 use command_line::MOST_WORKERS;
 use events::Recording;
 use rehearsal::{RehearsalFault, rehearse};
@@ -24,6 +23,7 @@ use specification::verdicts_are_of_streams;
 use std::alloc::Global;
 use std::sync::Wait;
 use std::thread::Threads;
+use verdict::Gate;
 
 /// Reads a trace to its end, has its streams replayed by recorder threads in one session, beside a watcher
 /// that judges four snapshots, and writes the report of the verdict on what the session has in the end. What

@@ -11,11 +11,11 @@ ghost use Rattle.finder_cli.specs.OutOfMemory.{HasBytes};
 
 use super::status::{RunFault, Status};
 use byte_streams::{ReadFault, Reader, Sink, Source, Writer};
-use certificate::{NoGate, SearchFault, Verdict, judge};
 use command_line::MOST_WORKERS;
 use events::{Memory, Recording};
 use std::alloc::Global;
 use std::thread::Threads;
+use verdict::{NoGate, SearchFault, Verdict, judge};
 
 /// What an engine writes, and the status that goes with it.
 #[derive(Drop)]

@@ -12,11 +12,11 @@ use super::output::{Output, status_of, verdict_on, write_output};
 use super::status::{RunFault, Status};
 use super::trace_source::recording_from;
 use byte_streams::{Reader, Sink, Source, Writer};
-use certificate::Verdict;
 use command_line::{Form, MOST_WORKERS};
 use events::{Memory, Recording};
 use std::alloc::Global;
 use std::thread::Threads;
+use verdict::Verdict;
 
 /// Reads a trace to its end, and writes the report of its verdict. What follows a faulty line may be left
 /// unread.

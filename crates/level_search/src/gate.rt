@@ -1,7 +1,8 @@
 //! What is called round each search.
 
 /// What is called round each search, as a test does that watches them or holds them up. It is shared by
-/// all workers.
+/// all workers. A rehearsal calls it round each replay, with the replica in the worker's place and 0 in the
+/// element's.
 pub trait Gate: Sync {
     /// A worker, counted from 0, is about to search from the element with this number.
     fn before(&self, worker: u32, source: u32);

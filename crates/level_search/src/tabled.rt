@@ -73,8 +73,8 @@ pub fn search_by_table<B: BoundSource>(
     ensures reads { B.reads bound.old bound.new }
     ensures fits { FitsSets (length graph.now.elements) sets.new }
     ensures looked { looked.new ≤ looked.old + 2 * length graph.now.elements }
-    ensures looks { HasLooked (length graph.now.elements) (lists_of graph.now) element (B.last bound.new) sets.new
-        result looked.old looked.new }
+    ensures looks { HasLooked (length graph.now.elements) (lists_of graph.now) element (B.last bound.new)
+        sets.new result looked.old looked.new }
 {
     // Its contract has that the responses are proper.
     let _ = graph.elements();

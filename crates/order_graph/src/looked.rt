@@ -1,12 +1,11 @@
-//! The count of the places that are looked at and the elements that are expanded.
+//! The count of looks: at places of lists, at elements that are expanded, or at rows of a table.
 
 ghost use Rattle.std.specs.Prelude.{◌≡◌, ◌≤◌, ℕ};
 ghost use Rattle.order_graph.specs.Lists.{ticked};
 
 use std::marker::Model;
 
-/// How many places of lists were read and how many elements expanded. It counts from 0, and stays at
-/// 18446744073709551615 once it is there.
+/// How many looks there were. It counts from 0, and stays at 18446744073709551615 once it is there.
 #[derive(Drop)]
 pub struct Looked {
     count: u64,
@@ -33,7 +32,7 @@ impl Looked {
         self.count
     }
 
-    /// Counts one element more that is expanded.
+    /// Counts one look more: at a place, at an element that is expanded, or at a row of a table.
     pub fn expand(&mut self)
         ensures ticked { self.new ≡ ticked self.old }
         ensures forward { self.old ≤ self.new }

@@ -6,12 +6,12 @@
 #![tactic(auto)]
 
 mod counts;
-mod json;
+mod json_report;
 mod laws;
 mod lines;
 mod object;
 mod words;
 
-pub use json::json;
+pub use json_report::json;
 pub use laws::reports_are_of_streams;
 pub use lines::text;

@@ -7,7 +7,7 @@ use Rattle.specification.specs.Verdict.{Verdict}
 use Rattle.verdict.specs.VerdictOf.{verdict_of}
 use Rattle.report.specs.JsonReport.{report_data}
 use Rattle.report.proofs.Listed.{report-plain, counted}
-use Rattle.report.proofs.json.compact.Goals as goal
+use Rattle.report.proofs.json_report.compact.Goals as goal
 
 pub returns : goal.returns
 returns c =
