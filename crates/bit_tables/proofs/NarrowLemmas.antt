@@ -32,8 +32,7 @@ ahead-by last depth small step le is = elim (cases_lt (depth - last) 2) [
       record {
         rise = omega arith;
         less = omega (arith, is, e, le, high);
-        near =
-            λ h. absurd (omega (arith, is, e, h));
+        near = λ h. absurd (omega (arith, is, e, h));
       }
 ]
 

@@ -149,8 +149,7 @@ module _ (h : History) (t : Numbered) (of : IsOf h t) where
         within = omega (arith, p.1, lists-count);
         at = p.2;
         before = k.2;
-        has =
-            k.3;
+        has = k.3;
       }
 
   -- what holds of the list of an operation holds of each response that it covers

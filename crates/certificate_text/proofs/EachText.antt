@@ -261,8 +261,7 @@ cut-at text good b rest begins no_lf is = (
     good = good;
     begins = begins;
     rest = b ∷ rest;
-    some_byte =
-        omega arith;
+    some_byte = omega arith;
     one_line = no_lf;
     text_is = is;
     number = refl;

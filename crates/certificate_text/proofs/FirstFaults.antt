@@ -65,8 +65,7 @@ lacking-fault text number lines (Some cause) whole is begins lacks =
     first-of-lacking text number lines cause lacks.0 (record {
       good = lines;
       begins = begins;
-      text_is =
-          whole;
+      text_is = whole;
       not_whole = lacks.1;
       number = is;
       cause_is = lacks.0;
@@ -83,8 +82,7 @@ cut-fault text number lines rest some one whole is begins =
       rest = rest;
       some_byte = some;
       one_line = one;
-      text_is =
-          whole;
+      text_is = whole;
       number = is;
     }
 

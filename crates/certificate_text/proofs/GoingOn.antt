@@ -109,8 +109,7 @@ of-cycle (gives_cycle n steps rows) k lines h e is =
     record {
       steps = steps;
       rows = rows;
-      spellable =
-          subst (λ m. IsSpellable (gives_cycle m steps rows)) same h;
+      spellable = subst (λ m. IsSpellable (gives_cycle m steps rows)) same h;
       is = is;
     }
 

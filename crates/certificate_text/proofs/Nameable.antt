@@ -23,6 +23,7 @@ use Rattle.specification.proofs.Members.{In, Once-bounded, Once-from_AllPairs, I
 use Rattle.specification.proofs.Members.{In-from_Contains, All-member}
 use Rattle.specification.proofs.OperationNames.{In_map-from, In_flat_map-from, numbers_from-bounds}
 use Rattle.specification.proofs.OperationNames.{operation-listed}
+use Rattle.specification.proofs.FewOperations.{count-few, few-operations}
 use Rattle.specification.proofs.SoundResponses.{In_filter_map-from}
 
 nth-in : {X : Type 0} (xs : List X) (n : ℕ) (x : X) → nth xs n ≡ Some x → In x xs
@@ -57,12 +58,6 @@ element-name h legal a i =
         body-name b a (All-member IsWellFormed (operations h o.replica) b (formed h o.replica legal)
         (nth-in (operations h o.replica) o.n b e)) p
 
-count-few : (h : History) (r : ℕ) → IsLegal h → count h r ≤ MOST_ENTRIES
-count-few h r legal =
-    let most = count_by-le-length is_operation (stream h r) in
-    let few : length (stream h r) ≤ MOST_ENTRIES = (legal.limits r).entries in
-    omega (arith, length-filter is_operation (stream h r), most)
-
 pub operation-name : (h : History) (o : Operation) → IsLegal h → IsOperation h o → IsOperationName o
 operation-name h o legal is =
     let s : (r : ℕ) × In r (numbers_from 0 h.replicas)
@@ -78,27 +73,6 @@ operation-name h o legal is =
     let few : h.replicas ≤ MOST_REPLICAS = legal.few_replicas in
     let entries : count h s.0 ≤ MOST_ENTRIES = count-few h s.0 legal in
     (omega (arith, known.1), omega (arith, within.0), omega (arith, within.1))
-
-length-numbers_from : (from n : ℕ) → length (numbers_from from n) ≡ n
-length-numbers_from from zero = refl
-length-numbers_from from (suc n) = ap suc (length-numbers_from (suc from) n)
-
-few-operations : (h : History) → IsLegal h → (from n : ℕ) →
-    length {A = Operation}
-    (flat_map (λ r. map (λ m. record { replica = r; n = m }) (numbers_from 1 (count h r)))
-    (numbers_from from n)) ≤ n * MOST_ENTRIES
-few-operations h legal from zero = omega arith
-few-operations h legal from (suc n) =
-    let own : List Operation = map (λ m. record { replica = from; n = m }) (numbers_from 1 (count h from)) in
-    let rest : List Operation =
-    flat_map (λ r. map (λ m. record { replica = r; n = m }) (numbers_from 1 (count h r)))
-    (numbers_from (suc from) n) in
-    let size : length own ≡ count h from =
-    length-map (numbers_from 1 (count h from)) (λ m. record { replica = from; n = m })
-    ∙ length-numbers_from 1 (count h from) in
-    let few : count h from ≤ MOST_ENTRIES = count-few h from legal in
-    let others : length rest ≤ n * MOST_ENTRIES = few-operations h legal (suc from) n in
-    omega (arith, length-append own rest)
 
 pub number-fits : (h : History) (k : ℕ) → IsLegal h → HasConflictNumber (responses_of h) k → k < 2 ^ 32
 number-fits h k legal has =

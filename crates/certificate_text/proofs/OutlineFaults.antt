@@ -212,8 +212,7 @@ part-of k steps low high few each =
       few = few;
       each_step = each;
       short = λ _. refl;
-      early =
-          λ _. refl;
+      early = λ _. refl;
       each_row = All-nil (IsRow k);
     }
 
@@ -225,8 +224,7 @@ whole-part k steps rows low high many each all =
       high = high;
       few = omega arith;
       each_step = each;
-      short =
-          λ two. absurd (omega arith);
+      short = λ two. absurd (omega arith);
       early = λ less. absurd (omega arith);
       each_row = all;
     }

@@ -56,8 +56,7 @@ abbrev pub bare_app : App
 bare_app = record (new_app (codes "domepeeler")) {
   top = record (new_app (codes "domepeeler")).top {
     no_binary_name = true;
-    subcommand_required =
-        true;
+    subcommand_required = true;
     has_version = true;
   };
 }

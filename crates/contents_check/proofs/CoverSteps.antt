@@ -11,23 +11,11 @@ use Rattle.events.specs.Operations.{response}
 use Rattle.specification.specs.Orders.{IsSubsequence}
 use Rattle.specification.proofs.Members.{In, Before, In-append_left, In-append_right, In-append_cases}
 use Rattle.specification.proofs.Members.{In-from_Contains, Contains-from_In, AllPairs-Before}
+use Rattle.specification.proofs.Subsequences.{subsequence-refl, subsequence-trans}
 use Rattle.element_numbers.specs.Covering.{AreCovering}
 use Rattle.contents_check.specs.Covering.{AreKeptOf, IsFoundIn}
 use Rattle.element_numbers.proofs.Parts.{In-part}
 use Rattle.contents_check.proofs.Parts.{part-skip, part-keep}
-
--- the same names in the same order
-pub subsequence-refl : (w : List NameBytes) → IsSubsequence w w
-subsequence-refl [] = tt
-subsequence-refl (a ∷ w) = inl (refl, subsequence-refl w)
-
-pub subsequence-trans : (a b c : List NameBytes) → IsSubsequence a b → IsSubsequence b c → IsSubsequence a c
-subsequence-trans [] b c s t = tt
-subsequence-trans (x ∷ a) [] c s t = absurd s
-subsequence-trans (x ∷ a) (y ∷ b) [] s t = absurd t
-subsequence-trans (x ∷ a) (y ∷ b) (z ∷ c) (inl p) (inl q) = inl (p.0 ∙ q.0, subsequence-trans a b c p.1 q.1)
-subsequence-trans (x ∷ a) (y ∷ b) (z ∷ c) (inr s) (inl q) = inr (subsequence-trans (x ∷ a) b c s q.1)
-subsequence-trans (x ∷ a) (y ∷ b) (z ∷ c) s (inr t) = inr (subsequence-trans (x ∷ a) (y ∷ b) c s t)
 
 subsequence-later : (b : NameBytes) (w order : List NameBytes) → IsSubsequence w order
     → IsSubsequence w (b ∷ order)

@@ -79,8 +79,7 @@ module _ (h : History) (table : SightTable) (elements : Elements) where
   none_yet =
       record {
         replicas_are = refl;
-        each =
-            All-from_members (IsOnTheWay h table elements) [] (λ w i. absurd i);
+        each = All-from_members (IsOnTheWay h table elements) [] (λ w i. absurd i);
       }
 
   -- the replica at a place is on the way

@@ -296,8 +296,7 @@ module _ (elements : Elements) (numbers : AreNumbered elements) (standings : Sta
             standing = y.0;
             numbered = k.1;
             stands = y.1;
-            live =
-                both_so y.0.shown (is_live y.0) even told;
+            live = both_so y.0.shown (is_live y.0) even told;
           }
 
       from : (a : NameBytes) → (MayLeaveOut → ⊥) → IsShown elements standings.list.items a → In a w
@@ -342,8 +341,7 @@ module _ (elements : Elements) (numbers : AreNumbered elements) (standings : Sta
             number = at.0;
             standing = at.1;
             numbered = numbers.numbered at.0 x.0 x.1;
-            stands =
-                at.2;
+            stands = at.2;
             live = is.0;
           } in
           is.1 ((just.shown at.0 x.0 at.1 x.1 at.2).1 ((shows.1 x.0.name).1 whole s))

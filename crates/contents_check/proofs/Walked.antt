@@ -64,8 +64,7 @@ module _ (h : History) (names : List NameBytes) where
       operations = subst (λ some. AreCovering h [] some) (sym operations) (none-cover h);
       rows = record {
         cut = cut;
-        rows_are =
-            rows ∙ sym (ap (map (λ o. numbers_in names (response h o))) operations);
+        rows_are = rows ∙ sym (ap (map (λ o. numbers_in names (response h o))) operations);
       };
     },
   )

@@ -67,8 +67,7 @@ some-name text word size is count some few ends =
     record {
       some_byte = omega (arith, long, some);
       few_bytes = omega (arith, long, few);
-      each_byte =
-          passing is_name_byte word;
+      each_byte = passing is_name_byte word;
     } in
     let same : take (length a) word ≡ a = ap (λ n. take n word) (length-prefix_len is_name_byte word) in
     let begins : BeginsWith (32 ∷ word) (a ∷ []) =

@@ -30,8 +30,7 @@ cut-more b bs true e c =
       lines = [] ∷ c.lines;
       rest = c.rest;
       each = All-cons IsOneLine [] c.lines no-byte c.each;
-      last =
-          c.last;
+      last = c.last;
       whole = ap (λ l. b ∷ l) c.whole ∙ ap (λ a. a ∷ (text_of c.lines ++ c.rest)) lf;
     }
 cut-more b bs false e c = onto b bs (eqb-false b 10 e) c.lines c.rest c.each c.last c.whole
@@ -43,8 +42,7 @@ cut-more b bs false e c = onto b bs (eqb-false b 10 e) c.lines c.rest c.each c.l
           lines = [];
           rest = b ∷ rest;
           each = All-nil IsOneLine;
-          last =
-              one-more b rest ne last;
+          last = one-more b rest ne last;
           whole = ap (λ l. b ∷ l) whole;
         }
     onto b bs ne (l ∷ lines) rest each last whole =

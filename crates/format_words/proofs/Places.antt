@@ -20,8 +20,7 @@ ended-line Begins Takes text number lines line rest behind whole cut one is begi
       next = line;
       one_line = one;
       more = behind;
-      text_is =
-          text-with text lines line rest behind whole cut;
+      text_is = text-with text lines line rest behind whole cut;
       number = is;
       takes = takes;
     }

@@ -22,8 +22,7 @@ before_shown rows a b before = (
     place = before.place;
     later = before.later;
     in_order = before.in_order;
-    first =
-        before.first;
+    first = before.first;
     second = before.second;
   },
 )
@@ -36,8 +35,7 @@ shown_before rows a b (l, s) =
       later = s.later;
       in_order = s.in_order;
       first = s.first;
-      second =
-          s.second;
+      second = s.second;
     }
 
 module _ (n : ℕ) (rows table : List (List ℕ)) (is : IsBeforeTable n rows table) (known : (a b : ℕ)
@@ -65,8 +63,7 @@ module _ (n : ℕ) (rows table : List (List ℕ)) (is : IsBeforeTable n rows tab
         inl (record {
           known = low;
           reached = (at.reached x).1 (level, (omega arith), reaches);
-          not_near =
-              not_near;
+          not_near = not_near;
         })
   ]
 
@@ -181,6 +178,5 @@ layer_to from more sets y le layer =
     record {
       known = (let k = layer.known in omega arith);
       reached = layer.reached;
-      not_near =
-          layer.not_near;
+      not_near = layer.not_near;
     }

@@ -246,8 +246,7 @@ module _ (rows : List (List ℕ)) (taken : List ℕ) (earlier : (l y x p : ℕ) 
       earlier last.list walk.0 x p inside at (record {
         place = last.place;
         later = last.later;
-        in_order =
-            last.in_order;
+        in_order = last.in_order;
         first = last.first;
         second = last.second;
       }) in

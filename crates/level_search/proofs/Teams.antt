@@ -172,8 +172,7 @@ met v proper sources meets cycle is =
       subst (IsAsLongThrough v cycle) (sym at.2) (record {
         other = named.0;
         through = named.1;
-        long =
-            named.2;
+        long = named.2;
       }),
     )
 
@@ -347,8 +346,7 @@ team_grown b v sources m front w others numbered size bound first out ready numb
               bound = o.0;
               ready = o.2;
               other = λ _. (o.1, numbered k d less);
-              first =
-                  λ e. absurd (omega arith);
+              first = λ e. absurd (omega arith);
             })
         go (inr above) =
             let last : length front ≡ k = omega (arith, long) in
@@ -357,7 +355,6 @@ team_grown b v sources m front w others numbered size bound first out ready numb
             subst (AtPlace b v sources m k) (sym here) (record {
               bound = bound;
               ready = ready;
-              other =
-                  λ less. absurd (omega arith);
+              other = λ less. absurd (omega arith);
               first = λ _. (first, out, number);
             })

@@ -55,8 +55,7 @@ module _ (v : Responses) (proper : AreProper v) where
         place = is.place;
         later = is.later;
         in_order = is.in_order;
-        first =
-            is.first;
+        first = is.first;
         second = is.second;
       }
 
@@ -69,8 +68,7 @@ module _ (v : Responses) (proper : AreProper v) where
               place = before.place;
               later = before.later;
               in_order = before.in_order;
-              first =
-                  before.first;
+              first = before.first;
               second = before.second;
             }),
       )

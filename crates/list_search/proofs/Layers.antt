@@ -53,6 +53,5 @@ pub layered_next : (g : Graph) (s head level : ℕ) (a b : State) → IsLayered 
 layered_next g s head level a b at some good grows expanded unfound =
     record {
       levelled = levelled_next g s head level a b at.levelled some good grows expanded;
-      unfound =
-          unfound;
+      unfound = unfound;
     }

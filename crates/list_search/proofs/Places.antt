@@ -61,8 +61,7 @@ good_marked g s l p st good inside reached missed =
       fits = record {
         marks_len = good.fits.marks_len;
         seen_len = good.fits.seen_len;
-        queue_len =
-            good.fits.queue_len;
+        queue_len = good.fits.queue_len;
       };
       queued = record { queue_len = good.queued.queue_len; room = good.queued.room; seen = good.queued.seen };
       known = good.known;

@@ -81,8 +81,7 @@ good_grown g s y a b good known queued places marks grows =
     record {
       fits = record {
         marks_len = ap (λ m. vec_len m) marks ∙ fits.marks_len;
-        seen_len =
-            places ∙ fits.seen_len;
+        seen_len = places ∙ fits.seen_len;
         queue_len = lengths ∙ places ∙ fits.seen_len;
       };
       queued = queued;

@@ -39,8 +39,7 @@ among_left xs ys list place h =
       spot = h.spot;
       get = get_left xs ys h.at h.spot h.get;
       list_is = h.list_is;
-      place_is =
-          h.place_is;
+      place_is = h.place_is;
     }
 
 among_right : (xs ys : List Spot) (list place : ℕ) → IsAmong ys list place → IsAmong (xs ++ ys) list place
@@ -52,8 +51,7 @@ among_right (x ∷ xs) ys list place h =
       spot = rest.spot;
       get = rest.get;
       list_is = rest.list_is;
-      place_is =
-          rest.place_is;
+      place_is = rest.place_is;
     }
 
 pub in_complete : (list place : ℕ) (r : List ℕ) (x j : ℕ) → j < length r → get_or r j 0 ≡ x

@@ -17,31 +17,18 @@ use Rattle.specification.proofs.Members.{In, Before-from_places, places_of_Befor
 use Rattle.specification.proofs.Members.{Contains-from_In, In-map, All-member, All-from_members}
 use Rattle.specification.proofs.OperationNames.{In_map-from}
 use Rattle.specification.proofs.Dictionary.{IsBefore, IsBefore-from, ComesBefore-from}
-use Rattle.specification.proofs.Subsequences.{Before-subsequence}
+use Rattle.specification.proofs.Subsequences.{Before-subsequence, subsequence-refl, subsequence-trans}
 use Rattle.specification.proofs.ConflictNumber.{conflict_number_is_shortest_cycle}
 use Rattle.element_numbers.specs.Covering.{AreCovering}
 use Rattle.order_graph.specs.Covers.{IsCoveredBy, responses_on}
 use Rattle.element_numbers.proofs.Parts.{In-part}
-
-pub subsequence-trans : (a b c : List NameBytes) → IsSubsequence a b → IsSubsequence b c → IsSubsequence a c
-subsequence-trans [] b c s t = tt
-subsequence-trans (x ∷ a) [] c s t = absurd s
-subsequence-trans (x ∷ a) (y ∷ b) [] s t = absurd t
-subsequence-trans (x ∷ a) (y ∷ b) (z ∷ c) (inl p) (inl q) = inl (p.0 ∙ q.0, subsequence-trans a b c p.1 q.1)
-subsequence-trans (x ∷ a) (y ∷ b) (z ∷ c) (inr s) (inl q) = inr (subsequence-trans (x ∷ a) b c s q.1)
-subsequence-trans (x ∷ a) (y ∷ b) (z ∷ c) s (inr t) = inr (subsequence-trans (x ∷ a) (y ∷ b) c s t)
-
-subsequence-refl : (w : List NameBytes) → IsSubsequence w w
-subsequence-refl [] = tt
-subsequence-refl (a ∷ w) = inl (refl, subsequence-refl w)
 
 -- responses cover themselves
 pub covered-by-same : (v w : Responses) → w ≡ v → IsCoveredBy v w
 covered-by-same v w same =
     subst (λ (u : Responses). IsCoveredBy v u) (sym same) (record {
       elements = refl;
-      kept =
-          λ r i. i;
+      kept = λ r i. i;
       covered = λ r i. (r, i, inl refl, subsequence-refl r.names);
     })
 

@@ -33,8 +33,7 @@ module _ (names : List NameBytes) where
   none-kept =
       record {
         count = length-replicate (length names) None;
-        each =
-            λ x lt. get_or-replicate (length names) x None None lt;
+        each = λ x lt. get_or-replicate (length names) x None None lt;
       }
 
   pub all-new : (kept : List ℕ) (anew : List (Option ℕ)) → AreNew kept anew

@@ -194,8 +194,7 @@ module _ (names among : List NameBytes) (kept : List ℕ) (shown : List Operatio
         few.lists,
         length-map {B = Returned} whole.returned (λ (r : Returned). record {
           by = r.by;
-          names =
-              filter (λ x. list_any (bytes_eq x) among) r.names;
+          names = filter (λ x. list_any (bytes_eq x) among) r.names;
         }),
       );
       places = omega (arith, few.places, places-left names among once whole.returned);

@@ -113,8 +113,7 @@ module _ (v : Responses) (proper : AreProper v) where
             at = at;
             name = a;
             there = there;
-            named =
-                subst (λ n. slice_get v.elements n ≡ Some a) number s.1;
+            named = subst (λ n. slice_get v.elements n ≡ Some a) number s.1;
           }
 
       go : (l < length v.returned) ⊎ (length v.returned ≤ l) → IsNameAt v l p x

@@ -35,8 +35,7 @@ module _ {S : Type 0} (n : ℕ) where
       record {
         bounded = omega arith;
         ended = λ p. mine.ended (omega arith);
-        finished =
-            mine.finished;
+        finished = mine.finished;
         lowered = mine.lowered;
         nothing = λ z. absurd (omega arith);
       } in
@@ -44,8 +43,7 @@ module _ {S : Type 0} (n : ℕ) where
       record {
         bounded = omega arith;
         ended = λ p. mine.ended (omega arith);
-        finished =
-            λ f. absurd (off f);
+        finished = λ f. absurd (off f);
         lowered = mine.lowered;
         nothing = λ z. absurd (omega arith);
       } in (
@@ -97,8 +95,7 @@ module _ {S : Type 0} (n : ℕ) where
       record {
         bounded = omega arith;
         ended = λ p. absurd (omega arith);
-        finished =
-            λ f. absurd (off f);
+        finished = λ f. absurd (off f);
         lowered = top;
         nothing = λ _. (refl, refl);
       } in (
@@ -139,8 +136,7 @@ module _ {S : Type 0} (n : ℕ) where
           record {
             bounded = omega arith;
             ended = λ p. absurd (omega arith);
-            finished =
-                λ f. absurd (off f);
+            finished = λ f. absurd (off f);
             lowered = le_refl NO_OFFER;
             nothing = λ z. absurd (omega arith);
           }

@@ -107,8 +107,7 @@ module _ {S : Type 0} (n : ℕ) where
               bounded = mine.bounded;
               ended = mine.ended;
               finished = λ _. full;
-              lowered =
-                  mine.lowered;
+              lowered = mine.lowered;
               nothing = mine.nothing;
             }),
         (refl, (λ less. absurd (omega arith)), λ _. refl),
@@ -156,8 +155,7 @@ module _ {S : Type 0} (n : ℕ) where
               bounded = omega arith;
               ended = λ _. omega arith;
               finished = λ _. omega arith;
-              lowered =
-                  mine.lowered;
+              lowered = mine.lowered;
               nothing = mine.nothing;
             }),
         (refl, (λ less. absurd (omega arith)), λ _. refl),
@@ -185,11 +183,9 @@ module _ {S : Type 0} (n : ℕ) where
             record {
               bounded = mine.bounded;
               ended = λ p. absurd (omega arith);
-              finished =
-                  λ f. absurd (left (mine.finished f));
+              finished = λ f. absurd (left (mine.finished f));
               lowered = mine.lowered;
-              nothing =
-                  λ z. absurd (omega arith);
+              nothing = λ z. absurd (omega arith);
             }),
         (refl, (λ _. (refl, lower)), λ full. absurd (omega arith)),
       ))
@@ -215,8 +211,7 @@ module _ {S : Type 0} (n : ℕ) where
               bounded = mine.bounded;
               ended = mine.ended;
               finished = mine.finished;
-              lowered =
-                  le_refl m;
+              lowered = le_refl m;
               nothing = mine.nothing;
             }),
         (refl, mine.lowered, best_small n c m s.views h),
@@ -251,8 +246,7 @@ module _ {S : Type 0} (n : ℕ) where
                 bounded = mine.bounded;
                 ended = mine.ended;
                 finished = mine.finished;
-                lowered =
-                    omega arith;
+                lowered = omega arith;
                 nothing = λ z. absurd (omega arith);
               };
             }),

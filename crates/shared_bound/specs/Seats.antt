@@ -31,8 +31,7 @@ fresh_seat bound is_first low shares_left =
       offered = [];
       low = low;
       done = false;
-      out =
-          0;
+      out = 0;
       shares_left = shares_left;
     }
 

@@ -150,8 +150,7 @@ Decides-cycle v c =
     Decides-like (is_cycle v c)
     (λ k. record {
       some = k.0;
-      shown =
-          All-from_members {X = NameBytes × NameBytes} (λ p. StandsBefore v p.0 p.1) (ring c) k.1;
+      shown = All-from_members {X = NameBytes × NameBytes} (λ p. StandsBefore v p.0 p.1) (ring c) k.1;
     })
     (λ is. (
       is.some,

@@ -40,8 +40,7 @@ cut-at text good b rest begins whole is = (
     good = good;
     begins = begins;
     rest = b ∷ rest;
-    some_byte =
-        omega arith;
+    some_byte = omega arith;
     one_line = whole;
     text_is = is;
     number = refl;
@@ -135,8 +134,7 @@ from-second text version [] [] each last is =
       inr (record {
         good = header_line version ∷ [];
         begins = header-begins version;
-        text_is =
-            is ∙ append-nil (text_of (header_line version ∷ []));
+        text_is = is ∙ append-nil (text_of (header_line version ∷ []));
         number = refl;
         missing = tt;
       }),

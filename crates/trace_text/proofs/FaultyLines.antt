@@ -93,8 +93,7 @@ empty-legal n low high = record {
       λ r. record {
         entries = omega arith;
         inserts = omega arith;
-        names =
-            All-nil (λ (b : Body). length (response_of b) ≤ MOST_NAMES);
+        names = All-nil (λ (b : Body). length (response_of b) ≤ MOST_NAMES);
         places = omega arith;
       };
   receipts = λ earlier later e h. absurd (no-split earlier later e h);

@@ -59,10 +59,8 @@ place-of-fault reader text fault is fed =
       good = there.good;
       begins = there.begins;
       rest = there.next ++ 10 ∷ there.more;
-      text_is =
-          there.text_is ∙ append_assoc (text_of there.good) there.next (10 ∷ there.more);
-      number =
-          there.number;
+      text_is = there.text_is ∙ append_assoc (text_of there.good) there.next (10 ∷ there.more);
+      number = there.number;
     }
 
 not-cut : (text : List ℕ) (line : ℕ) (cause : format.Cause) → HasWholeFault text line cause

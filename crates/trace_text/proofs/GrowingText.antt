@@ -135,11 +135,9 @@ cut-there lines (Some kept) text number begins ends some is =
       good = lines;
       begins = begins;
       rest = ends.0;
-      some_byte =
-          ends.1.stands.some (some-kept kept.whole kept.word some);
+      some_byte = ends.1.stands.some (some-kept kept.whole kept.word some);
       one_line = ends.2;
-      text_is =
-          ends.3;
+      text_is = ends.3;
       number = is;
     }
 cut-there lines None text number begins ends some is =
@@ -149,8 +147,7 @@ cut-there lines None text number begins ends some is =
       rest = ends.0;
       some_byte = ends.1;
       one_line = ends.2;
-      text_is =
-          ends.3;
+      text_is = ends.3;
       number = is;
     }
 

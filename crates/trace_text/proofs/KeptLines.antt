@@ -40,8 +40,7 @@ stands-itself line =
       faults = λ lines more cause f. f;
       right = λ lines more begins. refl;
       some = λ h. h;
-      none =
-          λ h. h;
+      none = λ h. h;
     }
 
 pub stands-through : (a b c : Line) → StandsFor a b → StandsFor b c → StandsFor a c
@@ -179,8 +178,7 @@ one-name =
     All-cons IsName (codes "a") [] (record {
       some_byte = omega arith;
       few_bytes = omega arith;
-      each_byte =
-          refl;
+      each_byte = refl;
     }) (All-nil IsName)
 
 -- what stands behind a long front in an entry's line

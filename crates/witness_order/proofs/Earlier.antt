@@ -63,8 +63,7 @@ module _ (v : Responses) (proper : AreProper v) (successors : List (List ℕ))
           later = two.place + 1;
           in_order = omega arith;
           first = two.first;
-          second =
-              two.second;
+          second = two.second;
         } in (
           s.0,
           state.left_below s.0 s.1,

@@ -197,8 +197,7 @@ module _ (v : Responses) (proper : AreProper v) (successors : List (List ℕ))
             place = two.place;
             later = two.place + 1;
             in_order = omega arith;
-            first =
-                two.first;
+            first = two.first;
             second = two.second;
           } in
           let named = named-stands v proper two.list two.place (number v.elements a) two.first in

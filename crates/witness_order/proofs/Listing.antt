@@ -162,8 +162,7 @@ neighbours-more rows l x y = (
         let here : a.list ≡ l = omega (arith, lt, le) in
         inr (subst (λ m. IsNext (row rows m) x y) here (record {
           place = a.place;
-          within =
-              a.second.within;
+          within = a.second.within;
           first = a.first.here;
           second = a.second.here;
         }))

@@ -22,8 +22,7 @@ judged {h = h} {v = v} legal verdict report =
     record {
       legal = legal-from h legal;
       verdict = verdict-from h (legal-from h legal) v verdict;
-      report =
-          report;
+      report = report;
     }
 
 decides : (h : History) (v : Verdict) → is_legal h ≡ true → is_verdict h v ≡ true → DecidesSpecifications h v

@@ -60,10 +60,8 @@ unfolding digits
 missing_replicas =
     inr (record {
       good = codes "trace 1" ∷ [];
-      begins =
-          (one, recording 1 [], spelled (recording 1 []) refl refl, codes "replicas 1" ∷ [], refl);
-      text_is =
-          refl;
+      begins = (one, recording 1 [], spelled (recording 1 []) refl refl, codes "replicas 1" ∷ [], refl);
+      text_is = refl;
       number = refl;
       missing = tt;
     })

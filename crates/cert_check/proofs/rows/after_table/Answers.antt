@@ -37,8 +37,7 @@ pub note_included-requires : goal.note_included-requires
 note_included-requires c =
     let inv = c.loop-i.invariant in
     record {
-      width =
-          subst (λ (m : ℕ). HaveWidth (m / 64 + 1) c.loop-i.table) (sym inv.table.len) inv.table.width;
+      width = subst (λ (m : ℕ). HaveWidth (m / 64 + 1) c.loop-i.table) (sym inv.table.len) inv.table.width;
     }
 
 pub returns : goal.returns

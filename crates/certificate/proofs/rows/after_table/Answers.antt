@@ -39,8 +39,7 @@ pub note_included-requires : goal.note_included-requires
 note_included-requires c =
     let inv = c.loop-i.invariant in
     record {
-      width =
-          subst (λ (m : ℕ). HaveWidth (m / 64 + 1) c.loop-i.table) (sym inv.table.len) inv.table.width;
+      width = subst (λ (m : ℕ). HaveWidth (m / 64 + 1) c.loop-i.table) (sym inv.table.len) inv.table.width;
     }
 
 pub returns : goal.returns
@@ -54,6 +53,5 @@ returns c =
     subst (IsAfterTable v) (sym c.note_included.ensures) (record {
       len = all.len;
       width = all.width;
-      shown =
-          λ a b low high. all.shown a b low;
+      shown = λ a b low high. all.shown a b low;
     })

@@ -14,8 +14,7 @@ returns-clause-answer g c =
     c.in_ok-recording.ensures.ok record {
       consumed = cert.0;
       ended = cert.1;
-      same =
-          c.deref.ensures.value;
+      same = c.deref.ensures.value;
     } c.in_ok-output.ensures)
     c.write_output.ensures.ok
 
@@ -29,8 +28,7 @@ returns-clause-write g c =
     c.in_ok-recording.ensures.ok record {
       consumed = cert.0;
       ended = cert.1;
-      same =
-          c.deref.ensures.value;
+      same = c.deref.ensures.value;
     } c.in_ok-output.ensures)
     c.write_output.ensures.err
 

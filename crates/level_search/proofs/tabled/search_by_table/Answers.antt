@@ -92,8 +92,7 @@ loop-level-init g c =
       };
       fits = record {
         near = begun.near_width ∙ fits.near;
-        reached =
-            begun.reached_width ∙ fits.reached;
+        reached = begun.reached_width ∙ fits.reached;
         next = begun.next_width ∙ fits.next;
       };
       bound = omega arith;

@@ -28,8 +28,7 @@ numbers-preserved c =
     those_more P x c.numbers.numbers.items (found.1, (found.2, found.3)) past in
     record {
       within = omega (arith, found.1);
-      those =
-          subst (AreThoseBelow P (x + 1)) (sym c.in_ok-push.ensures.items) more;
+      those = subst (AreThoseBelow P (x + 1)) (sym c.in_ok-push.ensures.items) more;
     }
 
 pub returns : goal.returns

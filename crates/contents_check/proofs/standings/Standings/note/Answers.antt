@@ -15,8 +15,7 @@ returns c = record {
   each = each_written (λ (y : Standing). record {
     inserted = y.inserted;
     deleted = y.deleted;
-    shown =
-        c.args.shown;
+    shown = c.args.shown;
   }) c.args.self.now.list.items c.args.number c.index_mut.result.now
       (slice_get-within c.args.self.now.list.items c.args.number _ c.requires.within
       c.index_mut.ensures.value);

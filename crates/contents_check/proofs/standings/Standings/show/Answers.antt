@@ -160,8 +160,7 @@ returns-then-is_part-clause-shows c =
       (just.once, just.known),
       record {
         just = just;
-        row_is =
-            c.runs.invariant.row ∙ ap (numbers_in (element_names c.args.elements.now)) all;
+        row_is = c.runs.invariant.row ∙ ap (numbers_in (element_names c.args.elements.now)) all;
       },
       c.runs.invariant.part c.if-is_part.true (all_found w (drop c.runs.j c.args.last.now) c.runs.i end),
     )
@@ -182,7 +181,6 @@ returns-else-is_part-clause-shows c =
       (just.once, just.known),
       record {
         just = just;
-        row_is =
-            c.runs.invariant.row ∙ ap (numbers_in (element_names c.args.elements.now)) all;
+        row_is = c.runs.invariant.row ∙ ap (numbers_in (element_names c.args.elements.now)) all;
       },
     )

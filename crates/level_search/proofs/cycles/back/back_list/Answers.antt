@@ -23,8 +23,7 @@ places-preserved c =
               from = omega arith;
               element = old.element;
               stands = old.stands;
-              is_marked =
-                  old.is_marked;
+              is_marked = old.is_marked;
             }
         | inr here ↦ here
       ];
@@ -48,8 +47,7 @@ places-preserved c =
                     place = j;
                     later = seen.at;
                     in_order = omega arith;
-                    first =
-                        new.1;
+                    first = new.1;
                     second = seen.stands;
                   };
               is_marked = seen.is_marked;

@@ -42,7 +42,6 @@ returns-clause-least c = λ y leads marked.
     (record {
       later = leads.later;
       in_order = omega arith;
-      stands =
-          subst (λ l. Stands rows l leads.later y) (sym among.list_is) leads.second;
+      stands = subst (λ l. Stands rows l leads.later y) (sym among.list_is) leads.second;
     })
     marked

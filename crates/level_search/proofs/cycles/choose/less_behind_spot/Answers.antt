@@ -23,8 +23,7 @@ returns-in-Some-clause-first c =
               list = spot.list;
               place = spot.place;
               later = after.later;
-              in_order =
-                  after.in_order;
+              in_order = after.in_order;
               first = here;
               second = after.stands;
             },
