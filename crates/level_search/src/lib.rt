@@ -41,6 +41,3 @@ pub use witnesses::{Step, Steps};
 
 /// How many workers may search side by side: each has a seat at the shared bound.
 pub const MOST_WORKERS: u32 = 64;
-
-#[cfg(test)]
-mod tests;

@@ -12,6 +12,3 @@ mod successors;
 
 pub use least_order::{order, taken};
 pub use witnesses::Order;
-
-#[cfg(test)]
-mod tests;

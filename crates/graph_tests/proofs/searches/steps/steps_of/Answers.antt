@@ -1,7 +1,7 @@
 use Rattle.std.proofs.Common.{ℕ, Option, subst}
 use Rattle.specification.specs.Conflict.{IsConflictNumber}
 use Rattle.specification.proofs.ConflictNumber.{shortest_from_number}
-use Rattle.level_search.proofs.tests.steps.steps_of.Goals as goal
+use Rattle.graph_tests.proofs.searches.steps.steps_of.Goals as goal
 
 pub least-requires : goal.least-requires
 least-requires g c =

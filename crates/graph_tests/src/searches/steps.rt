@@ -5,8 +5,8 @@ ghost use Rattle.specification.specs.Search.{IsShortestLength};
 use super::conflicts::{PAIR_APART, number_of};
 use super::gates::Hold;
 use super::graphs::ask_of;
-use crate::{Conflict, Gate, NoGate, SearchFault, Step, Steps, least_conflict, least_cycle};
 use events::{Memory, Name, OpName};
+use level_search::{Conflict, Gate, NoGate, SearchFault, Step, Steps, least_conflict, least_cycle};
 use order_graph::OrderGraph;
 use sample_recordings::{OPPOSITE_PAIR, RING_OF_FOUR, THREE_WAY_CYCLE, recording};
 use std::alloc::Global;
@@ -120,7 +120,7 @@ const WORKED: &[(&str, &[Shown])] = &[
 ];
 
 #[test]
-fn steps_of_worked_recordings(rt: HostRuntime) -> Result<(), Fail> {
+fn least_cycles_of_worked_recordings(rt: HostRuntime) -> Result<(), Fail> {
     for (text, expected) in WORKED.iter().copied() {
         let steps = ask_of(
             &rt,

@@ -8,15 +8,13 @@ ghost use Rattle.level_search.specs.Balls.{FitsSets};
 
 use super::graphs::ask_of;
 use super::sources::FallingBound;
-use crate::before_table::BeforeTable;
-use crate::tabled::{Sets, search_by_table};
-use crate::workers::bound_seat::BoundSeat;
-use crate::{BoundSource, PlainBound};
 use events::Memory;
+use level_search::{BeforeTable, BoundSource, PlainBound, Sets, search_by_table};
 use order_graph::{Looked, OrderGraph};
 use sample_recordings::{RING_OF_FOUR, recording};
 use shared_bound::{Bound, NO_OFFER, Seat};
 use std::alloc::Global;
+use std::marker::Model;
 use std::sync::atomic::{AtomicU64, Ordering};
 use std::test::Fail;
 use std::thread;
@@ -108,12 +106,13 @@ impl Meeting {
         }
     }
 
-    /// Another thread offers this length once the first has asked again.
-    fn offer(&self, mut seat: BoundSeat, length: u32)
-        requires { length < NO_OFFER }
+    /// Another thread offers this length, from its seat, once the first has asked again.
+    fn offer(&self, bound: &Bound, mut seat: Seat, length: u32)
+        requires bound { seat.bound ≡ bound.now }
+        requires length { length < NO_OFFER }
     {
         wait_for(&self.asked, 2);
-        seat.offer(length);
+        bound.offer(&mut seat, length);
         self.offered.fetch_add(1, Ordering::SeqCst);
     }
 }
@@ -127,29 +126,41 @@ fn wait_for(count: &AtomicU64, number: u64) {
     }
 }
 
-/// A worker's seat at the shared bound, which lets another worker offer between its first answer and the
-/// second.
+/// The bound that all workers share, and one worker's seat, which lets another worker offer between its first
+/// answer and the second. Contracts see the seat.
 #[derive(Drop)]
 struct MetSeat<'a> {
-    seat: BoundSeat<'a>,
+    bound: &'a Bound,
+    seat: Seat,
     meeting: &'a Meeting,
+}
+
+impl<'a> Model for MetSeat<'a> {
+    ghost use Rattle.std.specs.Prelude.{◌≡◌};
+    ghost use Rattle.shared_bound.specs.Seats.{SeatView};
+
+    ghost Value = { SeatView };
+
+    ghost view = { λ a. a.seat };
+
+    ghost invariant = { λ a. a.seat.bound ≡ a.bound.now };
 }
 
 impl<'a> BoundSource for MetSeat<'a> {
     ghost use Rattle.std.proofs.Common.{◌≡◌, refl, ◌∙◌, ap};
     ghost use Rattle.shared_bound.specs.Seats.{SeatView};
 
-    ghost last = { λ a. a.seat.low };
+    ghost last = { λ a. a.low };
 
-    ghost reads = { λ a b. b.seat ≡ record a.seat { low = b.seat.low } };
+    ghost reads = { λ a b. b ≡ record a { low = b.low } };
 
     ghost reads_none = { λ a. refl };
 
-    ghost reads_more = { λ a b c p q. q ∙ ap (λ (s : SeatView). record s { low = c.seat.low }) p };
+    ghost reads_more = { λ a b c p q. q ∙ ap (λ (s : SeatView). record s { low = c.low }) p };
 
     fn best(&mut self) -> u32 {
         self.meeting.ask();
-        self.seat.best()
+        self.bound.best(&mut self.seat)
     }
 }
 
@@ -174,16 +185,17 @@ fn found_beside_an_offer(
     requires { length < NO_OFFER }
 {
     let (bound, mut first) = bound(alloc)?;
-    let other = BoundSeat::new(&bound, bound.share(&mut first));
+    let other = bound.share(&mut first);
     let meeting = Meeting::new();
     let mut seat = MetSeat {
-        seat: BoundSeat::new(&bound, first),
+        bound: &bound,
+        seat: first,
         meeting: &meeting,
     };
     let (found, ()) = thread::join(
         rt,
         || found_by_table(alloc, graph, &mut seat),
-        || meeting.offer(other, length),
+        || meeting.offer(&bound, other, length),
     );
     let (found, looked) = found?;
     Ok((found, looked, meeting.asked.load(Ordering::SeqCst)))

@@ -1,8 +1,7 @@
 //! The least orders of worked recordings.
 
-use super::orders::least_order;
+use super::answers::least_order;
 use super::plain::first_order;
-use crate::Order;
 use events::Name;
 use sample_recordings::{
     EMPTY, OPPOSITE_PAIR, PAST_A_NEIGHBOUR, READ_THE_OTHER_WAY, RING_OF_FOUR, THREE_WAY_CYCLE,
@@ -11,6 +10,7 @@ use sample_recordings::{
 use std::alloc::Global;
 use std::test::Fail;
 use std::thread::Threads;
+use witness_order::Order;
 
 pub const TWO_REPLICAS: &str = "trace 1\nreplicas 2\n0 ins a 0 : a\n1 ins b 0 : b\n";
 

@@ -1,6 +1,6 @@
 //! The least orders of random recordings, beside a plain search for them.
 
-use super::orders::least_order;
+use super::answers::least_order;
 use super::plain::first_order;
 use super::worked::is_same;
 use events::Recording;

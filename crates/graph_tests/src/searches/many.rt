@@ -3,8 +3,8 @@ ghost use Rattle.std.specs.Prelude.{◌<◌};
 
 use super::conflicts::number_of;
 use super::graphs::ask_of;
-use crate::Gate;
 use events::{Body, Name, Recording, Response};
+use level_search::Gate;
 use sample_recordings::{THREE_WAY_CYCLE, add, push, recording};
 use std::alloc::Global;
 use std::sync::atomic::{AtomicU64, Ordering};

@@ -1,6 +1,6 @@
 //! A plain, slow program: it tries the permutations of all elements in dictionary order until one follows
 //! every response.
-use super::orders::push_name;
+use super::answers::push_name;
 use events::{Body, Name, OpName, Recording, Response};
 use sample_recordings::MOST_ELEMENTS;
 use std::alloc::Global;

@@ -3,8 +3,8 @@ ghost use Rattle.std.specs.Prelude.{IfOk, length};
 ghost use Rattle.order_graph.specs.Lists.{lists_of};
 ghost use Rattle.level_search.specs.Tables.{IsBeforeTable};
 
-use crate::BeforeTable;
 use events::{Memory, Recording};
+use level_search::BeforeTable;
 use order_graph::OrderGraph;
 use sample_recordings::{Random, check_sound, generated, mostly_ordered, stands_before};
 use std::alloc::Global;

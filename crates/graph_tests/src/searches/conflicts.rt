@@ -3,7 +3,7 @@ ghost use Rattle.std.specs.Prelude.{IfOk};
 ghost use Rattle.specification.specs.Conflict.{IsConflictNumber};
 
 use super::graphs::ask_of;
-use crate::{Gate, NoGate, SearchFault, conflict_number};
+use level_search::{Gate, NoGate, SearchFault, conflict_number};
 use order_graph::OrderGraph;
 use sample_recordings::{EMPTY, OPPOSITE_PAIR, RING_OF_FOUR, THREE_WAY_CYCLE, recording};
 use std::alloc::Global;

@@ -1,7 +1,7 @@
 //! Generated recordings, searched by one worker and by several.
 use super::conflicts::number_of;
 use super::plain::{Table, ask_next, shortest};
-use crate::{NoGate, SearchFault};
+use level_search::{NoGate, SearchFault};
 use order_graph::OrderGraph;
 use sample_recordings::Random;
 use std::alloc::Global;

@@ -3,8 +3,8 @@
 use super::graphs::ask_of;
 use super::plain::{Table, ask_next, shortest};
 use super::sources::FallingBound;
-use crate::{BoundSource, PlainBound, Scratch, distances, search};
 use events::Memory;
+use level_search::{BoundSource, PlainBound, Scratch, distances, search};
 use order_graph::OrderGraph;
 use sample_recordings::{OPPOSITE_PAIR, RING_OF_FOUR, Random, recording};
 use std::alloc::Global;

@@ -1,12 +1,12 @@
-//! Tests of searches, conflict numbers and cycles.
+//! Tests of the searches, over lists and by the table, of workers and of least cycles.
 
+mod before;
 mod conflicts;
 mod gates;
 mod graphs;
 mod many;
 mod plain;
 mod searches;
-mod shown;
 mod sources;
 mod steps;
 mod tables;

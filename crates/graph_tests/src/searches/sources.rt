@@ -1,5 +1,5 @@
 //! Bounds of tests.
-use crate::BoundSource;
+use level_search::BoundSource;
 
 /// A bound that answers one value at first, and a lower one from then on.
 #[derive(Drop)]

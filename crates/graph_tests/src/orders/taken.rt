@@ -1,6 +1,6 @@
 //! What is taken in turn of worked recordings, by the elements' numbers.
 
-use super::orders::taken_and_order;
+use super::answers::taken_and_order;
 use super::worked::{SHOWN_BESIDE_NONE, TWO_REPLICAS};
 use sample_recordings::{EMPTY, OPPOSITE_PAIR, PAST_A_NEIGHBOUR, READ_THE_OTHER_WAY, recording};
 use std::alloc::Global;

@@ -2,13 +2,13 @@
 //! memory is made again.
 ghost use Rattle.specification.specs.Faults.{IsSound};
 
-use crate::{Order, order, taken};
 use events::{Memory, Name, Recording};
 use order_graph::OrderGraph;
 use sample_recordings::check_sound;
 use std::alloc::Global;
 use std::test::Fail;
 use std::thread::Threads;
+use witness_order::{Order, order, taken};
 
 fn found_of(alloc: Global, recording: &Recording) -> Result<(Vec<u32>, Option<Order>), Memory>
     requires { IsSound recording.now }

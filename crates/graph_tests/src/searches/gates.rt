@@ -1,6 +1,6 @@
 //! Which calls a gate sees, and searches that it holds up.
 use super::conflicts::number_on;
-use crate::Gate;
+use level_search::Gate;
 use sample_recordings::{RING_OF_FOUR, THREE_WAY_CYCLE};
 use std::alloc::Global;
 use std::sync::atomic::{AtomicU64, Ordering};
