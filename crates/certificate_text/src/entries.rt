@@ -85,22 +85,6 @@ fn after_step(line: &[u8]) -> Result<&[u8], Shape>
     if is_step(word) { Ok(rest) } else { Err(Shape) }
 }
 
-/// `step`, two names and an operation.
-#[tactic(auto, unfolding(crate::specs::Reading::step_at, format_words::specs::Reading::after_word, format_words::specs::Reading::name_at, format_words::specs::Reading::operation_at))]
-pub fn step_of(line: &[u8]) -> Result<Step, Shape>
-    ensures { Says (λ step. step) result (step_at (words_of line.now)) }
-{
-    let rest = after_step(line)?;
-    let (word, rest) = next_word(rest)?;
-    let from = name_of(word)?;
-    let (word, rest) = next_word(rest)?;
-    let to = name_of(word)?;
-    let (word, rest) = next_word(rest)?;
-    let shown = operation_of(word)?;
-    end(rest)?;
-    Ok(Step { from, to, shown })
-}
-
 /// A step whose two names are parts of its line.
 #[derive(Clone, Copy)]
 pub struct StepWords<'a> {
@@ -130,6 +114,17 @@ pub fn step_words(line: &[u8]) -> Result<StepWords<'_>, Shape>
     let shown = operation_of(word)?;
     end(rest)?;
     Ok(StepWords { from, to, shown })
+}
+
+/// The same step, with names of its own.
+pub fn step_of(line: &[u8]) -> Result<Step, Shape>
+    ensures { Says (λ step. step) result (step_at (words_of line.now)) }
+{
+    let StepWords { from, to, shown } = step_words(line)?;
+    // Both are names, so neither of these fails.
+    let from = name_of(from)?;
+    let to = name_of(to)?;
+    Ok(Step { from, to, shown })
 }
 
 /// Goes on by one word: `/` ends a layer, a name is added to it. What it gives is the layer from then on.

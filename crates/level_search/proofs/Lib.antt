@@ -1,4 +1,5 @@
--- Lemmas on the table: sets of bits, and the places of lists that are noted.
+-- Lemmas on the table: lists turned round, and what a row has.
+pub mod Turned
 pub mod TableRows
 -- Lemmas on the search over it, and on counts of its looks.
 pub mod BallLemmas
