@@ -14,7 +14,8 @@ use Rattle.element_numbers.specs.Cuts.{rows_of, IsCut}
 use Rattle.element_numbers.specs.declared.covering.Covering.{Covering}
 use Rattle.contents_check.specs.Covering.{first_operations, AreKeptOf, IsFoundIn}
 use Rattle.contents_check.specs.Walk.{response_before, IsKept}
-use Rattle.contents_check.proofs.CoverSteps.{one_kept, one_left_out, subsequence-trans}
+use Rattle.specification.proofs.Subsequences.{subsequence-trans}
+use Rattle.contents_check.proofs.CoverSteps.{one_kept, one_left_out}
 
 pub on_ok-three : {X E : Type 0} {A B C D : Type 0} (r : Result X E) → (A → B → C → D) → OnOk r A → OnOk r B
     → OnOk r C → OnOk r D
