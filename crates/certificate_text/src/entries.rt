@@ -120,11 +120,15 @@ pub fn step_words(line: &[u8]) -> Result<StepWords<'_>, Shape>
 pub fn step_of(line: &[u8]) -> Result<Step, Shape>
     ensures { Says (λ step. step) result (step_at (words_of line.now)) }
 {
-    let StepWords { from, to, shown } = step_words(line)?;
-    // Both are names, so neither of these fails.
-    let from = name_of(from)?;
-    let to = name_of(to)?;
-    Ok(Step { from, to, shown })
+    match step_words(line) {
+        // Both are names, so neither `name_of` fails.
+        Ok(step) => Ok(Step {
+            from: name_of(step.from)?,
+            to: name_of(step.to)?,
+            shown: step.shown,
+        }),
+        Err(Shape) => Err(Shape),
+    }
 }
 
 /// Goes on by one word: `/` ends a layer, a name is added to it. What it gives is the layer from then on.
