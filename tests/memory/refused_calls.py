@@ -81,7 +81,7 @@ TESTS = {
     "numbers_of": ("graph_tests", "steps_of_worked_recordings"),
     "places_of": ("graph_tests", "steps_of_worked_recordings"),
     "BitSet::new": ("bit_tables", "unions_and_subsets"),
-    "BitSet::outside": ("bit_tables", "the_numbers_that_another_set_lacks"),
+    "BitSet::difference": ("bit_tables", "the_numbers_that_another_set_lacks"),
     "BitSet::difference_from": ("bit_tables", "layers_of_numbers"),
     "empty_lists": ("bit_tables", "the_rule_from_a_number_on"),
     "empty_rows": ("bit_tables", "what_stands_after_what"),
