@@ -124,6 +124,8 @@ TESTS = {
     "Registry::add": ("sessions", "registry_of_64"),
     "Registry::names": ("sessions", "registry_of_64"),
     "rehearse": ("program", "live"),
+    "rehearse_watched": ("program", "live"),
+    "verdict_and_graph": ("certificate", "certificates_with_their_verdicts"),
     "run": ("finder_cli", "worked_recordings", "any_number_of_workers"),
     "run_cert": ("program", "cert"),
     "run_verify": ("program", "verify"),
