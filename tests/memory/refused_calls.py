@@ -59,7 +59,7 @@ TESTS = {
     "format_words::push_name": ("format_words", "words_stand_behind_each_other"),
     "format_words::push_names": ("format_words", "words_stand_behind_each_other"),
     "format_words::names": ("format_words", "names_are_read_to_the_end"),
-    "format_words::response": ("format_words", "a_response_is_read_to_the_end", "a_long_response_is_read_along_another"),
+    "format_words::response": ("format_words", "a_response_is_read_to_the_end"),
     "push_list": ("certificate_text", "certificates_are_read_and_written_again"),
     "push_faulty": ("certificate_text", "certificates_are_read_and_written_again"),
     "push_order": ("certificate_text", "certificates_are_read_and_written_again"),
