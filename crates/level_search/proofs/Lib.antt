@@ -1,5 +1,5 @@
--- Lemmas on the table: lists turned round, and what a row has.
-pub mod Turned
+-- Lemmas on the table: sets of bits, and the places of lists that are noted.
+pub mod Noting
 pub mod TableRows
 -- Lemmas on the search over it, and on counts of its looks.
 pub mod BallLemmas
