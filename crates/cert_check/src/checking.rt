@@ -24,10 +24,9 @@ use trace_text::{Cause, read};
 /// each costs `n / 64` steps, and each of its places a step, and one for each new element behind it, up to
 /// 64; where there are more, or its own is new, `n / 64` steps. New is an element that the one before has
 /// not, or in another order. It starts no thread. Its memory is linear in the texts but for that table, which
-/// takes `n * n / 8` bytes, 2 MB for 4,096 elements and 512 MB for 65,536. Out of memory is answered only
-/// where a
-/// line of the trace takes memory, or where the trace spells a recording and the certificate's text a
-/// certificate.
+/// takes `n * n / 8` bytes, 2 MiB for 4,096 elements and 512 MiB for 65,536. Out of memory is answered only
+/// where a line of the trace takes memory, or where the trace spells a recording and the certificate's text
+/// a certificate.
 pub fn check<H: Threads + Sync>(
     rt: &H,
     alloc: Global,

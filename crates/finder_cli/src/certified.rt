@@ -38,8 +38,8 @@ pub fn run_cert<H: Threads + Sync, R: Reader + Drop, W: Writer + Drop>(
     ensures faults { IfErr result IsOfRun }
     ensures read { IfErr result (λ fault. fault ≡ RunFault.Read → IsClosed source.new) }
     ensures memory { IfErr result (λ fault. fault ≡ RunFault.Memory → source.new.failed ≡ false) }
-    // Out of memory only at a piece with a line whose reading takes memory, or one that comes in the midst of
-    // a line; or behind the whole text.
+    // Out of memory only at a piece by which a line had come whose reading takes memory, or that comes in the
+    // midst of a line; or behind the whole text.
     ensures place { IfErr result (λ fault. fault ≡ RunFault.Memory → RunsOut source.old source.new) }
     ensures trace { IfErr result (λ fault. IfSome source.old.bytes (λ text. NamesFirstFault text fault)) }
     ensures write { IfErr result (λ fault. fault ≡ RunFault.Write → (sink.new.failed ≡ true)

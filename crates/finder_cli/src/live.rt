@@ -48,8 +48,8 @@ pub fn live<H: Threads + Wait + Sync, R: Reader + Drop, W: Writer + Drop, G: Gat
     ensures unread { IsNoWorkers workers → source.new ≡ source.old }
     ensures read { IfErr result (λ fault. fault ≡ RunFault.Read → IsClosed source.new) }
     ensures memory { IfErr result (λ fault. fault ≡ RunFault.Memory → source.new.failed ≡ false) }
-    // Out of memory only at a piece with a line whose reading takes memory, or one that comes in the midst of
-    // a line; or behind the whole text.
+    // Out of memory only at a piece by which a line had come whose reading takes memory, or that comes in the
+    // midst of a line; or behind the whole text.
     ensures place { IfErr result (λ fault. fault ≡ RunFault.Memory → RunsOut source.old source.new) }
     ensures trace { IfErr result (λ fault. IfSome source.old.bytes (λ text. NamesFirstFault text fault)) }
     ensures stalled { IfErr result (λ fault. fault ≡ RunFault.Stalled

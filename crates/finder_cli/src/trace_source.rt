@@ -34,8 +34,8 @@ pub fn recording_from<R: Reader + Drop>(
     ensures faults { IfErr result IsOfTrace }
     ensures read { IfErr result (λ fault. fault ≡ RunFault.Read → IsClosed source.new) }
     ensures memory { IfErr result (λ fault. fault ≡ RunFault.Memory → source.new.failed ≡ false) }
-    // Out of memory only at a piece with a line whose reading takes memory, or one that comes in the midst of
-    // a line.
+    // Out of memory only at a piece by which a line had come whose reading takes memory, or that comes in the
+    // midst of a line.
     ensures place { IfErr result (λ fault. fault ≡ RunFault.Memory
         → RunsOutAtPiece source.old source.new) }
 {
@@ -65,8 +65,8 @@ pub fn recording_to_end<R: Reader + Drop>(
     ensures faults { IfErr result IsOfReading }
     ensures read { IfErr result (λ fault. fault ≡ RunFault.Read → IsClosed source.new) }
     ensures memory { IfErr result (λ fault. fault ≡ RunFault.Memory → source.new.failed ≡ false) }
-    // Out of memory only at a piece with a line whose reading takes memory, or one that comes in the midst of
-    // a line.
+    // Out of memory only at a piece by which a line had come whose reading takes memory, or that comes in the
+    // midst of a line.
     ensures place { IfErr result (λ fault. fault ≡ RunFault.Memory
         → RunsOutAtPiece source.old source.new) }
 {

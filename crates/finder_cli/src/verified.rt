@@ -46,8 +46,8 @@ pub fn run_verify<H: Threads + Sync, T: Reader + Drop, C: Reader + Drop, W: Writ
         ⊎ ((trace.new.ended ≡ true) × IsClosed cert.new)) }
     ensures memory { IfErr result (λ fault. fault ≡ RunFault.Memory → (trace.new.failed ≡ false)
         × ((cert.new ≡ cert.old) ⊎ (cert.new.failed ≡ false))) }
-    // Out of memory only at a piece of the trace with a line whose reading takes memory, or one that comes in
-    // the midst of a line; or behind the trace, where bytes of the certificate came, or all of them.
+    // Out of memory only at a piece of the trace by which a line had come whose reading takes memory, or that
+    // comes in the midst of a line; or behind the trace, where bytes of the certificate came, or all of them.
     ensures place { IfErr result (λ fault. fault ≡ RunFault.Memory
         → RunsOutVerifying trace.old trace.new cert.old cert.new) }
     ensures write { IfErr result (λ fault. fault ≡ RunFault.Write → (sink.new.failed ≡ true)
