@@ -40,6 +40,9 @@ MOST_TRIES = 20_000
 
 THREE_WAY = "0 ins x 0 : x|1 recv 0 1|2 recv 0 1|1 ins a 0 : a x|2 ins b 1 : x b|0 del x :|0 recv 1 1|0 recv 2 1|0 read : b a"
 
+# The author of d puts it between b and c; where it arrives, b is deleted, and it lands behind c.
+BESIDE_DELETED = "0 ins b 0 : b|1 recv 0 1|1 ins c 1 : b c|0 recv 1 1|0 read : b c|1 del b : c|0 ins d 1 : b d c|1 recv 0 3|1 read : c d"
+
 # By name: how many replicas, the entries, and lines that stand in the explanation one after the other, from the first.
 WORDS = [
     ("accepted", 2, "0 ins a 0 : a|1 recv 0 1|1 ins b 1 : a b",
@@ -67,8 +70,48 @@ WORDS = [
      "[b] before [a]: line 11, 0.3: replica 0 read the list, answered [b] [a]|"
      "[a] before [x]: line 6, 1.1: replica 1 inserted a at position 0, answered [a] [x]|"
      "x: inserted by 0.1 (line 3), deleted by 0.2 (line 8)|for 0.3 (line 11), x is deleted, by 0.2 (line 8)|"
+     "a was put beside x. When it arrived at replica 0 in line 9, x was deleted there by 0.2 (line 8)|"
+     "b was put beside x. When it arrived at replica 0 in line 10, x was deleted there by 0.2 (line 8)|"
      "x arrived at replica 1 in line 4, x at replica 2 in line 5, a at replica 0 in line 9, b at replica 0 in line 10: stop where these "
      "are applied|"
+     "At positions beside deleted elements: no two of these responses disagree openly, and an insert beside an element that another "
+     "replica has deleted may have lost its place there. Above stands which elements are deleted for which of the responses."),
+    ("an insert that arrives beside a deleted element", 2, BESIDE_DELETED,
+     "[d] before [c]: line 9 of the trace, 0.3: replica 0 inserted d at position 1, answered b [d] [c]|"
+     "[c] before [d]: line 11, 1.3: replica 1 read the list, answered [c] [d]|"
+     "d: inserted by 0.3 (line 9)|c: inserted by 1.1 (line 5)|"
+     "d was put beside b. When it arrived at replica 1 in line 10, b was deleted there by 1.2 (line 8)|"
+     "c arrived at replica 0 in line 6, d at replica 1 in line 10: stop where these are applied||Where to look in the editor|"
+     "First at inserts beside deleted elements: above stands which element arrived where its neighbour was deleted already. A replica "
+     "that has thrown the neighbour away can't tell the place.|"
+     "At where a replica puts an insert that arrives: 0.3 (line 9) inserted d when it had seen c, so these are no concurrent inserts, and "
+     "yet the two are put in different orders."),
+    ("an insert between two that are deleted by others", 3, "0 ins a 0 : a|0 ins b 1 : a b|1 recv 0 2|2 recv 0 2|2 ins c 1 : a c b|1 del a : b|"
+     "0 del b : a|1 recv 0 3|1 read :|1 ins d 0 : d|1 recv 2 1|1 read : c d|2 recv 1 3|2 read : d c",
+     "[d] before [c]: line 16 of the trace, 2.2: replica 2 read the list, answered [d] [c]|"
+     "[c] before [d]: line 14, 1.4: replica 1 read the list, answered [c] [d]|"
+     "c was put beside a and b. When it arrived at replica 1 in line 13, a was deleted there by 1.1 (line 8) and b was deleted there by 0.3 "
+     "(line 9)|c arrived at replica 1 in line 13, d at replica 2 in line 15: stop where these are applied"),
+    ("a session that goes on", 2, f"{BESIDE_DELETED}|0 recv 1 2|0 read : d c|1 read : c d",
+     "[c] before [d]: line 11, 1.3: replica 1 read the list, answered [c] [d]|When it went wrong|"
+     "line 11, 1.3: replica 1 read the list; the lines before it are accepted, with it they are refused 2|"
+     "before it: 1.2 (line 8) still fits; since then replica 1 received line 10 (1 recv 0 3)|"
+     "in the end replicas 0 and 1 have all changes, and show different lists||Where to look in the editor"),
+    ("a session that goes on, with one list in the end", 2, f"{BESIDE_DELETED}|0 recv 1 2|0 read : c d",
+     "When it went wrong|line 11, 1.3: replica 1 read the list; the lines before it are accepted, with it they are refused 2|"
+     "before it: 1.2 (line 8) still fits; since then replica 1 received line 10 (1 recv 0 3)|"
+     "in the end replicas 0 and 1 have all changes, and show one list||Where to look in the editor"),
+    ("a beginning that shows something else", 3, f"{THREE_WAY}|1 recv 0 2|1 recv 2 1|1 read : a b",
+     "refused 2: two responses can't be right together. Strong and weak list specification fail.|"
+     "[a] before [b]: line 14 of the trace, 1.2: replica 1 read the list, answered [a] [b]|"
+     "[b] before [a]: line 11, 0.3: replica 0 read the list, answered [b] [a]|"
+     "When it went wrong|line 11, 0.3: replica 0 read the list; the lines before it are accepted, with it they are refused 3|"
+     "before it: 0.2 (line 8) still fits; since then replica 0 received line 9 (0 recv 1 1), line 10 (0 recv 2 1)|"
+     "[x] before [b]: line 7, 2.1: replica 2 inserted b at position 1, answered [x] [b]|"
+     "[b] before [a]: line 11, 0.3: replica 0 read the list, answered [b] [a]|"
+     "[a] before [x]: line 6, 1.1: replica 1 inserted a at position 0, answered [a] [x]|"
+     "x: inserted by 0.1 (line 3), deleted by 0.2 (line 8)|for 0.3 (line 11), x is deleted, by 0.2 (line 8)|"
+     "in the end replicas 0 and 1 have all changes, and show different lists||Where to look in the editor|"
      "At positions beside deleted elements: no two of these responses disagree openly, and an insert beside an element that another "
      "replica has deleted may have lost its place there. Above stands which elements are deleted for which of the responses."),
     ("a ring of three that hear of one another", 3, "0 ins a 0 : a|1 ins b 0 : b|2 ins c 0 : c|0 recv 1 1|0 read : a b|1 recv 2 1|"
@@ -447,6 +490,21 @@ def said_first(tally: Tally, program: str) -> None:
         is_said = bool(wanted) and first.startswith(f"  {wanted}") and len(others) == 1
         tally.check(f"wrong delete: {entries}", got.out.startswith(b"contents ") and is_said == bool(wanted)
                     and (is_said or not others and "looks applied" not in first), got)
+
+
+def beginnings(tally: Tally, program: str, cases: list) -> None:
+    """The line with which a refused session went wrong is told where it is not the last one: the program accepts the lines before it,
+    and refuses them with it."""
+    told = 0
+    for text, report in cases:
+        said = explain(program, ["-"], text.encode()).out.decode().partition("\nWhen it went wrong\n")[2]
+        lines = text.splitlines(keepends=True)
+        last = int(re.match(r"  line (\d+), ", said)[1]) if said else len(lines)
+        before, behind = (run(program, ["verdict", "-"], "".join(lines[:count]).encode()).out for count in (last - 1, last))
+        is_right = b"\naccepted\n" in before and b"\nrefused " in behind and (bool(said) == (last < len(lines)))
+        tally.check("refused: when it went wrong", is_right, f"{text}{report}\n{said}")
+        told += bool(said)
+    tally.check("refused: a line told in many of them", told > len(cases) / 4, told)
 
 
 def faults(tally: Tally, program: str, folder: str) -> None:
@@ -883,6 +941,7 @@ def small(tally: Tally, program: str, folder: str) -> None:
                 tally.check("small: the cycle's elements", names == cycle and judged["inserts"] == report["k"], f"{whole}\nto\n{text}")
             most = {"position": judged.get("inserts") in (1, 2), "doubled": judged.get("operations") == 2}
             tally.check("small: of a fault", most.get(report["verdict"], True), f"{whole}\nto\n{text}")
+    beginnings(tally, program, [case for case in cases if case[1]["verdict"] == "refused"][:100])
     tally.check("refused: elements arrived in most of them", sum(arriving[count] for count in arriving if count > 1) > SMALL["refused"] / 2,
                 arriving)
 

@@ -300,7 +300,7 @@ def errors(tally: Tally, program: str, folder: str) -> None:
     tally.same("no program", judge(missing, [folder]), Ended(2, b"", f"judge_many: {missing} of --program can't be run\n".encode()))
     got = subprocess.run([sys.executable, TOOL, "--program", program, empty], env={"PATH": empty}, capture_output=True)
     tally.same("no parallel", Ended(got.returncode, got.stdout, got.stderr),
-               Ended(2, b"", b"judge_many: GNU parallel is needed: on Debian, apt-get install parallel\n"))
+               Ended(2, b"", b"judge_many: GNU parallel is needed: on Debian, apt-get update and apt-get install parallel\n"))
     fake = Path(empty, "parallel")
     fake.write_text("#!/bin/sh\necho another program\n")
     fake.chmod(0o755)

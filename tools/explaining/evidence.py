@@ -96,15 +96,27 @@ class Evidence:
                 self.lines.update((receipt.line, receipt.seen.line))
 
     def arrivals(self) -> list:
-        """Of a refusal the receipts, each with the element that it brings: of each step's two elements those that others inserted,
+        """Of a refusal the receipts, each with the insert that it brings: of each step's two elements those that others inserted,
         when they came to the replica that shows them so. Each stands once, in the order of the trace."""
         found = {}
         for step, operation in zip(self.report["steps"], self.operations):
             for name in step["from"], step["to"]:
                 insert = next(filter(operation.has_seen, self.recording.inserts.get(name, [])), None)
                 if insert is not None and insert.replica != operation.replica:
-                    found[name, operation.replica] = self.recording.arrival(insert, operation.replica)
-        return sorted(((receipt, name) for (name, _), receipt in found.items()), key=lambda arrival: arrival[0].line)
+                    found[name, operation.replica] = self.recording.arrival(insert, operation.replica), insert
+        return sorted(found.values(), key=lambda arrival: arrival[0].line)
+
+    def lost_neighbours(self) -> list:
+        """Of a refusal those arrivals that found a neighbour of the insert deleted: the receipt, the insert, and the deletes of the
+        elements beside which its author put the new one."""
+        found = []
+        for receipt, insert in self.arrivals():
+            place = insert.response.index(insert.element)
+            beside = insert.response[max(place - 1, 0):place] + insert.response[place + 1:place + 2]
+            gone = [self.recording.change_at(self.recording.deletes.get(name, []), receipt) for name in beside]
+            if any(gone):
+                found.append((receipt, insert, list(filter(None, gone))))
+        return found
 
     def before(self, operation: Operation) -> tuple:
         """The replica's operation before, if there is one, and what the replica received since then."""

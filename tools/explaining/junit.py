@@ -4,16 +4,18 @@ import re
 import xml.etree.ElementTree as xml
 from pathlib import Path
 
+from .beginning import refused_beginning
 from .evidence import Evidence, Unexplained
 from .faulty_lines import about_file
 from .places import with_places
+from .programs import NoProgram, report_of
 from .recordings import Recording
 from .words import explanation, text_of
 
 NOT_IN_XML = re.compile("[^\t\n\r\x20-\ud7ff\ue000-\ufffd\U00010000-\U0010ffff]")  # XML 1.0 has no way to write these
 
 
-def junit_of(rows: list) -> bytes:
+def junit_of(rows: list, program: str) -> bytes:
     """A test suite of the rows of `judge_many`: a verdict other than accepted is a failure, and a missing verdict an error."""
     suite = xml.Element("testsuite", name="domepeeler")
     for row in rows:
@@ -23,7 +25,7 @@ def junit_of(rows: list) -> bytes:
         if row.report is None:
             add_fault(case, "error", row.verdict, "\n  ".join([row.error, *about_file(row.error, row.file)]))
         elif row.verdict != "accepted":
-            add_fault(case, "failure", row.verdict, explained(row))
+            add_fault(case, "failure", row.verdict, explained(row, program))
     counts = {"tests": len(rows), "failures": len(suite.findall("testcase/failure")), "errors": len(suite.findall("testcase/error")),
               "skipped": 0}
     whole = xml.Element("testsuites")
@@ -41,12 +43,14 @@ def add_fault(case: xml.Element, kind: str, verdict: str, told: str) -> None:
     xml.SubElement(case, kind, type=verdict, message=told.split("\n")[0]).text = told
 
 
-def explained(row: object) -> str:
+def explained(row: object, program: str) -> str:
     """What `explain` says of the trace, or its verdict alone, where the file is no longer what was judged."""
     try:
         trace = Path(row.file).read_bytes()
-        return text_of(with_places(explanation(Evidence(Recording(trace.decode()), row.report)), [], trace, row.file))
-    except (Unexplained, OSError, ValueError, LookupError):
+        evidence = Evidence(Recording(trace.decode()), row.report)
+        told = explanation(evidence, refused_beginning(evidence, report_of(program)))
+        return text_of(with_places(told, [], trace, row.file))
+    except (Unexplained, NoProgram, OSError, ValueError, LookupError):
         return row.verdict
 
 

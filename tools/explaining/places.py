@@ -5,12 +5,12 @@ places. What is written otherwise is passed over, and so is the file of another 
 import re
 from pathlib import Path
 
+from .recordings import FIRST_ENTRY
 from .warnings import SIDE
 from .words import CODE, LINE, Explanation, Section
 
 PLACES = re.compile(rb"([1-9][0-9]{0,6}) (.{1,4000})")
 MOST_BYTES = 1 << 27  # of such a file that are read
-FIRST_ENTRY = 3  # the line of a trace's first entry
 
 
 def with_places(told: Explanation, warnings: list, trace: bytes, name: str) -> Explanation:

@@ -3,6 +3,7 @@ import json
 import os
 import shutil
 import subprocess
+from collections.abc import Callable
 from pathlib import Path
 from typing import NamedTuple
 
@@ -62,6 +63,11 @@ def judge(program: str, trace: bytes) -> Judged:
     if report is None and is_another(done.returncode, error):
         raise NoProgram(no_report(program, done.returncode, error))
     return Judged(done.returncode, report, error)
+
+
+def report_of(program: str) -> Callable:
+    """A call that answers the program's report on a trace, if it has one."""
+    return lambda trace: judge(program, trace).report
 
 
 def report_in(status: int, printed: bytes) -> dict | None:

@@ -5,6 +5,7 @@ from collections import defaultdict
 from typing import NamedTuple
 
 END = 4294967295  # no position is greater
+FIRST_ENTRY = 3  # the line of a trace's first entry
 
 
 class Operation:
@@ -58,7 +59,7 @@ class Recording:
         self.entries = []
         self.inserts, self.deletes = defaultdict(list), defaultdict(list)  # operations by element
         clocks = [[0] * self.replicas for _ in range(self.replicas)]
-        for number, line in enumerate(self.lines[2:], 3):
+        for number, line in enumerate(self.lines[2:], FIRST_ENTRY):
             self._take(number, line, clocks)
 
     def _take(self, number: int, line: str, clocks: list) -> None:
@@ -104,6 +105,18 @@ class Recording:
         """The first receipt in a replica's log that names the operation, or a later one of the same author, if one does."""
         return next((receipt for receipt in self.receipts[replica]
                      if receipt.seen.replica == operation.replica and receipt.seen.n >= operation.n), None)
+
+    def change_at(self, changes: list, receipt: Receipt) -> Operation | None:
+        """The first of these operations that was made at the receipt's replica before it, or had arrived there, if one was."""
+        for change in changes:
+            if change.replica == receipt.replica:
+                was_there = change.n <= receipt.before
+            else:
+                arrival = self.arrival(change, receipt.replica)
+                was_there = arrival is not None and arrival.line < receipt.line
+            if was_there:
+                return change
+        return None
 
     def arrival(self, operation: Operation, replica: int) -> Receipt | None:
         """The first receipt in a replica's log that brings the operation, if one does."""

@@ -26,6 +26,8 @@ LOOK = {
                   "one at two times, have put them in different orders.",
     "seen": "At where a replica puts an insert that arrives: {later} inserted {new} when it had seen {old}, so these are no "
             "concurrent inserts, and yet the two are put in different orders.",
+    "beside": "First at inserts beside deleted elements: above stands which element arrived where its neighbour was deleted already. "
+              "A replica that has thrown the neighbour away can't tell the place.",
     "deleted": "At positions beside deleted elements: no two of these responses disagree openly, and an insert beside an element "
                "that another replica has deleted may have lost its place there. Above stands which elements are deleted for which "
                "of the responses.",
@@ -44,10 +46,14 @@ class Explanation(NamedTuple):
     sections: list
 
 
-def explanation(evidence: Evidence) -> Explanation:
+def explanation(evidence: Evidence, beginning: Evidence | None = None) -> Explanation:
+    """The words; of a refused recording also what its shortest refused beginning shows, where that is not all of it."""
     tell = {"accepted": accepted, "refused": refused, "doubled": doubled, "contents": contents, "position": position}
     told = tell[evidence.report["verdict"]](evidence)
-    return told._replace(sections=without_receipts(evidence) + told.sections)
+    sections = without_receipts(evidence) + told.sections
+    if beginning is not None:
+        sections[-1:] = [went_wrong(evidence, beginning), where_to_look(beginning)]
+    return told._replace(sections=sections)
 
 
 def without_receipts(evidence: Evidence) -> list:
@@ -85,16 +91,59 @@ def refused(evidence: Evidence) -> Explanation:
     weak = "Strong and weak list specification fail." if k == 2 else "The strong list specification fails, the weak one holds."
     fewer = "" if k == 2 else f" Any {counted(k - 1)} of them can."
     headline = f"refused {k}: {counted(k)} responses can't be right together.{fewer} {weak}"
+    return Explanation(headline, [Section("What they show, each element before the next, and round again", shown_by(evidence, True)),
+                                  Section("The elements", elements(evidence)), where_to_look(evidence)])
+
+
+def shown_by(evidence: Evidence, is_first: bool) -> list:
+    """What each response of a refusal shows; what is told first says that its line is of the trace."""
     shown = []
-    for step, operation in zip(steps, evidence.operations):
-        said = did(operation, is_first=not shown)
+    for place, (step, operation) in enumerate(zip(evidence.report["steps"], evidence.operations)):
+        said = did(operation, is_first=is_first and place == 0)
         shown.append(f"[{step['from']}] before [{step['to']}]: {said}, answered {answer(evidence, operation)}")
-    elements = [life(evidence.recording, name) for name in evidence.elements]
-    gone = gone_before(evidence)
-    look = look_at_two(evidence) if k == 2 else LOOK["deleted" if gone else "apart"]
-    return Explanation(headline, [Section("What they show, each element before the next, and round again", shown),
-                                  Section("The elements", elements + gone + where_to_stop(evidence)),
-                                  Section("Where to look in the editor", [look])])
+    return shown
+
+
+def elements(evidence: Evidence) -> list:
+    """What became of a refusal's elements."""
+    lives = [life(evidence.recording, name) for name in evidence.elements]
+    return lives + gone_before(evidence) + beside_deleted(evidence) + where_to_stop(evidence)
+
+
+def where_to_look(evidence: Evidence) -> Section:
+    """Of a refusal. Two elements in opposite orders say nothing of deletes, so an arrival beside a deleted element is named first."""
+    lost = beside_deleted(evidence)
+    if evidence.report["k"] == 2:
+        looks = [*([LOOK["beside"]] if lost else []), look_at_two(evidence)]
+    else:
+        looks = [LOOK["deleted" if gone_before(evidence) or lost else "apart"]]
+    return Section("Where to look in the editor", looks)
+
+
+def went_wrong(evidence: Evidence, beginning: Evidence) -> Section:
+    """The line with which the session went wrong, and what the lines up to it show, where that is something else than the whole."""
+    last = beginning.recording.entries[-1]
+    lines = [f"{did(last)}; the lines before it are accepted, with it they are refused {beginning.report['k']}",
+             since(beginning, last, "still fits")]
+    if beginning.report["steps"] != evidence.report["steps"]:
+        lines += shown_by(beginning, False) + elements(beginning)
+    return Section("When it went wrong", lines + in_the_end(evidence.recording))
+
+
+def in_the_end(recording: Recording) -> list:
+    """Whether the replicas that have all operations show one list at their end, if there are several."""
+    changes = [change for kind in (recording.inserts, recording.deletes) for made in kind.values() for change in made]
+    last = [stream[-1] for stream in recording.streams if stream and stream[-1].kind != "view"]
+    whole = [operation for operation in last if all(map(operation.has_seen, changes))]
+    if len(whole) < 2:
+        return []
+    told = joined([str(operation.replica) for operation in whole])
+    shown = "one list" if len({tuple(operation.response) for operation in whole}) == 1 else "different lists"
+    return [f"in the end replicas {told} have all changes, and show {shown}"]
+
+
+def joined(words: list) -> str:
+    return " and ".join(filter(None, [", ".join(words[:-1]), words[-1]]))
 
 
 def life(recording: Recording, name: str) -> str:
@@ -117,10 +166,17 @@ def gone_before(evidence: Evidence) -> list:
     return lines
 
 
+def beside_deleted(evidence: Evidence) -> list:
+    """Which elements arrived where one beside which they had been put was deleted already."""
+    return [f"{insert.element} was put beside {joined([delete.element for delete in deletes])}. When it arrived at replica "
+            f"{receipt.replica} in line {receipt.line}, {joined([f'{delete.element} was deleted there by {at(delete)}' for delete in deletes])}"
+            for receipt, insert, deletes in evidence.lost_neighbours()]
+
+
 def where_to_stop(evidence: Evidence) -> list:
     """The moments at which the order may have gone wrong, which a response shows only later: where elements of others arrived."""
-    told = [f"{name}{' arrived' * (place == 0)} at replica {receipt.replica} in line {receipt.line}"
-            for place, (receipt, name) in enumerate(evidence.arrivals())]
+    told = [f"{insert.element}{' arrived' * (place == 0)} at replica {receipt.replica} in line {receipt.line}"
+            for place, (receipt, insert) in enumerate(evidence.arrivals())]
     return [f"{', '.join(told)}: stop where {'it is' if len(told) == 1 else 'these are'} applied"] if told else []
 
 
@@ -183,7 +239,7 @@ def expected(evidence: Evidence, operation: Operation) -> str:
     return f"expected, in whatever order: {marked(wanted, set(evidence.missing))}"
 
 
-def since(evidence: Evidence, operation: Operation) -> str:
+def since(evidence: Evidence, operation: Operation, still: str = "is still right") -> str:
     """What came to the replica since its operation before, which is right: the program names the first fault."""
     before, receipts = evidence.before(operation)
     arrived = [f"line {receipt.line} ({receipt.text})" for receipt in receipts]
@@ -191,7 +247,7 @@ def since(evidence: Evidence, operation: Operation) -> str:
     came = "received " + ", ".join(arrived[:MOST_ARRIVED]) + more if arrived else "received nothing"
     if not before:
         return f"before it: replica {operation.replica} did nothing, and {came}"
-    return f"before it: {at(before[0])} is still right; since then replica {operation.replica} {came}"
+    return f"before it: {at(before[0])} {still}; since then replica {operation.replica} {came}"
 
 
 def facts(evidence: Evidence, name: str, operation: Operation) -> list:
