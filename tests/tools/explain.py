@@ -492,19 +492,18 @@ def said_first(tally: Tally, program: str) -> None:
                     and (is_said or not others and "looks applied" not in first), got)
 
 
-def beginnings(tally: Tally, program: str, cases: list) -> None:
+def beginning(tally: Tally, program: str, text: str, report: dict, said: str) -> Counter:
     """The line with which a refused session went wrong is told where it is not the last one: the program accepts the lines before it,
-    and refuses them with it."""
-    told = 0
-    for text, report in cases:
-        said = explain(program, ["-"], text.encode()).out.decode().partition("\nWhen it went wrong\n")[2]
-        lines = text.splitlines(keepends=True)
-        last = int(re.match(r"  line (\d+), ", said)[1]) if said else len(lines)
-        before, behind = (run(program, ["verdict", "-"], "".join(lines[:count]).encode()).out for count in (last - 1, last))
-        is_right = b"\naccepted\n" in before and b"\nrefused " in behind and (bool(said) == (last < len(lines)))
-        tally.check("refused: when it went wrong", is_right, f"{text}{report}\n{said}")
-        told += bool(said)
-    tally.check("refused: a line told in many of them", told > len(cases) / 4, told)
+    and refuses them with it. Where it reports other steps of these than of the whole, they are told."""
+    told = said.partition("\nWhen it went wrong\n")[2].partition("\n\n")[0]
+    lines = text.splitlines(keepends=True)
+    last = int(re.match(r"  line (\d+), ", told)[1]) if told else len(lines)
+    before, behind = (json.loads(run(program, ["verdict", "--json", "-"], "".join(lines[:count]).encode()).out) for count in (last - 1, last))
+    is_right = before["verdict"] == "accepted" and behind["verdict"] == "refused" and bool(told) == (last < len(lines))
+    tally.check("refused: when it went wrong", is_right, f"{text}{report}\n{said}")
+    wanted = [(step["from"], step["to"]) for step in behind.get("steps", [])] if behind.get("steps") != report["steps"] else []
+    tally.check("refused: what it showed then", re.findall(r"\[(\S+)\] before \[(\S+)\]", told) == wanted, f"{text}{report}\n{said}")
+    return Counter(line=bool(told), steps=bool(wanted))
 
 
 def faults(tally: Tally, program: str, folder: str) -> None:
@@ -915,7 +914,7 @@ def small(tally: Tally, program: str, folder: str) -> None:
     viewing = sum(has_view(whole) for whole, _ in cases)
     tally.check("small: with views and without", 50 <= viewing <= len(cases) - 50, viewing)
 
-    arriving = Counter()
+    arriving, wrong = Counter(), Counter()
 
     def make(at: int) -> tuple:
         path = f"{folder}/small{at}"
@@ -936,12 +935,13 @@ def small(tally: Tally, program: str, folder: str) -> None:
                 is_told = is_right and sorted(told) == stops and end == ended
                 tally.check("refused: where elements arrived", is_told, f"{whole}{stops}\n{got}")
                 arriving[len(stops)] += 1
+                wrong += beginning(tally, program, whole, report, got.out.decode())
                 cycle = {step["from"] for step in report["steps"]}
                 names = {line.split()[2] for line in text.splitlines()[2:] if line.split()[1] == "ins"}
                 tally.check("small: the cycle's elements", names == cycle and judged["inserts"] == report["k"], f"{whole}\nto\n{text}")
             most = {"position": judged.get("inserts") in (1, 2), "doubled": judged.get("operations") == 2}
             tally.check("small: of a fault", most.get(report["verdict"], True), f"{whole}\nto\n{text}")
-    beginnings(tally, program, [case for case in cases if case[1]["verdict"] == "refused"][:100])
+    tally.check("refused: a line and steps told in some of them", wrong["line"] > SMALL["refused"] / 8 and wrong["steps"] > 2, wrong)
     tally.check("refused: elements arrived in most of them", sum(arriving[count] for count in arriving if count > 1) > SMALL["refused"] / 2,
                 arriving)
 

@@ -1,6 +1,7 @@
-"""The shortest beginning of a refused trace that is refused too: its last line shows where the session went wrong.
+"""The shortest beginning of a refused trace that is refused too: with its last line the session went wrong.
 
-What is refused stays refused, however the trace goes on. So halves are tried, and the program judges each."""
+A trace that is refused has no other fault, and nor has a beginning of it; and where a beginning is refused, each longer one is. So
+halves are tried, and the program judges each."""
 from collections.abc import Callable
 
 from .evidence import Evidence
@@ -13,16 +14,18 @@ def refused_beginning(whole: Evidence, judge: Callable) -> Evidence | None:
     if whole.report["verdict"] != "refused":
         return None
     lines = whole.recording.lines
-    accepted, refused, report = FIRST_ENTRY - 1, len(lines), whole.report  # counts of lines
+    # Counts of lines. Behind the last response of the whole trace's cycle there is that cycle.
+    accepted, refused, report = FIRST_ENTRY - 1, max(operation.line for operation in whole.operations), whole.report
+    tried = refused - 1  # most often the last response made it wrong
     while refused - accepted > 1:
-        half = (accepted + refused) // 2
-        told = judge(text_of(lines[:half]).encode())
+        told = judge(text_of(lines[:tried]).encode())
         if told is None or told["verdict"] not in ("accepted", "refused"):
             return None
         if told["verdict"] == "accepted":
-            accepted = half
+            accepted = tried
         else:
-            refused, report = half, told
+            refused, report = tried, told
+        tried = (accepted + refused) // 2
     return None if refused == len(lines) else Evidence(Recording(text_of(lines[:refused])), report)
 
 
