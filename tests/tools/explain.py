@@ -54,14 +54,14 @@ WORDS = [
      "[a] before [b]: line 7 of the trace, 0.2: replica 0 read the list, answered [a] [b]|"
      "[b] before [a]: line 8, 1.2: replica 1 read the list, answered [b] [a]|"
      "a: inserted by 0.1 (line 3)|b: inserted by 1.1 (line 4)|"
-     "b arrived at replica 0 in line 5, a at replica 1 in line 6: stop where these are applied|"
+     "b arrived at replica 0 in line 5, a at replica 1 in line 6: stop where these are applied, the last one first|"
      "At the order of concurrent inserts: no author of the two elements had seen the other one, and two replicas, or one at two "
      "times, have put them in different orders."),
     ("an insert that had seen the other", 2, "0 ins a 0 : a|1 recv 0 1|1 ins b 1 : a b|0 recv 1 1|0 read : b a",
      "refused 2: two responses can't be right together. Strong and weak list specification fail.|"
      "[a] before [b]: line 5 of the trace, 1.1: replica 1 inserted b at position 1, answered [a] [b]|"
      "[b] before [a]: line 7, 0.2: replica 0 read the list, answered [b] [a]|"
-     "a arrived at replica 1 in line 4, b at replica 0 in line 6: stop where these are applied|"
+     "a arrived at replica 1 in line 4, b at replica 0 in line 6: stop where these are applied, the last one first|"
      "At where a replica puts an insert that arrives: 1.1 (line 5) inserted b when it had seen a, so these are no concurrent "
      "inserts, and yet the two are put in different orders."),
     ("three-way cycle", 3, THREE_WAY,
@@ -73,7 +73,7 @@ WORDS = [
      "a was put beside x. When it arrived at replica 0 in line 9, x was deleted there by 0.2 (line 8)|"
      "b was put beside x. When it arrived at replica 0 in line 10, x was deleted there by 0.2 (line 8)|"
      "x arrived at replica 1 in line 4, x at replica 2 in line 5, a at replica 0 in line 9, b at replica 0 in line 10: stop where these "
-     "are applied|"
+     "are applied, the last one first|"
      "At positions beside deleted elements: no two of these responses disagree openly, and an insert beside an element that another "
      "replica has deleted may have lost its place there. Above stands which elements are deleted for which of the responses."),
     ("an insert that arrives beside a deleted element", 2, BESIDE_DELETED,
@@ -81,7 +81,7 @@ WORDS = [
      "[c] before [d]: line 11, 1.3: replica 1 read the list, answered [c] [d]|"
      "d: inserted by 0.3 (line 9)|c: inserted by 1.1 (line 5)|"
      "d was put beside b. When it arrived at replica 1 in line 10, b was deleted there by 1.2 (line 8)|"
-     "c arrived at replica 0 in line 6, d at replica 1 in line 10: stop where these are applied||Where to look in the editor|"
+     "c arrived at replica 0 in line 6, d at replica 1 in line 10: stop where these are applied, the last one first||Where to look in the editor|"
      "First at inserts beside deleted elements: above stands which element arrived where its neighbour was deleted already. A replica "
      "that has thrown the neighbour away can't tell the place.|"
      "At where a replica puts an insert that arrives: 0.3 (line 9) inserted d when it had seen c, so these are no concurrent inserts, and "
@@ -91,7 +91,7 @@ WORDS = [
      "[d] before [c]: line 16 of the trace, 2.2: replica 2 read the list, answered [d] [c]|"
      "[c] before [d]: line 14, 1.4: replica 1 read the list, answered [c] [d]|"
      "c was put beside a and b. When it arrived at replica 1 in line 13, a was deleted there by 1.1 (line 8) and b was deleted there by 0.3 "
-     "(line 9)|c arrived at replica 1 in line 13, d at replica 2 in line 15: stop where these are applied"),
+     "(line 9)|c arrived at replica 1 in line 13, d at replica 2 in line 15: stop where these are applied, the last one first"),
     ("a session that goes on", 2, f"{BESIDE_DELETED}|0 recv 1 2|0 read : d c|1 read : c d",
      "[c] before [d]: line 11, 1.3: replica 1 read the list, answered [c] [d]|When it went wrong|"
      "line 11, 1.3: replica 1 read the list; the lines before it are accepted, with it they are refused 2|"
@@ -119,13 +119,13 @@ WORDS = [
      "[a] before [b]: line 7 of the trace, 0.2: replica 0 read the list, answered [a] [b]|"
      "[b] before [c]: line 9, 1.2: replica 1 read the list, answered [b] [c]|"
      "[c] before [a]: line 11, 2.2: replica 2 read the list, answered [c] [a]|"
-     "b arrived at replica 0 in line 6, c at replica 1 in line 8, a at replica 2 in line 10: stop where these are applied|"
+     "b arrived at replica 0 in line 6, c at replica 1 in line 8, a at replica 2 in line 10: stop where these are applied, the last one first|"
      "At how a replica orders elements of which it shows only some: no two of these responses disagree openly, and none of the "
      "elements is deleted for any of them, so each replica has yet to hear of some."),
     ("an element that came along with what had seen it", 3, "0 ins a 0 : a|1 recv 0 1|1 read : a|1 ins b 1 : a b|2 recv 1 1|2 recv 1 2|"
      "2 recv 0 1|2 read : b a",
      "[b] before [a]: line 10, 2.1: replica 2 read the list, answered [b] [a]|b: inserted by 1.2 (line 6)|"
-     "a arrived at replica 1 in line 4, a at replica 2 in line 7, b at replica 2 in line 8: stop where these are applied"),
+     "a arrived at replica 1 in line 4, a at replica 2 in line 7, b at replica 2 in line 8: stop where these are applied, the last one first"),
     ("one element that arrived", 2, "0 ins a 0 : a|1 recv 0 1|1 ins b 0 : b a|1 read : a b",
      "[a] before [b]: line 6 of the trace, 1.2: replica 1 read the list, answered [a] [b]|a: inserted by 0.1 (line 3)|"
      "b: inserted by 1.1 (line 5)|a arrived at replica 1 in line 4: stop where it is applied||Where to look in the editor"),
@@ -931,7 +931,7 @@ def small(tally: Tally, program: str, folder: str) -> None:
             tally.check("small: as it is written", text == written(text), text)
             if report["verdict"] == "refused":
                 stops, (told, end, is_right) = stops_of(whole, report), stops_told(got.out.decode())
-                ended = {0: "", 1: "it is applied"}.get(len(stops), "these are applied")
+                ended = {0: "", 1: "it is applied"}.get(len(stops), "these are applied, the last one first")
                 is_told = is_right and sorted(told) == stops and end == ended
                 tally.check("refused: where elements arrived", is_told, f"{whole}{stops}\n{got}")
                 arriving[len(stops)] += 1

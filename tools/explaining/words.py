@@ -177,7 +177,8 @@ def where_to_stop(evidence: Evidence) -> list:
     """The moments at which the order may have gone wrong, which a response shows only later: where elements of others arrived."""
     told = [f"{insert.element}{' arrived' * (place == 0)} at replica {receipt.replica} in line {receipt.line}"
             for place, (receipt, insert) in enumerate(evidence.arrivals())]
-    return [f"{', '.join(told)}: stop where {'it is' if len(told) == 1 else 'these are'} applied"] if told else []
+    which = "it is applied" if len(told) == 1 else "these are applied, the last one first"
+    return [f"{', '.join(told)}: stop where {which}"] if told else []
 
 
 def look_at_two(evidence: Evidence) -> str:
