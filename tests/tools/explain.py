@@ -826,6 +826,11 @@ def pages(tally: Tally, program: str, folder: str) -> None:
         tally.check(f"page of {example.name}: its cycle", len(by_class(tree, "path", "step")) == len(steps), len(steps))
 
 
+    long = f"{BESIDE_DELETED}|0 recv 1 2|{'|'.join(['0 read : d c'] * 40)}"
+    rows = [node.get("id") for node in by_class(page(tally, program, folder, "long.trace", text_of(2, long)), "li", "matters")]
+    tally.check("page of a long session: the delete of a neighbour, and what came before the wrong response", {"line-8", "line-10"} <= set(rows), rows)
+
+
 def letters(tally: Tally, program: str, folder: str) -> None:
     """On a page each element of a long name has a letter: those of the verdict first; an accepted recording's are in its order."""
     for name, replicas, entries, legend, rows in LETTERED:

@@ -45,6 +45,9 @@ class Evidence:
                 raise Unexplained(f"{operation.name} does not show {step['from']} before {step['to']}")
             self._name(operation, [step["from"], step["to"]])
             self.elements.append(step["from"])
+        for receipt, _, deletes in self.lost_neighbours():
+            brought = [self.recording.arrival(delete, receipt.replica) for delete in deletes if delete.replica != receipt.replica]
+            self.lines.update(entry.line for entry in deletes + brought)
 
     def _doubled(self) -> None:
         first, again = (self.recording.operation(self.report[key]) for key in ("first", "again"))
