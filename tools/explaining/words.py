@@ -48,12 +48,12 @@ class Explanation(NamedTuple):
 
 def explanation(evidence: Evidence, beginning: Evidence | None = None) -> Explanation:
     """The words; of a refused recording also what its shortest refused beginning shows, where that is not all of it."""
-    tell = {"accepted": accepted, "refused": refused, "doubled": doubled, "contents": contents, "position": position}
-    told = tell[evidence.report["verdict"]](evidence)
-    sections = without_receipts(evidence) + told.sections
-    if beginning is not None:
-        sections[-1:] = [went_wrong(evidence, beginning), where_to_look(beginning)]
-    return told._replace(sections=sections)
+    if evidence.report["verdict"] == "refused":
+        told = refused(evidence, beginning)
+    else:
+        tell = {"accepted": accepted, "doubled": doubled, "contents": contents, "position": position}
+        told = tell[evidence.report["verdict"]](evidence)
+    return told._replace(sections=without_receipts(evidence) + told.sections)
 
 
 def without_receipts(evidence: Evidence) -> list:
@@ -86,13 +86,15 @@ def accepted(evidence: Evidence) -> Explanation:
                        [Section("The first order that they follow, deleted elements too", [order])])
 
 
-def refused(evidence: Evidence) -> Explanation:
+def refused(evidence: Evidence, beginning: Evidence | None) -> Explanation:
     steps, k = evidence.report["steps"], evidence.report["k"]
     weak = "Strong and weak list specification fail." if k == 2 else "The strong list specification fails, the weak one holds."
     fewer = "" if k == 2 else f" Any {counted(k - 1)} of them can."
     headline = f"refused {k}: {counted(k)} responses can't be right together.{fewer} {weak}"
     return Explanation(headline, [Section("What they show, each element before the next, and round again", shown_by(evidence, True)),
-                                  Section("The elements", elements(evidence)), where_to_look(evidence)])
+                                  Section("The elements", elements(evidence)),
+                                  *([went_wrong(evidence, beginning)] if beginning else []),
+                                  where_to_look(beginning or evidence)])
 
 
 def shown_by(evidence: Evidence, is_first: bool) -> list:
