@@ -777,6 +777,11 @@ def contradicted(tally: Tally, folder: str) -> None:
         liar.chmod(0o755)
         got = explain(str(liar), ["-"], trace)
         tally.check(f"a contradiction: {lie['verdict']}", got.status == 1 and not got.out and b"can't explain" in got.err, got)
+    shown = [{"from": "a", "to": "b", "shown": "1.1", "response": ["a", "b"]}, {"from": "b", "to": "a", "shown": "1.2", "response": ["b", "a"]}]
+    lie = {"verdict": "refused", "k": 2, "operations": 4, "inserts": 2, "strong": False, "weak": False, "steps": shown}
+    liar.write_text(f"#!/bin/sh\ncat > /dev/null\necho '{json.dumps(lie)}'\nexit 1\n")
+    got = explain(str(liar), ["-"], text_of(2, "0 ins a 0 : a|0 ins b 1 : a|1 recv 0 2|1 read : a b|1 read : b a").encode())
+    tally.check("a contradiction: an insert without its element", got.status == 1 and not got.out and b"0.2 lacks what it inserts" in got.err, got)
 
 
 def page(tally: Tally, program: str, folder: str, name: str, trace: str) -> ElementTree.Element:

@@ -114,8 +114,11 @@ class Evidence:
         elements beside which its author put the new one."""
         found = []
         for receipt, insert in self.arrivals():
-            place = insert.response.index(insert.element)
-            beside = insert.response[max(place - 1, 0):place] + insert.response[place + 1:place + 2]
+            shown = insert.response
+            if insert.element not in shown:
+                raise Unexplained(f"the response of {insert.name} lacks what it inserts")
+            place = shown.index(insert.element)
+            beside = shown[max(place - 1, 0):place] + shown[place + 1:place + 2]
             gone = [self.recording.change_at(self.recording.deletes.get(name, []), receipt) for name in beside]
             if any(gone):
                 found.append((receipt, insert, list(filter(None, gone))))
