@@ -21,7 +21,8 @@ CRATES = ROOT / "crates"
 MOST = 300
 SECONDS = 120
 # Tests that see two searches at once: one request less may be refused.
-AT_ONCE = ("two_searches_at_once", "a_search_held_until_the_others_have_ended", "looks_of_two_workers_are_added")
+AT_ONCE = ("two_searches_at_once", "a_search_held_until_the_others_have_ended", "looks_of_two_workers_are_added",
+           "the_gate_of_a_certificate_is_called_round_its_searches")
 
 # Tests that want one rehearsal to succeed, which any refused request may stop.
 ONE_TRY = ("two_recorders_run_at_once",)

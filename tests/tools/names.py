@@ -106,6 +106,8 @@ FILES = {
     "vectors": ("recordings with expected reports by an independent reference", "tests/vectors"),
     "handles": ("what functions may ask of the machine", "HANDLES"),
     "small trace": ("a part of a trace that has the same verdict", "tools/explaining/small.py"),
+    "refused beginning": ("the shortest front of a refused trace that is refused; with its last line the session went wrong",
+                          "tools/explaining/beginning.py"),
 }
 
 # The folders whose scripts are listed by name, and what their files may end with; one without an ending is listed where its first
