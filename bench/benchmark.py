@@ -4,7 +4,7 @@ benchmark.py PROGRAM --beside OTHER [RUNS] TRACE..: the verdict's processor time
 
 The traces are those of traces.py: XL is near the limits on names, XXL near all. Sizes are M, L and XL, and runs ten, unless told otherwise. Of
 refused recordings the certificate is made and checked too, once; at XL, where that takes minutes, only where XL alone is
-asked for. The wide ring, where the search takes the most of the time, is judged with 1, 2 and 4 workers. It is no timed
+asked for. An accepted recording is replayed by `live` too. The wide ring, where the search takes the most of the time, is judged with 1, 2 and 4 workers. It is no timed
 test: what counts as passed is that each trace has the verdict that it is made for, and that the checker says yes. What is
 required of time and memory stands beside the measures at XL, for a quiet machine with four processors.
 
@@ -96,6 +96,13 @@ def certified(tally: Tally, program: str, name: str, path: str) -> None:
     print(f"{name:16} certificate {size / 1e6:.1f} MB, made in {made.seconds:.3f} s with {made.peak / 1e6:.1f} MB,"
           f" checked in {said.seconds:.3f} s with {said.peak / 1e6:.1f} MB", flush=True)
     tally.check(f"{name}: certificate", made.line.startswith("refused ") and said.line == "yes refused", (made.line, said.line))
+
+
+def rehearsed(tally: Tally, program: str, name: str, path: str, times: int) -> None:
+    """An accepted recording's `live`: its replicas replayed by threads, and judged."""
+    got = best([once(program, ["live", path], path + ".live") for _ in range(times)])
+    print(f"{name:16} live in {got.seconds:.3f} s with {got.peak / 1e6:.1f} MB", flush=True)
+    tally.check(f"{name}: live", got.line == "accepted", got.line)
 
 
 def requirement(family: str, size: str) -> str:
@@ -191,6 +198,8 @@ def main() -> None:
                 holds = got.line == verdict or (verdict == "doubled" and got.line.startswith("doubled "))
                 tally.check(f"{size} {name}", holds, got.line)
                 grown.append((length, got.seconds))
+                if verdict == "accepted":
+                    rehearsed(tally, program, f"{size} {name}", path, times)
                 if name == SEARCHED:
                     by_workers(tally, program, size, path, times)
                 if verdict.startswith("refused ") and (size != "XL" or sizes == ["XL"]):
