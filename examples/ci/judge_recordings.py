@@ -2,7 +2,7 @@
 """judge_recordings.py FOLDER: judges all recordings below a folder in a job of CI, and explains those that are not accepted.
 
 It leaves a folder `judged`: `junit.xml` with all verdicts, and of each failure a page and a small trace, `1.html` and `1.trace` of the
-smallest. It prints annotations where GitHub runs it, and writes `annotations.json` for GitLab. It ends with the status of
+one that fails in the fewest lines. It prints annotations where GitHub runs it, and writes `annotations.json` for GitLab. It ends with the status of
 domepeeler-judge-many: 0 where all are accepted, 1 where the editor failed, 2 where the recordings or the setting are at fault."""
 import json
 import os
@@ -62,7 +62,7 @@ def main() -> None:
     if done.returncode == 0:
         print(f"all recordings below {sys.argv[1]} are accepted")
     if rows:
-        print(f"{len(rows)} not accepted: {JUDGED}/junit.xml has them all, and {JUDGED}/1.html is the page of the smallest")
+        print(f"{len(rows)} not accepted: {JUDGED}/junit.xml has them all, and {JUDGED}/1.html is the page of the first")
     sys.exit(done.returncode)
 
 

@@ -43,6 +43,15 @@ THREE_WAY = "0 ins x 0 : x|1 recv 0 1|2 recv 0 1|1 ins a 0 : a x|2 ins b 1 : x b
 # The author of d puts it between b and c; where it arrives, b is deleted, and it lands behind c.
 BESIDE_DELETED = "0 ins b 0 : b|1 recv 0 1|1 ins c 1 : b c|0 recv 1 1|0 read : b c|1 del b : c|0 ins d 1 : b d c|1 recv 0 3|1 read : c d"
 
+
+def stop(line: int, doing: str, *others: int) -> str:
+    """The lines of an explanation that say where to stop a debugger."""
+    before = ", ".join(f"line {other}" for other in others)
+    doing += f"; if that goes right, where {'another' if len(others) == 1 else 'others'} arrived ({before})" if others else ""
+    asked = f"if len(recording.text().splitlines()) == {line - 1}: breakpoint()"
+    return f"|In a debugger|stop before line {line}, where {doing}. In Python, where a change begins to be applied, local or remote: {asked}"
+
+
 # By name: how many replicas, the entries, and lines that stand in the explanation one after the other, from the first.
 WORDS = [
     ("accepted", 2, "0 ins a 0 : a|1 recv 0 1|1 ins b 1 : a b",
@@ -54,95 +63,118 @@ WORDS = [
      "[a] before [b]: line 7 of the trace, 0.2: replica 0 read the list, answered [a] [b]|"
      "[b] before [a]: line 8, 1.2: replica 1 read the list, answered [b] [a]|"
      "a: inserted by 0.1 (line 3)|b: inserted by 1.1 (line 4)|"
-     "b arrived at replica 0 in line 5, a at replica 1 in line 6: stop where these are applied, the last one first|"
-     "At the order of concurrent inserts: no author of the two elements had seen the other one, and two replicas, or one at two "
-     "times, have put them in different orders."),
+     "b arrived at replica 0 in line 5, a at replica 1 in line 6|"
+     "At the order of concurrent inserts: no author of a and b had seen the other one, and two replicas, or one at two "
+     "times, have put them in different orders." + stop(6, "replica 1 applies 0.1", 5)),
     ("an insert that had seen the other", 2, "0 ins a 0 : a|1 recv 0 1|1 ins b 1 : a b|0 recv 1 1|0 read : b a",
      "refused 2: two responses can't be right together. Strong and weak list specification fail.|"
      "[a] before [b]: line 5 of the trace, 1.1: replica 1 inserted b at position 1, answered [a] [b]|"
      "[b] before [a]: line 7, 0.2: replica 0 read the list, answered [b] [a]|"
-     "a arrived at replica 1 in line 4, b at replica 0 in line 6: stop where these are applied, the last one first|"
+     "a arrived at replica 1 in line 4, b at replica 0 in line 6|"
      "At where a replica puts an insert that arrives: 1.1 (line 5) inserted b when it had seen a, so these are no concurrent "
-     "inserts, and yet the two are put in different orders."),
+     "inserts, and yet the two are put in different orders. Often the number that orders inserts does not grow with what arrives, or a "
+     "neighbour is not found." + stop(6, "replica 0 applies 1.1", 4)),
     ("three-way cycle", 3, THREE_WAY,
      "refused 3: three responses can't be right together. Any two of them can. The strong list specification fails, the weak one "
      "holds.|[x] before [b]: line 7 of the trace, 2.1: replica 2 inserted b at position 1, answered [x] [b]|"
      "[b] before [a]: line 11, 0.3: replica 0 read the list, answered [b] [a]|"
      "[a] before [x]: line 6, 1.1: replica 1 inserted a at position 0, answered [a] [x]|"
      "x: inserted by 0.1 (line 3), deleted by 0.2 (line 8)|for 0.3 (line 11), x is deleted, by 0.2 (line 8)|"
-     "a was put beside x. When it arrived at replica 0 in line 9, x was deleted there by 0.2 (line 8)|"
-     "b was put beside x. When it arrived at replica 0 in line 10, x was deleted there by 0.2 (line 8)|"
-     "x arrived at replica 1 in line 4, x at replica 2 in line 5, a at replica 0 in line 9, b at replica 0 in line 10: stop where these "
-     "are applied, the last one first|"
-     "At positions beside deleted elements: no two of these responses disagree openly, and an insert beside an element that another "
-     "replica has deleted may have lost its place there. Above stands which elements are deleted for which of the responses."),
+     "a was put before x. When it arrived at replica 0 in line 9, x was deleted there by 0.2 (line 8)|"
+     "b was put behind x. When it arrived at replica 0 in line 10, x was deleted there by 0.2 (line 8)|"
+     "x arrived at replica 1 in line 4, x at replica 2 in line 5, a at replica 0 in line 9, b at replica 0 in line 10|"
+     "At positions beside deleted elements: no two of 2.1, 0.3 and 1.1 disagree openly, and an insert beside an element that another "
+     "replica has deleted may have lost its place there. Above stands which elements are deleted for which of them."
+     + stop(10, "replica 0 applies 2.1", 9, 5, 4)),
     ("an insert that arrives beside a deleted element", 2, BESIDE_DELETED,
      "[d] before [c]: line 9 of the trace, 0.3: replica 0 inserted d at position 1, answered b [d] [c]|"
      "[c] before [d]: line 11, 1.3: replica 1 read the list, answered [c] [d]|"
      "d: inserted by 0.3 (line 9)|c: inserted by 1.1 (line 5)|"
-     "d was put beside b. When it arrived at replica 1 in line 10, b was deleted there by 1.2 (line 8)|"
-     "c arrived at replica 0 in line 6, d at replica 1 in line 10: stop where these are applied, the last one first||Where to look in the editor|"
-     "First at inserts beside deleted elements: above stands which element arrived where its neighbour was deleted already. A replica "
-     "that has thrown the neighbour away can't tell the place.|"
+     "d was put behind b. When it arrived at replica 1 in line 10, b was deleted there by 1.2 (line 8)|"
+     "c arrived at replica 0 in line 6, d at replica 1 in line 10||Where to look in the editor|"
+     "At inserts beside deleted elements, if replicas throw these away: above stands which element arrived where its neighbour was deleted "
+     "already, and without the neighbour nothing tells the place.|"
      "At where a replica puts an insert that arrives: 0.3 (line 9) inserted d when it had seen c, so these are no concurrent inserts, and "
-     "yet the two are put in different orders."),
+     "yet the two are put in different orders. Often the number that orders inserts does not grow with what arrives, or a neighbour is not "
+     "found." + stop(10, "replica 1 applies 0.3", 6)),
     ("an insert between two that are deleted by others", 3, "0 ins a 0 : a|0 ins b 1 : a b|1 recv 0 2|2 recv 0 2|2 ins c 1 : a c b|1 del a : b|"
      "0 del b : a|1 recv 0 3|1 read :|1 ins d 0 : d|1 recv 2 1|1 read : c d|2 recv 1 3|2 read : d c",
      "[d] before [c]: line 16 of the trace, 2.2: replica 2 read the list, answered [d] [c]|"
      "[c] before [d]: line 14, 1.4: replica 1 read the list, answered [c] [d]|"
-     "c was put beside a and b. When it arrived at replica 1 in line 13, a was deleted there by 1.1 (line 8) and b was deleted there by 0.3 "
-     "(line 9)|c arrived at replica 1 in line 13, d at replica 2 in line 15: stop where these are applied, the last one first"),
+     "c was put behind a and before b. When it arrived at replica 1 in line 13, a was deleted there by 1.1 (line 8) and b was deleted there by 0.3 "
+     "(line 9)|c arrived at replica 1 in line 13, d at replica 2 in line 15"),
     ("a session that goes on", 2, f"{BESIDE_DELETED}|0 recv 1 2|0 read : d c|1 read : c d",
-     "[c] before [d]: line 11, 1.3: replica 1 read the list, answered [c] [d]|When it went wrong|"
-     "line 11, 1.3: replica 1 read the list; the lines before it are accepted, with it they are refused 2|"
-     "before it: 1.2 (line 8) still fits; since then replica 1 received line 10 (1 recv 0 3)|"
-     "in the end replicas 0 and 1 have all changes, and show different lists||Where to look in the editor"),
+     "When it went wrong|line 11 of the trace, 1.3: replica 1 read the list; the lines before it are accepted, with it they are refused 2|"
+     "before it: 1.2 (line 8) still fits; since then replica 1 received 0.3 (line 10)|"
+     "in the end replicas 0 and 1 have all changes, and show different lists, perhaps as one text||"
+     "What they show, each element before the next, and round again|"
+     "[d] before [c]: line 9, 0.3: replica 0 inserted d at position 1, answered b [d] [c]|"
+     "[c] before [d]: line 11, 1.3: replica 1 read the list, answered [c] [d]||The elements|"
+     "c arrived at replica 0 in line 6, d at replica 1 in line 10||"
+     "Where to look in the editor" + stop(10, "replica 1 applies 0.3", 6)),
     ("a session that goes on, with one list in the end", 2, f"{BESIDE_DELETED}|0 recv 1 2|0 read : c d",
-     "When it went wrong|line 11, 1.3: replica 1 read the list; the lines before it are accepted, with it they are refused 2|"
-     "before it: 1.2 (line 8) still fits; since then replica 1 received line 10 (1 recv 0 3)|"
-     "in the end replicas 0 and 1 have all changes, and show one list||Where to look in the editor"),
+     "When it went wrong|line 11 of the trace, 1.3: replica 1 read the list; the lines before it are accepted, with it they are refused 2|"
+     "before it: 1.2 (line 8) still fits; since then replica 1 received 0.3 (line 10)|"
+     "in the end replicas 0 and 1 have all changes, and show one list||Where to look in the editor" + stop(10, "replica 1 applies 0.3", 6)),
     ("a beginning that shows something else", 3, f"{THREE_WAY}|1 recv 0 2|1 recv 2 1|1 read : a b",
-     "refused 2: two responses can't be right together. Strong and weak list specification fail.|"
-     "[a] before [b]: line 14 of the trace, 1.2: replica 1 read the list, answered [a] [b]|"
-     "[b] before [a]: line 11, 0.3: replica 0 read the list, answered [b] [a]|"
-     "When it went wrong|line 11, 0.3: replica 0 read the list; the lines before it are accepted, with it they are refused 3|"
-     "before it: 0.2 (line 8) still fits; since then replica 0 received line 9 (0 recv 1 1), line 10 (0 recv 2 1)|"
+     "refused 2: two responses can't be right together. Strong and weak list specification fail.||"
+     "When it went wrong|line 11 of the trace, 0.3: replica 0 read the list; the lines before it are accepted, with it they are refused 3, "
+     "and with what follows refused 2|"
+     "before it: 0.2 (line 8) still fits; since then replica 0 received 1.1 (line 9), 2.1 (line 10)|"
+     "in the end replicas 0 and 1 have all changes, and show different lists, perhaps as one text||"
+     "What the lines up to 11 show, each element before the next, and round again|"
      "[x] before [b]: line 7, 2.1: replica 2 inserted b at position 1, answered [x] [b]|"
      "[b] before [a]: line 11, 0.3: replica 0 read the list, answered [b] [a]|"
-     "[a] before [x]: line 6, 1.1: replica 1 inserted a at position 0, answered [a] [x]|"
+     "[a] before [x]: line 6, 1.1: replica 1 inserted a at position 0, answered [a] [x]||The elements|"
      "x: inserted by 0.1 (line 3), deleted by 0.2 (line 8)|for 0.3 (line 11), x is deleted, by 0.2 (line 8)|"
-     "in the end replicas 0 and 1 have all changes, and show different lists||Where to look in the editor|"
-     "At positions beside deleted elements: no two of these responses disagree openly, and an insert beside an element that another "
-     "replica has deleted may have lost its place there. Above stands which elements are deleted for which of the responses."),
+     "x arrived at replica 1 in line 4, x at replica 2 in line 5, a at replica 0 in line 9, b at replica 0 in line 10||"
+     "Where to look in the editor|"
+     "Of the whole trace: At the order of concurrent inserts: no author of a and b had seen the other one, and two replicas, or one at two "
+     "times, have put them in different orders.|"
+     "Of the whole trace: At inserts beside deleted elements, if replicas throw these away: above stands which element arrived where its "
+     "neighbour was deleted already, and without the neighbour nothing tells the place.|"
+     "Of the lines up to 11: At positions beside deleted elements: no two of 2.1, 0.3 and 1.1 disagree openly, and an insert beside an "
+     "element that another replica has deleted may have lost its place there. Above stands which elements are deleted for which of them."
+     + stop(10, "replica 0 applies 2.1", 9, 5, 4) + "||What the whole trace shows, each element before the next, and round again|"
+     "[a] before [b]: line 14, 1.2: replica 1 read the list, answered [a] [b]|"
+     "[b] before [a]: line 11, 0.3: replica 0 read the list, answered [b] [a]"),
+    ("a neighbour that its replica deleted before another's delete arrived", 2, "0 ins x 0 : x|1 recv 0 1|1 ins b 1 : x b|1 del x : b|"
+     "0 ins a 0 : a x|0 del x : a|0 recv 1 1|0 recv 1 2|0 read : b a|0 read : a b",
+     "b was put behind x. When it arrived at replica 0 in line 9, x was deleted there by 0.3 (line 8)"),
+    ("an element beside one that is deleted later", 2, "0 ins a 0 : a|0 ins b 1 : a b|0 ins c 2 : a b c|1 recv 0 3|1 read : a b c|1 del b : a c|"
+     "1 read : c a",
+     "[a] before [c]: line 5 of the trace, 0.3: replica 0 inserted c at position 2, answered [a] b [c]|"
+     "[c] before [a]: line 9, 1.3: replica 1 read the list, answered [c] [a]|c: inserted by 0.3 (line 5)|"
+     "c was put behind b, deleted for 1.3 (line 9)|c arrived at replica 1 in line 6, a at replica 1 in line 6" + stop(6, "replica 1 applies 0.3")),
     ("a ring of three that hear of one another", 3, "0 ins a 0 : a|1 ins b 0 : b|2 ins c 0 : c|0 recv 1 1|0 read : a b|1 recv 2 1|"
      "1 read : b c|2 recv 0 1|2 read : c a",
      "[a] before [b]: line 7 of the trace, 0.2: replica 0 read the list, answered [a] [b]|"
      "[b] before [c]: line 9, 1.2: replica 1 read the list, answered [b] [c]|"
      "[c] before [a]: line 11, 2.2: replica 2 read the list, answered [c] [a]|"
-     "b arrived at replica 0 in line 6, c at replica 1 in line 8, a at replica 2 in line 10: stop where these are applied, the last one first|"
-     "At how a replica orders elements of which it shows only some: no two of these responses disagree openly, and none of the "
-     "elements is deleted for any of them, so each replica has yet to hear of some."),
+     "b arrived at replica 0 in line 6, c at replica 1 in line 8, a at replica 2 in line 10|"
+     "At how a replica orders elements of which it shows only some: no two of 0.2, 1.2 and 2.2 disagree openly, and none of the "
+     "elements is deleted for any of them, so each replica has yet to hear of some." + stop(10, "replica 2 applies 0.1", 8, 6)),
     ("an element that came along with what had seen it", 3, "0 ins a 0 : a|1 recv 0 1|1 read : a|1 ins b 1 : a b|2 recv 1 1|2 recv 1 2|"
      "2 recv 0 1|2 read : b a",
      "[b] before [a]: line 10, 2.1: replica 2 read the list, answered [b] [a]|b: inserted by 1.2 (line 6)|"
-     "a arrived at replica 1 in line 4, a at replica 2 in line 7, b at replica 2 in line 8: stop where these are applied, the last one first"),
+     "a arrived at replica 1 in line 4, a at replica 2 in line 7, b at replica 2 in line 8"),
     ("one element that arrived", 2, "0 ins a 0 : a|1 recv 0 1|1 ins b 0 : b a|1 read : a b",
      "[a] before [b]: line 6 of the trace, 1.2: replica 1 read the list, answered [a] [b]|a: inserted by 0.1 (line 3)|"
-     "b: inserted by 1.1 (line 5)|a arrived at replica 1 in line 4: stop where it is applied||Where to look in the editor"),
+     "b: inserted by 1.1 (line 5)|a arrived at replica 1 in line 4||Where to look in the editor" + stop(4, "replica 1 applies 0.1")),
     ("nothing that arrived", 1, "0 ins a 0 : a|0 ins b 1 : a b|0 read : b a", "a: inserted by 0.1 (line 3)|b: inserted by 0.2 (line 4)||"
-     "Where to look in the editor"),
+     "Where to look in the editor" + stop(5, "replica 0 reads the list")),
     ("an element lost that came by way of another replica", 3,
      "0 ins a 0 : a|1 recv 0 1|1 ins b 1 : a b|2 recv 1 1|2 read : b",
      "contents 2.1: this response does not hold exactly what is visible to it. Strong and weak list specification fail.|"
      "line 7 of the trace, 2.1: replica 2 read the list|answered: b|expected, in whatever order: b [a]|"
-     "before it: replica 2 did nothing, and received line 6 (2 recv 1 1)|Missing|"
+     "before it: replica 2 did nothing, and received 1.1 (line 6)|Missing|"
      "[a] inserted by 0.1 (line 3), arrived at replica 1 in line 4 (1 recv 0 1), and from there arrived at replica 2 in line 6 "
      "(2 recv 1 1)|[a] no receipt at replica 2 names it by then: it counts as arrived since 1.1 (line 5) had seen it. Where each "
      "operation travels by itself, it was missing, and the exchange is not causal|[a] nothing deletes it"),
     ("an element lost that arrived after what had seen it", 3,
      "0 ins a 0 : a|1 recv 0 1|1 ins b 1 : a b|2 recv 1 1|2 recv 0 1|2 read : b",
      "line 8 of the trace, 2.1: replica 2 read the list|[a] line 7 (2 recv 0 1) names it, after line 6 (2 recv 1 1) which brings it: an "
-     "operation arrived before what its author had seen, and the exchange is not causal|[a] nothing deletes it"),
+     "operation arrived before what its author had seen, and the exchange is not causal|[a] nothing deletes it" + stop(6, "replica 2 applies 1.1")),
     ("an element lost that arrived by itself before", 3,
      "0 ins a 0 : a|2 recv 0 1|1 recv 0 1|1 ins b 1 : a b|2 recv 1 1|2 read : b",
      "[a] inserted by 0.1 (line 3), arrived at replica 2 in line 4 (2 recv 0 1)|[a] nothing deletes it"),
@@ -151,7 +183,7 @@ WORDS = [
      "answered: (nothing)|expected, in whatever order: [a]|"
      "before it: 0.1 (line 3) is still right; since then replica 0 received nothing|"
      "[a] inserted by 0.1 (line 3), an earlier operation of replica 0|"
-     "[a] deleted by 1.1 (line 5), not visible to 0.2: the first receipt that brings it is line 7 (0 recv 1 1), after this response"),
+     "[a] deleted by 1.1 (line 5), not visible to 0.2: the first receipt that brings it is line 7 (0 recv 1 1), after this response" + stop(6, "replica 0 reads the list")),
     ("a deleted element shown", 2, "0 ins a 0 : a|0 del a :|1 recv 0 2|1 read : a",
      "answered: [a]|expected, in whatever order: (nothing)|Too many|"
      "[a] inserted by 0.1 (line 3), arrived at replica 1 in line 5 (1 recv 0 2)|"
@@ -187,7 +219,7 @@ WORDS = [
      "line 4 of the trace, 0.2: replica 0 inserted b at position 4294967295|answered: [b] [a]|"
      "asked for: position 4294967295, past the end, so the last place, 1, where [a] stands|found at: position 0"),
     ("a position", 1, "0 ins a 0 : a|0 ins b 1 : a b|0 ins c 1 : a b c",
-     "answered: a [b] [c]|asked for: position 1, where [b] stands|found at: position 2"),
+     "answered: a [b] [c]|asked for: position 1, where [b] stands|found at: position 2" + stop(5, "replica 0 inserts c")),
     ("an insert that was deleted before", 2, "1 del a :|0 recv 1 1|0 ins a 0 :",
      "position 0.1: a does not stand where it was asked for. Strong and weak list specification fail.|"
      "asked for: a place in the list, but the response is empty|"
@@ -434,12 +466,14 @@ def words(tally: Tally, program: str) -> None:
         got = explain(program, ["-"], trace)
         missing = stand_in_order(got.out.decode().splitlines(), wanted.split("|"))
         tally.check(f"words: {name}", missing is None and not got.err, f"no `{missing}` in\n{got.out.decode()}{got.err}")
+        is_debugged = got.out.split()[0].rstrip(b":") in (b"refused", b"contents", b"position")
+        tally.check(f"in a debugger: {name}", (b"\nIn a debugger\n" in got.out) == is_debugged, got)
         tally.check(f"status: {name}", got.status == run(program, ["verdict", "-"], trace).status, got.status)
 
 
-def arrivals_in(text: str) -> dict:
-    """By replica and element, the line of the receipt with which it came there: the session is played again, and each operation keeps
-    what its replica knew behind it."""
+def arrivals_in(text: str, kind: str = "ins") -> dict:
+    """By replica and element, the line of the receipt with which its insert, or its delete, came there: the session is played again, and
+    each operation keeps what its replica knew behind it."""
     known, did, arrived = {}, {}, {}
     for number, line in enumerate(text.splitlines()[2:], 3):
         words = line.split()
@@ -450,7 +484,7 @@ def arrivals_in(text: str) -> dict:
                 arrived[replica, element] = number
             mine |= did[words[2], int(words[3])]
             continue
-        if words[1] == "ins":
+        if words[1] == kind:
             mine.add(words[2])
         count.append(number)
         did[replica, len(count)] = set(mine)
@@ -464,17 +498,67 @@ def stops_of(text: str, report: dict) -> list:
     return sorted({(arrived[key], *key) for key in shown if key in arrived})
 
 
-def stops_told(said: str) -> tuple:
-    """What an explanation says of them, as (line, replica, element), and in what words the line ends; it is the last of its paragraph."""
-    paragraph = said.partition("\nThe elements\n")[2].partition("\n\n")[0].splitlines()
-    *others, last = paragraph
-    front, _, end = last.partition(": stop where ")
-    found = re.findall(r"(\S+)( arrived)? at replica (\d+) in line (\d+)(?:, |$)", front) if end else []
+def neighbours_gone(text: str, report: dict) -> set:
+    """The elements beside which one of these was put, and which were deleted where it arrived, before that."""
+    gone, put = arrivals_in(text, "del"), {}
+    for number, line in enumerate(text.splitlines()[2:], 3):
+        words = line.split()
+        if words[1] == "del":
+            gone[words[0], words[2]] = min(number, gone.get((words[0], words[2]), number))
+        elif words[1] == "ins":
+            put[words[2]] = words[5:]
+    found = set()
+    for line, replica, element in stops_of(text, report):
+        place = put[element].index(element)
+        beside = put[element][max(place - 1, 0):place + 2]
+        found |= {name for name in beside if gone.get((replica, name), line) < line}
+    return found
+
+
+def hidden_of(text: str, report: dict) -> list:
+    """Which of a refusal's elements were put behind or before others that are gone in the first response of the steps that shows them so."""
+    lines = text.splitlines()
+    gone, put, at, counts = arrivals_in(text, "del"), {}, {}, Counter()
+    for number, line in enumerate(lines[2:], 3):
+        words = line.split()
+        if words[1] != "recv":
+            counts[words[0]] += 1
+            at[f"{words[0]}.{counts[words[0]]}"] = number
+        if words[1] == "del":
+            gone[words[0], words[2]] = min(number, gone.get((words[0], words[2]), number))
+        elif words[1] == "ins":
+            put[words[2]] = words[5:]
+    found, cycle = {}, {step["from"] for step in report["steps"]}
+    for step in report["steps"]:
+        for element in step["from"], step["to"]:
+            place = put[element].index(element)
+            sides = [("behind", name) for name in put[element][max(place - 1, 0):place]]
+            sides += [("before", name) for name in put[element][place + 1:place + 2]]
+            hidden = [f"{side} {name}" for side, name in sides if name not in cycle
+                      and gone.get((step["shown"].split(".")[0], name), len(lines) + 1) <= at[step["shown"]]]
+            if hidden:
+                found.setdefault(element, (element, " and ".join(hidden), step["shown"]))
+    return sorted(found.values())
+
+
+def hidden_told(told: str) -> list:
+    """What some lines of an explanation say of that."""
+    return sorted(re.findall(r"^  (\S+) was put ((?:behind|before) .*), deleted for (\d+\.\d+) ", told, re.MULTILINE))
+
+
+def beside_told(told: str) -> list:
+    """Of which elements some lines of an explanation say that they arrived beside deleted ones, which, and at which replica."""
+    return sorted(re.findall(r"^  (\S+) was put ((?:behind|before) .*)\. When it arrived at replica (\d+) ", told, re.MULTILINE))
+
+
+def stops_told(told: str) -> tuple:
+    """What the last of some lines says of where elements arrived, as (line, replica, element), and whether it says nothing else."""
+    last = told.splitlines()[-1].strip()
+    found = re.findall(r"(\S+)( arrived)? at replica (\d+) in line (\d+)(?:, |$)", last) if re.match(r"\S+ arrived at replica ", last) else []
     whole = ", ".join(f"{name}{verb} at replica {replica} in line {line}" for name, verb, replica, line in found)
     verbs, lines = [bool(verb) for _, verb, *_ in found], [int(line) for *_, line in found]
-    is_right = ((whole == front.strip()) == bool(end) and verbs == [place == 0 for place in range(len(found))] and lines == sorted(lines)
-                and not any("stop where" in line for line in others))
-    return [(int(line), replica, name) for name, _, replica, line in found], end, is_right
+    is_right = whole == last * bool(found) and verbs == [place == 0 for place in range(len(found))] and lines == sorted(lines)
+    return [(int(line), replica, name) for name, _, replica, line in found], is_right
 
 
 def said_first(tally: Tally, program: str) -> None:
@@ -486,24 +570,36 @@ def said_first(tally: Tally, program: str) -> None:
         tally.check(f"no receipts: {entries}", (lines[1:4] == ["", *FIRST]) == wanted and ("recv line" in got.out.decode()) == wanted, got)
     for replicas, entries, wanted in WRONG_DELETES:
         got = explain(program, ["-"], text_of(replicas, entries).encode())
-        first, *others = got.out.decode().partition("\nWhere to look\n")[2].splitlines()
+        first, *others = got.out.decode().partition("\nWhere to look\n")[2].partition("\n\n")[0].splitlines()
         is_said = bool(wanted) and first.startswith(f"  {wanted}") and len(others) == 1
         tally.check(f"wrong delete: {entries}", got.out.startswith(b"contents ") and is_said == bool(wanted)
                     and (is_said or not others and "looks applied" not in first), got)
 
 
-def beginning(tally: Tally, program: str, text: str, report: dict, said: str) -> Counter:
+def beginning(tally: Tally, program: str, text: str, report: dict, said: str) -> tuple:
     """The line with which a refused session went wrong is told where it is not the last one: the program accepts the lines before it,
-    and refuses them with it. Where it reports other steps of these than of the whole, they are told."""
-    told = said.partition("\nWhen it went wrong\n")[2].partition("\n\n")[0]
+    and refuses them with it. Where it reports other steps of these than of the whole, they are told. Answers the text up to that line, and
+    the report on it."""
+    told = paragraph(said, "When it went wrong")
+    front, shown = said.partition("\nWhat the whole trace shows, ")[::2]
     lines = text.splitlines(keepends=True)
-    last = int(re.match(r"  line (\d+), ", told)[1]) if told else len(lines)
+    last = int(re.match(r"  line (\d+) of the trace, ", told)[1]) if told else len(lines)
     before, behind = (json.loads(run(program, ["verdict", "--json", "-"], "".join(lines[:count]).encode()).out) for count in (last - 1, last))
     is_right = before["verdict"] == "accepted" and behind["verdict"] == "refused" and bool(told) == (last < len(lines))
     tally.check("refused: when it went wrong", is_right, f"{text}{report}\n{said}")
-    wanted = [(step["from"], step["to"]) for step in behind.get("steps", [])] if behind.get("steps") != report["steps"] else []
-    tally.check("refused: what it showed then", re.findall(r"\[(\S+)\] before \[(\S+)\]", told) == wanted, f"{text}{report}\n{said}")
-    return Counter(line=bool(told), steps=bool(wanted))
+    wanted = [[(step["from"], step["to"]) for step in one["steps"]] for one in (behind, report)]
+    wanted[1:] = wanted[1:] * (behind["steps"] != report["steps"])
+    steps = [re.findall(r"^  \[(\S+)\] before \[(\S+)\]: ", half, re.MULTILINE) for half in (front, shown) if half]
+    tally.check("refused: what it showed then, and the whole trace", steps == wanted, f"{text}{report}\n{said}")
+    titles = [line for line in front.splitlines() if line.startswith("What the")]
+    wanted = f"What {f'the lines up to {last}' if wanted[1:] else 'they'} show, each element before the next, and round again"
+    tally.check("refused: of which lines it is said", titles == [wanted], said)
+    return "".join(lines[:last]), behind
+
+
+def paragraph(said: str, title: str) -> str:
+    """The lines of a section of an explanation."""
+    return said.partition(f"\n{title}\n")[2].partition("\n\n")[0]
 
 
 def faults(tally: Tally, program: str, folder: str) -> None:
@@ -589,7 +685,15 @@ def places(tally: Tally, program: str, folder: str) -> None:
         links = [node.get("href") for node in tree.iter("a")][-len(lines):] if lines else []
         tally.check(f"places: {name}, linked", links == [f"#{line.partition(':')[0].replace(' ', '-')}" for line in lines], links)
         tally.check(f"places: {name}, not of standard input", explain(program, ["-"], path.read_bytes()).out.decode() == bare)
+    Path(f"{path}.lines").write_text("7\n3 my.log:1\n4 my.log:2\n5 my.log:2\n7 deep/my.jsonl:3\n")
+    smaller = Path(folder, "smaller.trace")
+    got = explain(program, ["--small", str(smaller), str(path)]).out.decode()
+    tally.check("places: of a log", paragraph(got, "In your log") == "  line 3: my.log:1\n  line 4: my.log:2\n  line 5: my.log:2\n  line 7: deep/my.jsonl:3" and
+                paragraph(got, "In a debugger") == "  stop before line 7, where replica 1 reads the list. The editor then writes deep/my.jsonl:3.", got)
+    kept = smaller.read_text().splitlines()[2:], Path(f"{smaller}.lines").read_text()
+    tally.check("places: of a small trace", kept == (["0 ins a 0 : a", "1 recv 0 1", "1 read :"], "5\n3 my.log:1\n4 my.log:2\n5 deep/my.jsonl:3\n"), kept)
     last = PLACES[-1]
+    Path(f"{path}.lines").write_text(last[1])
     done = subprocess.run([EXPLAIN, "--program", program, str(path)], capture_output=True, env=os.environ | {"PYTHONIOENCODING": "ascii"})
     tally.check("places: letters that the terminal has not", last[2].replace("\u00e4", "?").encode() in done.stdout and not done.stderr, done)
     for suffix in "bytes that are no text", "a folder":
@@ -820,7 +924,7 @@ def pages(tally: Tally, program: str, folder: str) -> None:
             tally.check(f"page of {example.name}: arrows", len(arrows) == sum(" recv " in line for line in lines), len(arrows))
         report = json.loads(run(program, ["verdict", "--json", str(example)]).out)
         for node in tree.iter("li"):
-            if not node.get("id") and ("stop where" in told(node) or "of the trace," in told(node)):
+            if not node.get("id") and ("stop before" in told(node) or "of the trace," in told(node)):
                 links = [link.get("href") for link in node.iter("a")]
                 named = [f"#line-{line}" for line in re.findall(r"\bline (\d+)", told(node))]
                 tally.check(f"page of {example.name}: links to lines", links and links == named, (links, told(node)))
@@ -891,6 +995,13 @@ def svg(tally: Tally, program: str, folder: str) -> None:
         example = ROOT / "examples" / f"{picture.stem}.trace"
         explain(program, ["--svg", f"{folder}/cycle.svg", str(example)])
         tally.check(f"svg of {example.name}", Path(folder, "cycle.svg").read_bytes() == picture.read_bytes())
+    trace, front = text_of(3, f"{THREE_WAY}|1 recv 0 2|1 recv 2 1|1 read : a b"), text_of(3, THREE_WAY)
+    for name, text in ("whole", trace), ("front", front):
+        explain(program, ["--svg", f"{folder}/{name}.svg", "--html", f"{folder}/{name}.html", "-"], text.encode())
+    drawn = [Path(folder, f"{name}.svg").read_bytes() for name in ("whole", "front")]
+    pages = [Path(folder, f"{name}.html").read_text() for name in ("whole", "front")]
+    tally.check("svg of the lines up to which a session went wrong", drawn[0] == drawn[1] and "<h2>The cycle of the lines up to 11</h2>" in pages[0]
+                and "<h2>The cycle</h2>" in pages[1] and [page.count("<svg") for page in pages] == [3, 3], [page.count("<svg") for page in pages])
     got = explain(program, ["--svg", f"{folder}/none.svg", str(ROOT / "examples" / "lost_element.trace")])
     tally.check("no svg where there is no cycle", not Path(folder, "none.svg").exists() and b"is not written" in got.out, got)
     got = explain(program, ["--small", f"{folder}/none.trace", str(ROOT / "examples" / "insert_delete_read.trace")])
@@ -934,23 +1045,37 @@ def small(tally: Tally, program: str, folder: str) -> None:
 
     with ThreadPoolExecutor(2) as pool:
         for (whole, report), (got, text, again) in zip(cases, pool.map(make, range(len(cases)))):
-            judged = json.loads(again.out or b"{}")
-            same = [judged.get(key) == report.get(key) for key in ("verdict", "k")]
+            judged, said, meant, meant_report = json.loads(again.out or b"{}"), got.out.decode(), whole, report
+            if report["verdict"] == "refused":
+                meant, meant_report = beginning(tally, program, whole, report, said)
+            same = [judged.get(key) == meant_report.get(key) for key in ("verdict", "k")]
             tally.check("small: the same verdict and number", all(same) and got.status == 1, f"{whole}\nto\n{text}{got}")
             tally.check("small: no longer", len(text.splitlines()) <= len(whole.splitlines()), f"{whole}\nto\n{text}")
             tally.check("small: as it is written", text == written(text), text)
             if report["verdict"] == "refused":
-                stops, (told, end, is_right) = stops_of(whole, report), stops_told(got.out.decode())
-                ended = {0: "", 1: "it is applied"}.get(len(stops), "these are applied, the last one first")
-                is_told = is_right and sorted(told) == stops and end == ended
-                tally.check("refused: where elements arrived", is_told, f"{whole}{stops}\n{got}")
+                told = paragraph(said, "The elements")
+                stops, (stops_said, is_right) = stops_of(meant, meant_report), stops_told(told)
+                tally.check("refused: where elements arrived", is_right and sorted(stops_said) == stops, f"{whole}{stops}\n{got}")
+                stop_lines = sorted({line for line, *_ in stops}, reverse=True) or [len(meant.splitlines())]
+                stopped = paragraph(said, "In a debugger").partition(" In Python,")[0]
+                tally.check("refused: where to stop a debugger", [int(line) for line in re.findall(r"\bline (\d+)", stopped)] == stop_lines,
+                            f"{whole}{stops}\n{got}")
                 arriving[len(stops)] += 1
-                wrong += beginning(tally, program, whole, report, got.out.decode())
-                cycle = {step["from"] for step in report["steps"]}
+                cycle = {step["from"] for step in meant_report["steps"]}
                 names = {line.split()[2] for line in text.splitlines()[2:] if line.split()[1] == "ins"}
-                tally.check("small: the cycle's elements", names == cycle and judged["inserts"] == report["k"], f"{whole}\nto\n{text}")
+                gone = neighbours_gone(meant, meant_report)
+                tally.check("small: the cycle's elements, and deleted neighbours", names == cycle | gone and judged["inserts"] == len(names),
+                            f"{whole}\nto\n{text}")
+                again_told = paragraph(explain(program, ["-"], text.encode()).out.decode(), "The elements")
+                tally.check("refused: beside deleted elements", bool(beside_told(told)) == bool(gone), f"{whole}{gone}\n{got}")
+                tally.check("small: beside deleted elements too", beside_told(told) == beside_told(again_told), f"{whole}\nto\n{text}")
+                hidden = [] if gone else hidden_of(meant, meant_report)
+                tally.check("refused: beside elements that are deleted later", hidden_told(told) == hidden, f"{whole}{hidden}\n{got}")
+                wrong += Counter(line=meant != whole, steps=meant_report["steps"] != report["steps"], beside=bool(gone), hidden=bool(hidden))
             most = {"position": judged.get("inserts") in (1, 2), "doubled": judged.get("operations") == 2}
             tally.check("small: of a fault", most.get(report["verdict"], True), f"{whole}\nto\n{text}")
+    tally.check("refused: beside deleted elements in some of them", wrong["beside"] > SMALL["refused"] / 4, wrong)
+    tally.check("refused: beside elements that are deleted later, in some of them", wrong["hidden"] > 0, wrong)
     tally.check("refused: a line and steps told in some of them", wrong["line"] > SMALL["refused"] / 8 and wrong["steps"] > 2, wrong)
     tally.check("refused: elements arrived in most of them", sum(arriving[count] for count in arriving if count > 1) > SMALL["refused"] / 2,
                 arriving)
@@ -972,6 +1097,14 @@ def kept_more(tally: Tally) -> None:
     kept = smallest(evidence, only_the_last)
     tally.check("small: the whole as the last", kept.text.encode() == seen[2] and sorted(kept.text) == sorted(whole), kept)
     tally.check("small: none", smallest(evidence, lambda trace: None) is None)
+
+
+def together(tally: Tally, program: str, folder: str) -> None:
+    """Two operations that one receipt has brought get a receipt each where what brought them is left out."""
+    trace = text_of(4, "0 ins a 0 : a|1 ins b 0 : b|0 recv 1 1|0 read : a b|3 recv 0 1|3 recv 1 1|3 read : a b|2 recv 3 1|2 read : b a")
+    got = explain(program, ["--small", f"{folder}/together.trace", "-"], trace.encode())
+    wanted = text_of(4, "0 ins a 0 : a|1 ins b 0 : b|0 recv 1 1|0 read : a b|2 recv 0 1|2 recv 1 1|2 read : b a")
+    tally.check("small: two by one receipt", Path(folder, "together.trace").read_text() == wanted, got)
 
 
 def main() -> None:
@@ -997,6 +1130,7 @@ def main() -> None:
         long_sessions(tally, program, folder)
         svg(tally, program, folder)
         kept_more(tally)
+        together(tally, program, folder)
         small(tally, program, folder)
     tally.close()
 

@@ -78,7 +78,7 @@ def examples(tally: Tally, folder: str) -> None:
     share, here = Path(folder, "share/domepeeler"), os.environ | {"PATH": f"{folder}/bin:{os.environ['PATH']}"}
     here.pop("DOMEPEELER", None)
     paths = [path.relative_to(ROOT) for path in sorted(ROOT.glob("examples/**/*")) if path.is_file() and path.parent.name != "ci"]
-    paths = [path for path in paths if path.suffix in (".trace", ".cert", ".mjs")]
+    paths = [path for path in paths if path.suffix in (".trace", ".cert", ".mjs", ".log") or path.name == "convert.py"]
     tally.check(f"examples in {folder}: all", len(paths) > 15 and all((share / path).is_file() and
                 (share / path).read_bytes() == (ROOT / path).read_bytes() for path in paths), paths)
     for words in ["domepeeler", "verdict"], ["domepeeler-explain"]:
@@ -94,7 +94,7 @@ def examples(tally: Tally, folder: str) -> None:
 
 def runs(tally: Tally, folder: str) -> None:
     """The tools ask the program beside them, with no variable and none on the PATH."""
-    here = {"PATH": os.pathsep.join({os.path.dirname(shutil.which(tool)) for tool in ("python3", "parallel", "sh", "perl")})}
+    here = {"PATH": os.pathsep.join({os.path.dirname(shutil.which(tool)) for tool in ("python3", "sh")})}
     ended = [subprocess.run([f"{folder}/bin/{words[0]}", *words[1:]], capture_output=True, env=here)
              for words in (["domepeeler", "verdict", EXAMPLE], ["domepeeler-explain", EXAMPLE], ["domepeeler-judge-many", EXAMPLE])]
     verdict, explained, many = [Ended(done.returncode, done.stdout, done.stderr) for done in ended]
@@ -226,7 +226,6 @@ def completions_of_fish(tally: Tally, folder: str) -> None:
 
 def main() -> None:
     program = program_of(sys.argv)
-    need("parallel", "parallel")
     need("man", "man-db")
     need("fish", "fish")
     tally = Tally()

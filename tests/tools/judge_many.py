@@ -3,12 +3,15 @@
 and the script of `examples/ci` with the jobs that run it."""
 import json
 import os
+import pty
 import random
 import re
 import shutil
+import signal
 import subprocess
 import sys
 import tempfile
+import time
 import xml.etree.ElementTree as xml
 from pathlib import Path
 
@@ -25,7 +28,7 @@ from list_crdt import Group, play  # noqa: E402
 TOOL = str(ROOT / "tools" / "judge_many")
 JOBS = ["github_workflow.yml", "gitlab_jobs.yml"]  # of examples/ci
 
-# Traces by file, and for each the verdict, k and the lines.
+# Traces by file.
 ACCEPTED = {"b.trace": "0 ins a 0 : a", "deep/er/a.trace": "0 ins a 0 : a|0 del a :"}
 FAILING = {
     "long.trace": "0 ins a 0 : a|1 ins b 0 : b|0 recv 1 1|1 recv 0 1|0 read : a b|1 read : b a",
@@ -35,10 +38,10 @@ FAILING = {
     "-moved {#}.trace": "0 ins a 0 : a|0 ins b 0 : a b|0 read : a b",
     "twice.trace": "0 ins a 0 : a|1 ins a 0 : a|0 read : a|1 read : a",
 }
-# The smallest that fails first, by lines; then those that are accepted, by name.
-ROWS = [("lost.trace", "contents", "-", "4"), ("-moved {#}.trace", "position", "-", "5"), ("twice.trace", "doubled", "-", "6"),
-        ("long.trace", "refused", "2", "8"), ("with 'blanks' and $signs.trace", "refused", "3", "11"),
-        ("b.trace", "accepted", "-", "3"), ("deep/er/a.trace", "accepted", "-", "4")]
+# By file the verdict, k, how many of the first lines fail already, and the lines: the least of these first; then those that are accepted.
+ROWS = [("lost.trace", "contents", "-", "4", "4"), ("-moved {#}.trace", "position", "-", "4", "5"), ("twice.trace", "doubled", "-", "4", "6"),
+        ("long.trace", "refused", "2", "8", "8"), ("with 'blanks' and $signs.trace", "refused", "3", "11", "11"),
+        ("b.trace", "accepted", "-", "-", "3"), ("deep/er/a.trace", "accepted", "-", "-", "4")]
 
 # What JUnit's file says of each: nothing, or a failure with the verdict's word and the beginning of its message.
 MESSAGES = {"lost.trace": ("contents", "contents 0.2: "), "-moved {#}.trace": ("position", "position 0.2: "),
@@ -88,11 +91,11 @@ def cells(line: str) -> tuple:
 def table(tally: Tally, program: str, folder: str) -> None:
     got = judge(program, [folder])
     lines = got.out.decode().splitlines()
-    tally.check("table: its head", cells(lines[0]) == ("file", "verdict", "k", "lines", "seconds"), lines[0])
+    tally.check("table: its head", cells(lines[0]) == ("file", "verdict", "k", "fails at", "lines", "seconds"), lines[0])
     rows = [cells(line) for line in lines[1:-1]]
     wanted = [(f"{folder}/{name}", *rest) for name, *rest in ROWS]
-    tally.check("table: the rows, the smallest that fails first", [row[:4] for row in rows] == wanted, rows)
-    tally.check("table: seconds", all(re.fullmatch(r"\d+\.\d{3}", row[4]) for row in rows), rows)
+    tally.check("table: the rows, first what fails in the fewest lines", [row[:5] for row in rows] == wanted, rows)
+    tally.check("table: seconds", all(re.fullmatch(r"\d+\.\d{3}", row[5]) for row in rows), rows)
     tally.check("table: its columns", len({len(line) for line in lines[:-1]}) == 1, lines)
     tally.check("table: the counts", lines[-1] == "7 traces: 2 accepted, 2 refused, 1 contents, 1 position, 1 doubled", lines[-1])
     tally.check("table: status 1", got.status == 1 and not got.err, got)
@@ -101,7 +104,7 @@ def table(tally: Tally, program: str, folder: str) -> None:
 def json_lines(tally: Tally, program: str, folder: str) -> None:
     got = judge(program, ["--json", "--jobs", "2", folder])
     rows = [json.loads(line) for line in got.out.decode().splitlines()]
-    told = [(row["file"], row["verdict"], str(row.get("k", "-")), str(row["lines"])) for row in rows]
+    told = [(row["file"], row["verdict"], *(str(row.get(key, "-")) for key in ("k", "fails_at", "lines"))) for row in rows]
     tally.check("JSON: the rows", told == [(f"{folder}/{name}", *rest) for name, *rest in ROWS], told)
     for row in rows:
         own = run(program, ["verdict", "--json", row["file"]])
@@ -119,7 +122,7 @@ def statuses(tally: Tally, program: str, folder: str, other: str) -> None:
     got = judge(program, [other, folder])
     lines = got.out.decode().splitlines()
     tally.check("a trace that does not read: status 2", got.status == 2, got)
-    tally.check("a trace that does not read: its row", cells(lines[1])[:4] == (str(bad), "unread", "-", "3"), lines)
+    tally.check("a trace that does not read: its row", cells(lines[1])[:5] == (str(bad), "unread", "-", "-", "3"), lines)
     told = [f"judge_many: {bad}: finder: line 3: shape", "  line 3 is: 0 reads :",
             "  `reads`, the second word, is not `ins`, `del`, `read`, `view` or `recv`"]
     tally.check("a trace that does not read: its line, and what is wrong with it", got.err.decode().splitlines() == told, got.err)
@@ -137,8 +140,8 @@ def failing(tally: Tally, program: str, folder: str) -> None:
     """The same, but for the rows of those that are accepted."""
     got = judge(program, ["--failing", folder])
     lines = got.out.decode().splitlines()
-    wanted = [("file", "verdict", "k", "lines"), *((f"{folder}/{name}", *rest) for name, *rest in ROWS[:5])]
-    tally.check("failing: the rows", [cells(line)[:4] for line in lines[:-1]] == wanted, lines)
+    wanted = [("file", "verdict", "k", "fails at", "lines"), *((f"{folder}/{name}", *rest) for name, *rest in ROWS[:5])]
+    tally.check("failing: the rows", [cells(line)[:5] for line in lines[:-1]] == wanted, lines)
     tally.check("failing: the counts are of all", lines[-1] == "7 traces: 2 accepted, 2 refused, 1 contents, 1 position, 1 doubled", lines)
     tally.check("failing: status 1", got.status == 1 and not got.err, got)
     got = judge(program, ["--json", "--failing", folder])
@@ -169,6 +172,9 @@ def junit(tally: Tally, program: str, folder: str, other: str) -> None:
         kind, begins = MESSAGES.get(name, ("", ""))
         tally.check(f"JUnit: {name}: its verdict", [fault[:2] for fault in faults] == ([("failure", kind)] if kind else []) and
                     all(fault[2].startswith(begins) for fault in faults), faults)
+        about = {"long.trace": " It is about a and b.", "with 'blanks' and $signs.trace": " It is about x, b and a."}.get(name, "")
+        tally.check(f"JUnit: {name}: its elements", all(fault[2].endswith(f" fail.{about}" if name == "long.trace" else about) for fault in faults),
+                    faults)
         said = run(str(ROOT / "tools" / "explain"), ["--program", program, case.get("file")]).out.decode()
         tally.check(f"JUnit: {name}: its explanation", all(fault.text == said for fault in case), [fault.text for fault in case])
     odd = Path(other, "odd")
@@ -219,7 +225,7 @@ def jobs_of_ci(tally: Tally, program: str, folder: str) -> None:
     version = run(program, ["--version"]).out.decode().split()[1]
     subprocess.run([ROOT / "tools" / "install", f"{folder}/installed"], check=True, stdout=subprocess.DEVNULL,
                    env=os.environ | {"DOMEPEELER": program})
-    own = {os.path.dirname(shutil.which(tool)) for tool in ("python3", "parallel", "sh", "perl")}
+    own = {os.path.dirname(shutil.which(tool)) for tool in ("python3", "sh")}
     path = os.pathsep.join([f"{folder}/installed/bin", *own])
     wanted = [f"apt-get update && apt-get install -y ./ci/domepeeler_{version}_amd64.deb", "make test",
               "python3 ci/judge_recordings.py recordings"]
@@ -298,14 +304,89 @@ def errors(tally: Tally, program: str, folder: str) -> None:
     tally.same("no folder", judge(program, [missing]),
                Ended(2, b"", f"judge_many: cannot read {missing}: there is no such file or folder\n".encode()))
     tally.same("no program", judge(missing, [folder]), Ended(2, b"", f"judge_many: {missing} of --program can't be run\n".encode()))
-    got = subprocess.run([sys.executable, TOOL, "--program", program, empty], env={"PATH": empty}, capture_output=True)
-    tally.same("no parallel", Ended(got.returncode, got.stdout, got.stderr),
-               Ended(2, b"", b"judge_many: GNU parallel is needed: on Debian, apt-get update and apt-get install parallel\n"))
+    for jobs in "0", "-1", "2.5", "all", "":
+        tally.same(f"jobs: {jobs!r}", judge(program, [f"--jobs={jobs}", folder]),
+                   Ended(2, b"", f"judge_many: --jobs {jobs} is no number from 1 on\n".encode()))
+    fault = b"judge_many: --sshlogin needs GNU parallel: on Debian, apt-get update and apt-get install parallel\n"
+    words = [sys.executable, TOOL, "--program", program, "--sshlogin", "one", folder]
+    got = subprocess.run(words, env={"PATH": empty}, capture_output=True)
+    tally.same("no parallel", Ended(got.returncode, got.stdout, got.stderr), Ended(2, b"", fault))
     fake = Path(empty, "parallel")
     fake.write_text("#!/bin/sh\necho another program\n")
     fake.chmod(0o755)
-    got = subprocess.run([sys.executable, TOOL, "--program", program, empty], env={"PATH": f"{empty}:/bin"}, capture_output=True)
-    tally.check("another parallel", got.returncode == 2 and b"GNU parallel is needed" in got.stderr, got)
+    got = subprocess.run(words, env={"PATH": f"{empty}:/bin"}, capture_output=True)
+    tally.same("another parallel", Ended(got.returncode, got.stdout, got.stderr), Ended(2, b"", fault))
+
+
+def elsewhere(tally: Tally, program: str, folder: str, other: str) -> None:
+    """By GNU parallel on two machines, which are this one: what stands for ssh runs the command here. And without GNU parallel."""
+    here = [json.loads(line) | {"seconds": 0} for line in judge(program, ["--json", folder]).out.decode().splitlines()]
+    stand_in = Path(other, "ssh")
+    stand_in.write_text("#!/bin/sh\nwhile [ \"${1#-}\" != \"$1\" ]; do [ \"$1\" != -l ] || shift; shift; done\nshift\n"
+                        "[ \"$1\" != -- ] || shift\nexec sh -c \"$*\"\n")
+    stand_in.chmod(0o755)
+    for what, more, surroundings in (
+            ("two machines", ["--sshlogin", "2/one,two", "--jobs", "50%"], {"PARALLEL_SSH": str(stand_in), "HOME": other}),
+            ("no parallel", ["--jobs", "3"], {"PATH": other})):
+        words = [sys.executable, TOOL, "--program", program, "--json", *more, folder]
+        done = subprocess.run(words, env=os.environ | surroundings, capture_output=True)
+        rows = [json.loads(line) | {"seconds": 0} for line in done.stdout.decode().splitlines()]
+        tally.check(f"{what}: the rows", rows == here and len(rows) == len(ROWS), (rows, done.stderr))
+        tally.check(f"{what}: status 1", done.returncode == 1 and not done.stderr, done)
+    left = [str(path) for path in Path(other).rglob("*.trace")]
+    tally.check("two machines: no trace is left there", not left, left)
+
+
+def fails_at(tally: Tally, program: str, folder: str) -> None:
+    """How many of the first lines fail already, by the program's word on each beginning; the least of these first, and of equals the
+    smaller trace."""
+    write(folder, {"a.trace": "0 ins x 0 : x|0 ins y 1 : x y|0 ins z 2 : x y z|0 read : y z", "b.trace": "0 ins x 0 : x|1 ins y 0 : y|"
+                   "0 recv 1 1|0 ins y 2 : x y", "c.trace": "0 ins x 0 : x|0 ins y 0 : x y|0 del x : y|0 read : y",
+                   "d.trace": "0 ins x 0 : x|0 ins y 1 : x y|0 read : y x|0 read : x y", "e.trace": "0 ins x 0 : x|0 read :|0 read : x|"
+                   "0 read : x|0 read : x", "f.trace": "0 ins x 0 : x|0 read : x|0 read : x|0 read : x"})
+    rnd = random.Random(SEED)
+    for i in range(SESSIONS):
+        Path(folder, f"{i}.trace").write_text(session(rnd))
+    rows = [json.loads(line) for line in judge(program, ["--json", "--failing", folder]).out.decode().splitlines()]
+    told = [(row["fails_at"], row["lines"], row["file"]) for row in rows]
+    tally.check("fails at: their order", told == sorted(told) and len(rows) > SESSIONS / 4, told)
+    by_hand = {Path(name).stem: at for at, _, name in told if Path(name).stem.isalpha()}
+    tally.check("fails at: by hand", by_hand == {"a": 6, "b": 6, "c": 4, "d": 5, "e": 4}, by_hand)
+    for row in rows:
+        lines = Path(row["file"]).read_bytes().splitlines(keepends=True)
+        before, behind = (run(program, ["verdict", "-"], b"".join(lines[:count])).status for count in (row["fails_at"] - 1, row["fails_at"]))
+        tally.check(f"fails at: {row['file']}", (before, behind) == (0, 1), row)
+    long = "".join(f"0 read : {'b a' if i == 5000 else 'a b'}|" for i in range(6000))[:-1]
+    write(folder, {"long/one.trace": f"0 ins a 0 : a|0 ins b 1 : a b|{long}"})
+    (row,) = map(json.loads, judge(program, ["--json", f"{folder}/long"]).out.decode().splitlines())
+    tally.check("fails at: of many lines, the report's last operation", (row["fails_at"], row["lines"]) == (5005, 6004), row["fails_at"])
+
+
+def progress(tally: Tally, program: str, folder: str) -> None:
+    """A terminal shows how many traces were judged, on standard error alone."""
+    ours, theirs = pty.openpty()
+    done = subprocess.run([TOOL, "--program", program, folder], stdout=subprocess.PIPE, stderr=theirs)
+    os.close(theirs)
+    with os.fdopen(ours, "rb") as terminal:
+        shown = terminal.read1().decode()
+    tally.check("a terminal: how many", shown == "".join(f"\r{n} of {len(ROWS)}" for n in range(1, len(ROWS) + 1)) + "\r\n", repr(shown))
+    tally.check("a terminal: the table", done.stdout.startswith(b"file ") and done.returncode == 1, done)
+
+
+def interrupted(tally: Tally, folder: str, other: str) -> None:
+    """A user who stops it, as by Ctrl-C, gets no table and no complaint, and no trace is judged any more."""
+    slow, begun = Path(other, "slow"), Path(other, "begun")
+    slow.write_text(f"#!/bin/sh\necho >> '{begun}'\nsleep 60\n")
+    slow.chmod(0o755)
+    running = subprocess.Popen([TOOL, "--program", str(slow), "--jobs", "2", folder], stdout=subprocess.PIPE, stderr=subprocess.PIPE,
+                               start_new_session=True,
+                               preexec_fn=lambda: signal.signal(signal.SIGINT, signal.SIG_DFL))  # which a job in the background ignores
+    while not begun.exists() or begun.read_bytes().count(b"\n") < 2:
+        time.sleep(0.01)
+    os.killpg(running.pid, signal.SIGINT)
+    out, err = running.communicate(timeout=30)
+    tally.same("interrupted", Ended(running.returncode, out, err), Ended(130, b"", b""))
+    tally.check("interrupted: no more are begun", begun.read_bytes().count(b"\n") == 2, begun.read_bytes())
 
 
 def warnings(tally: Tally, program: str, folder: str) -> None:
@@ -317,7 +398,7 @@ def warnings(tally: Tally, program: str, folder: str) -> None:
     Path(folder, "lost.trace.lines").write_text("9\n")
     got = judge(program, [folder])
     lines = got.out.decode().splitlines()
-    tally.check("warnings: the column", [cells(line)[::5] for line in lines[:4]] == [("file", "warnings"), *(
+    tally.check("warnings: the column", [cells(line)[::6] for line in lines[:4]] == [("file", "warnings"), *(
         (f"{folder}/{name}.trace", count) for name, count in (("lost", "1"), ("apart", "2"), ("fine", "0")))], lines)
     said = [line.partition(": warning: ") for line in got.err.decode().splitlines()]
     begun = ("lost", "the trace m"), ("apart", "replica 0 n"), ("apart", "replica 1 n")
@@ -410,10 +491,14 @@ def closed_output(tally: Tally, program: str, folder: str) -> None:
 def main() -> None:
     program = program_of(sys.argv)
     need("parallel", "parallel")
+    need("rsync", "rsync")
     tally = Tally()
     with tempfile.TemporaryDirectory() as folder, tempfile.TemporaryDirectory() as other, tempfile.TemporaryDirectory() as third, \
             tempfile.TemporaryDirectory() as fourth:
         write(folder, ACCEPTED | FAILING)
+        elsewhere(tally, program, folder, fourth)
+        progress(tally, program, folder)
+        interrupted(tally, folder, fourth)
         table(tally, program, folder)
         json_lines(tally, program, folder)
         statuses(tally, program, folder, other)
@@ -423,7 +508,8 @@ def main() -> None:
         others(tally, folder, other)
         errors(tally, program, third)
         closed_output(tally, program, folder)
-    with tempfile.TemporaryDirectory() as folder, tempfile.TemporaryDirectory() as other:
+    with tempfile.TemporaryDirectory() as folder, tempfile.TemporaryDirectory() as other, tempfile.TemporaryDirectory() as third:
+        fails_at(tally, program, third)
         warnings(tally, program, folder)
         warnings_of_sessions(tally, program, other)
     tally.close()

@@ -22,7 +22,7 @@ KIT = "made-up-kit-7 logic 0123456789abcdef"
 TRACE = b"trace 1\nreplicas 3\n0 ins a 0 : a\n1 recv 0 1\n1 ins b 1 : a b\n2 recv 1 1\n2 read : b\n"  # the man page's example
 REPORT = b"replicas 3 operations 3 inserts 2\ncontents 2.1\nstrong no\nweak no\n"
 TEXT = "share/doc/domepeeler/build.txt"
-NEEDED = ["python3", "/usr/bin/python3", "parallel", "sh", "perl"]  # by the tools, as commands
+NEEDED = ["python3", "/usr/bin/python3", "sh"]  # by the tools, as commands
 COMMANDS = ["domepeeler", "domepeeler-explain", "domepeeler-judge-many"]
 STATUS = "Package: {}\nStatus: install ok installed\nMaintainer: nobody\nArchitecture: amd64\nVersion: {}\nDescription: made up\n\n"
 
@@ -159,15 +159,15 @@ def system(root: str, packages: set) -> str:
     shutil.rmtree(root, ignore_errors=True)
     for folder in "info", "updates":
         os.makedirs(f"{root}/var/lib/dpkg/{folder}")
-    versions = {"python3": "3.11.2-1", "parallel": "20221122"}
+    versions = {"python3": "3.11.2-1"}
     Path(root, "var/lib/dpkg/status").write_text("".join(STATUS.format(name, versions.get(name, "12.2")) for name in sorted(packages)))
     return root
 
 
 def depends(tally: Tally, program: str, folder: str) -> set:
-    """dpkg takes the package where the packages are that have its libraries, python3 and parallel, and not where one lacks."""
+    """dpkg takes the package where the packages are that have its libraries and python3, and not where one lacks."""
     deb = f"{folder}/made/{names_of(program)[2]}"
-    needed = {name for name in owners(program)} | {"python3", "parallel"}
+    needed = {name for name in owners(program)} | {"python3"}
     for name in needed:
         done = dpkg(system(f"{folder}/system", needed - {name}), "--install", deb)
         tally.check(f"package: without {name}", done.returncode != 0 and f"domepeeler depends on {name}" in done.stderr, done)
@@ -256,7 +256,6 @@ def faults(tally: Tally, program: str, folder: str) -> None:
 def main() -> None:
     program = program_of(sys.argv)
     need("/usr/bin/python3", "python3")
-    need("parallel", "parallel")
     need("man", "man-db")
     need("dpkg-shlibdeps", "dpkg-dev")
     tally = Tally()

@@ -99,7 +99,6 @@ def check_page(tally: Tally, page: str, least: int) -> None:
 
 def main() -> None:
     program = program_of(sys.argv)
-    need("parallel", "parallel")
     tally = Tally()
     tally.check("the program is the one of the pages", BUILT.exists() and os.path.samefile(program, BUILT), f"{program}, {BUILT}")
     for page, least in PAGES.items():

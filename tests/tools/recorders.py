@@ -920,11 +920,12 @@ def check_guide(tally: Tally, program: str, folder: Path) -> None:
     for trace, wanted in judged:
         got = run(program, ["verdict", "-"], trace.encode() + b"\n")
         tally.check(f"guide: {trace}", got.out.decode().split("\n")[1:2] == [wanted.rstrip("\n")], got)
-    stops = [block for block in shown if "breakpoint()" in block]
+    stops = re.findall(r"^  stop before line (\d+), where .*: (if len\(recording\..*)$", explained.stdout, re.MULTILINE) or [("0", "")]
     surroundings["PYTHONBREAKPOINT"] = "builtins.print"
-    reads = [line for number in range(1, 7) for line in [*stops, f"print({number}, recording.read(0, []))"]]
+    reads = [line for number in range(3, 9) for line in [stops[0][1], f"print({number}, recording.read(0, []))"]]
     stopped = ended("stopped.py", "\n".join(["from domepeeler import Recording", "recording = Recording(1)", *reads]))
-    tally.check("guide: stops before line 6", len(stops) == 1 and stopped.stdout == b"1 1\n2 2\n3 3\n\n4 4\n5 5\n6 6\n", stopped)
+    wanted = "".join("\n" * (number == int(stops[0][0])) + f"{number} {number - 2}\n" for number in range(3, 9))
+    tally.check("explain: its statement stops before that line", "\n\n" in wanted and stopped.stdout.decode() == wanted, (stops, stopped))
 
 
 # How README's examples begin, what runs them in the folder of the one file that they import, and that file.

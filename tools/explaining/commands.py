@@ -1,6 +1,7 @@
 """What the commands have in common: their version, and how they end where nobody reads on."""
 import codecs
 import os
+import signal
 import sys
 from argparse import ArgumentParser
 from collections.abc import Callable
@@ -22,7 +23,8 @@ def name_as_it_can_be(error: UnicodeError) -> tuple:
 
 
 def run_command(main: Callable) -> None:
-    """Runs it. File names on standard output may be any bytes or letters, and a reader that has enough is no error to tell of."""
+    """Runs it. File names on standard output may be any bytes or letters. A reader that has enough is no error to tell of, and nor is
+    a user who stops it."""
     codecs.register_error("domepeeler.names", name_as_it_can_be)
     sys.stdout.reconfigure(errors="domepeeler.names")
     try:
@@ -31,3 +33,5 @@ def run_command(main: Callable) -> None:
     except BrokenPipeError:
         os.dup2(os.open(os.devnull, os.O_WRONLY), sys.stdout.fileno())
         sys.exit(2)
+    except KeyboardInterrupt:
+        sys.exit(128 + signal.SIGINT)

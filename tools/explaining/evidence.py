@@ -109,17 +109,35 @@ class Evidence:
                     found[name, operation.replica] = self.recording.arrival(insert, operation.replica), insert
         return sorted(found.values(), key=lambda arrival: arrival[0].line)
 
+    def hidden_neighbours(self) -> list:
+        """Where no arrival of a refusal found a neighbour deleted: those elements that were put beside others which are deleted for the
+        response that shows them: the insert, the names of these others, and the operation that shows it. Each insert stands once."""
+        if self.lost_neighbours():
+            return []
+        found = {}
+        for step, operation in zip(self.report["steps"], self.operations):
+            for name in step["from"], step["to"]:
+                insert = next(filter(operation.has_seen, self.recording.inserts.get(name, [])), None)
+                gone = [other for other in self.beside(insert) if other not in self.elements
+                        and any(map(operation.has_seen, self.recording.deletes.get(other, [])))] if insert else []
+                if gone:
+                    found.setdefault(name, (insert, gone, operation))
+        return list(found.values())
+
+    def beside(self, insert: Operation) -> list:
+        """The elements beside which its author put the new one."""
+        shown = insert.response
+        if insert.element not in shown:
+            raise Unexplained(f"the response of {insert.name} lacks what it inserts")
+        place = shown.index(insert.element)
+        return shown[max(place - 1, 0):place] + shown[place + 1:place + 2]
+
     def lost_neighbours(self) -> list:
         """Of a refusal those arrivals that found a neighbour of the insert deleted: the receipt, the insert, and the deletes of the
         elements beside which its author put the new one."""
         found = []
         for receipt, insert in self.arrivals():
-            shown = insert.response
-            if insert.element not in shown:
-                raise Unexplained(f"the response of {insert.name} lacks what it inserts")
-            place = shown.index(insert.element)
-            beside = shown[max(place - 1, 0):place] + shown[place + 1:place + 2]
-            gone = [self.recording.change_at(self.recording.deletes.get(name, []), receipt) for name in beside]
+            gone = [self.recording.change_at(self.recording.deletes.get(name, []), receipt) for name in self.beside(insert)]
             if any(gone):
                 found.append((receipt, insert, list(filter(None, gone))))
         return found

@@ -10,7 +10,7 @@ from .faulty_lines import about_file
 from .places import with_places
 from .programs import NoProgram, report_of
 from .recordings import Recording
-from .words import explanation, text_of
+from .words import explanation, joined, text_of
 
 NOT_IN_XML = re.compile("[^\t\n\r\x20-\ud7ff\ue000-\ufffd\U00010000-\U0010ffff]")  # XML 1.0 has no way to write these
 
@@ -25,7 +25,7 @@ def junit_of(rows: list, program: str) -> bytes:
         if row.report is None:
             add_fault(case, "error", row.verdict, "\n  ".join([row.error, *about_file(row.error, row.file)]))
         elif row.verdict != "accepted":
-            add_fault(case, "failure", row.verdict, explained(row, program))
+            add_fault(case, "failure", row.verdict, *explained(row, program))
     counts = {"tests": len(rows), "failures": len(suite.findall("testcase/failure")), "errors": len(suite.findall("testcase/error")),
               "skipped": 0}
     whole = xml.Element("testsuites")
@@ -37,21 +37,23 @@ def junit_of(rows: list, program: str) -> bytes:
     return xml.tostring(whole, encoding="utf-8", xml_declaration=True) + b"\n"
 
 
-def add_fault(case: xml.Element, kind: str, verdict: str, told: str) -> None:
-    """The first line is what a list of failures shows, and all of them stand below it."""
+def add_fault(case: xml.Element, kind: str, verdict: str, told: str, about: str = "") -> None:
+    """The first line is what a list of failures shows, with the elements that it is about, and all of the lines stand below it."""
     told = written(told)
-    xml.SubElement(case, kind, type=verdict, message=told.split("\n")[0]).text = told
+    first = told.split("\n")[0]
+    xml.SubElement(case, kind, type=verdict, message=f"{first} It is about {about}." if about else first).text = told
 
 
-def explained(row: object, program: str) -> str:
-    """What `explain` says of the trace, or its verdict alone, where the file is no longer what was judged."""
+def explained(row: object, program: str) -> tuple:
+    """What `explain` says of the trace, and the elements of a refusal; or its verdict alone, where the file is no longer what was judged."""
     try:
         trace = Path(row.file).read_bytes()
         evidence = Evidence(Recording(trace.decode()), row.report)
-        told = explanation(evidence, refused_beginning(evidence, report_of(program)))
-        return text_of(with_places(told, [], trace, row.file))
+        beginning = refused_beginning(evidence, report_of(program))
+        told = text_of(with_places(explanation(evidence, beginning), [], trace, row.file))
+        return told, joined((beginning or evidence).elements) if row.verdict == "refused" else ""
     except (Unexplained, NoProgram, OSError, ValueError, LookupError):
-        return row.verdict
+        return row.verdict, ""
 
 
 def written(text: str) -> str:

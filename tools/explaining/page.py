@@ -6,7 +6,7 @@ from .cycle_picture import picture
 from .evidence import Evidence
 from .letters import letters_of
 from .session_picture import Rows
-from .words import CODE, LINE, Explanation, Section
+from .words import CODE, LINE, LOG, Explanation, Section
 
 MOST_ROWS = 40  # entries that are shown at once
 MOST_FOLDED = 2000  # entries that are on the page at all
@@ -89,7 +89,7 @@ def head(name: str) -> str:
             ' markerUnits="userSpaceOnUse"><path d="M 0 0 L 10 5 L 0 10 z"/></marker>')
 
 
-def page_of(evidence: Evidence, told: Explanation, trace: str, report: str) -> str:
+def page_of(evidence: Evidence, beginning: Evidence | None, told: Explanation, trace: str, report: str) -> str:
     kind, _, rest = told.headline.partition(":")
     session, letters = session_of(evidence), letters_of(evidence)
     words = "".join(section_of(section, session, letters) for section in told.sections)
@@ -108,7 +108,7 @@ def page_of(evidence: Evidence, told: Explanation, trace: str, report: str) -> s
 <p class="file">{escape(trace)}</p>
 <main>
 <div class="words">
-{words}{cycle_of(evidence)}</div>
+{words}{cycle_of(evidence, beginning)}</div>
 <div>
 {session}
 <h2>The program's report</h2>
@@ -130,7 +130,7 @@ def section_of(section: Section, session: str, letters: dict) -> str:
     def link(found: re.Match) -> str:
         return f'<a href="#line-{found[1]}">{found[0]}</a>' if f'id="line-{found[1]}"' in session else found[0]
 
-    if section.title == CODE:
+    if section.title in (CODE, LOG):
         lines = [LINE.sub(link, escape(line), count=1) for line in section.lines]
     else:
         lines = [LINE.sub(link, MARKED.sub(marked, escape(line))) for line in section.lines]
@@ -139,12 +139,14 @@ def section_of(section: Section, session: str, letters: dict) -> str:
     return f"<h2>{escape(section.title)}</h2>\n<ul{prose}>\n{items}\n</ul>\n"
 
 
-def cycle_of(evidence: Evidence) -> str:
+def cycle_of(evidence: Evidence, beginning: Evidence | None) -> str:
+    """The picture of the cycle; of a session that went wrong before its end, of what was shown by then."""
     if evidence.report["verdict"] != "refused":
         return ""
-    drawn = picture(evidence.report)
+    drawn = picture((beginning or evidence).report)
     least = int(WIDTH.search(drawn)[1]) * SMALLEST
-    return f'<h2>The cycle</h2>\n<div class="cycle" style="--least: {least:.0f}px">\n{drawn}</div>\n'
+    title = f"The cycle of the lines up to {len(beginning.recording.lines)}" if beginning else "The cycle"
+    return f'<h2>{title}</h2>\n<div class="cycle" style="--least: {least:.0f}px">\n{drawn}</div>\n'
 
 
 def session_of(evidence: Evidence) -> str:

@@ -7,21 +7,33 @@ from pathlib import Path
 
 from .recordings import FIRST_ENTRY
 from .warnings import SIDE
-from .words import CODE, LINE, Explanation, Section
+from .words import CODE, DEBUGGER, LINE, LOG, PYTHON, Explanation, Section
 
 PLACES = re.compile(rb"([1-9][0-9]{0,6}) (.{1,4000})")
+OF_LOG = re.compile(r"[^,]*\.(log|txt|jsonl?|csv)(:[0-9]+)?")
 MOST_BYTES = 1 << 27  # of such a file that are read
 
 
 def with_places(told: Explanation, warnings: list, trace: bytes, name: str) -> Explanation:
     """The explanation, and after it the places of the lines that it or a warning names, of the trace in the file of this name; `-` is
-    no file."""
+    no file. Where they are lines of a log, no debugger's statement fits: the recording is not the editor's."""
     lines = [line for section in told.sections for line in section.lines] + warnings
     named = {int(number) for line in lines for number in LINE.findall(line)}
     found = sorted(places_of(named, trace, name).items()) if named and name != "-" else []
     if not found:
         return told
-    return told._replace(sections=[*told.sections, Section(CODE, [f"line {line}: {places}" for line, places in found])])
+    is_log = all(OF_LOG.fullmatch(places) for _, places in found)
+    sections = [of_log(section, dict(found)) if is_log else section for section in told.sections]
+    return told._replace(sections=[*sections, Section(LOG if is_log else CODE, [f"line {line}: {places}" for line, places in found])])
+
+
+def of_log(section: Section, places: dict) -> Section:
+    """The section; that on a debugger with the log's line in the place of a statement."""
+    if section.title != DEBUGGER:
+        return section
+    (told,) = section.lines
+    stop = int(LINE.search(told)[1])
+    return Section(DEBUGGER, [told.partition(PYTHON)[0] + (f" The editor then writes {places[stop]}." if stop in places else "")])
 
 
 def places_of(named: set, trace: bytes, name: str) -> dict:

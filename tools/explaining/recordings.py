@@ -107,16 +107,13 @@ class Recording:
                      if receipt.seen.replica == operation.replica and receipt.seen.n >= operation.n), None)
 
     def change_at(self, changes: list, receipt: Receipt) -> Operation | None:
-        """The first of these operations that was made at the receipt's replica before it, or had arrived there, if one was."""
+        """Of these operations the one that was first made at the receipt's replica, or arrived there, if that was before the receipt."""
+        came = {}
         for change in changes:
-            if change.replica == receipt.replica:
-                was_there = change.n <= receipt.before
-            else:
-                arrival = self.arrival(change, receipt.replica)
-                was_there = arrival is not None and arrival.line < receipt.line
-            if was_there:
-                return change
-        return None
+            entry = change if change.replica == receipt.replica else self.arrival(change, receipt.replica)
+            if entry is not None and entry.line < receipt.line:
+                came.setdefault(entry.line, change)
+        return came[min(came)] if came else None
 
     def arrival(self, operation: Operation, replica: int) -> Receipt | None:
         """The first receipt in a replica's log that brings the operation, if one does."""

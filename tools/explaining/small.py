@@ -1,5 +1,5 @@
-"""The small trace that is left of a fault or a refusal: of all elements those that it is about, and of all operations those
-that bear on it.
+"""The small trace that is left of a fault or a refusal: of all elements those that it is about, of a refusal also those beside which
+one arrived that were deleted already; and of all operations those that bear on it.
 
 What is visible to which operation stays as it was, so what was right stays right: of the elements that are kept, all inserts
 and all deletes that anything kept has seen are kept too. Receipts are made anew, since one may have named an operation that
@@ -13,10 +13,12 @@ from .recordings import Operation, Recording, place_asked
 
 
 class Small(NamedTuple):
-    """The small trace, and for each of its operations the name there and the operation of the whole trace."""
+    """The small trace, for each of its operations the name there and the operation of the whole trace, and for each of its entries the
+    line of the whole trace that it comes from."""
 
     text: str
     operations: list
+    lines: list
 
 
 class Projection:
@@ -36,13 +38,15 @@ class Projection:
         has_view = any(operation.kind == "view" for operation in self.kept)
         lines = ["trace 2" if has_view else "trace 1", f"replicas {self.recording.replicas}"]
         clocks = [[0] * self.recording.replicas for _ in range(self.recording.replicas)]
-        named = []
+        named, origins = [], []
         for operation in self.kept:
-            lines += self.receipts(operation, clocks[operation.replica])
+            receipts = self.receipts(operation, clocks[operation.replica])
+            lines += [text for _, text in receipts]
+            origins += [*(line for line, _ in receipts), operation.line]
             clocks[operation.replica] = self.clock(operation)
             lines.append(self.entry(operation))
             named.append((f"{operation.replica}.{self.number(operation)}", operation))
-        return Small("".join(line + "\n" for line in lines), named)
+        return Small("".join(line + "\n" for line in lines), named, origins)
 
     def number(self, operation: Operation) -> int:
         return self.counts[operation.replica][operation.n]
@@ -52,12 +56,13 @@ class Projection:
         return [counts[n] for counts, n in zip(self.counts, operation.clock)]
 
     def receipts(self, operation: Operation, before: list) -> list:
-        """The receipts that an operation needs in front of it, where its replica has seen this much before: none for what
-        another one brings."""
+        """The receipts that an operation needs in front of it, where its replica has seen this much before, each behind the line of the
+        one that it comes from, in the order of these: none for what another one brings."""
         clock = self.clock(operation)
         news = [self.nth(replica, n) for replica, n in enumerate(clock) if replica != operation.replica and n > before[replica]]
         needed = [new for new in news if not any(other.has_seen(new) for other in news if other is not new)]
-        return [f"{operation.replica} recv {new.replica} {self.number(new)}" for new in needed]
+        return sorted((self.recording.arrival(new, operation.replica).line, f"{operation.replica} recv {new.replica} {self.number(new)}")
+                      for new in needed)
 
     def nth(self, replica: int, n: int) -> Operation:
         """The n-th kept operation of a replica."""
@@ -101,6 +106,8 @@ def with_changes(recording: Recording, elements: set, kept: list) -> list:
 def candidates(evidence: Evidence) -> list:
     """Projections that should have the verdict of the whole, the smallest first; the last one is the whole."""
     recording, elements = evidence.recording, set(evidence.elements)
+    gone = [delete for _, _, deletes in evidence.lost_neighbours() for delete in deletes] if evidence.report["verdict"] == "refused" else []
+    elements.update(delete.element for delete in gone)
     misplaced = evidence.operations[0] if evidence.report["verdict"] == "position" else None
     told = list(evidence.operations)
     if evidence.report["verdict"] == "contents":  # what has not arrived there may be what should have
@@ -109,14 +116,13 @@ def candidates(evidence: Evidence) -> list:
         told = with_changes(recording, elements, told)
     every = [operation for stream in recording.streams for operation in stream]
     names = elements.union(recording.inserts, recording.deletes, *(operation.response for operation in evidence.operations))
-    return [Projection(recording, elements, fewer(told, evidence.operations), misplaced),
+    return [Projection(recording, elements, fewer(told, evidence.operations + gone), misplaced),
             Projection(recording, elements, told, misplaced),
             Projection(recording, names, every, misplaced)]
 
 
 def fewer(kept: list, named: list) -> list:
-    """The operations without deletes that repeat what another one does for all that have seen them; those that the verdict
-    names stay."""
+    """The operations without deletes that repeat what another one does for all that have seen them; those that are named stay."""
     for delete in [change for change in kept if change.kind == "del" and change not in named]:
         others = [other for other in kept if other is not delete]
         same = [other for other in others if other.kind == "del" and other.element == delete.element]

@@ -6,10 +6,14 @@ from typing import NamedTuple
 
 from .evidence import MOST_ARRIVED, Evidence
 from .programs import GUIDE
-from .recordings import Operation, Recording, place_asked
+from .recordings import Operation, Receipt, Recording, place_asked
 
-CODE = "In your code"  # the title of the section with places of the user's code
+CODE, LOG = "In your code", "In your log"  # titles of the section with places of the user's code, or of a log
 MOST_NAMES = 24  # of a list that is shown whole
+AROUND = "each element before the next, and round again"
+DEBUGGER = "In a debugger"  # the title of the section that says where to stop one
+PYTHON = " In Python, where a change begins to be applied, local or remote: "
+STOP = "if len(recording.text().splitlines()) == {}: breakpoint()"
 LINE = re.compile(r"\bline (\d+)(?=[,):]| of the trace,| \(\d+ recv )")  # of the trace, in words; and not two names, `line` and a number
 NUMBERS = "zero one two three four five six seven eight nine ten eleven twelve thirteen fourteen fifteen sixteen".split()
 
@@ -22,17 +26,17 @@ LOOK = {
                 "elements may still stand; and at whether the recorder writes the position that was asked for.",
     "doubled": "At the recorder, most often: each inserted element needs a name of its own, for ever. Equal letters are "
                "different elements, each element of a paste is a new one, and so is an undone delete where the editor makes one anew.",
-    "concurrent": "At the order of concurrent inserts: no author of the two elements had seen the other one, and two replicas, or "
+    "concurrent": "At the order of concurrent inserts: no author of {first} and {then} had seen the other one, and two replicas, or "
                   "one at two times, have put them in different orders.",
     "seen": "At where a replica puts an insert that arrives: {later} inserted {new} when it had seen {old}, so these are no "
-            "concurrent inserts, and yet the two are put in different orders.",
-    "beside": "First at inserts beside deleted elements: above stands which element arrived where its neighbour was deleted already. "
-              "A replica that has thrown the neighbour away can't tell the place.",
-    "deleted": "At positions beside deleted elements: no two of these responses disagree openly, and an insert beside an element "
-               "that another replica has deleted may have lost its place there. Above stands which elements are deleted for which "
-               "of the responses.",
-    "apart": "At how a replica orders elements of which it shows only some: no two of these responses disagree openly, and none of "
-             "the elements is deleted for any of them, so each replica has yet to hear of some.",
+            "concurrent inserts, and yet the two are put in different orders. Often the number that orders inserts does not grow with what "
+            "arrives, or a neighbour is not found.",
+    "beside": "At inserts beside deleted elements, if replicas throw these away: above stands which element arrived where its neighbour "
+              "was deleted already, and without the neighbour nothing tells the place.",
+    "deleted": "At positions beside deleted elements: no two of {named} disagree openly, and an insert beside an element that another "
+               "replica has deleted may have lost its place there. Above stands which elements are deleted for which of them.",
+    "apart": "At how a replica orders elements of which it shows only some: no two of {named} disagree openly, and none of the elements "
+             "is deleted for any of them, so each replica has yet to hear of some.",
 }
 
 
@@ -53,7 +57,35 @@ def explanation(evidence: Evidence, beginning: Evidence | None = None) -> Explan
     else:
         tell = {"accepted": accepted, "doubled": doubled, "contents": contents, "position": position}
         told = tell[evidence.report["verdict"]](evidence)
-    return told._replace(sections=without_receipts(evidence) + told.sections)
+    sections = without_receipts(evidence) + told.sections + in_a_debugger(beginning or evidence)
+    return told._replace(sections=sections + (whole_trace(evidence, beginning) if beginning else []))
+
+
+def in_a_debugger(evidence: Evidence) -> list:
+    """Where to stop one when the session's steps are done again: of a refusal where its elements arrived, the last one first, else at its
+    last response; of wrong contents at what was received first since the replica's operation before, if anything was; else at the
+    operation that is named."""
+    if evidence.report["verdict"] not in ("refused", "contents", "position"):
+        return []
+    named, others = evidence.operations[0], []
+    if evidence.report["verdict"] == "refused":
+        arrived = {receipt.line: receipt for receipt, _ in evidence.arrivals()}
+        *others, entry = list(arrived.values()) or [max(evidence.operations, key=lambda operation: operation.line)]
+    else:
+        received = evidence.before(named)[1] if evidence.report["verdict"] == "contents" else []
+        entry = [*received, named][0]
+    before = ", ".join(f"line {other.line}" for other in others[::-1])
+    then = f"; if that goes right, where {'another' if len(others) == 1 else 'others'} arrived ({before})" if others else ""
+    stop = f"stop before line {entry.line}, where {doing(entry)}{then}."
+    return [Section(DEBUGGER, [stop + PYTHON + STOP.format(entry.line - 1)])]
+
+
+def doing(entry: Operation | Receipt) -> str:
+    """What the replica is about to do."""
+    if isinstance(entry, Receipt):
+        return f"replica {entry.replica} applies {entry.seen.name}"
+    what = {"ins": f"inserts {entry.element}", "del": f"deletes {entry.element}", "read": "reads the list", "view": "shows a part of the list"}
+    return f"replica {entry.replica} {what[entry.kind]}"
 
 
 def without_receipts(evidence: Evidence) -> list:
@@ -91,10 +123,23 @@ def refused(evidence: Evidence, beginning: Evidence | None) -> Explanation:
     weak = "Strong and weak list specification fail." if k == 2 else "The strong list specification fails, the weak one holds."
     fewer = "" if k == 2 else f" Any {counted(k - 1)} of them can."
     headline = f"refused {k}: {counted(k)} responses can't be right together.{fewer} {weak}"
-    return Explanation(headline, [Section("What they show, each element before the next, and round again", shown_by(evidence, True)),
-                                  Section("The elements", elements(evidence)),
-                                  *([went_wrong(evidence, beginning)] if beginning else []),
-                                  where_to_look(beginning or evidence)])
+    told, shows = beginning or evidence, "they show"
+    if shows_other(evidence, told):
+        shows = f"the lines up to {len(told.recording.lines)} show"
+    return Explanation(headline, [*([went_wrong(evidence, told)] if beginning else []),
+                                  Section(f"What {shows}, {AROUND}", shown_by(told, beginning is None)),
+                                  Section("The elements", elements(told)),
+                                  where_to_look(evidence, told)])
+
+
+def shows_other(evidence: Evidence, beginning: Evidence) -> bool:
+    """Whether the beginning has another cycle than the whole trace."""
+    return beginning.report["steps"] != evidence.report["steps"]
+
+
+def whole_trace(evidence: Evidence, beginning: Evidence) -> list:
+    """What the program's report on the whole trace is about, where that is something else."""
+    return [Section(f"What the whole trace shows, {AROUND}", shown_by(evidence, False))] if shows_other(evidence, beginning) else []
 
 
 def shown_by(evidence: Evidence, is_first: bool) -> list:
@@ -109,26 +154,37 @@ def shown_by(evidence: Evidence, is_first: bool) -> list:
 def elements(evidence: Evidence) -> list:
     """What became of a refusal's elements."""
     lives = [life(evidence.recording, name) for name in evidence.elements]
-    return lives + gone_before(evidence) + beside_deleted(evidence) + where_to_stop(evidence)
+    return lives + gone_before(evidence) + beside_deleted(evidence) + beside_hidden(evidence) + where_arrived(evidence)
 
 
-def where_to_look(evidence: Evidence) -> Section:
-    """Of a refusal. Two elements in opposite orders say nothing of deletes, so an arrival beside a deleted element is named first."""
-    lost = beside_deleted(evidence)
-    if evidence.report["k"] == 2:
-        looks = [*([LOOK["beside"]] if lost else []), look_at_two(evidence)]
+def where_to_look(evidence: Evidence, beginning: Evidence) -> Section:
+    """Of what the beginning shows; and where that is more than two responses, and the whole trace has two, of these first: an open
+    contradiction shows more."""
+    if evidence.report["k"] == 2 < beginning.report["k"]:
+        looks = [f"Of the whole trace: {look}" for look in looks_at(evidence)]
+        looks += [f"Of the lines up to {len(beginning.recording.lines)}: {look}" for look in looks_at(beginning)]
     else:
-        looks = [LOOK["deleted" if gone_before(evidence) or lost else "apart"]]
+        looks = looks_at(beginning)
     return Section("Where to look in the editor", looks)
 
 
+def looks_at(evidence: Evidence) -> list:
+    """Concurrent inserts first; then inserts beside deleted elements, then two elements of which one's author had seen the other."""
+    lost = beside_deleted(evidence)
+    if evidence.report["k"] > 2:
+        named = joined([operation.name for operation in evidence.operations])
+        return [LOOK["deleted" if gone_before(evidence) or lost else "apart"].format(named=named)]
+    concurrent, told = look_at_two(evidence)
+    beside = [LOOK["beside"]] if lost else []
+    return [told, *beside] if concurrent else [*beside, told]
+
+
 def went_wrong(evidence: Evidence, beginning: Evidence) -> Section:
-    """The line with which the session went wrong, and what the lines up to it show, where that is something else than the whole."""
-    last = beginning.recording.entries[-1]
-    lines = [f"{did(last)}; the lines before it are accepted, with it they are refused {beginning.report['k']}",
+    """The line with which the session went wrong."""
+    last, k = beginning.recording.entries[-1], evidence.report["k"]
+    later = "" if beginning.report["k"] == k else f", and with what follows refused {k}"
+    lines = [f"{did(last, is_first=True)}; the lines before it are accepted, with it they are refused {beginning.report['k']}{later}",
              since(beginning, last, "still fits")]
-    if beginning.report["steps"] != evidence.report["steps"]:
-        lines += shown_by(beginning, False) + elements(beginning)
     return Section("When it went wrong", lines + in_the_end(evidence.recording))
 
 
@@ -140,7 +196,8 @@ def in_the_end(recording: Recording) -> list:
     if len(whole) < 2:
         return []
     told = joined([str(operation.replica) for operation in whole])
-    shown = "one list" if len({tuple(operation.response) for operation in whole}) == 1 else "different lists"
+    is_one = len({tuple(operation.response) for operation in whole}) == 1
+    shown = "one list" if is_one else "different lists, perhaps as one text"
     return [f"in the end replicas {told} have all changes, and show {shown}"]
 
 
@@ -170,26 +227,38 @@ def gone_before(evidence: Evidence) -> list:
 
 def beside_deleted(evidence: Evidence) -> list:
     """Which elements arrived where one beside which they had been put was deleted already."""
-    return [f"{insert.element} was put beside {joined([delete.element for delete in deletes])}. When it arrived at replica "
-            f"{receipt.replica} in line {receipt.line}, {joined([f'{delete.element} was deleted there by {at(delete)}' for delete in deletes])}"
+    return [f"{insert.element} was put {beside(insert, [delete.element for delete in deletes])}. When it arrived at replica {receipt.replica} "
+            f"in line {receipt.line}, {joined([f'{delete.element} was deleted there by {at(delete)}' for delete in deletes])}"
             for receipt, insert, deletes in evidence.lost_neighbours()]
 
 
-def where_to_stop(evidence: Evidence) -> list:
+def beside_hidden(evidence: Evidence) -> list:
+    """Which elements had been put beside ones that are deleted for the response that shows them."""
+    return [f"{insert.element} was put {beside(insert, names)}, deleted for {at(operation)}"
+            for insert, names, operation in evidence.hidden_neighbours()]
+
+
+def beside(insert: Operation, names: list) -> str:
+    """On which side of its neighbours an element was put."""
+    shown = insert.response
+    place = shown.index(insert.element)
+    return joined([f"{'behind' if shown.index(name) < place else 'before'} {name}" for name in names])
+
+
+def where_arrived(evidence: Evidence) -> list:
     """The moments at which the order may have gone wrong, which a response shows only later: where elements of others arrived."""
     told = [f"{insert.element}{' arrived' * (place == 0)} at replica {receipt.replica} in line {receipt.line}"
             for place, (receipt, insert) in enumerate(evidence.arrivals())]
-    which = "it is applied" if len(told) == 1 else "these are applied, the last one first"
-    return [f"{', '.join(told)}: stop where {which}"] if told else []
+    return [", ".join(told)] if told else []
 
 
-def look_at_two(evidence: Evidence) -> str:
-    """Where to look at two elements in opposite orders: whether one author had seen the other's element."""
+def look_at_two(evidence: Evidence) -> tuple:
+    """Whether no author of two elements in opposite orders had seen the other's, and where to look at them."""
     first, then = (evidence.recording.inserts[name][0] for name in evidence.elements)
     if not first.has_seen(then) and not then.has_seen(first):
-        return LOOK["concurrent"]
+        return True, LOOK["concurrent"].format(first=first.element, then=then.element)
     later, old = (first, then) if first.has_seen(then) else (then, first)
-    return LOOK["seen"].format(later=at(later), new=later.element, old=old.element)
+    return False, LOOK["seen"].format(later=at(later), new=later.element, old=old.element)
 
 
 def doubled(evidence: Evidence) -> Explanation:
@@ -245,7 +314,7 @@ def expected(evidence: Evidence, operation: Operation) -> str:
 def since(evidence: Evidence, operation: Operation, still: str = "is still right") -> str:
     """What came to the replica since its operation before, which is right: the program names the first fault."""
     before, receipts = evidence.before(operation)
-    arrived = [f"line {receipt.line} ({receipt.text})" for receipt in receipts]
+    arrived = [f"{receipt.seen.name} (line {receipt.line})" for receipt in receipts]
     more = f" and {len(arrived) - MOST_ARRIVED} more" if len(arrived) > MOST_ARRIVED else ""
     came = "received " + ", ".join(arrived[:MOST_ARRIVED]) + more if arrived else "received nothing"
     if not before:

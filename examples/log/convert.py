@@ -1,0 +1,29 @@
+#!/usr/bin/env python3
+"""convert.py LOG TRACE: the log of a session of two text pads as a trace, with the log's lines beside it for domepeeler-explain.
+
+A line of the log is what a pad typed, erased or got: the change's id, and what the pad shows then. A typed element has the id of its
+change; `of` is the element that is erased."""
+import json
+import sys
+from pathlib import Path
+
+from domepeeler import Recording
+
+log, trace = sys.argv[1:]
+recording = Recording(2)
+places = []  # for each line of the trace, from the third on, the log's line
+for number, line in enumerate(Path(log).read_text().splitlines(), 1):
+    entry = json.loads(line)
+    pad, change, shows = entry["pad"], entry["id"], entry["shows"]
+    if entry["did"] == "typed":
+        recording.insert(pad, change, entry["at"], shows, change)
+    elif entry["did"] == "erased":
+        recording.delete(pad, entry["of"], shows, change)
+    else:
+        recording.received_changes(pad, [change])
+        recording.read(pad, shows)
+    count = recording.text().count("\n") - 2
+    places += [f"{log}:{number}"] * (count - len(places))
+recording.save(trace)
+told = "".join(f"{at} {place}\n" for at, place in enumerate(places, 3))
+Path(f"{trace}.lines").write_text(f"{len(places) + 2}\n{told}")
