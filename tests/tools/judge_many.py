@@ -319,11 +319,12 @@ def errors(tally: Tally, program: str, folder: str) -> None:
 
 
 def elsewhere(tally: Tally, program: str, folder: str, other: str) -> None:
-    """By GNU parallel on two machines, which are this one: what stands for ssh runs the command here. And without GNU parallel."""
+    """By GNU parallel on two machines, which are this one: what stands for ssh runs the command here, with the
+    SHELL that a login sets. And without GNU parallel."""
     here = [json.loads(line) | {"seconds": 0} for line in judge(program, ["--json", folder]).out.decode().splitlines()]
     stand_in = Path(other, "ssh")
     stand_in.write_text("#!/bin/sh\nwhile [ \"${1#-}\" != \"$1\" ]; do [ \"$1\" != -l ] || shift; shift; done\nshift\n"
-                        "[ \"$1\" != -- ] || shift\nexec sh -c \"$*\"\n")
+                        "[ \"$1\" != -- ] || shift\nexec env SHELL=/bin/sh sh -c \"$*\"\n")
     stand_in.chmod(0o755)
     for what, more, surroundings in (
             ("two machines", ["--sshlogin", "2/one,two", "--jobs", "50%"], {"PARALLEL_SSH": str(stand_in), "HOME": other}),
