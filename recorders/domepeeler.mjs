@@ -14,6 +14,7 @@
 //     console.log(await recording.explain())         // what that means, in words
 //
 // Where updates have vector clocks, or ids, `receivedClock` and `receivedChanges` write the receipts, and refuse what is not causal.
+// Where a log is read, `at` says from which of its lines the next calls come.
 //
 // Each call that a trace can't say throws Refused, or Full at a limit, and leaves the recording as it was.
 
@@ -29,6 +30,7 @@ const MOST_STACKS = 1000 // that are remembered
 const HEAD_LINES = 2 // of a trace, before its entries
 const LINE = /\bline (\d+)(?=[,):]| of the trace,| \(\d+ recv )/g // a line of the trace in the explainer's words
 const WARNINGS = "\nWhat this verdict may hide\n" // the title of what stands last there
+const STATEMENT = /^(  stop before line (\d+), .*?) In Python, where a change begins .*/gm // for a debugger
 // A line of a stack, with the path or the URL of a file, and the line in it.
 const FRAME = /^ +at (?:async |.*\()?((?:[a-z]{2,}:\/\/|\/|[A-Za-z]:[\\/]).*:\d+):\d+\)?$/
 const OWN = String(import.meta.url)
@@ -47,7 +49,8 @@ export class NotCausal extends Refused {}
 /** A session of so many replicas; with `only`, the log that this one replica keeps on its own machine. */
 export class Recording {
   #lines
-  #callers = [] // of each entry: the lines of code from which it was recorded
+  #callers = [] // of each entry: the lines of code from which it was recorded, or the log's line
+  #log = null // the log's line whose entries are recorded now, if any
   #stacks = new Map() // by stack: these lines, so that most equal ones are kept once
   #replicas
   #only
@@ -64,6 +67,15 @@ export class Recording {
     this.#replicas = Array.from({ length: replicas }, replica)
     if (only !== null) this.#known(only)
     this.#only = only
+  }
+
+  /** What is recorded from now on comes from this line of this file, a log's: `save` and `explain` name it, and not the lines of your
+   * code. The file is a path or a URL. */
+  at(file, line) {
+    const path = file?.href ?? file
+    if (typeof path !== "string") throw new Refused(`a file is a path or a URL, not ${JSON.stringify(file)}`)
+    if (!whole(line, 1, MOST_POSITION)) throw new Refused(`line ${line} of a file is not a whole number from 1 to ${MOST_POSITION}`)
+    this.#log = [`${path}:${line}`]
   }
 
   /** The replica inserted the name at the position and then had this list. Answers the operation's number. The change's id is for
@@ -157,8 +169,8 @@ export class Recording {
   }
 
   /** Writes the text into a file of this name; and first, into one with `.lines` behind the name, how many lines it has, so that the
-   * tools notice where the end of the file is lost. In the end it writes there from where in your code each line was recorded. A pipe or
-   * a device has no such file beside it. A promise of nothing. */
+   * tools notice where the end of the file is lost. In the end it writes there from where in your code or log each line was recorded. A
+   * pipe or a device has no such file beside it. A promise of nothing. */
   async save(path) {
     const { appendFile, open, writeFile } = await import("node:fs/promises")
     const { fileURLToPath } = await import("node:url")
@@ -184,8 +196,9 @@ export class Recording {
     return JSON.parse(done.stdout)
   }
 
-  /** A promise of what the report means, in words, with the lines of your code, and at the end the ids of the numbered names. The tool
-   * is the words that are given, that of $DOMEPEELER_EXPLAIN, or `domepeeler-explain`, beside the program of $DOMEPEELER or on the PATH. */
+  /** A promise of what the report means, in words, with the lines of your code or log, and at the end the ids of the numbered names. The
+   * tool is the words that are given, that of $DOMEPEELER_EXPLAIN, or `domepeeler-explain`, beside the program of $DOMEPEELER or on the
+   * PATH. */
   async explain(explainer = null) {
     const command = await besideProgram("domepeeler-explain")
     const { name, done } = await this.#ask(explainer, "DOMEPEELER_EXPLAIN", command, "the tool's", ["-"])
@@ -199,10 +212,15 @@ export class Recording {
   // The words, and behind those on the verdict the places of the lines of the trace that they name.
   async #withPlaces(said) {
     const named = new Set([...said.matchAll(LINE)].map(([, line]) => Number(line)))
-    const told = (await this.#places()).filter(([line]) => named.has(line)).map(([line, places]) => `  line ${line}: ${places}\n`)
-    if (!told.length) return said
+    const found = (await this.#places()).filter(([line]) => named.has(line))
+    if (!found.length) return said
+    if (this.#log !== null) { // then the editor is not this program, which a debugger might stop
+      const places = new Map(found)
+      said = said.replace(STATEMENT, (all, stop, line) => `${stop} The editor then writes ${places.get(Number(line)) ?? "it"}.`)
+    }
+    const told = found.map(([line, places]) => `  line ${line}: ${places}\n`).join("")
     const end = said.includes(WARNINGS) ? said.indexOf(WARNINGS) : said.length
-    return `${said.slice(0, end)}\nIn your code\n${told.join("")}${said.slice(end)}`
+    return `${said.slice(0, end)}\nIn your ${this.#log === null ? "code" : "log"}\n${told}${said.slice(end)}`
   }
 
   // By line of the trace the places in your code, where there are some.
@@ -419,11 +437,16 @@ export class Recording {
   }
 
   #write(line) {
+    this.#lines.push(line)
+    this.#callers.push(this.#log ?? this.#callersHere())
+  }
+
+  // The nearest callers that are your code.
+  #callersHere() {
     const stack = stackHere()
     if (this.#stacks.size === MOST_STACKS) this.#stacks.clear()
     if (!this.#stacks.has(stack)) this.#stacks.set(stack, callersIn(stack))
-    this.#lines.push(line)
-    this.#callers.push(this.#stacks.get(stack))
+    return this.#stacks.get(stack)
   }
 }
 

@@ -14,6 +14,7 @@ else. docs/recording.md says where the calls go.
     print(recording.explain())               # what that means, in words
 
 Where updates have vector clocks, or ids, `received_clock` and `received_changes` write the receipts, and refuse what is not causal.
+Where a log is read, `at` says from which of its lines the next calls come.
 
 Each call that a trace can't say raises `Refused`, or `Full` at a limit, and leaves the recording as it was."""
 from __future__ import annotations
@@ -38,6 +39,7 @@ MOST_CALLERS, MOST_FRAMES = 3, 100  # of an entry: callers that are kept, and fr
 HEAD_LINES = 2  # of a trace, before its entries
 LINE = re.compile(r"\bline (\d+)(?=[,):]| of the trace,| \(\d+ recv )")  # a line of the trace in the explainer's words
 WARNINGS = "\nWhat this verdict may hide\n"  # the title of what stands last there
+STATEMENT = re.compile(r"^(  stop before line (\d+), .*?) In Python, where a change begins .*", re.MULTILINE)  # for a debugger
 
 Clock = Union[Sequence[int], Mapping[int, int]]
 Words = Union[str, Sequence[str]]
@@ -74,7 +76,8 @@ class Recording:
         if not _whole(replicas, 1, MOST_REPLICAS):
             raise Refused(f"replicas are 1 to {MOST_REPLICAS}, not {replicas}")
         self._lines = ["trace 1", f"replicas {replicas}"]
-        self._callers: List[Callers] = []  # of each entry: the lines of code from which it was recorded
+        self._callers: List[Callers] = []  # of each entry: the lines of code from which it was recorded, or the log's line
+        self._log: Callers = ()  # the log's line whose entries are recorded now, if any
         self._replicas = [_Replica(replicas) for _ in range(replicas)]
         self._only: Optional[int] = None
         self._ids: Dict[str, str] = {}  # by name: the id that has this name, where another id might come to the same name
@@ -83,6 +86,15 @@ class Recording:
         if only is not None:
             self._known(only)
             self._only = only
+
+    def at(self, file: Union[str, "os.PathLike[str]"], line: int) -> None:
+        """What is recorded from now on comes from this line of this file, a log's: `save` and `explain` name it, and not the lines of your
+        code."""
+        if not isinstance(file, (str, os.PathLike)):
+            raise Refused(f"a file is a path, not {file!r}")
+        if not _whole(line, 1, MOST_POSITION):
+            raise Refused(f"line {line} of a file is not a whole number from 1 to {MOST_POSITION}")
+        self._log = ((os.fsdecode(file), line),)
 
     def insert(self, replica: int, name: str, position: int, response: Iterable[str], change_id: Optional[Hashable] = None) -> int:
         """The replica inserted the name at the position and then had this list. Answers the operation's number. The change's id is for
@@ -164,8 +176,8 @@ class Recording:
 
     def save(self, path: Union[str, "os.PathLike[str]"]) -> None:
         """Writes the text into a file of this name; and first, into one with `.lines` behind the name, how many lines it has, so
-        that the tools notice where the end of the file is lost. In the end it writes there from where in your code each line was
-        recorded. A pipe or a device has no such file beside it."""
+        that the tools notice where the end of the file is lost. In the end it writes there from where in your code or log each
+        line was recorded. A pipe or a device has no such file beside it."""
         text = self.text().encode()
         with open(path, "wb") as file:  # as bytes: each line ends with LF alone on every system
             beside = f"{os.fsdecode(path)}.lines" if os.path.isfile(path) else None
@@ -186,8 +198,8 @@ class Recording:
         return report
 
     def explain(self, explainer: Optional[Words] = None) -> str:
-        """What the report means, in words, with the lines of your code, and at the end the ids of the numbered names. The tool is the
-        words that are given, that of $DOMEPEELER_EXPLAIN, or `domepeeler-explain`, beside the program of $DOMEPEELER or on the PATH."""
+        """What the report means, in words, with the lines of your code or log, and at the end the ids of the numbered names. The tool is
+        the words that are given, that of $DOMEPEELER_EXPLAIN, or `domepeeler-explain`, beside the program of $DOMEPEELER or on the PATH."""
         name, done = self._ask(explainer, "DOMEPEELER_EXPLAIN", _beside_program("domepeeler-explain"), "the tool's", ["-"])
         if done.returncode not in (0, 1) or not done.stdout:
             _ended(name, done)
@@ -199,9 +211,12 @@ class Recording:
     def _with_places(self, said: str) -> str:
         """The words, and behind those on the verdict the places of the lines of the trace that they name."""
         named = {int(line) for line in LINE.findall(said)}
-        told = [f"  line {line}: {places}\n" for line, places in self._places() if line in named]
+        found = {line: places for line, places in self._places() if line in named}
+        if self._log:  # then the editor is not this program, which a debugger might stop
+            said = STATEMENT.sub(lambda stop: f"{stop[1]} The editor then writes {found.get(int(stop[2]), 'it')}.", said)
+        told = [f"  line {line}: {places}\n" for line, places in found.items()]
         front, warnings, rest = said.partition(WARNINGS)
-        return front + ("\nIn your code\n" + "".join(told) if told else "") + warnings + rest
+        return front + (f"\nIn your {'log' if self._log else 'code'}\n" + "".join(told) if told else "") + warnings + rest
 
     def _places(self) -> List[Tuple[int, str]]:
         """By line of the trace the places in your code, where there are some."""
@@ -396,7 +411,7 @@ class Recording:
 
     def _write(self, line: str) -> None:
         self._lines.append(line)
-        self._callers.append(_callers())
+        self._callers.append(self._log or _callers())
 
 
 def _callers() -> Callers:

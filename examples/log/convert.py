@@ -11,8 +11,8 @@ from domepeeler import Recording
 
 log, trace = sys.argv[1:]
 recording = Recording(2)
-places = []  # for each line of the trace, from the third on, the log's line
 for number, line in enumerate(Path(log).read_text().splitlines(), 1):
+    recording.at(log, number)
     entry = json.loads(line)
     pad, change, shows = entry["pad"], entry["id"], entry["shows"]
     if entry["did"] == "typed":
@@ -22,8 +22,4 @@ for number, line in enumerate(Path(log).read_text().splitlines(), 1):
     else:
         recording.received_changes(pad, [change])
         recording.read(pad, shows)
-    count = recording.text().count("\n") - 2
-    places += [f"{log}:{number}"] * (count - len(places))
 recording.save(trace)
-told = "".join(f"{at} {place}\n" for at, place in enumerate(places, 3))
-Path(f"{trace}.lines").write_text(f"{len(places) + 2}\n{told}")

@@ -25,6 +25,10 @@ export type Clock = readonly number[] | ReadonlyMap<number, number> | Readonly<R
 export class Recording {
   constructor(replicas: number, only?: number | null)
 
+  /** What is recorded from now on comes from this line of this file, a log's: `save` and `explain` name it, and not the lines of your
+   * code. */
+  at(file: string | URL, line: number): void
+
   /** The replica inserted the name at the position and then had this list. Answers the operation's number. */
   insert(replica: number, name: string, position: number, response: readonly string[], changeId?: string | number | null): number
 
@@ -56,14 +60,14 @@ export class Recording {
   text(): string
 
   /** Writes the text into a file of this name; and first, into one with `.lines` behind the name, how many lines it has, so that the
-   * tools notice where the end of the file is lost. In the end it writes there from where in your code each line was recorded. A pipe or
-   * a device has no such file beside it. */
+   * tools notice where the end of the file is lost. In the end it writes there from where in your code or log each line was recorded. A
+   * pipe or a device has no such file beside it. */
   save(path: string | URL): Promise<void>
 
   /** The program's report on this recording. The program is the words that are given, that of $DOMEPEELER, or `domepeeler`. */
   judge(program?: string | readonly string[] | null): Promise<Report>
 
-  /** What the report means, in words, with the lines of your code. The tool is the words that are given, that of $DOMEPEELER_EXPLAIN, or
+  /** What the report means, in words, with the lines of your code or log. The tool is the words that are given, that of $DOMEPEELER_EXPLAIN, or
    * `domepeeler-explain`, beside the program of $DOMEPEELER or on the PATH. */
   explain(explainer?: string | readonly string[] | null): Promise<string>
 }
