@@ -685,13 +685,13 @@ def places(tally: Tally, program: str, folder: str) -> None:
         links = [node.get("href") for node in tree.iter("a")][-len(lines):] if lines else []
         tally.check(f"places: {name}, linked", links == [f"#{line.partition(':')[0].replace(' ', '-')}" for line in lines], links)
         tally.check(f"places: {name}, not of standard input", explain(program, ["-"], path.read_bytes()).out.decode() == bare)
-    Path(f"{path}.lines").write_text("7\n3 my.log:1\n4 my.log:2\n5 my.log:2\n7 deep/my.jsonl:3\n")
+    Path(f"{path}.lines").write_text("7\n3 my.log.1:1\n4 my.out:2\n5 my.tsv:2\n7 deep/my.ndjson:3\n")
     smaller = Path(folder, "smaller.trace")
     got = explain(program, ["--small", str(smaller), str(path)]).out.decode()
-    tally.check("places: of a log", paragraph(got, "In your log") == "  line 3: my.log:1\n  line 4: my.log:2\n  line 5: my.log:2\n  line 7: deep/my.jsonl:3" and
-                paragraph(got, "In a debugger") == "  stop before line 7, where replica 1 reads the list. The editor then writes deep/my.jsonl:3.", got)
+    tally.check("places: of a log", paragraph(got, "In your log") == "  line 3: my.log.1:1\n  line 4: my.out:2\n  line 5: my.tsv:2\n  line 7: deep/my.ndjson:3" and
+                paragraph(got, "In a debugger") == "  stop before line 7, where replica 1 reads the list. The editor then writes deep/my.ndjson:3.", got)
     kept = smaller.read_text().splitlines()[2:], Path(f"{smaller}.lines").read_text()
-    tally.check("places: of a small trace", kept == (["0 ins a 0 : a", "1 recv 0 1", "1 read :"], "5\n3 my.log:1\n4 my.log:2\n5 deep/my.jsonl:3\n"), kept)
+    tally.check("places: of a small trace", kept == (["0 ins a 0 : a", "1 recv 0 1", "1 read :"], "5\n3 my.log.1:1\n4 my.out:2\n5 deep/my.ndjson:3\n"), kept)
     last = PLACES[-1]
     Path(f"{path}.lines").write_text(last[1])
     done = subprocess.run([EXPLAIN, "--program", program, str(path)], capture_output=True, env=os.environ | {"PYTHONIOENCODING": "ascii"})

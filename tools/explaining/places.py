@@ -10,7 +10,7 @@ from .warnings import SIDE
 from .words import CODE, DEBUGGER, LINE, LOG, PYTHON, Explanation, Section
 
 PLACES = re.compile(rb"([1-9][0-9]{0,6}) (.{1,4000})")
-OF_LOG = re.compile(r"[^,]*\.(log|txt|jsonl?|csv)(:[0-9]+)?")
+OF_LOG = re.compile(r"[^,]*\.(log|txt|out|(nd)?jsonl?|[ct]sv|xml)(\.[0-9]+)?(:[0-9]+)?")  # one that was rotated too
 MOST_BYTES = 1 << 27  # of such a file that are read
 
 
