@@ -5,7 +5,9 @@ Each log is the text of a recorder that was told which replica is its `only` one
 order; a receipt waits until the operation that it names stands before it. No clocks are needed. Any two merges of the
 same logs have the same report.
 
-It ends with status 0, 1 where the logs can't be merged, and 2 where one can't be read. Other programs may call `merge(texts)`."""
+It ends with status 0, 1 where the logs can't be merged, and 2 where one can't be read or the trace can't be written. Other programs
+may call `merge(texts)`."""
+import os
 import re
 import sys
 from pathlib import Path
@@ -99,9 +101,17 @@ def main(words: list) -> None:
         print("usage: merge.py LOG..", file=sys.stderr)
         sys.exit(2)
     try:
-        sys.stdout.write(merge([read(word) for word in words], words))
+        text = merge([read(word) for word in words], words)
     except Unmerged as why:
         fail(1, str(why))
+    try:
+        sys.stdout.write(text)
+        sys.stdout.flush()
+    except OSError as why:
+        os.dup2(os.open(os.devnull, os.O_WRONLY), sys.stdout.fileno())
+        if isinstance(why, BrokenPipeError):  # the reader has enough
+            sys.exit(2)
+        fail(2, f"cannot write: {why.strerror}")
 
 
 if __name__ == "__main__":

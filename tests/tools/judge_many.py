@@ -375,19 +375,23 @@ def progress(tally: Tally, program: str, folder: str) -> None:
 
 
 def interrupted(tally: Tally, folder: str, other: str) -> None:
-    """A user who stops it, as by Ctrl-C, gets no table and no complaint, and no trace is judged any more."""
+    """A user who stops it, as by Ctrl-C, gets no table and no complaint at once, though one more may have begun in each thread. Where the
+    signal does not reach the program, it is ended."""
     slow, begun = Path(other, "slow"), Path(other, "begun")
-    slow.write_text(f"#!/bin/sh\necho >> '{begun}'\nsleep 60\n")
-    slow.chmod(0o755)
-    running = subprocess.Popen([TOOL, "--program", str(slow), "--jobs", "2", folder], stdout=subprocess.PIPE, stderr=subprocess.PIPE,
-                               start_new_session=True,
-                               preexec_fn=lambda: signal.signal(signal.SIGINT, signal.SIG_DFL))  # which a job in the background ignores
-    while not begun.exists() or begun.read_bytes().count(b"\n") < 2:
-        time.sleep(0.01)
-    os.killpg(running.pid, signal.SIGINT)
-    out, err = running.communicate(timeout=30)
-    tally.same("interrupted", Ended(running.returncode, out, err), Ended(130, b"", b""))
-    tally.check("interrupted: no more are begun", begun.read_bytes().count(b"\n") == 2, begun.read_bytes())
+    for caught, deaf in ("Ctrl-C", ""), ("a program that hears nothing", "trap '' INT\n"):
+        slow.write_text(f"#!/bin/sh\n{deaf}echo >> '{begun}'\nexec sleep 60\n")
+        slow.chmod(0o755)
+        begun.write_text("")
+        running = subprocess.Popen([TOOL, "--program", str(slow), "--jobs", "2", folder], stdout=subprocess.PIPE, stderr=subprocess.PIPE,
+                                   start_new_session=True,
+                                   preexec_fn=lambda: signal.signal(signal.SIGINT, signal.SIG_DFL))  # which a job in the background ignores
+        until = time.monotonic() + 60
+        while begun.stat().st_size < 2 and time.monotonic() < until:
+            time.sleep(0.01)
+        os.killpg(running.pid, signal.SIGINT)
+        out, err = running.communicate(timeout=30)
+        tally.same(f"interrupted: {caught}", Ended(running.returncode, out, err), Ended(130, b"", b""))
+        tally.check(f"interrupted: {caught}: not all are begun", 2 <= begun.stat().st_size <= 4 < len(ROWS), begun.read_bytes())
 
 
 def warnings(tally: Tally, program: str, folder: str) -> None:
@@ -480,13 +484,19 @@ def warnings_of_sessions(tally: Tally, program: str, folder: str) -> None:
 
 
 def closed_output(tally: Tally, program: str, folder: str) -> None:
-    """A reader that has enough, as `head` has, is not told of as an error."""
-    reader, writer = os.pipe()
+    """A reader that has enough, as `head` has, is not told of as an error, and a full disk is, whether Python keeps what is printed back
+    or not."""
+    reader, closed = os.pipe()
     os.close(reader)
-    for tool, what in (TOOL, folder), (str(ROOT / "tools" / "explain"), f"{folder}/lost.trace"):
-        got = subprocess.run([tool, "--program", program, what], stdout=writer, stderr=subprocess.PIPE)
-        tally.check(f"closed output: {tool}", got.returncode == 2 and not got.stderr, got)
-    os.close(writer)
+    with open("/dev/full", "wb") as full:
+        for tool, what in (TOOL, folder), (str(ROOT / "tools" / "explain"), f"{folder}/lost.trace"):
+            told = f"{Path(tool).name}: cannot write standard output: No space left on device\n".encode()
+            for unbuffered in "", "1":
+                for out, wanted in (closed, b""), (full, told):
+                    got = subprocess.run([tool, "--program", program, what], stdout=out, stderr=subprocess.PIPE,
+                                         env=os.environ | {"PYTHONUNBUFFERED": unbuffered, "LC_ALL": "C.UTF-8"})
+                    tally.check(f"closed output: {tool}, {wanted}, {unbuffered}", (got.returncode, got.stderr) == (2, wanted), got)
+    os.close(closed)
 
 
 def main() -> None:

@@ -932,6 +932,15 @@ def check_merge(tally: Tally, program: str, folder: Path) -> None:
     done = subprocess.run([*tool, files[0]], capture_output=True)
     tally.check("merge.py of one log of three", (done.returncode, done.stdout) == (1, b"") and
                 done.stderr.startswith(b"merge.py: these receipts name"), done)
+    reader, closed = os.pipe()
+    os.close(reader)
+    with open("/dev/full", "wb") as full:
+        for out, wanted in (closed, b""), (full, b"merge.py: cannot write: No space left on device\n"):
+            for unbuffered in "", "1":
+                done = subprocess.run([*tool, *files], stdout=out, stderr=subprocess.PIPE,
+                                      env=os.environ | {"PYTHONUNBUFFERED": unbuffered, "LC_ALL": "C.UTF-8"})
+                tally.check(f"merge.py: {wanted}, {unbuffered}", (done.returncode, done.stderr) == (2, wanted), done)
+    os.close(closed)
     for name, text, words, status, why in MERGE_FAULTS:
         if text is not None:
             Path(folder, name).write_bytes(text)

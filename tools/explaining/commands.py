@@ -1,4 +1,4 @@
-"""What the commands have in common: their version, and how they end where nobody reads on."""
+"""What the commands have in common: their version, and how they end where nobody reads on, or nothing can be written."""
 import codecs
 import os
 import signal
@@ -22,16 +22,22 @@ def name_as_it_can_be(error: UnicodeError) -> tuple:
         return "?" * (error.end - error.start), error.end
 
 
-def run_command(main: Callable) -> None:
-    """Runs it. File names on standard output may be any bytes or letters. A reader that has enough is no error to tell of, and nor is
-    a user who stops it."""
+def run_command(name: str, main: Callable) -> None:
+    """Runs the command of this name. File names on standard output may be any bytes or letters. A reader that has enough is no error to
+    tell of, and nor is a user who stops it."""
     codecs.register_error("domepeeler.names", name_as_it_can_be)
     sys.stdout.reconfigure(errors="domepeeler.names")
     try:
-        main()
-        sys.stdout.flush()
-    except BrokenPipeError:
-        os.dup2(os.open(os.devnull, os.O_WRONLY), sys.stdout.fileno())
-        sys.exit(2)
+        try:
+            main()
+        finally:  # it may end by itself
+            sys.stdout.flush()
     except KeyboardInterrupt:
         sys.exit(128 + signal.SIGINT)
+    except OSError as error:
+        if error.filename is not None:
+            raise  # this is not standard output
+        os.dup2(os.open(os.devnull, os.O_WRONLY), sys.stdout.fileno())
+        if not isinstance(error, BrokenPipeError):
+            print(f"{name}: cannot write standard output: {error.strerror}", file=sys.stderr)
+        sys.exit(2)
