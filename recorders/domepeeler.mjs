@@ -50,7 +50,8 @@ export class NotCausal extends Refused {}
 export class Recording {
   #lines
   #callers = [] // of each entry: the lines of code from which it was recorded, or the log's line
-  #log = null // the log's line whose entries are recorded now, if any
+  #logLine = null // the log's line whose entries are recorded now, if any
+  #hasLog = false // whether some entries came from a log
   #stacks = new Map() // by stack: these lines, so that most equal ones are kept once
   #replicas
   #only
@@ -70,12 +71,12 @@ export class Recording {
   }
 
   /** What is recorded from now on comes from this line of this file, a log's: `save` and `explain` name it, and not the lines of your
-   * code. The file is a path or a URL. */
-  at(file, line) {
+   * code. The file is a path or a URL. Without a file, from your code again. */
+  at(file = null, line = 1) {
     const path = file?.href ?? file
-    if (typeof path !== "string") throw new Refused(`a file is a path or a URL, not ${JSON.stringify(file)}`)
+    if (path !== null && typeof path !== "string") throw new Refused(`a file is a path or a URL, not ${JSON.stringify(file)}`)
     if (!whole(line, 1, MOST_POSITION)) throw new Refused(`line ${line} of a file is not a whole number from 1 to ${MOST_POSITION}`)
-    this.#log = [`${path}:${line}`]
+    this.#logLine = path === null ? null : [`${path}:${line}`]
   }
 
   /** The replica inserted the name at the position and then had this list. Answers the operation's number. The change's id is for
@@ -185,7 +186,7 @@ export class Recording {
     } finally {
       await file.close()
     }
-    if (beside !== null) await appendFile(beside, places)
+    if (beside !== null) await appendFile(beside, (this.#hasLog ? "log\n" : "") + places)
   }
 
   /** A promise of the program's report on this recording. The program is the words that are given, that of $DOMEPEELER, or
@@ -214,13 +215,13 @@ export class Recording {
     const named = new Set([...said.matchAll(LINE)].map(([, line]) => Number(line)))
     const found = (await this.#places()).filter(([line]) => named.has(line))
     if (!found.length) return said
-    if (this.#log !== null) { // then the editor is not this program, which a debugger might stop
-      const places = new Map(found)
-      said = said.replace(STATEMENT, (all, stop, line) => `${stop} The editor then writes ${places.get(Number(line)) ?? "it"}.`)
+    if (this.#hasLog) { // then the editor is not this program, which a debugger might stop
+      const places = new Map(found), at = (line) => places.get(Number(line))
+      said = said.replace(STATEMENT, (all, stop, line) => stop + (at(line) ? ` The editor then writes ${at(line)}.` : ""))
     }
     const told = found.map(([line, places]) => `  line ${line}: ${places}\n`).join("")
     const end = said.includes(WARNINGS) ? said.indexOf(WARNINGS) : said.length
-    return `${said.slice(0, end)}\nIn your ${this.#log === null ? "code" : "log"}\n${told}${said.slice(end)}`
+    return `${said.slice(0, end)}\nIn your ${this.#hasLog ? "log" : "code"}\n${told}${said.slice(end)}`
   }
 
   // By line of the trace the places in your code, where there are some.
@@ -438,7 +439,8 @@ export class Recording {
 
   #write(line) {
     this.#lines.push(line)
-    this.#callers.push(this.#log ?? this.#callersHere())
+    this.#callers.push(this.#logLine ?? this.#callersHere())
+    this.#hasLog ||= this.#logLine !== null
   }
 
   // The nearest callers that are your code.

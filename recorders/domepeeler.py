@@ -77,7 +77,8 @@ class Recording:
             raise Refused(f"replicas are 1 to {MOST_REPLICAS}, not {replicas}")
         self._lines = ["trace 1", f"replicas {replicas}"]
         self._callers: List[Callers] = []  # of each entry: the lines of code from which it was recorded, or the log's line
-        self._log: Callers = ()  # the log's line whose entries are recorded now, if any
+        self._log_line: Callers = ()  # the log's line whose entries are recorded now, if any
+        self._has_log = False  # whether some entries came from a log
         self._replicas = [_Replica(replicas) for _ in range(replicas)]
         self._only: Optional[int] = None
         self._ids: Dict[str, str] = {}  # by name: the id that has this name, where another id might come to the same name
@@ -87,14 +88,14 @@ class Recording:
             self._known(only)
             self._only = only
 
-    def at(self, file: Union[str, "os.PathLike[str]"], line: int) -> None:
+    def at(self, file: Union[str, "os.PathLike[str]", None] = None, line: int = 1) -> None:
         """What is recorded from now on comes from this line of this file, a log's: `save` and `explain` name it, and not the lines of your
-        code."""
-        if not isinstance(file, (str, os.PathLike)):
+        code. Without a file, from your code again."""
+        if file is not None and not isinstance(file, (str, os.PathLike)):
             raise Refused(f"a file is a path, not {file!r}")
         if not _whole(line, 1, MOST_POSITION):
             raise Refused(f"line {line} of a file is not a whole number from 1 to {MOST_POSITION}")
-        self._log = ((os.fsdecode(file), line),)
+        self._log_line = () if file is None else ((os.fsdecode(file), line),)
 
     def insert(self, replica: int, name: str, position: int, response: Iterable[str], change_id: Optional[Hashable] = None) -> int:
         """The replica inserted the name at the position and then had this list. Answers the operation's number. The change's id is for
@@ -187,6 +188,7 @@ class Recording:
             file.write(text)
         if beside is not None:
             with open(beside, "ab") as lines:
+                lines.write(b"log\n" if self._has_log else b"")
                 lines.write("".join(f"{line} {places}\n" for line, places in self._places()).encode(errors="replace"))
 
     def judge(self, program: Optional[Words] = None) -> Dict[str, Any]:
@@ -212,11 +214,12 @@ class Recording:
         """The words, and behind those on the verdict the places of the lines of the trace that they name."""
         named = {int(line) for line in LINE.findall(said)}
         found = {line: places for line, places in self._places() if line in named}
-        if self._log:  # then the editor is not this program, which a debugger might stop
-            said = STATEMENT.sub(lambda stop: f"{stop[1]} The editor then writes {found.get(int(stop[2]), 'it')}.", said)
+        if self._has_log and found:  # then the editor is not this program, which a debugger might stop
+            then = {line: f" The editor then writes {places}." for line, places in found.items()}
+            said = STATEMENT.sub(lambda stop: stop[1] + then.get(int(stop[2]), ""), said)
         told = [f"  line {line}: {places}\n" for line, places in found.items()]
         front, warnings, rest = said.partition(WARNINGS)
-        return front + (f"\nIn your {'log' if self._log else 'code'}\n" + "".join(told) if told else "") + warnings + rest
+        return front + (f"\nIn your {'log' if self._has_log else 'code'}\n" + "".join(told) if told else "") + warnings + rest
 
     def _places(self) -> List[Tuple[int, str]]:
         """By line of the trace the places in your code, where there are some."""
@@ -411,7 +414,8 @@ class Recording:
 
     def _write(self, line: str) -> None:
         self._lines.append(line)
-        self._callers.append(self._log or _callers())
+        self._callers.append(self._log_line or _callers())
+        self._has_log = self._has_log or bool(self._log_line)
 
 
 def _callers() -> Callers:

@@ -5,15 +5,11 @@ A line of the log is what a pad typed, erased or got: the change's id, and what 
 change; `of` is the element that is erased."""
 import json
 import sys
-from pathlib import Path
 
-from domepeeler import Recording
+from domepeeler import Recording, Refused
 
-log, trace = sys.argv[1:]
-recording = Recording(2)
-for number, line in enumerate(Path(log).read_text().splitlines(), 1):
-    recording.at(log, number)
-    entry = json.loads(line)
+
+def record(recording: Recording, entry: dict) -> None:
     pad, change, shows = entry["pad"], entry["id"], entry["shows"]
     if entry["did"] == "typed":
         recording.insert(pad, change, entry["at"], shows, change)
@@ -22,4 +18,15 @@ for number, line in enumerate(Path(log).read_text().splitlines(), 1):
     else:
         recording.received_changes(pad, [change])
         recording.read(pad, shows)
+
+
+log, trace = sys.argv[1:]
+recording = Recording(2)
+with open(log, encoding="utf-8") as lines:
+    for number, line in enumerate(lines, 1):
+        recording.at(log, number)
+        try:
+            record(recording, json.loads(line))
+        except Refused as why:
+            sys.exit(f"{log}:{number}: {why}")
 recording.save(trace)

@@ -26,8 +26,8 @@ export class Recording {
   constructor(replicas: number, only?: number | null)
 
   /** What is recorded from now on comes from this line of this file, a log's: `save` and `explain` name it, and not the lines of your
-   * code. */
-  at(file: string | URL, line: number): void
+   * code. Without a file, from your code again. */
+  at(file?: string | URL | null, line?: number): void
 
   /** The replica inserted the name at the position and then had this list. Answers the operation's number. */
   insert(replica: number, name: string, position: number, response: readonly string[], changeId?: string | number | null): number

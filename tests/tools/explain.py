@@ -692,6 +692,14 @@ def places(tally: Tally, program: str, folder: str) -> None:
                 paragraph(got, "In a debugger") == "  stop before line 7, where replica 1 reads the list. The editor then writes deep/my.ndjson:3.", got)
     kept = smaller.read_text().splitlines()[2:], Path(f"{smaller}.lines").read_text()
     tally.check("places: of a small trace", kept == (["0 ins a 0 : a", "1 recv 0 1", "1 read :"], "5\n3 my.log.1:1\n4 my.out:2\n5 deep/my.ndjson:3\n"), kept)
+    Path(f"{path}.lines").write_text("7\nlog\n3 journal:1\n4 my.py:2\n5 my.py:2\n7 a, b:3\n")
+    got = explain(program, ["--small", str(smaller), str(path)]).out.decode()
+    kept = Path(f"{smaller}.lines").read_text()
+    tally.check("places: of a log of any name", paragraph(got, "In your log") == "  line 3: journal:1\n  line 4: my.py:2\n  line 5: my.py:2\n  line 7: a, b:3" and
+                "breakpoint" not in got and kept == "5\nlog\n3 journal:1\n4 my.py:2\n5 a, b:3\n", (got, kept))
+    Path(f"{path}.lines").write_text("7\n3 my.log:1\n4 my.py:2\n5 my.log:2\n7 my.log:3\n")
+    got = explain(program, [str(path)]).out.decode()
+    tally.check("places: of a log and of code", "\nIn your code\n" in got and "breakpoint" in got, got)
     last = PLACES[-1]
     Path(f"{path}.lines").write_text(last[1])
     done = subprocess.run([EXPLAIN, "--program", program, str(path)], capture_output=True, env=os.environ | {"PYTHONIOENCODING": "ascii"})

@@ -294,6 +294,10 @@ def others(tally: Tally, folder: str, other: str) -> None:
         said = {line.partition(".trace: ")[2] for line in done.stderr.splitlines()}
         wanted = {told.format(path)} | ({KILLED} if printed.startswith("kill") else set())
         tally.check(f"another program, {printed}: its lines", said and said <= wanted, done.stderr)
+        done = subprocess.run([TOOL, "--json", folder], capture_output=True, text=True, env=os.environ | {"DOMEPEELER": str(path)})
+        statuses = {json.loads(line)["status"] for line in done.stdout.splitlines()}
+        ended = 128 + 9 if printed.startswith("kill") else int(printed[-1]) if "exit" in printed else 0
+        tally.check(f"another program, {printed}: its status", statuses == {ended}, done.stdout)
 
 
 def errors(tally: Tally, program: str, folder: str) -> None:
@@ -344,7 +348,10 @@ def fails_at(tally: Tally, program: str, folder: str) -> None:
     write(folder, {"a.trace": "0 ins x 0 : x|0 ins y 1 : x y|0 ins z 2 : x y z|0 read : y z", "b.trace": "0 ins x 0 : x|1 ins y 0 : y|"
                    "0 recv 1 1|0 ins y 2 : x y", "c.trace": "0 ins x 0 : x|0 ins y 0 : x y|0 del x : y|0 read : y",
                    "d.trace": "0 ins x 0 : x|0 ins y 1 : x y|0 read : y x|0 read : x y", "e.trace": "0 ins x 0 : x|0 read :|0 read : x|"
-                   "0 read : x|0 read : x", "f.trace": "0 ins x 0 : x|0 read : x|0 read : x|0 read : x"})
+                   "0 read : x|0 read : x", "f.trace": "0 ins x 0 : x|0 read : x|0 read : x|0 read : x",
+                   # What the report names is the least by replica, and a doubled name comes before all else.
+                   "g.trace": "1 ins a 0 : a|1 read :|0 ins b 0 : b|0 read :", "h.trace": "0 ins a 0 : a|0 read :|1 ins a 0 : a",
+                   "i.trace": "1 ins a 0 : a|1 ins b 0 : a b|0 ins c 0 : c|0 ins d 0 : c d"})
     rnd = random.Random(SEED)
     for i in range(SESSIONS):
         Path(folder, f"{i}.trace").write_text(session(rnd))
@@ -352,7 +359,7 @@ def fails_at(tally: Tally, program: str, folder: str) -> None:
     told = [(row["fails_at"], row["lines"], row["file"]) for row in rows]
     tally.check("fails at: their order", told == sorted(told) and len(rows) > SESSIONS / 4, told)
     by_hand = {Path(name).stem: at for at, _, name in told if Path(name).stem.isalpha()}
-    tally.check("fails at: by hand", by_hand == {"a": 6, "b": 6, "c": 4, "d": 5, "e": 4}, by_hand)
+    tally.check("fails at: by hand", by_hand == {"a": 6, "b": 6, "c": 4, "d": 5, "e": 4, "g": 4, "h": 4, "i": 4}, by_hand)
     for row in rows:
         lines = Path(row["file"]).read_bytes().splitlines(keepends=True)
         before, behind = (run(program, ["verdict", "-"], b"".join(lines[:count])).status for count in (row["fails_at"] - 1, row["fails_at"]))
@@ -390,7 +397,7 @@ def interrupted(tally: Tally, folder: str, other: str) -> None:
             time.sleep(0.01)
         os.killpg(running.pid, signal.SIGINT)
         out, err = running.communicate(timeout=30)
-        tally.same(f"interrupted: {caught}", Ended(running.returncode, out, err), Ended(130, b"", b""))
+        tally.same(f"interrupted: {caught}", Ended(running.returncode, out, err), Ended(-signal.SIGINT, b"", b""))
         tally.check(f"interrupted: {caught}: not all are begun", 2 <= begun.stat().st_size <= 4 < len(ROWS), begun.read_bytes())
 
 
@@ -490,13 +497,29 @@ def closed_output(tally: Tally, program: str, folder: str) -> None:
     os.close(reader)
     with open("/dev/full", "wb") as full:
         for tool, what in (TOOL, folder), (str(ROOT / "tools" / "explain"), f"{folder}/lost.trace"):
-            told = f"{Path(tool).name}: cannot write standard output: No space left on device\n".encode()
+            told = f"{Path(tool).name}: cannot write: No space left on device\n".encode()
+            for stream, wanted in (1, f"{Path(tool).name}: cannot write: standard output is closed\n".encode()), (0, None), (2, b""):
+                got = subprocess.run(["sh", "-c", f'exec "$@" {stream}>&-', "sh", tool, "--program", program, what], capture_output=True)
+                status = 2 if stream == 1 else 1
+                tally.check(f"closed stream {stream}: {tool}", got.returncode == status and (wanted is None or got.stderr == wanted) and
+                            bool(got.stdout) == (stream != 1), got)
             for unbuffered in "", "1":
                 for out, wanted in (closed, b""), (full, told):
                     got = subprocess.run([tool, "--program", program, what], stdout=out, stderr=subprocess.PIPE,
                                          env=os.environ | {"PYTHONUNBUFFERED": unbuffered, "LC_ALL": "C.UTF-8"})
                     tally.check(f"closed output: {tool}, {wanted}, {unbuffered}", (got.returncode, got.stderr) == (2, wanted), got)
     os.close(closed)
+
+
+def anywhere(tally: Tally, program: str, folder: str) -> None:
+    """The tools work in whatever folder they lie, as a copy of the repository at the root of a file system."""
+    with tempfile.TemporaryDirectory(dir="/tmp") as tools:
+        shutil.copytree(ROOT / "tools", tools, dirs_exist_ok=True)
+        for tool, what, status in ("judge_many", folder, 1), ("explain", f"{folder}/lost.trace", 1):
+            got = subprocess.run([f"{tools}/{tool}", "--program", program, what], capture_output=True)
+            tally.check(f"anywhere: {tool}", got.returncode == status and got.stdout and not got.stderr, got)
+    long = "x" * 300
+    tally.same("too long a name", judge(program, [long]), Ended(2, b"", f"judge_many: cannot read {long}: File name too long\n".encode()))
 
 
 def main() -> None:
@@ -519,6 +542,7 @@ def main() -> None:
         others(tally, folder, other)
         errors(tally, program, third)
         closed_output(tally, program, folder)
+        anywhere(tally, program, folder)
     with tempfile.TemporaryDirectory() as folder, tempfile.TemporaryDirectory() as other, tempfile.TemporaryDirectory() as third:
         fails_at(tally, program, third)
         warnings(tally, program, folder)

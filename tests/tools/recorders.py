@@ -602,55 +602,61 @@ fn main() {{
 }}
 ''', ["3 {place}tests/editor.rs:6", "4 {place}tests/editor.rs:17", "5 {place}tests/editor.rs:18"]),
 }
-# Programs that read a log, and the calls of `at` that they make in the end, which are refused; and how each is run.
+# Programs that read a log, and the calls of `at` that they make and that are refused; and how each is run.
 LOG_READERS = {
     "reader.py": (f'''import sys
 sys.path.insert(0, "{ROOT / 'recorders'}")
 from pathlib import Path
 from domepeeler import Recording, Refused
 recording = Recording(2)
-recording.at("deep/my.log", 7)
+recording.at("deep/journal", 7)
 recording.insert(0, "a", 0, ["a"])
-recording.at(Path("deep/my.log").resolve(), 9)
+recording.at(Path("deep/journal").resolve(), 9)
 recording.insert(1, "b", 0, ["b"])
-recording.at("deep/my.log", 11)
+recording.at("deep/journal", 11)
 recording.received(0, 1, 1)
 recording.read(0, ["a", "b"])
-recording.at("deep/my.log", 12)
-recording.received(1, 0, 1)
-for file, line in [("other.log", 0), ("other.log", 1.5), ("other.log", True), (None, 1), (b"other.log", 1)]:
+recording.at("deep/journal", 12)
+for file, line in [("other.log", 0), ("other.log", 1.5), ("other.log", True), (5, 1), (b"other.log", 1)]:
     try:
         recording.at(file, line)
     except Refused as why:
         print(why)
+recording.received(1, 0, 1)
+recording.at("deep/journal", 13)
 recording.read(1, ["b", "a"])
+recording.at()
+recording.read(0, ["a", "b"])  # in no log
 recording.save("session.trace")
 print(recording.explain(), end="")
-''', ["line 0 of a file", "line 1.5 of a file", "line True of a file", "a file is a path, not None", "a file is a path, not b'other.log'"],
+''', ["line 0 of a file", "line 1.5 of a file", "line True of a file", "a file is a path, not 5", "a file is a path, not b'other.log'"],
                   sys.executable),
     "reader.mjs": (f'''import {{ pathToFileURL }} from "node:url"
 import {{ Recording, Refused }} from "{(ROOT / 'recorders').as_uri()}/domepeeler.mjs"
 const recording = new Recording(2)
-recording.at("deep/my.log", 7)
+recording.at("deep/journal", 7)
 recording.insert(0, "a", 0, ["a"])
-recording.at(pathToFileURL("deep/my.log"), 9)
+recording.at(pathToFileURL("deep/journal"), 9)
 recording.insert(1, "b", 0, ["b"])
-recording.at("deep/my.log", 11)
+recording.at("deep/journal", 11)
 recording.received(0, 1, 1)
 recording.read(0, ["a", "b"])
-recording.at("deep/my.log", 12)
-recording.received(1, 0, 1)
-for (const [file, line] of [["other.log", 0], ["other.log", 1.5], ["other.log", true], [null, 1], [{{}}, 1]]) {{
+recording.at("deep/journal", 12)
+for (const [file, line] of [["other.log", 0], ["other.log", 1.5], ["other.log", true], [5, 1], [{{}}, 1]]) {{
   try {{
     recording.at(file, line)
   }} catch (why) {{
     if (why instanceof Refused) console.log(why.message)
   }}
 }}
+recording.received(1, 0, 1)
+recording.at("deep/journal", 13)
 recording.read(1, ["b", "a"])
+recording.at()
+recording.read(0, ["a", "b"]) // in no log
 await recording.save("session.trace")
 process.stdout.write(await recording.explain())
-''', ["line 0 of a file", "line 1.5 of a file", "line true of a file", "a file is a path or a URL, not null",
+''', ["line 0 of a file", "line 1.5 of a file", "line true of a file", "a file is a path or a URL, not 5",
          "a file is a path or a URL, not {}"], "node"),
 }
 # Programs with a long id, `long1`, that the explanation does not name; and how each is run.
@@ -737,14 +743,15 @@ def check_log_readers(tally: Tally, program: str, folder: Path) -> None:
         wanted = [words + " is not a whole number from 1 to 4294967295" if words.startswith("line ") else words for words in refused]
         tally.check(f"{name}: what is refused", told == wanted, done)
         saved = Path(place, "session.trace.lines").read_text()
-        entries = [f"{line} deep/my.log:{at}" for line, at in enumerate([7, 9, 11, 11, 12, 12], 3)]
-        tally.check(f"{name}: the lines of the log", saved == "\n".join(["8", *entries, ""]), saved)
+        entries = [f"{line} deep/journal:{at}" for line, at in enumerate([7, 9, 11, 11, 12, 13], 3)]
+        by_code = 1 + text[:text.index("in no log")].count("\n")
+        tally.check(f"{name}: the lines of the log", saved == "\n".join(["9", "log", *entries, f"9 {name}:{by_code}", ""]), saved)
         told = subprocess.run([EXPLAIN, "session.trace"], cwd=place, capture_output=True, text=True, env=surroundings)
         tally.check(f"{name}: explains as the tool explains the file", said == told.stdout, (done, told))
         section = "".join(f"  line {entry.replace(' ', ': ')}\n" for entry in entries)
         tally.check(f"{name}: names the lines of the log", said.endswith(f"\n\nIn your log\n{section}"), said)
         tally.check(f"{name}: no debugger of this program", "\n  stop before line 7, where replica 1 applies 0.1; " in said and
-                    " The editor then writes deep/my.log:12.\n" in said and "breakpoint" not in said, said)
+                    " The editor then writes deep/journal:12.\n" in said and "breakpoint" not in said, said)
 
 
 # Records 2,500 times, each time by other calls; all of them lead through line 3.

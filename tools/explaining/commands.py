@@ -25,6 +25,10 @@ def name_as_it_can_be(error: UnicodeError) -> tuple:
 def run_command(name: str, main: Callable) -> None:
     """Runs the command of this name. File names on standard output may be any bytes or letters. A reader that has enough is no error to
     tell of, and nor is a user who stops it."""
+    for closed in [name for name in ("stdin", "stderr") if getattr(sys, name) is None]:
+        setattr(sys, closed, open(os.devnull, "r" if closed == "stdin" else "w"))
+    if sys.stdout is None:
+        fail_to_write(name, "standard output is closed")
     codecs.register_error("domepeeler.names", name_as_it_can_be)
     sys.stdout.reconfigure(errors="domepeeler.names")
     try:
@@ -32,12 +36,21 @@ def run_command(name: str, main: Callable) -> None:
             main()
         finally:  # it may end by itself
             sys.stdout.flush()
-    except KeyboardInterrupt:
-        sys.exit(128 + signal.SIGINT)
+    except KeyboardInterrupt:  # and so ends the loop of a shell that runs it
+        signal.signal(signal.SIGINT, signal.SIG_DFL)
+        os.kill(os.getpid(), signal.SIGINT)
     except OSError as error:
         if error.filename is not None:
-            raise  # this is not standard output
+            raise  # this is nothing that is written
         os.dup2(os.open(os.devnull, os.O_WRONLY), sys.stdout.fileno())
-        if not isinstance(error, BrokenPipeError):
-            print(f"{name}: cannot write standard output: {error.strerror}", file=sys.stderr)
-        sys.exit(2)
+        fail_to_write(name, "" if isinstance(error, BrokenPipeError) else str(error.strerror))
+
+
+def fail_to_write(name: str, why: str) -> None:
+    """Ends the command; says why, if that is to be said and can be."""
+    try:
+        if why:
+            print(f"{name}: cannot write: {why}", file=sys.stderr)
+    except OSError:
+        os.dup2(os.open(os.devnull, os.O_WRONLY), sys.stderr.fileno())
+    sys.exit(2)

@@ -1,7 +1,8 @@
 """From where in the user's code the lines of a trace were recorded, as some recorders say in the file beside the trace.
 
 Its first line is how many lines the trace has. Behind it stands for each line of which that is known its number, a blank and the
-places. What is written otherwise is passed over, and so is the file of another trace."""
+places. A line `log` says that they are lines of a log, whatever its name. What is written otherwise is passed over, and so is the file
+of another trace."""
 import re
 from pathlib import Path
 
@@ -11,6 +12,7 @@ from .words import CODE, DEBUGGER, LINE, LOG, PYTHON, Explanation, Section
 
 PLACES = re.compile(rb"([1-9][0-9]{0,6}) (.{1,4000})")
 OF_LOG = re.compile(r"[^,]*\.(log|txt|out|(nd)?jsonl?|[ct]sv|xml)(\.[0-9]+)?(:[0-9]+)?")  # one that was rotated too
+LOG_MARK = b"log"
 MOST_BYTES = 1 << 27  # of such a file that are read
 
 
@@ -19,12 +21,12 @@ def with_places(told: Explanation, warnings: list, trace: bytes, name: str) -> E
     no file. Where they are lines of a log, no debugger's statement fits: the recording is not the editor's."""
     lines = [line for section in told.sections for line in section.lines] + warnings
     named = {int(number) for line in lines for number in LINE.findall(line)}
-    found = sorted(places_of(named, trace, name).items()) if named and name != "-" else []
+    found = places_of(named, trace, name) if named and name != "-" else {}
     if not found:
         return told
-    is_log = all(OF_LOG.fullmatch(places) for _, places in found)
-    sections = [of_log(section, dict(found)) if is_log else section for section in told.sections]
-    return told._replace(sections=[*sections, Section(LOG if is_log else CODE, [f"line {line}: {places}" for line, places in found])])
+    is_log = LOG_MARK in lines_beside(trace, name) or all(OF_LOG.fullmatch(places) for places in found.values())
+    sections = [of_log(section, found) if is_log else section for section in told.sections]
+    return told._replace(sections=[*sections, Section(LOG if is_log else CODE, [f"line {line}: {found[line]}" for line in sorted(found)])])
 
 
 def of_log(section: Section, places: dict) -> Section:
@@ -37,17 +39,9 @@ def of_log(section: Section, places: dict) -> Section:
 
 
 def places_of(named: set, trace: bytes, name: str) -> dict:
-    """The places of these lines, as far as the file beside the trace says them. Its last line may have been cut, if it has no end."""
-    try:
-        with Path(name + SIDE).open("rb") as file:
-            *lines, _ = file.read(MOST_BYTES).split(b"\n")
-    except (OSError, ValueError):
-        return {}
-    count = trace.count(b"\n")
-    if not lines or lines[0].strip() != b"%d" % count:
-        return {}
-    found = {}
-    for line in lines[1:]:
+    """The places of these lines, as far as the file beside the trace says them."""
+    found, count = {}, trace.count(b"\n")
+    for line in lines_beside(trace, name):
         said = PLACES.fullmatch(line)
         number = int(said[1]) if said else 0
         if number in named and FIRST_ENTRY <= number <= count:
@@ -55,3 +49,14 @@ def places_of(named: set, trace: bytes, name: str) -> dict:
             if places.isprintable():
                 found.setdefault(number, places)
     return found
+
+
+def lines_beside(trace: bytes, name: str) -> list:
+    """The lines of the file beside the trace, behind its first; none of another trace's. The last one may have been cut, if it has no
+    end."""
+    try:
+        with Path(name + SIDE).open("rb") as file:
+            *lines, _ = file.read(MOST_BYTES).split(b"\n")
+    except (OSError, ValueError):
+        return []
+    return lines[1:] if lines and lines[0].strip() == b"%d" % trace.count(b"\n") else []

@@ -10,10 +10,11 @@ from typing import NamedTuple
 VARIABLE = "DOMEPEELER"
 COMMAND = "domepeeler"
 TOOLS = Path(__file__).resolve().parent.parent
-# Where the program lies beside these tools: as the repository builds it, and as tools/install puts it.
-BESIDE = [TOOLS.parent / "crates/finder_cli/out/finder_cli", TOOLS.parents[2] / "bin" / COMMAND]
+REPOSITORY, PREFIX = TOOLS.parent, TOOLS.parent.parent.parent  # of these tools as they lie in the repository, or as tools/install puts them
+# Where the program lies beside them: as the repository builds it, and as it is installed.
+BESIDE = [REPOSITORY / "crates/finder_cli/out/finder_cli", PREFIX / "bin" / COMMAND]
 # Where the guide of recording lies beside them, likewise.
-GUIDES = [TOOLS.parent / "docs/recording.md", TOOLS.parents[2] / "share/domepeeler/docs/recording.md"]
+GUIDES = [REPOSITORY / "docs/recording.md", PREFIX / "share/domepeeler/docs/recording.md"]
 GUIDE = next(filter(Path.is_file, GUIDES), GUIDES[0])
 WAYS = (f"The program is the one that --program names; else that of the variable {VARIABLE}; else `{COMMAND}` on the PATH; "
         "else the one that was built in this repository, or installed beside this tool.")
