@@ -597,6 +597,27 @@ def beginning(tally: Tally, program: str, text: str, report: dict, said: str) ->
     return "".join(lines[:last]), behind
 
 
+def sooner(tally: Tally, program: str, text: str, report: dict, said: str) -> bool:
+    """The line with which a session with a fault went wrong is told where it stands before the operations that the report names: the
+    program accepts the lines before it, and not with it. Answers whether there is such a line."""
+    lines = text.splitlines(keepends=True)
+    reports = (json.loads(run(program, ["verdict", "--json", "-"], "".join(lines[:count]).encode()).out) for count in range(3, len(lines) + 1))
+    count, first = next((count, told) for count, told in enumerate(reports, 3) if told["verdict"] != "accepted")
+    counts, named = Counter(), []
+    for at, line in enumerate(lines[2:], 3):
+        replica, kind = line.split()[:2]
+        counts[replica] += kind != "recv"
+        if kind != "recv" and f"{replica}.{counts[replica]}" in report.values():
+            named.append(at)
+    about = [str(first[key]) for key in ("k", "at", "first", "again") if key in first]
+    told = paragraph(said, "When it went wrong").splitlines()
+    wanted = count < max(named)
+    is_right = len(told) == 2 and told[0].startswith(f"  line {count} of the trace, ") and told[1].startswith(f"  look at that first: `head -{count}` ") \
+        and told[0].endswith(f"; the lines before it are accepted, with it they are {' '.join([first['verdict'], *about])}")
+    tally.check("a fault: when it went wrong", is_right if wanted else not told, f"{text}{report}\n{said}")
+    return wanted
+
+
 def paragraph(said: str, title: str) -> str:
     """The lines of a section of an explanation."""
     return said.partition(f"\n{title}\n")[2].partition("\n\n")[0]
@@ -1056,6 +1077,8 @@ def small(tally: Tally, program: str, folder: str) -> None:
             judged, said, meant, meant_report = json.loads(again.out or b"{}"), got.out.decode(), whole, report
             if report["verdict"] == "refused":
                 meant, meant_report = beginning(tally, program, whole, report, said)
+            else:
+                wrong["sooner"] += sooner(tally, program, whole, report, said)
             same = [judged.get(key) == meant_report.get(key) for key in ("verdict", "k")]
             tally.check("small: the same verdict and number", all(same) and got.status == 1, f"{whole}\nto\n{text}{got}")
             tally.check("small: no longer", len(text.splitlines()) <= len(whole.splitlines()), f"{whole}\nto\n{text}")
@@ -1083,6 +1106,7 @@ def small(tally: Tally, program: str, folder: str) -> None:
             most = {"position": judged.get("inserts") in (1, 2), "doubled": judged.get("operations") == 2}
             tally.check("small: of a fault", most.get(report["verdict"], True), f"{whole}\nto\n{text}")
     tally.check("refused: beside deleted elements in some of them", wrong["beside"] > SMALL["refused"] / 4, wrong)
+    tally.check("a fault: sooner in some of them", wrong["sooner"] >= 5, wrong)
     tally.check("refused: beside elements that are deleted later, in some of them", wrong["hidden"] > 0, wrong)
     tally.check("refused: a line and steps told in some of them", wrong["line"] > SMALL["refused"] / 8 and wrong["steps"] > 2, wrong)
     tally.check("refused: elements arrived in most of them", sum(arriving[count] for count in arriving if count > 1) > SMALL["refused"] / 2,

@@ -6,6 +6,23 @@ from collections.abc import Callable
 
 from .evidence import Evidence
 from .recordings import FIRST_ENTRY, Recording
+from .words import explanation, went_wrong_sooner
+
+MOST_HALVED = 4096  # lines of a trace with a fault whose beginnings are judged too
+
+
+def explained(evidence: Evidence, judge: Callable) -> tuple:
+    """The explanation, and what bears on the shortest refused beginning of a refused trace, if there is one. Of a trace with a fault the
+    program names the least operation by replica: where the trace went wrong before, that is said first."""
+    beginning = refused_beginning(evidence, judge)
+    told = explanation(evidence, beginning)
+    lines, last = evidence.recording.lines, max((operation.line for operation in evidence.operations), default=0)
+    if evidence.report["verdict"] in ("contents", "position", "doubled") and len(lines) <= MOST_HALVED:
+        count, report = failing_beginning(evidence, judge) or (last, evidence.report)
+        if count < last:
+            first = went_wrong_sooner(Recording(text_of(lines[:count])).entries[-1], report)
+            told = told._replace(sections=[first, *told.sections])
+    return told, beginning
 
 
 def failing_beginning(whole: Evidence, judge: Callable) -> tuple | None:

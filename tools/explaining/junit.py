@@ -4,13 +4,13 @@ import re
 import xml.etree.ElementTree as xml
 from pathlib import Path
 
-from .beginning import refused_beginning
+from .beginning import explained
 from .evidence import Evidence, Unexplained
 from .faulty_lines import about_file
 from .places import with_places
 from .programs import NoProgram, report_of
 from .recordings import Recording
-from .words import explanation, joined, text_of
+from .words import joined, text_of
 
 NOT_IN_XML = re.compile("[^\t\n\r\x20-\ud7ff\ue000-\ufffd\U00010000-\U0010ffff]")  # XML 1.0 has no way to write these
 
@@ -25,7 +25,7 @@ def junit_of(rows: list, program: str) -> bytes:
         if row.report is None:
             add_fault(case, "error", row.verdict, "\n  ".join([row.error, *about_file(row.error, row.file)]))
         elif row.verdict != "accepted":
-            add_fault(case, "failure", row.verdict, *explained(row, program))
+            add_fault(case, "failure", row.verdict, *explanation_of(row, program))
     counts = {"tests": len(rows), "failures": len(suite.findall("testcase/failure")), "errors": len(suite.findall("testcase/error")),
               "skipped": 0}
     whole = xml.Element("testsuites")
@@ -44,14 +44,13 @@ def add_fault(case: xml.Element, kind: str, verdict: str, told: str, about: str 
     xml.SubElement(case, kind, type=verdict, message=f"{first} It is about {about}." if about else first).text = told
 
 
-def explained(row: object, program: str) -> tuple:
+def explanation_of(row: object, program: str) -> tuple:
     """What `explain` says of the trace, and the elements of a refusal; or its verdict alone, where the file is no longer what was judged."""
     try:
         trace = Path(row.file).read_bytes()
         evidence = Evidence(Recording(trace.decode()), row.report)
-        beginning = refused_beginning(evidence, report_of(program))
-        told = text_of(with_places(explanation(evidence, beginning), [], trace, row.file))
-        return told, joined((beginning or evidence).elements) if row.verdict == "refused" else ""
+        told, beginning = explained(evidence, report_of(program))
+        return text_of(with_places(told, [], trace, row.file)), joined((beginning or evidence).elements) if row.verdict == "refused" else ""
     except (Unexplained, NoProgram, OSError, ValueError, LookupError):
         return row.verdict, ""
 

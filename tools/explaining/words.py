@@ -188,6 +188,14 @@ def went_wrong(evidence: Evidence, beginning: Evidence) -> Section:
     return Section("When it went wrong", lines + in_the_end(evidence.recording))
 
 
+def went_wrong_sooner(last: Operation, report: dict) -> Section:
+    """The line with which a trace went wrong before what is told of it, and the report on it and the lines before it."""
+    about = [str(report[key]) for key in ("k", "at", "first", "again") if key in report]
+    return Section("When it went wrong", [
+        f"{did(last, is_first=True)}; the lines before it are accepted, with it they are {' '.join([report['verdict'], *about])}",
+        f"look at that first: `head -{last.line}` of the trace has it alone"])
+
+
 def in_the_end(recording: Recording) -> list:
     """Whether the replicas that have all operations show one list at their end, if there are several."""
     changes = [change for kind in (recording.inserts, recording.deletes) for made in kind.values() for change in made]
