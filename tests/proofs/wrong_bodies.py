@@ -36,11 +36,12 @@ def copy_crates(folder: Path) -> None:
 
 
 def refused_in(folder: Path, crate: str) -> set[str]:
-    """The further wrong bodies of a crate that are refused because a goal is false."""
+    """The further wrong bodies of a crate that are refused because a goal is false: the line names it."""
     done = subprocess.run(["rt", "must-fail", crate], cwd=folder, capture_output=True, text=True, check=False)
     lines = (done.stdout + done.stderr).splitlines()
     print("\n".join(line[:160] for line in lines if "must-fail " in line), flush=True)
-    well = [line for line in lines if "refused, as it must be" in line and "only because a proof file" not in line]
+    well = [line for line in lines if "refused, as it must be: " in line and "only because a proof file" not in line
+            and ("it is not proved" in line or ": error: `" in line)]
     return {name for name in names_of(crate) if any(f"must-fail {crate}/{name}.edit" in line for line in well)}
 
 
