@@ -901,7 +901,15 @@ MERGE_FAULTS = [
      "merge.py: letters.log is no text of a recorder: it is not ASCII\n"),
     ("missing.log", None, ["0.log", "missing.log"], 2, "merge.py: cannot read missing.log: No such file or directory\n"),
     (".", None, ["."], 2, "merge.py: cannot read .: Is a directory\n"),
-    (".", None, [], 2, "usage: merge.py LOG..\n"),
+    (".", None, [], 2, "usage: merge.py [--output TRACE] LOG..\n"),
+    (".", None, ["--output"], 2, "usage: merge.py [--output TRACE] LOG..\n"),
+    (".", None, ["--output", "new.trace"], 2, "usage: merge.py [--output TRACE] LOG..\n"),
+    (".", None, ["--out", "0.log"], 2, "usage: merge.py [--output TRACE] LOG..\n"),
+    (".", None, ["--output", "new.trace", "0.log"], 1, "merge.py: these receipts name operations that no log has before them: 0 recv 1 1\n"),
+    (".", None, ["--output", "./1.log", "0.log", "1.log", "2.log"], 2, "merge.py: cannot write ./1.log: it is one of the logs\n"),
+    (".", None, ["--output", "none/new.trace", "0.log", "1.log", "2.log"], 2,
+     "merge.py: cannot write none/new.trace: No such file or directory\n"),
+    (".", None, ["--output", "/dev/full", "0.log", "1.log", "2.log"], 2, "merge.py: cannot write /dev/full: No space left on device\n"),
 ]
 
 
@@ -953,6 +961,45 @@ def check_merge(tally: Tally, program: str, folder: Path) -> None:
             Path(folder, name).write_bytes(text)
         done = subprocess.run([*tool, *words], cwd=folder, capture_output=True, text=True)
         tally.check(f"merge.py {words}", (done.returncode, done.stdout, done.stderr) == (status, "", why), done)
+    tally.check("merge.py: nothing is lost or made where it fails", [file.read_text() for file in files] == logs and
+                not [path for path in folder.iterdir() if path.name.startswith("new.trace")], sorted(folder.iterdir()))
+    for name, besides, wanted, warned in MERGED_BESIDE:
+        check_merged_beside(tally, folder, name, besides, wanted, warned)
+
+
+# What stands beside the logs, what then stands beside the trace, and what is said.
+CODE_BESIDE = ["7\n3 a.py:1\n4 a.py:2, called from b.py:9\n7 a.py:5\n", "4\n4 c.py:4\n", "4\n3 d.py:3\n4 d.py:4\n"]
+LOGS_BESIDE = [text.replace("\n", "\nlog\n", 1) for text in CODE_BESIDE]
+MERGED_PLACES = "3 a.py:1\n4 a.py:2, called from b.py:9\n6 c.py:4\n7 d.py:3\n8 d.py:4\n11 a.py:5\n"
+MERGED_BESIDE = [
+    ("nothing", [None, None, None], "11\n", ""),
+    ("code", CODE_BESIDE, f"11\n{MERGED_PLACES}", ""),
+    ("logs", LOGS_BESIDE, f"11\nlog\n{MERGED_PLACES}", ""),
+    ("logs and code", [LOGS_BESIDE[0], *CODE_BESIDE[1:]], f"11\n{MERGED_PLACES}", ""),
+    ("one that was moved alone", [None, CODE_BESIDE[1], None], "11\n6 c.py:4\n", ""),
+    ("a cut log", [CODE_BESIDE[0], CODE_BESIDE[1].replace("4", "5", 1), CODE_BESIDE[2]],
+     "11\n" + MERGED_PLACES.replace("6 c.py:4\n", ""),
+     "merge.py: warning: 1.log may have been cut at a line's end: it has 4 lines, and by 1.log.lines it was saved with 5\n"),
+    ("another log's", [CODE_BESIDE[1], CODE_BESIDE[1], None], "11\n6 c.py:4\n", ""),
+    ("what is no place", ["7\nplace\n3 \n\n09 a.py:1\n5 a.py:3", "no number\n3 c.py:3\n", ""], "11\n", ""),
+]
+
+
+def check_merged_beside(tally: Tally, folder: Path, name: str, besides: list, wanted: str, warned: str) -> None:
+    """Of which code a line is stands beside the trace, where it stands beside the log; and a cut log is warned of."""
+    for number, text in enumerate(besides):
+        side = folder / f"{number}.log.lines"
+        side.unlink(missing_ok=True)
+        if text is not None:
+            side.write_text(text)
+    words = ["0.log", "1.log", "2.log"]
+    done = subprocess.run([sys.executable, ROOT / "recorders/merge.py", "--output", "merged.trace", *words], cwd=folder,
+                          capture_output=True, text=True)
+    got = [Path(folder, "merged.trace").read_text(), Path(folder, "merged.trace.lines").read_text()]
+    tally.check(f"merge.py --output: {name}", (done.returncode, done.stdout, done.stderr) == (0, "", warned) and
+                got == [log_text(MERGED), wanted], (done, got))
+    done = subprocess.run([sys.executable, ROOT / "recorders/merge.py", *words], cwd=folder, capture_output=True, text=True)
+    tally.check(f"merge.py: {name}", (done.returncode, done.stdout, done.stderr) == (0, log_text(MERGED), warned), done)
 
 
 # A recording whose read has lost an element.
