@@ -1,40 +1,48 @@
 #!/usr/bin/env python3
-"""merge.py [--output TRACE] LOG..: the logs of all replicas of one session, one trace on standard output or in this file.
+"""The logs of all replicas of one session, as one trace on standard output or in a file.
 
 Each log is the text of a recorder that was told which replica is its `only` one. The entries of a replica keep their
 order; a receipt waits until the operation that it names stands before it. No clocks are needed. Any two merges of the
 same logs have the same report.
 
 Beside a log may stand, in the file with `.lines` behind its name, how many lines were saved, and from where in your code each was
-recorded. Of a log that has fewer lines a warning is written. Beside TRACE the merge leaves such a file of its own.
-
-It ends with status 0, 1 where the logs can't be merged, and 2 where one can't be read or the trace can't be written. Other programs
-may call `merge(texts)`."""
+recorded. A log that has fewer lines is warned of, and its places are left out. Beside TRACE such a file is left too: there the lines
+that are lost count, so that the tools warn of them."""
+import argparse
 import os
 import re
+import signal
 import sys
 from pathlib import Path
 
 SIDE = ".lines"  # the end of the name of a file beside a log or a trace
 LOG_MARK = b"log"  # a line there: the places are lines of a log, not of code
-PLACE = re.compile(rb"([1-9][0-9]*) (.+)")  # a line's number, and from where it was recorded
+MERGED_MARK = b"merged"  # a line there: the trace was no recorder's text
+COUNT = re.compile(rb"[0-9]{1,7}")
+PLACE = re.compile(rb"([1-9][0-9]{0,6}) (.+)")  # a line's number, and from where it was recorded
 HEAD = 2  # lines of a text before its entries
-ENTRIES = {"trace 1": re.compile(r"[0-9]+ (recv [0-9]+ [0-9]+|(ins|del|read) .*)", re.ASCII),
-           "trace 2": re.compile(r"[0-9]+ (recv [0-9]+ [0-9]+|(ins|del|read|view) .*)", re.ASCII)}
+RECEIPT = "recv [0-9]{1,7} [0-9]{1,7}"
+ENTRIES = {"trace 1": re.compile(f"[0-9]+ ({RECEIPT}|(ins|del|read) .*)", re.ASCII),
+           "trace 2": re.compile(f"[0-9]+ ({RECEIPT}|(ins|del|read|view) .*)", re.ASCII)}
+STATUSES = "It ends with status 0, 1 where the logs can't be merged, and 2 where one can't be read or the trace can't be written."
 
 
 class Unmerged(ValueError):
     """The logs are not those of one session."""
 
 
-def merge(texts: list, names: list = None) -> str:
-    """The trace of these logs, one for each replica that did or received anything. Errors call the logs by these names, else by
-    their numbers from 1."""
-    return "\n".join(line for line, _, _ in lines_of(texts, names or [f"log {number}" for number in range(1, len(texts) + 1)])) + "\n"
+def merge(texts: list) -> str:
+    """The trace of these logs, one for each replica that did or received anything. Errors call the logs by their numbers from 1."""
+    return text_of(lines_of(texts, [f"log {number}" for number in range(1, len(texts) + 1)]))
+
+
+def text_of(lines: list) -> str:
+    return "".join(f"{line}\n" for line, _, _ in lines)
 
 
 def lines_of(texts: list, names: list) -> list:
-    """The lines of the trace, each with the number of its log, from 0, and of its line there, from 1."""
+    """The lines of the trace, each with the number of its log, from 0, and of its line there, from 1. Errors call the logs by these
+    names."""
     if not texts:
         raise Unmerged("there is no log")
     waiting = [entries(name, text) for name, text in zip(names, texts)]
@@ -92,6 +100,40 @@ def has_arrived(line: str, counts: dict) -> bool:
     return words[1] != "recv" or counts.get(words[2], 0) >= int(words[3])
 
 
+class Log:
+    """A log in a file, and what stands beside it."""
+
+    def __init__(self, path: str):
+        self.path, self.text = path, read(path)
+        self.count = self.text.count("\n")
+        try:
+            first, *self.beside = Path(path + SIDE).read_bytes().split(b"\n")[:-1] or [b""]
+        except OSError:
+            first, self.beside = b"", []
+        said = COUNT.fullmatch(first.strip())
+        self.saved = int(said[0]) if said else self.count
+        if self.saved != self.count or not said:
+            self.beside = []  # it is of another text
+
+    def lost(self) -> int:
+        """How many lines were saved that are not there."""
+        return max(self.saved - self.count, 0)
+
+    def places(self) -> dict:
+        """By number of a line from where it was recorded; of two the first counts."""
+        found = [place.groups() for place in map(PLACE.fullmatch, self.beside) if place]
+        return dict(reversed(found))
+
+
+def beside_trace(logs: list, lines: list) -> bytes:
+    """What is to stand beside the trace: how many lines there should be, and from where they were recorded."""
+    places = [log.places() for log in logs]
+    found = [(number, places[log].get(b"%d" % at)) for number, (_, log, at) in enumerate(lines, 1)]
+    marks = [MERGED_MARK] + [LOG_MARK] * any(LOG_MARK in log.beside for log in logs)
+    told = [b"%d %b" % one for one in found if one[0] > HEAD and one[1]]
+    return b"".join(line + b"\n" for line in [b"%d" % (len(lines) + sum(log.lost() for log in logs)), *marks, *told])
+
+
 def read(path: str) -> str:
     """The text of a log; where there is none, the program ends."""
     try:
@@ -102,82 +144,76 @@ def read(path: str) -> str:
         fail(1, f"{path} is no text of a recorder: it is not ASCII")
 
 
-def beside(path: str) -> list:
-    """The lines of the file beside a log, where there is one: how many lines were saved, and then for each of which that is known its
-    number and from where it was recorded."""
+def say(words: str) -> None:
     try:
-        return Path(path + SIDE).read_bytes().split(b"\n")[:-1]
-    except (OSError, ValueError):
-        return []
-
-
-def warn(path: str, text: str) -> None:
-    """Warns of a log that has fewer lines than were saved."""
-    saved, has = beside(path)[:1], text.count("\n")
-    if saved and saved[0].isdigit() and int(saved[0]) > has:
-        print(f"merge.py: warning: {path} may have been cut at a line's end: it has {has} lines, and by {path}{SIDE} it was saved with "
-              f"{int(saved[0])}", file=sys.stderr)
-
-
-def places_of(logs: list, texts: list, lines: list) -> bytes:
-    """From where the trace's lines were recorded, as the files beside the logs say; not that of another text."""
-    said = [lines_beside[1:] if lines_beside[:1] == [b"%d" % text.count("\n")] else []
-            for lines_beside, text in zip(map(beside, logs), texts)]
-    known = [dict(found.groups() for found in map(PLACE.fullmatch, lines_beside) if found) for lines_beside in said]
-    found = [(number, known[log].get(b"%d" % at)) for number, (_, log, at) in enumerate(lines, 1)]
-    is_log = any(known) and all(LOG_MARK in lines_beside for lines_beside, places in zip(said, known) if places)
-    return (LOG_MARK + b"\n" if is_log else b"") + b"".join(b"%d %b\n" % one for one in found if one[0] > HEAD and one[1])
+        print(f"merge.py: {words}", file=sys.stderr, flush=True)
+    except OSError:  # nobody can be told
+        os.dup2(os.open(os.devnull, os.O_WRONLY), sys.stderr.fileno())
 
 
 def fail(status: int, words: str) -> None:
-    print(f"merge.py: {words}", file=sys.stderr)
+    say(words)
     sys.exit(status)
 
 
-def write(text: str, output: str, places: bytes) -> None:
-    """Writes the trace into this file, or with none on standard output; and beside a file first how many lines it has, so that the
-    tools notice where its end is lost, and in the end the places."""
-    if output is None:
+def write(path: str, content: bytes) -> None:
+    try:
+        Path(path).write_bytes(content)
+    except OSError as why:
+        fail(2, f"cannot write {path}: {why.strerror}")
+
+
+def write_out(text: str) -> None:
+    """Writes the trace on standard output."""
+    try:
         sys.stdout.write(text)
         sys.stdout.flush()
-        return
-    with open(output, "wb") as file:  # as bytes: each line ends with LF alone on every system
-        side = output + SIDE if os.path.isfile(output) else None
-        if side:
-            Path(side).write_bytes(b"%d\n" % text.count("\n"))
-        file.write(text.encode())
-    if side:
-        with open(side, "ab") as lines:
-            lines.write(places)
-
-
-def main(words: list) -> None:
-    if words == ["--help"]:
-        print(__doc__)
-        sys.exit(0)
-    output, logs = (words[1], words[2:]) if words[:1] == ["--output"] and words[1:] else (None, words)
-    if not logs or logs[0].startswith("--"):
-        print("usage: merge.py [--output TRACE] LOG..", file=sys.stderr)
-        sys.exit(2)
-    texts = [read(log) for log in logs]
-    if output is not None and any(os.path.exists(output) and os.path.samefile(output, log) for log in logs):
-        fail(2, f"cannot write {output}: it is one of the logs")
-    try:
-        lines = lines_of(texts, logs)
-    except Unmerged as why:
-        fail(1, str(why))
-    for log, text in zip(logs, texts):
-        warn(log, text)
-    try:
-        write("\n".join(line for line, _, _ in lines) + "\n", output, places_of(logs, texts, lines))
     except OSError as why:
-        if output is not None:
-            fail(2, f"cannot write {why.filename or output}: {why.strerror}")
         os.dup2(os.open(os.devnull, os.O_WRONLY), sys.stdout.fileno())
         if isinstance(why, BrokenPipeError):  # the reader has enough
             sys.exit(2)
         fail(2, f"cannot write: {why.strerror}")
 
 
+def keep_apart(output: str, logs: list) -> None:
+    """Ends the program where a file that is to be written is one of those that are read."""
+    for written in output, output + SIDE:
+        for log in logs:
+            for path, what in (log, "one of the logs"), (log + SIDE, f"what stands beside {log}"):
+                if os.path.exists(written) and os.path.exists(path) and os.path.samefile(written, path):
+                    fail(2, f"cannot write {written}: it is {what}")
+
+
+def main() -> None:
+    signal.signal(signal.SIGINT, signal.SIG_DFL)  # a user who stops it gets no traceback
+    if sys.stderr is None:
+        sys.stderr = open(os.devnull, "w")
+    parser = argparse.ArgumentParser(prog="merge.py", description=__doc__, epilog=STATUSES, allow_abbrev=False,
+                                     formatter_class=argparse.RawDescriptionHelpFormatter)
+    parser.add_argument("logs", metavar="LOG", nargs="+", help="a log; a file beside another one, as `LOG*` takes too, is passed over")
+    parser.add_argument("--output", metavar="TRACE", help="the file to write")
+    asked = parser.parse_args()
+    if asked.output is None and sys.stdout is None:
+        fail(2, "cannot write: standard output is closed")
+    paths = [path for path in asked.logs if not (path.endswith(SIDE) and path[:-len(SIDE)] in asked.logs)]
+    logs = [Log(path) for path in paths]
+    if asked.output is not None:
+        keep_apart(asked.output, paths)
+    for log in logs:
+        if log.lost():
+            say(f"warning: {log.path} may have been cut at a line's end: it has {log.count} lines, and by {log.path}{SIDE} it was saved "
+                f"with {log.saved}")
+    try:
+        lines = lines_of([log.text for log in logs], paths)
+    except Unmerged as why:
+        fail(1, str(why))
+    if asked.output is None:
+        write_out(text_of(lines))
+        return
+    if os.path.isfile(asked.output) or not os.path.exists(asked.output):  # a pipe or a device has no file beside it
+        write(asked.output + SIDE, beside_trace(logs, lines))
+    write(asked.output, text_of(lines).encode())
+
+
 if __name__ == "__main__":
-    main(sys.argv[1:])
+    main()

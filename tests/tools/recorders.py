@@ -6,6 +6,7 @@ Debian's Python, are missing it installs Debian's packages, and fails if it can'
 import json
 import os
 import re
+import shlex
 import shutil
 import subprocess
 import sys
@@ -890,6 +891,12 @@ UNREADABLE = [
     ("trace 1\nreplicas 3\n\n", "line 3 of log 2 is no entry: "),
 ]
 
+def log_text(lines: str) -> str:
+    return "trace 1\nreplicas 3\n" + lines.replace("|", "\n") + "\n"
+
+
+MERGE_USAGE = "usage: merge.py [-h] [--output TRACE] LOG [LOG ...]\nmerge.py: error: "
+
 # A file beside those of the logs, the words of merge.py, its status, and its line.
 MERGE_FAULTS = [
     ("two.log", b"trace 1\nreplicas 2\n1 read :\n", ["0.log", "two.log"], 1, "merge.py: the logs begin with different lines, so they "
@@ -901,20 +908,27 @@ MERGE_FAULTS = [
      "merge.py: letters.log is no text of a recorder: it is not ASCII\n"),
     ("missing.log", None, ["0.log", "missing.log"], 2, "merge.py: cannot read missing.log: No such file or directory\n"),
     (".", None, ["."], 2, "merge.py: cannot read .: Is a directory\n"),
-    (".", None, [], 2, "usage: merge.py [--output TRACE] LOG..\n"),
-    (".", None, ["--output"], 2, "usage: merge.py [--output TRACE] LOG..\n"),
-    (".", None, ["--output", "new.trace"], 2, "usage: merge.py [--output TRACE] LOG..\n"),
-    (".", None, ["--out", "0.log"], 2, "usage: merge.py [--output TRACE] LOG..\n"),
+    (".", None, [], 2, f"{MERGE_USAGE}the following arguments are required: LOG\n"),
+    (".", None, ["--output"], 2, f"{MERGE_USAGE}argument --output: expected one argument\n"),
+    (".", None, ["--output", "new.trace"], 2, f"{MERGE_USAGE}the following arguments are required: LOG\n"),
+    (".", None, ["--out", "0.log"], 2, f"{MERGE_USAGE}unrecognized arguments: --out\n"),
+    ("long.log", f"trace 1\nreplicas 3\n2 recv 1 {'1' * 5000}\n".encode(), ["long.log"], 1,
+     f"merge.py: line 3 of long.log is no entry: 2 recv 1 {'1' * 5000}\n"),
     (".", None, ["--output", "new.trace", "0.log"], 1, "merge.py: these receipts name operations that no log has before them: 0 recv 1 1\n"),
     (".", None, ["--output", "./1.log", "0.log", "1.log", "2.log"], 2, "merge.py: cannot write ./1.log: it is one of the logs\n"),
+    (".", None, ["0.log", "1.log", "2.log", "--output=2.log"], 2, "merge.py: cannot write 2.log: it is one of the logs\n"),
+    ("0.log.lines", b"", ["--output", "0.log.lines", "0.log", "1.log", "2.log"], 2,
+     "merge.py: cannot write 0.log.lines: it is what stands beside 0.log\n"),
+    ("s.lines", log_text(LOGS[2]).encode(), ["--output", "s", "0.log", "1.log", "s.lines"], 2,
+     "merge.py: cannot write s.lines: it is one of the logs\n"),
+    ("old.trace", b"old", ["--output", "old.trace", "0.log"], 1,
+     "merge.py: these receipts name operations that no log has before them: 0 recv 1 1\n"),
+    ("side.trace.lines/in it", b"", ["--output", "side.trace", "0.log", "1.log", "2.log"], 2,
+     "merge.py: cannot write side.trace.lines: Is a directory\n"),
     (".", None, ["--output", "none/new.trace", "0.log", "1.log", "2.log"], 2,
-     "merge.py: cannot write none/new.trace: No such file or directory\n"),
+     "merge.py: cannot write none/new.trace.lines: No such file or directory\n"),
     (".", None, ["--output", "/dev/full", "0.log", "1.log", "2.log"], 2, "merge.py: cannot write /dev/full: No space left on device\n"),
 ]
-
-
-def log_text(lines: str) -> str:
-    return "trace 1\nreplicas 3\n" + lines.replace("|", "\n") + "\n"
 
 
 def check_merge(tally: Tally, program: str, folder: Path) -> None:
@@ -958,30 +972,36 @@ def check_merge(tally: Tally, program: str, folder: Path) -> None:
     os.close(closed)
     for name, text, words, status, why in MERGE_FAULTS:
         if text is not None:
+            Path(folder, name).parent.mkdir(exist_ok=True)
             Path(folder, name).write_bytes(text)
         done = subprocess.run([*tool, *words], cwd=folder, capture_output=True, text=True)
         tally.check(f"merge.py {words}", (done.returncode, done.stdout, done.stderr) == (status, "", why), done)
     tally.check("merge.py: nothing is lost or made where it fails", [file.read_text() for file in files] == logs and
-                not [path for path in folder.iterdir() if path.name.startswith("new.trace")], sorted(folder.iterdir()))
+                Path(folder, "old.trace").read_text() == "old" and not Path("/dev/full.lines").exists() and
+                not [path for path in folder.iterdir() if path.name in ("new.trace", "new.trace.lines", "side.trace", "s")],
+                sorted(folder.iterdir()))
+    Path(folder, "0.log.lines").unlink()
     for name, besides, wanted, warned in MERGED_BESIDE:
         check_merged_beside(tally, folder, name, besides, wanted, warned)
+    check_merged_elsewhere(tally, program, folder)
 
 
 # What stands beside the logs, what then stands beside the trace, and what is said.
-CODE_BESIDE = ["7\n3 a.py:1\n4 a.py:2, called from b.py:9\n7 a.py:5\n", "4\n4 c.py:4\n", "4\n3 d.py:3\n4 d.py:4\n"]
-LOGS_BESIDE = [text.replace("\n", "\nlog\n", 1) for text in CODE_BESIDE]
+CODE_BESIDE = [b"7\n3 a.py:1\n4 a.py:2, called from b.py:9\n7 a.py:5\n", b"4 \r\n4 c.py:4\n", b"4\n3 d.py:3\n4 d.py:4\n4 e.py:4\n"]
+LOGS_BESIDE = [text.replace(b"\n", b"\nlog\n", 1) for text in CODE_BESIDE]
 MERGED_PLACES = "3 a.py:1\n4 a.py:2, called from b.py:9\n6 c.py:4\n7 d.py:3\n8 d.py:4\n11 a.py:5\n"
+CUT = "merge.py: warning: {0} may have been cut at a line's end: it has {1} lines, and by {0}.lines it was saved with {2}\n"
 MERGED_BESIDE = [
-    ("nothing", [None, None, None], "11\n", ""),
-    ("code", CODE_BESIDE, f"11\n{MERGED_PLACES}", ""),
-    ("logs", LOGS_BESIDE, f"11\nlog\n{MERGED_PLACES}", ""),
-    ("logs and code", [LOGS_BESIDE[0], *CODE_BESIDE[1:]], f"11\n{MERGED_PLACES}", ""),
-    ("one that was moved alone", [None, CODE_BESIDE[1], None], "11\n6 c.py:4\n", ""),
-    ("a cut log", [CODE_BESIDE[0], CODE_BESIDE[1].replace("4", "5", 1), CODE_BESIDE[2]],
-     "11\n" + MERGED_PLACES.replace("6 c.py:4\n", ""),
-     "merge.py: warning: 1.log may have been cut at a line's end: it has 4 lines, and by 1.log.lines it was saved with 5\n"),
-    ("another log's", [CODE_BESIDE[1], CODE_BESIDE[1], None], "11\n6 c.py:4\n", ""),
-    ("what is no place", ["7\nplace\n3 \n\n09 a.py:1\n5 a.py:3", "no number\n3 c.py:3\n", ""], "11\n", ""),
+    ("nothing", [None, None, None], "11\nmerged\n", ""),
+    ("code", CODE_BESIDE, f"11\nmerged\n{MERGED_PLACES}", ""),
+    ("logs", LOGS_BESIDE, f"11\nmerged\nlog\n{MERGED_PLACES}", ""),
+    ("a log among code", [CODE_BESIDE[0] + b"log\n", *CODE_BESIDE[1:]], f"11\nmerged\nlog\n{MERGED_PLACES}", ""),
+    ("one that was moved alone", [None, CODE_BESIDE[1], None], "11\nmerged\n6 c.py:4\n", ""),
+    ("cut logs", [CODE_BESIDE[0], b"10\n4 c.py:4\n", b"5\n3 d.py:3\n"],
+     "18\nmerged\n3 a.py:1\n4 a.py:2, called from b.py:9\n11 a.py:5\n", CUT.format("1.log", 4, 10) + CUT.format("2.log", 4, 5)),
+    ("another log's", [b"4\n4 c.py:4\n", CODE_BESIDE[1], None], "11\nmerged\n6 c.py:4\n", ""),
+    ("what is no place", [b"7\nplace\n3 \n\n09 a.py:1\n2 a.py:2\n5 a.py:3", b"no number\n3 c.py:3\n", b""], "11\nmerged\n", ""),
+    ("what is no text", [b"7\n3 \xc3\xa9\xff.py:1\n", b"1" * 5000 + b"\n4 c.py:4\n", b"\n"], "11\nmerged\n3 \u00e9\udcff.py:1\n", ""),
 ]
 
 
@@ -991,15 +1011,60 @@ def check_merged_beside(tally: Tally, folder: Path, name: str, besides: list, wa
         side = folder / f"{number}.log.lines"
         side.unlink(missing_ok=True)
         if text is not None:
-            side.write_text(text)
-    words = ["0.log", "1.log", "2.log"]
+            side.write_bytes(text)
+    Path(folder, "merged.trace").write_text("0 read : what stood here before\n" * 20)
+    words = sorted(path.name for path in folder.glob("[0-2].log*"))  # as a shell has them of `[0-2].log*`
     done = subprocess.run([sys.executable, ROOT / "recorders/merge.py", "--output", "merged.trace", *words], cwd=folder,
                           capture_output=True, text=True)
-    got = [Path(folder, "merged.trace").read_text(), Path(folder, "merged.trace.lines").read_text()]
+    got = [Path(folder, "merged.trace").read_text(), Path(folder, "merged.trace.lines").read_text(errors="surrogateescape")]
     tally.check(f"merge.py --output: {name}", (done.returncode, done.stdout, done.stderr) == (0, "", warned) and
                 got == [log_text(MERGED), wanted], (done, got))
     done = subprocess.run([sys.executable, ROOT / "recorders/merge.py", *words], cwd=folder, capture_output=True, text=True)
     tally.check(f"merge.py: {name}", (done.returncode, done.stdout, done.stderr) == (0, log_text(MERGED), warned), done)
+
+
+def check_merged_elsewhere(tally: Tally, program: str, folder: Path) -> None:
+    """Logs and the trace may stand in other folders. A log of many lines keeps its places; lost lines are warned of before what they
+    bring with them, and with each verdict; and a debugger's statement, which counts a recording's lines, is not told of a merged trace."""
+    machines = [folder / f"machine {number}" for number in range(3)]
+    for number, machine in enumerate(machines):
+        machine.mkdir()
+        entries = f"|{number} read : b a" * 9 if number == 0 else ""
+        text = log_text(LOGS[number] + entries)
+        (machine / "a.log").write_text(text)
+        (machine / "a.log.lines").write_text("".join([f"{text.count(chr(10))}\n", *(f"{line} code{number}.py:{line}\n" for line in range(3, 17))]))
+    trace = folder / "elsewhere" / "session.trace"
+    trace.parent.mkdir()
+    tool = [sys.executable, str(ROOT / "recorders/merge.py"), *(str(machine / "a.log") for machine in machines), f"--output={trace}"]
+    done = subprocess.run(tool, cwd="/", capture_output=True, text=True)
+    places = [(0, 3), (0, 4), (1, 3), (1, 4), (2, 3), (2, 4), *((0, line) for line in range(5, 17))]
+    wanted = "".join(["20\nmerged\n", *(f"{line} code{log}.py:{at}\n" for line, (log, at) in enumerate(places, 3))])
+    got = Path(f"{trace}.lines").read_text()
+    tally.check("merge.py: other folders, and a log of many lines", (done.returncode, done.stderr) == (0, "") and got == wanted, (done, got))
+    said = subprocess.run([sys.executable, ROOT / "tools/explain", trace, "--program", program], capture_output=True, text=True).stdout
+    tally.check("merge.py: explain names the lines of the code, and no debugger's statement", "  line 5: code1.py:3\n" in said and
+                "In a debugger\n" in said and "splitlines" not in said, said)
+    (machines[1] / "a.log").write_text("".join((machines[1] / "a.log").read_text().splitlines(True)[:-1]))
+    done = subprocess.run(tool, capture_output=True, text=True)
+    warned = CUT.format(machines[1] / "a.log", 3, 4)
+    tally.check("merge.py: a lost line is told before what lacks it", done.returncode == 1 and
+                done.stderr == f"{warned}merge.py: these receipts name operations that no log has before them: 0 recv 1 1\n", done)
+    (machines[0] / "a.log").write_text(log_text(LOGS[0].partition("|0 recv")[0]))
+    (machines[0] / "a.log.lines").unlink()
+    done = subprocess.run(tool, capture_output=True, text=True)
+    said = subprocess.run([sys.executable, ROOT / "tools/explain", trace, "--program", program], capture_output=True, text=True).stdout
+    tally.check("merge.py: a lost line is warned of at each verdict", (done.returncode, done.stderr) == (0, warned) and
+                f"it has 7 lines, and by {trace}.lines it was saved with 8" in said, (done, said))
+    for number in 10, 11:
+        Path(folder, f"{number}.ten").write_text(f"trace 1\nreplicas 12\n{number} read :\n")
+    done = subprocess.run([*tool[:2], "10.ten", "11.ten"], cwd=folder, capture_output=True, text=True)
+    tally.check("merge.py: replicas of two digits", done.stdout == "trace 1\nreplicas 12\n10 read :\n11 read :\n", done)
+    with open("/dev/full", "w") as full:
+        done = subprocess.run(tool, stdout=subprocess.PIPE, stderr=full, text=True)
+    tally.check("merge.py: a warning that can't be written", done.returncode == 0 and trace.read_text().count("\n") == 7, done)
+    done = subprocess.run(f"{shlex.join(tool[:-1])} >&-", shell=True, capture_output=True, text=True)
+    tally.check("merge.py: standard output is closed", done.returncode == 2 and
+                done.stderr == "merge.py: cannot write: standard output is closed\n", done)
 
 
 # A recording whose read has lost an element.

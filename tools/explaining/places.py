@@ -1,8 +1,8 @@
 """From where in the user's code the lines of a trace were recorded, as some recorders say in the file beside the trace.
 
 Its first line is how many lines the trace has. Behind it stands for each line of which that is known its number, a blank and the
-places. A line `log` says that they are lines of a log, whatever its name. What is written otherwise is passed over, and so is the file
-of another trace."""
+places. A line `log` says that they are lines of a log, whatever its name, and a line `merged` that merge.py wrote the trace. What is
+written otherwise is passed over, and so is the file of another trace."""
 import re
 from pathlib import Path
 
@@ -13,24 +13,28 @@ from .words import CODE, DEBUGGER, LINE, LOG, PYTHON, Explanation, Section
 PLACES = re.compile(rb"([1-9][0-9]{0,6}) (.{1,4000})")
 OF_LOG = re.compile(r"[^,]*\.(log|txt|out|(nd)?jsonl?|[ct]sv|xml)(\.[0-9]+)?(:[0-9]+)?")  # one that was rotated too
 LOG_MARK = b"log"
+MERGED_MARK = b"merged"
 MOST_BYTES = 1 << 27  # of such a file that are read
 
 
 def with_places(told: Explanation, warnings: list, trace: bytes, name: str) -> Explanation:
     """The explanation, and after it the places of the lines that it or a warning names, of the trace in the file of this name; `-` is
-    no file. Where they are lines of a log, no debugger's statement fits: the recording is not the editor's."""
+    no file. Where they are lines of a log, no debugger's statement fits: the recording is not the editor's. Nor does one where the
+    trace was merged: each machine's recording has other lines."""
     lines = [line for section in told.sections for line in section.lines] + warnings
     named = {int(number) for line in lines for number in LINE.findall(line)}
-    found = places_of(named, trace, name) if named and name != "-" else {}
+    beside = lines_beside(trace, name) if named and name != "-" else []
+    found = places_of(named, trace, name) if beside else {}
+    is_log = found and (LOG_MARK in beside or all(OF_LOG.fullmatch(places) for places in found.values()))
+    if is_log or MERGED_MARK in beside:
+        told = told._replace(sections=[without_statement(section, found if is_log else {}) for section in told.sections])
     if not found:
         return told
-    is_log = LOG_MARK in lines_beside(trace, name) or all(OF_LOG.fullmatch(places) for places in found.values())
-    sections = [of_log(section, found) if is_log else section for section in told.sections]
-    return told._replace(sections=[*sections, Section(LOG if is_log else CODE, [f"line {line}: {found[line]}" for line in sorted(found)])])
+    return told._replace(sections=[*told.sections, Section(LOG if is_log else CODE, [f"line {line}: {found[line]}" for line in sorted(found)])])
 
 
-def of_log(section: Section, places: dict) -> Section:
-    """The section; that on a debugger with the log's line in the place of a statement."""
+def without_statement(section: Section, places: dict) -> Section:
+    """The section; that on a debugger with the log's line, if there is one, in the place of a statement."""
     if section.title != DEBUGGER:
         return section
     (told,) = section.lines
