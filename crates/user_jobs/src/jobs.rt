@@ -1,23 +1,15 @@
 //! The jobs that a user waits for: which traces each has, and what is done with them.
 
-use super::digest::Digest;
-use super::families::{
-    accepted, concurrent, exchanged, lacking, long_responses, nameless, ring, short_lived,
-    small_cycle,
-};
 use super::judged::Judged;
-use super::random::Random;
-use super::seeds::Seeds;
-use super::shape::{DAY, NEAR_ALL, NEAR_NAMES, SMALL_TEAM, Shape};
-use super::short::{count_of_entries, first_sixteenths, leave_out, line_begins, new_session};
-use super::user::{Form, certify, live, verdict};
+use super::short::{count_of_entries, leave_out, line_begins, new_session};
+use super::user::{Form, User, WORKERS};
 use anyhow::Result;
-use std::alloc::Global;
+use made_sessions::{
+    DAY, NEAR_ALL, NEAR_NAMES, Random, SMALL_TEAM, Seeds, Shape, accepted, concurrent, exchanged,
+    lacking, long_responses, nameless, ring, short_lived, small_cycle,
+};
 use std::sync::Wait;
 use std::thread::Threads;
-
-/// How many workers `verdict` and `cert` have by default.
-const WORKERS: u32 = 4;
 
 /// How large a job's sessions are.
 #[derive(Clone, Copy)]
@@ -51,23 +43,6 @@ impl Scale {
     }
 }
 
-/// Has a session judged when so many sixteenths of its trace are there, for each of these, and when all is.
-fn as_it_grows<H: Threads + Sync>(
-    rt: &H,
-    alloc: Global,
-    digest: &mut Digest,
-    trace: &[u8],
-    sixteenths: &[usize],
-    workers: u32,
-    form: Form,
-) -> Result<()> {
-    for count in sixteenths {
-        let part = first_sixteenths(trace, *count);
-        verdict(rt, alloc, digest, part, workers, form)?;
-    }
-    verdict(rt, alloc, digest, trace, workers, form)
-}
-
 /// When a session is judged whose making takes long beside that: at each eighth.
 const OFTEN: &[usize] = &[2, 4, 6, 8, 10, 12, 14];
 
@@ -78,50 +53,40 @@ const SOMETIMES: &[usize] = &[4, 8, 12];
 const HEARD: &[usize] = &[10, 11, 12, 13, 14, 15];
 
 /// Long sessions, accepted or with a first fault, from the text of the trace to the report, as they grow.
-pub fn long<H: Threads + Sync>(
-    rt: &H,
-    alloc: Global,
-    digest: &mut Digest,
-    seed: u64,
-    scale: Scale,
-) -> Result<()> {
+pub fn long<H: Threads + Sync>(user: &mut User<H>, seed: u64, scale: Scale) -> Result<()> {
+    let alloc = user.alloc;
     let mut seeds = Seeds::new(seed, 0);
     for _ in 0..scale.times(4) {
         let trace = accepted(alloc, scale.of(SMALL_TEAM), seeds.take())?;
-        as_it_grows(rt, alloc, digest, &trace, OFTEN, WORKERS, Form::Json)?;
+        user.verdict_as_it_grows(&trace, OFTEN, WORKERS, Form::Json)?;
     }
     let trace = accepted(alloc, scale.of(DAY), seeds.take())?;
-    as_it_grows(rt, alloc, digest, &trace, OFTEN, WORKERS, Form::Text)?;
+    user.verdict_as_it_grows(&trace, OFTEN, WORKERS, Form::Text)?;
     let trace = accepted(alloc, scale.of(NEAR_NAMES), seeds.take())?;
-    as_it_grows(rt, alloc, digest, &trace, SOMETIMES, 1, Form::Text)?;
+    user.verdict_as_it_grows(&trace, SOMETIMES, 1, Form::Text)?;
     let trace = lacking(alloc, scale.of(DAY), seeds.take())?;
-    as_it_grows(rt, alloc, digest, &trace, OFTEN, WORKERS, Form::Text)?;
+    user.verdict_as_it_grows(&trace, OFTEN, WORKERS, Form::Text)?;
     let trace = long_responses(alloc, scale.of(NEAR_NAMES), seeds.take())?;
-    as_it_grows(rt, alloc, digest, &trace, SOMETIMES, 1, Form::Json)?;
+    user.verdict_as_it_grows(&trace, SOMETIMES, 1, Form::Json)?;
     let trace = accepted(alloc, scale.of(NEAR_ALL), seeds.take())?;
-    as_it_grows(rt, alloc, digest, &trace, OFTEN, 1, Form::Text)
+    user.verdict_as_it_grows(&trace, OFTEN, 1, Form::Text)
 }
 
 /// Thousands of short sessions, and what a shrinker makes of them; no text is judged twice.
-pub fn short<H: Threads + Sync>(
-    rt: &H,
-    alloc: Global,
-    digest: &mut Digest,
-    seed: u64,
-    scale: Scale,
-) -> Result<()> {
+pub fn short<H: Threads + Sync>(user: &mut User<H>, seed: u64, scale: Scale) -> Result<()> {
+    let alloc = user.alloc;
     let mut seeds = Seeds::new(seed, 1);
     let mut random = Random::new(seeds.take());
     let mut judged = Judged::new(alloc);
     let mut rest = Vec::new(alloc);
     for _ in 0..scale.times(3000) {
         let trace = new_session(alloc, &mut random, &mut seeds, &mut judged)?;
-        verdict(rt, alloc, digest, &trace, 1, Form::Json)?;
+        user.verdict(&trace, 1, Form::Json)?;
         let begins = line_begins(alloc, &trace)?;
         for entry in 0..count_of_entries(&begins) {
             leave_out(&mut rest, &trace, &begins, entry)?;
             if judged.add(&rest)? {
-                verdict(rt, alloc, digest, &rest, 1, Form::Json)?;
+                user.verdict(&rest, 1, Form::Json)?;
             }
         }
     }
@@ -130,18 +95,13 @@ pub fn short<H: Threads + Sync>(
 
 /// Sessions in which two and more responses can't be right together. What groups show is judged on the way
 /// too, when they have heard of each other.
-pub fn refused<H: Threads + Sync>(
-    rt: &H,
-    alloc: Global,
-    digest: &mut Digest,
-    seed: u64,
-    scale: Scale,
-) -> Result<()> {
+pub fn refused<H: Threads + Sync>(user: &mut User<H>, seed: u64, scale: Scale) -> Result<()> {
+    let alloc = user.alloc;
     let mut seeds = Seeds::new(seed, 2);
     let trace = exchanged(alloc, scale.of(NEAR_NAMES), seeds.take())?;
-    verdict(rt, alloc, digest, &trace, WORKERS, Form::Text)?;
+    user.verdict(&trace, WORKERS, Form::Text)?;
     let trace = small_cycle(alloc, scale.of(NEAR_NAMES), seeds.take())?;
-    verdict(rt, alloc, digest, &trace, WORKERS, Form::Text)?;
+    user.verdict(&trace, WORKERS, Form::Text)?;
     for groups in [3, 8, 16] {
         let shape = Shape {
             groups,
@@ -149,11 +109,11 @@ pub fn refused<H: Threads + Sync>(
             ..NEAR_NAMES
         };
         let trace = ring(alloc, scale.of(shape), seeds.take())?;
-        as_it_grows(rt, alloc, digest, &trace, HEARD, WORKERS, Form::Text)?;
+        user.verdict_as_it_grows(&trace, HEARD, WORKERS, Form::Text)?;
     }
     let shape = Shape { groups: 5, ..DAY };
     let trace = ring(alloc, scale.of(shape), seeds.take())?;
-    as_it_grows(rt, alloc, digest, &trace, HEARD, WORKERS, Form::Text)?;
+    user.verdict_as_it_grows(&trace, HEARD, WORKERS, Form::Text)?;
     let shape = Shape {
         replicas: 3,
         groups: 3,
@@ -162,22 +122,17 @@ pub fn refused<H: Threads + Sync>(
     };
     for _ in 0..scale.times(2) {
         let trace = ring(alloc, scale.of(shape), seeds.take())?;
-        as_it_grows(rt, alloc, digest, &trace, HEARD, WORKERS, Form::Json)?;
+        user.verdict_as_it_grows(&trace, HEARD, WORKERS, Form::Json)?;
     }
     Ok(())
 }
 
 /// Certificates of sessions that are refused with three and more responses, made and checked.
-pub fn certificates<H: Threads + Sync>(
-    rt: &H,
-    alloc: Global,
-    digest: &mut Digest,
-    seed: u64,
-    scale: Scale,
-) -> Result<()> {
+pub fn certificates<H: Threads + Sync>(user: &mut User<H>, seed: u64, scale: Scale) -> Result<()> {
+    let alloc = user.alloc;
     let mut seeds = Seeds::new(seed, 3);
     let trace = small_cycle(alloc, scale.of(NEAR_NAMES), seeds.take())?;
-    certify(rt, alloc, digest, &trace, WORKERS)?;
+    user.certify(&trace)?;
     for groups in [3, 8, 16] {
         let shape = Shape {
             groups,
@@ -185,7 +140,7 @@ pub fn certificates<H: Threads + Sync>(
             ..NEAR_NAMES
         };
         let trace = ring(alloc, scale.of(shape), seeds.take())?;
-        certify(rt, alloc, digest, &trace, WORKERS)?;
+        user.certify(&trace)?;
     }
     let shape = Shape {
         groups: 16,
@@ -194,68 +149,47 @@ pub fn certificates<H: Threads + Sync>(
         ..NEAR_ALL
     };
     let trace = ring(alloc, scale.of(shape), seeds.take())?;
-    certify(rt, alloc, digest, &trace, WORKERS)
+    user.certify(&trace)
 }
 
 /// Live sessions: a recorder for each replica beside a watcher.
-pub fn lively<H: Threads + Wait + Sync>(
-    rt: &H,
-    alloc: Global,
-    digest: &mut Digest,
-    seed: u64,
-    scale: Scale,
-) -> Result<()> {
+pub fn lively<H: Threads + Wait + Sync>(user: &mut User<H>, seed: u64, scale: Scale) -> Result<()> {
+    let alloc = user.alloc;
     let mut seeds = Seeds::new(seed, 4);
     for _ in 0..scale.times(8) {
         let trace = accepted(alloc, scale.of(SMALL_TEAM), seeds.take())?;
-        live_as_it_grows(rt, alloc, digest, &trace)?;
+        user.live_as_it_grows(&trace)?;
     }
     for _ in 0..scale.times(4) {
         let trace = small_cycle(alloc, scale.of(DAY), seeds.take())?;
-        live_as_it_grows(rt, alloc, digest, &trace)?;
+        user.live_as_it_grows(&trace)?;
         let trace = accepted(alloc, scale.of(DAY), seeds.take())?;
-        live_as_it_grows(rt, alloc, digest, &trace)?;
+        user.live_as_it_grows(&trace)?;
     }
     for _ in 0..scale.times(2) {
         let trace = accepted(alloc, scale.of(NEAR_NAMES), seeds.take())?;
-        live_as_it_grows(rt, alloc, digest, &trace)?;
+        user.live_as_it_grows(&trace)?;
     }
     Ok(())
 }
 
-/// A live session of the first half of a trace, and one of all.
-fn live_as_it_grows<H: Threads + Wait + Sync>(
-    rt: &H,
-    alloc: Global,
-    digest: &mut Digest,
-    trace: &[u8],
-) -> Result<()> {
-    live(rt, alloc, digest, first_sixteenths(trace, 8), WORKERS)?;
-    live(rt, alloc, digest, trace, WORKERS)
-}
-
 /// Awkward sessions: windows of long lists, long names, lists without a name, elements that all come at the
 /// same time, and elements that are gone before another replica shows them.
-pub fn awkward<H: Threads + Sync>(
-    rt: &H,
-    alloc: Global,
-    digest: &mut Digest,
-    seed: u64,
-    scale: Scale,
-) -> Result<()> {
+pub fn awkward<H: Threads + Sync>(user: &mut User<H>, seed: u64, scale: Scale) -> Result<()> {
+    let alloc = user.alloc;
     let mut seeds = Seeds::new(seed, 5);
     let shape = Shape {
         views: 900,
         ..NEAR_NAMES
     };
     let trace = accepted(alloc, scale.of(shape), seeds.take())?;
-    as_it_grows(rt, alloc, digest, &trace, SOMETIMES, 1, Form::Text)?;
+    user.verdict_as_it_grows(&trace, SOMETIMES, 1, Form::Text)?;
     let trace = long_responses(alloc, scale.of(shape), seeds.take())?;
-    as_it_grows(rt, alloc, digest, &trace, SOMETIMES, 1, Form::Text)?;
+    user.verdict_as_it_grows(&trace, SOMETIMES, 1, Form::Text)?;
     let trace = accepted(alloc, scale.of(Shape { width: 32, ..DAY }), seeds.take())?;
-    as_it_grows(rt, alloc, digest, &trace, SOMETIMES, 1, Form::Text)?;
+    user.verdict_as_it_grows(&trace, SOMETIMES, 1, Form::Text)?;
     let trace = nameless(alloc, scale.of(NEAR_ALL), seeds.take())?;
-    as_it_grows(rt, alloc, digest, &trace, SOMETIMES, 1, Form::Text)?;
+    user.verdict_as_it_grows(&trace, SOMETIMES, 1, Form::Text)?;
     let trace = concurrent(
         alloc,
         scale.of(Shape {
@@ -264,7 +198,7 @@ pub fn awkward<H: Threads + Sync>(
         }),
         seeds.take(),
     )?;
-    as_it_grows(rt, alloc, digest, &trace, SOMETIMES, 1, Form::Text)?;
+    user.verdict_as_it_grows(&trace, SOMETIMES, 1, Form::Text)?;
     let trace = short_lived(alloc, scale.of(NEAR_ALL), seeds.take())?;
-    as_it_grows(rt, alloc, digest, &trace, SOMETIMES, 1, Form::Text)
+    user.verdict_as_it_grows(&trace, SOMETIMES, 1, Form::Text)
 }

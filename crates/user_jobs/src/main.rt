@@ -4,15 +4,8 @@
 #![tactic(auto)]
 
 mod digest;
-mod elements;
-mod families;
 mod jobs;
 mod judged;
-mod random;
-mod replica;
-mod seeds;
-mod session;
-mod shape;
 mod short;
 mod user;
 
@@ -23,6 +16,7 @@ use std::alloc::Global;
 use std::env;
 use std::sync::Wait;
 use std::thread::Threads;
+use user::User;
 
 /// The jobs.
 const JOBS: [&str; 6] = [
@@ -34,24 +28,25 @@ const JOBS: [&str; 6] = [
     "awkward",
 ];
 
-/// Does the job of this name, and takes its results in.
+/// Does the job of this name, and answers the digest of its results.
 fn work<H: Threads + Wait + Sync>(
     rt: &H,
     alloc: Global,
-    digest: &mut Digest,
     job: &str,
     seed: u64,
     scale: Scale,
-) -> Result<()> {
+) -> Result<Digest> {
+    let mut user = User::new(rt, alloc);
     match job {
-        "long" => long(rt, alloc, digest, seed, scale),
-        "short" => short(rt, alloc, digest, seed, scale),
-        "refused" => refused(rt, alloc, digest, seed, scale),
-        "certificates" => certificates(rt, alloc, digest, seed, scale),
-        "live" => lively(rt, alloc, digest, seed, scale),
-        "awkward" => awkward(rt, alloc, digest, seed, scale),
-        _ => Err(anyhow!("no such job: {job}")),
+        "long" => long(&mut user, seed, scale)?,
+        "short" => short(&mut user, seed, scale)?,
+        "refused" => refused(&mut user, seed, scale)?,
+        "certificates" => certificates(&mut user, seed, scale)?,
+        "live" => lively(&mut user, seed, scale)?,
+        "awkward" => awkward(&mut user, seed, scale)?,
+        _ => return Err(anyhow!("no such job: {job}")),
     }
+    Ok(user.digest)
 }
 
 fn main(rt: HostRuntime) -> Result<()> {
@@ -65,16 +60,14 @@ fn main(rt: HostRuntime) -> Result<()> {
         Some(word) => word.parse::<u64>().context("the seed is no number")?,
         None => 1,
     };
-    if job == "every" {
-        for job in JOBS {
-            let mut digest = Digest::new();
-            work(&rt, alloc, &mut digest, job, seed, Scale::Small)?;
-            println!(rt; "{job} {digest}")?;
-        }
+    if job != "every" {
+        let digest = work(&rt, alloc, job, seed, Scale::Full)?;
+        println!(rt; "{job} {digest}")?;
         return Ok(());
     }
-    let mut digest = Digest::new();
-    work(&rt, alloc, &mut digest, job, seed, Scale::Full)?;
-    println!(rt; "{job} {digest}")?;
+    for job in JOBS {
+        let digest = work(&rt, alloc, job, seed, Scale::Small)?;
+        println!(rt; "{job} {digest}")?;
+    }
     Ok(())
 }

@@ -1,12 +1,9 @@
 //! Short sessions, as a property-based test and its shrinker make them: texts of some lines, and these texts
 //! with one line left out.
 
-use super::families::{accepted, lacking, ring};
 use super::judged::Judged;
-use super::random::Random;
-use super::seeds::Seeds;
-use super::shape::Shape;
 use anyhow::{Result, anyhow};
+use made_sessions::{Random, Seeds, Shape, accepted, lacking, ring};
 use std::alloc::Global;
 
 /// How many lines a trace has before its entries.
