@@ -1,6 +1,6 @@
 -- Where edges to what is taken come from what was taken earlier, so does all that a list has before it. What
 -- is left when nothing is free stands after what is left.
-use Rattle.std.proofs.Common.{◌≡◌, ℕ, ◌+◌, ◌<◌, ◌≤◌, ◌⊎◌, inl, inr, Some, List, [], length, sym, ◌∙◌, arith}
+use Rattle.std.proofs.Common.{◌≡◌, ℕ, ◌<◌, ◌≤◌, ◌⊎◌, inl, inr, Some, List, [], length, sym, ◌∙◌, arith}
 use Rattle.std.proofs.Common.{ap, subst}
 use Rattle.std.specs.Prelude.{slice_get}
 use Rattle.std.proofs.lemmas.Bool.{cases_lt}
@@ -9,11 +9,11 @@ use Rattle.specification.proofs.Members.{Before, Once, In-from_Contains, Contain
 use Rattle.specification.proofs.Members.{Before-from_places, places_of_Before, AllPairs-from_Once}
 use Rattle.specification.proofs.Members.{Before-irreflexive, Before-trans}
 use Rattle.specification.proofs.OrderOrCycle.{HasStepTo}
-use Rattle.order_graph.specs.Lists.{lists_of, BeforeIn}
+use Rattle.order_graph.specs.Lists.{lists_of}
 use Rattle.witness_order.specs.Edges.{AreNeighbours, AreSuccessors, edges}
 use Rattle.witness_order.specs.Taken.{IsTakenInTurn, AreLed}
 use Rattle.witness_order.proofs.InTurn.{InTurn, Leads, ends_led}
-use Rattle.witness_order.proofs.Followed.{edge_sound, list_forwards, known_below}
+use Rattle.witness_order.proofs.Followed.{edge_sound, list_forwards, known_below, neighbours-before}
 
 -- what stands before a member stands at a lesser place than it
 earlier_place : (xs : List ℕ) (y x p : ℕ) → Once xs → Before y x xs → slice_get xs p ≡ Some x
@@ -57,14 +57,7 @@ module _ (v : Responses) (proper : AreProper v) (successors : List (List ℕ))
         ends_led (edges successors) (length v.elements) taken degrees state x i in
         let two : AreNeighbours (lists_of v) s.0 x =
         edge_sound (lists_of v) (length v.elements) successors are s.0 x s.3 in
-        let before : BeforeIn (lists_of v) two.list s.0 x =
-        record {
-          place = two.place;
-          later = two.place + 1;
-          in_order = omega arith;
-          first = two.first;
-          second = two.second;
-        } in (
+        let before = neighbours-before (lists_of v) s.0 x two in (
           s.0,
           state.left_below s.0 s.1,
           λ c. state.elsewhere s.0 (In-from_Contains taken s.0 c) s.1,

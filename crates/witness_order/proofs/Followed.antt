@@ -28,6 +28,17 @@ use Rattle.witness_order.specs.Edges.{AreNeighbours, AreSuccessors, edges}
 use Rattle.witness_order.proofs.InTurn.{Leads, below, IsFirst, In-below, below-In}
 use Rattle.witness_order.proofs.Counting.{occurrences-In, In-occurrences}
 
+-- of neighbours in a list the first stands before the second there
+pub neighbours-before : (rows : List (List ℕ)) (x y : ℕ) (two : AreNeighbours rows x y)
+    → BeforeIn rows two.list x y
+neighbours-before rows x y two = record {
+  place = two.place;
+  later = two.place + 1;
+  in_order = omega arith;
+  first = two.first;
+  second = two.second;
+}
+
 -- an edge is two neighbouring places
 module _ (rows : List (List ℕ)) (n : ℕ) (successors : List (List ℕ))
     (are : AreSuccessors rows n successors) where
@@ -192,14 +203,7 @@ module _ (v : Responses) (proper : AreProper v) (successors : List (List ℕ))
           let two : AreNeighbours (lists_of v) (number v.elements a) (number v.elements b) =
           edge_sound (lists_of v) (length v.elements) successors are (number v.elements a)
           (number v.elements b) h in
-          let before : BeforeIn (lists_of v) two.list (number v.elements a) (number v.elements b) =
-          record {
-            place = two.place;
-            later = two.place + 1;
-            in_order = omega arith;
-            first = two.first;
-            second = two.second;
-          } in
+          let before = neighbours-before (lists_of v) (number v.elements a) (number v.elements b) two in
           let named = named-stands v proper two.list two.place (number v.elements a) two.first in
           let r : Returned = named.by in
           let shows : ShowsNumbers v r.by (number v.elements a) (number v.elements b) =

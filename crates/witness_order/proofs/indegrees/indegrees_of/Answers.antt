@@ -1,6 +1,6 @@
 -- One element more.
 use Rattle.std.proofs.Common.{◌≡◌, ℕ, ◌<◌, List, Vec, Global, eqb, length, vec_len, sym, ◌∙◌, ap, subst}
-use Rattle.std.proofs.Common.{arith}
+use Rattle.std.proofs.Common.{arith, rules}
 use Rattle.std.specs.Prelude.{All}
 use Rattle.std.proofs.lemmas.List.Sums.{count_by-le-length}
 use Rattle.order_graph.specs.Lists.{row}
@@ -9,25 +9,20 @@ use Rattle.witness_order.proofs.InTurn.{sum-more}
 use Rattle.witness_order.proofs.Listing.{row-vector}
 use Rattle.witness_order.proofs.indegrees.indegrees_of.Goals as goal
 
-pub add_edges-requires-clause-known : goal.add_edges-requires-clause-known
-add_edges-requires-clause-known c =
+pub add_edges-requires : goal.add_edges-requires
+add_edges-requires c =
     let all : List (Vec ℕ Global) = c.args.successors.now in
     let i : ℕ = c.loop-list.list-index in
     let is : row (lists_in all) i ≡ c.as_slice.result.now =
     row-vector all i c.list-item.result c.loop-list-test.true c.list-item.is
     ∙ sym c.as_slice.ensures.value in
-    subst (λ (l : List ℕ). All (λ y. y < vec_len c.loop-list.indegrees) l) is
-    (subst (λ n. All (λ y. y < n) (row (lists_in all) i)) (sym c.loop-list.invariant.size)
-    (c.requires.known i))
-
-pub add_edges-requires-clause-short : goal.add_edges-requires-clause-short
-add_edges-requires-clause-short c =
-    let all : List (Vec ℕ Global) = c.args.successors.now in
-    let i : ℕ = c.loop-list.list-index in
-    let is : row (lists_in all) i ≡ c.as_slice.result.now =
-    row-vector all i c.list-item.result c.loop-list-test.true c.list-item.is
-    ∙ sym c.as_slice.ensures.value in
-    omega (arith, c.requires.short i, ap (λ (l : List ℕ). length l) is)
+    record {
+      known = subst (λ (l : List ℕ). All (λ y. y < vec_len c.loop-list.indegrees) l) is
+          (subst (λ n. All (λ y. y < n) (row (lists_in all) i)) (sym c.loop-list.invariant.size)
+          (c.requires.known i));
+      short = omega (arith, c.requires.short i, ap (λ (l : List ℕ). length l) is);
+      room = search rules;
+    }
 
 pub loop-list-preserved : goal.loop-list-preserved
 loop-list-preserved c =
