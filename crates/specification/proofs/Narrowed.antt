@@ -1,6 +1,6 @@
 -- What is left of responses where all but some elements are left out: it is proper where the responses are,
 -- and shows what they show of these elements. And the elements from one of them on.
-use Rattle.std.proofs.Common.{◌≡◌, ◌≢◌, ℕ, ◌+◌, ◌≤◌, ◌*◌, ◌⊎◌, inl, inr, Bool, true, false, List, [], ◌∷◌}
+use Rattle.std.proofs.Common.{◌≡◌, ◌≢◌, ◌≤◌, ◌⊎◌, inl, inr, Bool, true, false, List, [], ◌∷◌}
 use Rattle.std.proofs.Common.{◌++◌, length, map, refl, sym, ◌∙◌, arith, ap, subst, length-append}
 use Rattle.std.specs.Prelude.{All, AllPairs, Contains, cond, filter, bytes_eq}
 use Rattle.std.specs.List.{list_any}
@@ -12,13 +12,13 @@ use Rattle.events.specs.Operation.{Operation, ComesBefore}
 use Rattle.specification.specs.Responses.{Responses, Returned, AreProper}
 use Rattle.specification.specs.LayerRule.{elements_from, narrowed, row_responses}
 use Rattle.specification.specs.Versions.{Version, one, two}
-use Rattle.specification.proofs.Members.{In, Before, Once, In-append_left, In-append_right, Before-first}
-use Rattle.specification.proofs.Members.{Before-second, In-map, In-from_Contains, Contains-from_In}
+use Rattle.specification.proofs.Members.{In, Before, Once, In-append_right, Before-first}
+use Rattle.specification.proofs.Members.{Before-second, In-map, Contains-from_In}
 use Rattle.specification.proofs.Members.{All-member, All-from_members, AllPairs-from_Once, Once-from_AllPairs}
 use Rattle.specification.proofs.Members.{AllPairs-Before}
 use Rattle.specification.proofs.OperationNames.{Rising, Rising-map, AllPairs-from_Rising, In_map-from}
-use Rattle.specification.proofs.Shown.{ShowsIn, names-elements}
-use Rattle.specification.proofs.Tests.{is_in, Decides-in, In-filter, In_filter-from}
+use Rattle.specification.proofs.Shown.{ShowsIn}
+use Rattle.specification.proofs.Tests.{Decides-in, In-filter, In_filter-from}
 
 module _ {X : Type 0} (p : X → Bool) where
   pub Before-filter : (a b : X) (xs : List X) → Before a b xs → p a ≡ true → p b ≡ true

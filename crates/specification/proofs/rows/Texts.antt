@@ -2,7 +2,7 @@
 -- by its test, and the faulty line is named with what makes it faulty.
 use Rattle.std.proofs.Common.{◌≡◌, ◌≢◌, ℕ, ◌≤◌, inl, inr, Bool, true, false, List, [], ◌∷◌, ◌++◌, length}
 use Rattle.std.proofs.Common.{refl, sym, ◌∙◌, arith, ap, lit<, lit≤, length-append}
-use Rattle.std.specs.Prelude.{All, Decides, codes, decimal, not, ◌==◌}
+use Rattle.std.specs.Prelude.{Decides, codes, decimal, not, ◌==◌}
 use Rattle.std.specs.List.{list_all}
 use Rattle.std.specs.Fmt.{digits}
 use Rattle.std.proofs.lemmas.Bool.{false≢true}
