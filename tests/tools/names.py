@@ -65,7 +65,7 @@ WORDS = {
                    "Row IsExactRow row_line MeetsLayerRule MeetsRuleOf RowsMeetRule"),
     "outline": ("a certificate of which the long parts stay text", "certificate_text", "Outlines Outline"),
     "checker": ("what says whether a certificate is valid", "cert_check", "IsAnswer Answer check check_recording"),
-    "the checker's line": ("as `yes refused`, `no text` or `no followed E`", "finder_cli", "answer_line line_of"),
+    "the checker's line": ("as `yes refused`, `no text` or `no followed E`", "engines", "answer_line line_of"),
     "spells": ("the text is that of the recording's lines", "specification", "Spells IsFirstLineFault"),
     "version": ("of a trace, of a certificate: one or two", "specification", "Version IsOfVersion header_line version_line"),
     "cause": ("what is wrong with a line, as `header`, `shape` or `cut`", "trace_text", "Cause LineFault"),
@@ -83,13 +83,13 @@ WORDS = {
     "session of one thread": ("the replies that a list of calls has", "events", "reply after"),
     "turn": ("who has it may change the recording", "sessions", "Free Busy"),
     "registry": ("at most 64 sessions by name", "sessions", "Registry Registered"),
-    "commands": ("`verdict`, `cert`, `verify`, `live`", "finder_cli", "run run_cert run_verify live"),
+    "commands": ("`verdict`, `cert`, `verify`; `live` is of `finder_cli`", "engines", "run run_cert run_verify"),
     "options": ("`--workers`, `--json`, `--version`, `--help`", "command_line",
                 "read_words workers_rule json_rule WORKERS MOST_WORKERS finder_app WordsFault"),
     "limit of reads": ("268,435,456 of a stream", "byte_streams", "READS IsClosed"),
     "out of memory": ("one name for it", "events", "Memory"),
     "line that takes memory": ("where reading may answer so", "trace_text", "TakesMemory"),
-    "exit status": ("0 to 3", "finder_cli", "Status ProgramFault"),
+    "exit status": ("0 to 3", "finder_cli", "ProgramFault number_of"),
 }
 
 # By word: its meaning, and files or folders that stand for it. A star stands for what varies.

@@ -5,8 +5,8 @@ use Rattle.byte_streams.proofs.Calls.{Makes-trans}
 use Rattle.finder_cli.specs.Deeds.{Deed, IsFresh, closed, missed, opened}
 use Rattle.finder_cli.specs.Engines.{Checks}
 use Rattle.finder_cli.specs.Programs.{ChecksOn, RunsOn, answer_on}
-use Rattle.finder_cli.specs.declared.status.Status.{Status}
-use Rattle.finder_cli.specs.declared.status.RunFault.{RunFault}
+use Rattle.engines.specs.declared.status.Status.{Status}
+use Rattle.engines.specs.declared.status.RunFault.{RunFault}
 use Rattle.finder_cli.specs.declared.fault.ProgramFault.{ProgramFault}
 use Rattle.finder_cli.specs.declared.fault.ProgramFault.TheVariants as program
 

@@ -1,5 +1,2 @@
 pub mod Done
-pub mod JoinedTexts
-pub mod LineFaults
-pub mod PiecesRead
-pub mod Reported
+pub mod Sessions

@@ -1,18 +1,11 @@
 -- How the program ends: exit statuses, and its fault for that of a run.
 use Rattle.std.specs.Prelude.{ℕ, List}
-use Rattle.finder_cli.specs.declared.status.Status.{Status}
-use Rattle.finder_cli.specs.declared.status.Status.TheVariants.{Good, Bad}
-use Rattle.finder_cli.specs.declared.status.RunFault.{RunFault}
-use Rattle.finder_cli.specs.declared.status.RunFault.TheVariants as run
+use Rattle.engines.specs.declared.status.RunFault.{RunFault}
+use Rattle.engines.specs.declared.status.RunFault.TheVariants as run
 use Rattle.rehearsal.specs.declared.fault.RehearsalFault.{RehearsalFault}
 use Rattle.rehearsal.specs.declared.fault.RehearsalFault.TheVariants as rehearsal
 use Rattle.finder_cli.specs.declared.fault.ProgramFault.{ProgramFault}
 use Rattle.finder_cli.specs.declared.fault.ProgramFault.TheVariants as program
-
--- the exit status of a verdict
-abbrev pub number_of_status : Status → ℕ
-number_of_status Good = 0
-number_of_status Bad = 1
 
 -- the exit status of a fault
 abbrev pub number_of_fault : ProgramFault → ℕ

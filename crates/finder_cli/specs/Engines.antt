@@ -6,13 +6,13 @@ use Rattle.command_line.specs.declared.task.Form.{Form}
 use Rattle.command_line.specs.declared.task.Form.TheVariants.{Text}
 use Rattle.finder_cli.specs.declared.engine.Engine.{Engine}
 use Rattle.finder_cli.specs.declared.engine.Engine.TheVariants as engine
-use Rattle.finder_cli.specs.Runs.{Reports, ReportsFront, NamesFirstFault, HasStalledOn, IsNoWorkers, IsOfRun}
-use Rattle.finder_cli.specs.Runs.{IsOfVerifying}
-use Rattle.finder_cli.specs.Certified.{Certifies, CertifiesFront, Verifies, VerifiesFront}
-use Rattle.finder_cli.specs.OutOfMemory.{RunsOut, RunsOutVerifying}
-use Rattle.finder_cli.specs.declared.status.Status.{Status}
-use Rattle.finder_cli.specs.declared.status.RunFault.{RunFault}
-use Rattle.finder_cli.specs.declared.status.RunFault.TheVariants as run
+use Rattle.engines.specs.Runs.{Reports, ReportsFront, NamesFirstFault, IsNoWorkers, IsOfRun, IsOfVerifying}
+use Rattle.finder_cli.specs.Sessions.{HasStalledOn}
+use Rattle.engines.specs.Certified.{Certifies, CertifiesFront, Verifies, VerifiesFront}
+use Rattle.engines.specs.OutOfMemory.{RunsOut, RunsOutVerifying}
+use Rattle.engines.specs.declared.status.Status.{Status}
+use Rattle.engines.specs.declared.status.RunFault.{RunFault}
+use Rattle.engines.specs.declared.status.RunFault.TheVariants as run
 
 -- the report of the verdict on the recording that the source spells
 pub record Judges (count : ℕ) (form : Form) (before after : SourceState) (old new : SinkState)

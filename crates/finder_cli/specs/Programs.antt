@@ -9,11 +9,12 @@ use Rattle.command_line.specs.declared.task.Task.TheVariants.{Verdict, Cert, Ver
 use Rattle.command_line.specs.declared.words.WordsFault.{WordsFault}
 use Rattle.command_line.specs.declared.words.WordsFault.TheVariants as words
 use Rattle.finder_cli.specs.Deeds.{Deed, IsFresh, closed, complained, missed, opened}
-use Rattle.finder_cli.specs.Endings.{fault_of_run, number_of_fault, number_of_status}
+use Rattle.finder_cli.specs.Endings.{fault_of_run, number_of_fault}
+use Rattle.engines.specs.Runs.{number_of_status}
 use Rattle.finder_cli.specs.Engines.{Judges, JudgesAlone, Shows, Checks}
-use Rattle.finder_cli.specs.declared.status.Status.{Status}
-use Rattle.finder_cli.specs.declared.status.Status.TheVariants.{Good}
-use Rattle.finder_cli.specs.declared.status.RunFault.{RunFault}
+use Rattle.engines.specs.declared.status.Status.{Status}
+use Rattle.engines.specs.declared.status.Status.TheVariants.{Good}
+use Rattle.engines.specs.declared.status.RunFault.{RunFault}
 use Rattle.finder_cli.specs.declared.fault.ProgramFault.{ProgramFault}
 use Rattle.finder_cli.specs.declared.fault.ProgramFault.TheVariants as program
 

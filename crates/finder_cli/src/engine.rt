@@ -1,11 +1,9 @@
 //! The engines that read one trace, as the program calls them.
 
-use super::certified::run_cert;
 use super::live::live;
-use super::run::run;
-use super::status::{RunFault, Status};
 use byte_streams::{Reader, Sink, Source, Writer};
 use command_line::Form;
+use engines::{RunFault, Status, run, run_cert};
 use std::sync::Wait;
 use std::thread::Threads;
 use verdict::NoGate;

@@ -6,16 +6,14 @@ ghost use Rattle.byte_streams.specs.Streams.{IsClosed};
 ghost use Rattle.command_line.specs.declared.task.Form.TheVariants.{Text};
 ghost use Rattle.rehearsal.specs.Ends.{HasEnded};
 ghost use Rattle.rehearsal.specs.Replays.{HasStalled};
-ghost use Rattle.finder_cli.specs.Runs.{IsReportOn, Reports, ReportsFront, NamesFirstFault, HasStalledOn};
-ghost use Rattle.finder_cli.specs.Runs.{IsOfSession};
-ghost use Rattle.finder_cli.specs.Runs.{IsNoWorkers};
-ghost use Rattle.finder_cli.specs.OutOfMemory.{RunsOut};
+ghost use Rattle.engines.specs.Runs.{IsNoWorkers, IsReportOn, NamesFirstFault, Reports, ReportsFront};
+ghost use Rattle.engines.specs.OutOfMemory.{RunsOut};
+ghost use Rattle.finder_cli.specs.Endings.{fault_of_rehearsal};
+ghost use Rattle.finder_cli.specs.Sessions.{HasStalledOn, IsOfSession};
 
-use super::output::{Output, status_of, verdict_on, write_output};
-use super::status::{RunFault, Status};
-use super::trace_source::recording_from;
 use byte_streams::{Reader, Sink, Source, Writer};
 use command_line::MOST_WORKERS;
+use engines::{Output, RunFault, Status, recording_from, status_of, verdict_on, write_output};
 use events::Recording;
 use rehearsal::{RehearsalFault, rehearse};
 use report::reports_are_of_streams;
@@ -80,7 +78,10 @@ fn rehearsed_report<H: Threads + Wait + Sync, G: Gate>(
     ensures stalled { IfErr result (λ fault. fault ≡ RunFault.Stalled
         → HasStalled recording.now × HasEnded recording.now RehearsalFault.Stalled) }
 {
-    let closed = rehearse(rt, alloc, recording, workers, gate)?;
+    let closed = match rehearse(rt, alloc, recording, workers, gate) {
+        Ok(closed) => closed,
+        Err(why) => return Err(fault_of_rehearsal(why)),
+    };
     let verdict = verdict_on(rt, alloc, &closed, workers)?;
     let bytes = report::text(alloc, &closed, &verdict)?;
     // The verdict and the report are those of the recording too, since it has the same streams.
@@ -92,18 +93,14 @@ fn rehearsed_report<H: Threads + Wait + Sync, G: Gate>(
     })
 }
 
-impl From<RehearsalFault> for RunFault {
-    ghost use Rattle.std.specs.Prelude.{◌≡◌};
-    ghost use Rattle.finder_cli.specs.Endings.{fault_of_rehearsal};
-
-    ghost from_gives = { λ why fault. fault ≡ fault_of_rehearsal why };
-
-    fn from(why: RehearsalFault) -> RunFault {
-        match why {
-            RehearsalFault::Workers => RunFault::Workers,
-            RehearsalFault::Thread => RunFault::Thread,
-            RehearsalFault::Stalled => RunFault::Stalled,
-            RehearsalFault::Memory => RunFault::Memory,
-        }
+/// The fault of a run for that of its rehearsal.
+fn fault_of_rehearsal(why: RehearsalFault) -> RunFault
+    ensures { result ≡ fault_of_rehearsal why }
+{
+    match why {
+        RehearsalFault::Workers => RunFault::Workers,
+        RehearsalFault::Thread => RunFault::Thread,
+        RehearsalFault::Stalled => RunFault::Stalled,
+        RehearsalFault::Memory => RunFault::Memory,
     }
 }

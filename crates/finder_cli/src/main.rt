@@ -1,31 +1,24 @@
 //! The program `finder`: reads a recording of collaborative editors, judges it, and writes the report or a
 //! certificate; or checks a certificate; or replays a recording by threads in one session.
 //!
-//! `run`, `run_cert`, `run_verify` and `live` are the engines, over any readers and writers; `program` joins
-//! them and the words of the command line in any world that opens streams, and `machine` is the real one.
+//! `run`, `run_cert` and `run_verify` of the crate `engines`, and `live`, are the engines, over any readers
+//! and writers; `program` joins them and the words of the command line in any world that opens streams, and
+//! `machine` is the real one.
 //!
-//! - The engines are modules, since a crate of the toolchain is a library or a program. They have the
-//!   contracts that a library's functions would have, so they can move as they are. The streams and the
-//!   command line are crates below, where a check costs less.
+//! - `live` is a module, since it alone stands on sessions. The other engines, the streams and the command
+//!   line are crates below, which wait for no session to be proved.
 //! - The program runs in a `World`: a trait that opens the stream of a word, notes what was done, and writes
 //!   a fault's line. Which words are opened, which engine runs with which arguments, and the status are
 //!   clauses of the function `finder`.
 #![tactic(auto)]
 
-mod answer_line;
-mod certified;
 mod engine;
 mod fault;
 mod live;
 mod machine;
-mod output;
 mod program;
-mod run;
-mod status;
 #[cfg(test)]
 mod tests;
-mod trace_source;
-mod verified;
 mod world;
 
 use byte_streams::Sink;

@@ -11,15 +11,14 @@ ghost use Rattle.finder_cli.specs.Engines.{Checks, RunsAs};
 ghost use Rattle.finder_cli.specs.Programs.{ChecksOn, Does, Helps, RunsOn, answer_on, complaints};
 ghost use Rattle.finder_cli.specs.Programs.{number_of};
 ghost use Rattle.finder_cli.specs.declared.fault.ProgramFault.{ProgramFault};
-ghost use Rattle.finder_cli.specs.declared.status.Status.{Status};
+ghost use Rattle.engines.specs.declared.status.Status.{Status};
 
 use super::engine::Engine;
 use super::fault::ProgramFault;
-use super::status::{RunFault, Status};
-use super::verified::run_verify;
 use super::world::World;
 use byte_streams::{Reader, Sink, Source, Writer};
 use command_line::{Task, Word, WordsFault, read_words};
+use engines::{RunFault, Status, run_verify};
 use std::alloc::Global;
 use std::env;
 use std::env::Env;

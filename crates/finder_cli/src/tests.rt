@@ -1,10 +1,4 @@
-//! What no clause says: worked recordings, streams that fail, texts of faults.
+//! What no clause says: the calls of a live session's gate, and texts of faults.
 
 mod live_sessions;
-mod long_streams;
-mod pages;
-mod recordings;
-mod streams;
 mod texts;
-mod trials;
-mod verifying;

@@ -2,7 +2,7 @@
 //!
 //! Both are functions of the recording's streams and the verdict alone. A report asks nothing of its verdict:
 //! `text` and `json` write the one that they are given, right or not. That it is the recording's is the word
-//! of `judge`; `run` of `finder_cli` joins the two.
+//! of `judge`; `run` of `engines` joins the two.
 #![tactic(auto)]
 
 mod counts;

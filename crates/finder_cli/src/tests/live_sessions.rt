@@ -1,17 +1,13 @@
 //! The gate of a live session.
 
-use super::pages::{Page, Script};
 use crate::live::live;
-use crate::status::{RunFault, Status};
 use byte_streams::{Sink, Source};
-use certificate::Gate;
+use engines::{RunFault, Status};
 use std::alloc::Global;
 use std::sync::Wait;
 use std::sync::atomic::{AtomicU64, Ordering};
 use std::thread::Threads;
-
-/// More than the text has bytes.
-const LARGE: usize = 4096;
+use verdict::Gate;
 
 /// The three-way cycle, with three searches at its end.
 const TRACE: &str =
@@ -85,13 +81,13 @@ impl Gate for Counts {
 /// What a live session of the trace answers, and the calls of its gate.
 fn counted<H: Threads + Wait + Sync>(rt: &H, alloc: Global) -> (Result<Status, RunFault>, Counts) {
     let counts = Counts::none();
-    let mut page = Page::new(LARGE, 0);
-    let mut source = Source::new(Script::new(TRACE, LARGE, 0));
+    let mut report = Vec::new(alloc);
+    let mut source = Source::new(TRACE.as_bytes());
     let answer = live(
         rt,
         alloc,
         &mut source,
-        &mut Sink::new(&mut page),
+        &mut Sink::new(&mut report),
         2,
         &counts,
     );

@@ -1,9 +1,9 @@
 //! The texts of faults.
 
 use crate::fault::ProgramFault;
-use crate::status::{RunFault, Status};
 use byte_streams::{ReadFault, WriteFault};
 use command_line::{Word, WordsFault};
+use engines::{RunFault, Status};
 use events::Refusal;
 use std::alloc::{AllocError, Global};
 use std::fmt::Display;

@@ -1,8 +1,9 @@
 use Rattle.std.proofs.Common.{inl, inr}
 use Rattle.std.proofs.lemmas.Result.{err_from_is_err_and}
 use Rattle.command_line.specs.declared.task.Form.TheVariants.{Text}
-use Rattle.finder_cli.proofs.Reported.{written-on, front-on, report-on, stalled-on}
-use Rattle.finder_cli.specs.Runs.{IsReportOf}
+use Rattle.engines.proofs.Written.{written-on, front-on, report-on}
+use Rattle.finder_cli.proofs.Sessions.{stalled-on}
+use Rattle.engines.specs.Runs.{IsReportOf}
 use Rattle.finder_cli.proofs.live.live.Goals as goal
 
 pub returns-clause-report : goal.returns-clause-report

@@ -1,0 +1,4 @@
+pub mod JoinedTexts
+pub mod LineFaults
+pub mod PiecesRead
+pub mod Written

@@ -1,0 +1,33 @@
+use Rattle.std.proofs.Common.{inl, inr}
+use Rattle.std.proofs.lemmas.Result.{err_from_is_err_and}
+use Rattle.engines.proofs.Written.{written-on, front-on, report-on}
+use Rattle.engines.specs.Runs.{IsReportOf}
+use Rattle.engines.proofs.reported.run.Goals as goal
+
+pub returns-clause-report : goal.returns-clause-report
+returns-clause-report g c =
+    written-on (λ t o s. IsReportOf t c.args.form o s) c.args.source.now.bytes _ _ _ _ c.write_output.result
+    (report-on c.args.source.now.bytes c.in_ok-recording.recording c.args.form
+    c.in_ok-report.report.bytes.items c.in_ok-report.report.status c.in_ok-recording.ensures.ok
+    c.in_ok-report.ensures)
+    c.write_output.ensures.ok
+
+pub returns-clause-write : goal.returns-clause-write
+returns-clause-write g c =
+    front-on (λ t o s. IsReportOf t c.args.form o s) _ c.args.source.now.bytes _ _ _ _ c.write_output.result
+    (report-on c.args.source.now.bytes c.in_ok-recording.recording c.args.form
+    c.in_ok-report.report.bytes.items c.in_ok-report.report.status c.in_ok-recording.ensures.ok
+    c.in_ok-report.ensures)
+    c.write_output.ensures.err
+
+pub returns-in_err-recording-clause-place : goal.returns-in_err-recording-clause-place
+returns-in_err-recording-clause-place g c =
+    let p = err_from_is_err_and c.from_residual.result c.from_residual.ensures.1 in
+    rw (p.1, p.2) (λ memory. inl (c.in_err-recording.ensures.place memory))
+
+pub returns-in_err-report-clause-place : goal.returns-in_err-report-clause-place
+returns-in_err-report-clause-place g c =
+    let p = err_from_is_err_and c.from_residual-in_err-report.result
+    c.from_residual-in_err-report.ensures.1 in
+    let end = c.in_ok-recording.ensures.end in
+    rw (p.1, p.2) (λ _. inr (c.in_ok-recording.recording, end.2, end.0, c.in_ok-recording.ensures.ok))

@@ -1,0 +1,4 @@
+pub mod Runs
+pub mod Lines
+pub mod Certified
+pub mod OutOfMemory

@@ -1,0 +1,21 @@
+-- How a session that replays a recording ends.
+use Rattle.std.specs.Prelude.{ℕ, List}
+use Rattle.events.specs.History.{History}
+use Rattle.specification.specs.TraceText.{Spells}
+use Rattle.rehearsal.specs.Ends.{HasEnded}
+use Rattle.rehearsal.specs.Replays.{HasStalled}
+use Rattle.rehearsal.specs.declared.fault.RehearsalFault.TheVariants as rehearsal
+use Rattle.engines.specs.declared.status.RunFault.{RunFault}
+use Rattle.engines.specs.declared.status.RunFault.TheVariants as run
+
+-- the text spells a recording that has stalled, and that is the foremost fault in some account of what all
+-- threads told
+abbrev pub HasStalledOn : List ℕ → Type 0
+HasStalledOn text = (h : History) × Spells text h × HasStalled h × HasEnded h rehearsal.Stalled
+
+-- no fault but those of threads, and out of memory
+abbrev pub IsOfSession : RunFault → Type 0
+IsOfSession run.Thread = Unit {0}
+IsOfSession run.Stalled = Unit {0}
+IsOfSession run.Memory = Unit {0}
+IsOfSession _ = ⊥
