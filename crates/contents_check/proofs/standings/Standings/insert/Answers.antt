@@ -12,6 +12,5 @@ returns c = record {
   missing = grind (arith, common_steps);
   extra = grind (arith, common_steps);
   each = each_written (λ (y : Standing). record { inserted = true; deleted = y.deleted; shown = y.shown })
-      c.args.self.now.list.items c.args.number c.index_mut.result.now c.requires.within
-      c.index_mut.ensures.value;
+      _ _ _ c.requires.within c.index_mut.ensures.value;
 }

@@ -15,6 +15,5 @@ returns c = record {
     inserted = y.inserted;
     deleted = y.deleted;
     shown = c.args.shown;
-  }) c.args.self.now.list.items c.args.number c.index_mut.result.now c.requires.within
-      c.index_mut.ensures.value;
+  }) _ _ _ c.requires.within c.index_mut.ensures.value;
 }
