@@ -216,34 +216,24 @@ no-run text names none = record {
   most = λ m h begins. omega (arith, h, none);
 }
 
--- where a piece begins in a list that is another one
-pub same-start : (from j : ℕ) (list ends : List ℕ) → from ≡ start_at 0 list j → list ≡ ends
-    → from ≡ start_at 0 ends j
-same-start from j list ends is same = is ∙ ap (λ l. start_at 0 l j) same
+-- the bytes of packed names from place j on begin at `from`, and so do their ends
+pub record ArePackedFrom (bytes ends : List ℕ) (names : List NameBytes) (j from : ℕ) : Type 0 where
+  pub within : from ≤ length bytes
+  pub bytes_are : drop from bytes ≡ spaced (drop j names)
+  pub ends_are : drop j ends ≡ ends_of from (drop j names)
+  pub are : All IsName (drop j names)
 
--- the names of packed bytes from a place on
-module _ (bytes ends : List ℕ) (h : IsPacked bytes ends) (names : List NameBytes)
-    (are : pieces bytes 0 ends ≡ names) (j from : ℕ) (is : from ≡ start_at 0 ends j) where
-  all-bytes : bytes ≡ spaced names
-  all-bytes = h.bytes_are ∙ ap spaced are
-
-  all-ends : ends ≡ ends_of 0 names
-  all-ends = h.ends_are ∙ ap (ends_of 0) are
-
-  from-there : from ≡ start_at 0 (ends_of 0 names) j
-  from-there = is ∙ ap (λ l. start_at 0 l j) all-ends
-
-  from-is : from ≡ size names j
-  from-is = omega (arith, from-there, start-of 0 names j)
-
-  pub from-within : from ≤ length bytes
-  from-within = omega (arith, from-is, ap length all-bytes, size-within names j)
-
-  pub bytes-from : drop from bytes ≡ spaced (drop j names)
-  bytes-from = ap (λ n. drop n bytes) from-is ∙ ap (drop (size names j)) all-bytes ∙ drop-spaced names j
-
-  pub ends-from : drop j ends ≡ ends_of from (drop j names)
-  ends-from = ap (drop j) all-ends ∙ ends-drop 0 names j ∙ ap (λ n. ends_of n (drop j names)) (sym from-there)
-
-  pub names-from : (n : ℕ) → All IsName (take n (drop j names))
-  names-from n = All-take IsName n (drop j names) (All-drop IsName j names (subst (All IsName) are h.names))
+pub packed-from : {bytes ends own_ends : List ℕ} {names : List NameBytes} {j from : ℕ} → IsPacked bytes ends
+    → pieces bytes 0 ends ≡ names → from ≡ start_at 0 own_ends j → own_ends ≡ ends
+    → ArePackedFrom bytes ends names j from
+packed-from {bytes} {ends} {own_ends} {names} {j} {from} packed are begins same =
+    let all_bytes : bytes ≡ spaced names = packed.bytes_are ∙ ap spaced are in
+    let all_ends : ends ≡ ends_of 0 names = packed.ends_are ∙ ap (ends_of 0) are in
+    let start : from ≡ start_at 0 (ends_of 0 names) j = begins ∙ ap (λ l. start_at 0 l j) (same ∙ all_ends) in
+    let size_is : from ≡ size names j = omega (arith, start, start-of 0 names j) in
+    record {
+      within = omega (arith, size_is, ap length all_bytes, size-within names j);
+      bytes_are = rw (size_is, all_bytes) (drop-spaced names j);
+      ends_are = ap (drop j) all_ends ∙ ends-drop 0 names j ∙ ap (λ n. ends_of n (drop j names)) (sym start);
+      are = All-drop IsName j names (subst (All IsName) are packed.names);
+    }
