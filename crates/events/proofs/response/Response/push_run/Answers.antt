@@ -86,7 +86,7 @@ push_packed-requires c =
         run.bytes_are,
       ) (take-spaced (drop c.args.j c.args.other.now) c.longest_run-run.result.names),
       rw (c.front-2.ensures, c.after-4.ensures, c.as_slice-ends.ensures.value, rest.ends_are)
-      (ends-take c.start_from-from.result (drop c.args.j c.args.other.now) c.longest_run-run.result.names),
+          (ends-take c.start_from-from.result (drop c.args.j c.args.other.now) c.longest_run-run.result.names),
     )
 
 pub returns-clause-ok : goal.returns-clause-ok
