@@ -4,7 +4,7 @@ use Rattle.std.proofs.Common.{[], ◌∷◌, ◌++◌, length, take, drop, map, 
 use Rattle.std.proofs.Common.{ap, ◌∙◌, subst, arith}
 use Rattle.std.proofs.lemmas.Bool.{cases_lt}
 use Rattle.std.proofs.lemmas.List.{length-drop, length-append, append-nil, take-take, take-append-drop}
-use Rattle.std.proofs.lemmas.List.Elements.{All-take, All-drop}
+use Rattle.std.proofs.lemmas.List.Elements.{All-drop}
 use Rattle.std.proofs.lemmas.Option.{slice_get-get_or}
 use Rattle.std.proofs.Math.Seq.{drop-append_seam, take-append_seam}
 use Rattle.events.specs.Names.{NameBytes, IsName}
@@ -216,6 +216,10 @@ no-run text names none = record {
   most = λ m h begins. omega (arith, h, none);
 }
 
+pub as-many-ends : {bytes ends : List ℕ} {names : List NameBytes} → IsPacked bytes ends
+    → pieces bytes 0 ends ≡ names → length ends ≡ length names
+as-many-ends {names} packed are = ap length (packed.ends_are ∙ ap (ends_of 0) are) ∙ ends-length 0 names
+
 -- the bytes of packed names from place j on begin at `from`, and so do their ends
 pub record ArePackedFrom (bytes ends : List ℕ) (names : List NameBytes) (j from : ℕ) : Type 0 where
   pub within : from ≤ length bytes
@@ -223,10 +227,10 @@ pub record ArePackedFrom (bytes ends : List ℕ) (names : List NameBytes) (j fro
   pub ends_are : drop j ends ≡ ends_of from (drop j names)
   pub are : All IsName (drop j names)
 
-pub packed-from : {bytes ends own_ends : List ℕ} {names : List NameBytes} {j from : ℕ} → IsPacked bytes ends
-    → pieces bytes 0 ends ≡ names → from ≡ start_at 0 own_ends j → own_ends ≡ ends
+pub packed-from : (j : ℕ) {bytes ends own_ends : List ℕ} {names : List NameBytes} {from : ℕ}
+    → IsPacked bytes ends → pieces bytes 0 ends ≡ names → from ≡ start_at 0 own_ends j → own_ends ≡ ends
     → ArePackedFrom bytes ends names j from
-packed-from {bytes} {ends} {own_ends} {names} {j} {from} packed are begins same =
+packed-from j {bytes} {ends} {own_ends} {names} {from} packed are begins same =
     let all_bytes : bytes ≡ spaced names = packed.bytes_are ∙ ap spaced are in
     let all_ends : ends ≡ ends_of 0 names = packed.ends_are ∙ ap (ends_of 0) are in
     let start : from ≡ start_at 0 (ends_of 0 names) j = begins ∙ ap (λ l. start_at 0 l j) (same ∙ all_ends) in

@@ -1,22 +1,19 @@
 -- The names of the other response from a place on, as they are packed.
-use Rattle.std.proofs.Common.{◌≡◌, ◌∙◌, length, take, drop, All, subst, sym, ap, arith, length-drop}
+use Rattle.std.proofs.Common.{length, take, drop, All, subst, ap, arith, length-drop}
 use Rattle.std.proofs.lemmas.List.Elements.{All-take}
 use Rattle.events.specs.Names.{IsName}
 use Rattle.events.specs.Runs.{IsLongestRun}
-use Rattle.events.proofs.Packed.{pieces-length}
 use Rattle.events.proofs.Runs.{size-within, ends-length, take-spaced, ends-take}
-use Rattle.events.proofs.Runs.{ArePackedFrom, packed-from, no-run}
+use Rattle.events.proofs.Runs.{ArePackedFrom, packed-from, as-many-ends, no-run}
 use Rattle.events.proofs.response.Response.push_run.Goals as goal
 use Rattle.events.proofs.response.Response.push_run.Goals.{After-start_from-from, After-longest_run-run}
 use Rattle.events.proofs.response.Response.push_run.Goals.{After-front-2}
 
 pub returns-then-j-ends-clause-ok : goal.returns-then-j-ends-clause-ok
 returns-then-j-ends-clause-ok c =
-    let count : length c.args.other.now ≡ length c.other.inside.ends.items = sym (ap length c.other.view_is)
-    ∙ pieces-length c.other.inside.bytes.items 0 c.other.inside.ends.items in
     no-run c.args.text.now (drop c.args.j c.args.other.now) (omega (
       arith,
-      count,
+      as-many-ends c.other.invariant c.other.view_is,
       c.if-j-ends.true,
       ap length c.as_slice-ends.ensures.value,
       length-drop c.args.j c.args.other.now,
@@ -25,7 +22,7 @@ returns-then-j-ends-clause-ok c =
 names_from_j : (c : After-start_from-from) → ArePackedFrom c.other.inside.bytes.items c.other.inside.ends.items
     c.args.other.now c.args.j c.start_from-from.result
 names_from_j c =
-    packed-from c.other.invariant c.other.view_is c.start_from-from.ensures.value c.as_slice-ends.ensures.value
+    packed-from c.args.j c.other.invariant c.other.view_is c.start_from-from.ensures.value c.as_slice-ends.ensures.value
 
 pub after-requires : goal.after-requires
 after-requires c =
@@ -43,7 +40,7 @@ longest_run-run-requires-clause-packed c =
 longest : (c : After-longest_run-run) → IsLongestRun c.args.text.now (drop c.args.j c.args.other.now)
     c.longest_run-run.result.names c.longest_run-run.result.bytes
 longest c =
-    let rest = packed-from c.other.invariant c.other.view_is c.start_from-from.ensures.value
+    let rest = packed-from c.args.j c.other.invariant c.other.view_is c.start_from-from.ensures.value
     c.as_slice-ends.ensures.value in
     c.longest_run-run.ensures (drop c.args.j c.args.other.now)
     (rw (c.after.ensures, c.as_slice.ensures.value) rest.bytes_are)
