@@ -164,31 +164,31 @@ module _ (text : List ℕ) (names : List NameBytes) (c : ℕ) (same : take c tex
       | inr done ↦ done
     ]
 
-    pub all-of-them : (n ≡ 0) ⊎ (may_follow (slice_get text (size names n)) ≡ true)
-        → IsLongestRun text names n (size names n)
-    all-of-them follows = record {
+    pub all-of-them : (b : ℕ) → b ≡ size names n → (n ≡ 0) ⊎ (may_follow (slice_get text b) ≡ true)
+        → IsLongestRun text names n b
+    all-of-them b is follows = record {
       within = within;
-      bytes_are = refl;
+      bytes_are = is;
       begins = λ some. record {
         same = front-same n low;
         ends = elim follows [
           | inl none ↦ absurd (omega (arith, some, none))
-          | inr follow ↦ follow
+          | inr follow ↦ ap (λ x. may_follow (slice_get text x)) (sym is) ∙ follow
         ];
       };
       most = no-more;
     }
 
-    pub one-less : 0 < n → may_follow (slice_get text (size names n)) ≡ false
-        → IsLongestRun text names (n - 1) (size names (n - 1))
-    one-less some follows =
+    pub one-less : (b short : ℕ) → b ≡ size names n → short ≡ size names (n - 1) → 0 < n
+        → may_follow (slice_get text b) ≡ false → IsLongestRun text names (n - 1) short
+    one-less b short size_is short_is some follows =
         let next : suc (n - 1) ≡ n = omega (arith, some) in
         let more : size names (n - 1) + 1 ≤ size names n =
         subst (λ k. size names (n - 1) + 1 ≤ size names k) next
         (size-more names (n - 1) (omega (arith, some, within))) in
         record {
           within = omega (arith, within);
-          bytes_are = refl;
+          bytes_are = short_is;
           begins = λ _. record {
             same = front-same (n - 1) (omega (arith, more, low));
             ends = ap may_follow
@@ -199,8 +199,8 @@ module _ (text : List ℕ) (names : List NameBytes) (c : ℕ) (same : take c tex
             | inr past ↦
                 let is : m ≡ n = omega (arith, past, no-more m h begins) in
                 absurd (true-false
-                (sym (subst (λ k. may_follow (slice_get text (size names k)) ≡ true) is begins.ends)
-                ∙ follows))
+                (sym begins.ends ∙ ap (λ k. may_follow (slice_get text (size names k))) is
+                ∙ ap (λ x. may_follow (slice_get text x)) (sym size_is) ∙ follows))
           ];
         }
       where
