@@ -1,10 +1,10 @@
 -- The names behind are those before, and these.
-use Rattle.std.proofs.Common.{◌≡◌, ◌∙◌, ℕ, ◌+◌, ◌-◌, ◌<◌, ◌≤◌, ◌^◌, ◌++◌, List, length, map, All, sym, ap}
+use Rattle.std.proofs.Common.{◌≡◌, ◌∙◌, ◌+◌, ◌-◌, ◌<◌, ◌≤◌, ◌^◌, ◌++◌, List, length, map, All, sym, ap}
 use Rattle.std.proofs.Common.{subst, refl, arith}
 use Rattle.std.proofs.lemmas.Grind.{common_steps}
 use Rattle.std.proofs.lemmas.List.Elements.{All-append}
 use Rattle.events.specs.Names.{NameBytes, IsName}
-use Rattle.events.specs.Packed.{spaced, ends_of, pieces, IsPacked}
+use Rattle.events.specs.Packed.{spaced, ends_of, pieces}
 use Rattle.events.proofs.Packed.{packed, packed-pieces, bytes-more, ends-more}
 use Rattle.events.proofs.Runs.{ends-moved, ends-range}
 use Rattle.events.proofs.response.Response.push_packed.Goals as goal
