@@ -1,4 +1,4 @@
-use Rattle.std.proofs.Common.{◌≡◌, ◌++◌, ◌/◌, length, take, drop, arith}
+use Rattle.std.proofs.Common.{◌∙◌, ◌/◌, length, drop}
 use Rattle.std.proofs.lemmas.List.{take_at}
 use Rattle.bit_tables.proofs.SetLemmas.{Has-zero}
 use Rattle.bit_tables.proofs.bits.BitSet.clear.Goals as goal
@@ -7,6 +7,5 @@ pub returns-clause-empty : goal.returns-clause-empty
 returns-clause-empty c =
     let new = c.empty.new.words in
     let old = c.self.inside.words.items in
-    let whole : take c.self.inside.words.len (new ++ drop (length new) old) ≡ new =
-    take_at new _ _ (omega (arith, c.empty.ensures.len, c.deref_mut.ensures.len)) in
+    let whole = take_at new (drop (length new) old) _ (c.empty.ensures.len ∙ c.deref_mut.ensures.len) in
     rw whole (λ x. Has-zero new x (c.empty.ensures.zero (x / 64)))
