@@ -1,8 +1,6 @@
 use Rattle.std.proofs.Common.{◌≡◌, ℕ, ◌∙◌, ◌+◌, inl, inr, List, [], length, map, get_or, refl, sym, arith}
 use Rattle.std.proofs.Common.{true≢false}
-use Rattle.std.specs.Prelude.{◌↔◌, IsTrue}
 use Rattle.std.proofs.lemmas.List.{length-map}
-use Rattle.bit_tables.specs.Sets.{Has}
 use Rattle.bit_tables.proofs.LayerLemmas.{all-from, all-within, list-here, tested_step, tested_subset}
 use Rattle.bit_tables.proofs.LayerLemmas.{tested_all, gradual_more, shown_more, none_below, negated}
 use Rattle.bit_tables.proofs.layers.meets_rule.Goals as goal
@@ -16,8 +14,6 @@ layers-preserved c =
     (omega arith) c.index-layers-i.is in
     let grown = rw (c.deref.ensures.value, ← here) at c.add_layer.ensures.has in
     let more = rw (c.deref-in-layers.ensures.value, ← here) at c.add_successors.ensures.has in
-    let subset : IsTrue c.is_subset.result ↔ ((x : ℕ) → Has c.layers.shown x → Has c.add_layer.new.into x) =
-    c.is_subset.ensures in
     record {
       standing_len = c.add_layer.ensures.len ∙ inv.standing_len;
       shown_len = c.add_successors.ensures.len ∙ inv.shown_len;
@@ -25,7 +21,7 @@ layers-preserved c =
       least = inv.least;
       tested =
           tested_step c.args.first c.min-least.result c.layers.i inv.least.0 all _ _ _ _ inv.tested grown _
-          (subset.0 c.if-not-is_subset.false) more;
+          (c.is_subset.ensures.0 c.if-not-is_subset.false) more;
     }
 
 pub returns-then-not-is_subset : goal.returns-then-not-is_subset
@@ -39,14 +35,12 @@ returns-then-not-is_subset c lists depth table depths =
     let grown = rw (c.deref.ensures.value, ← here) at c.add_layer.ensures.has in
     let ok = all-within (λ layer. layer.items) c.args.layers.now c.args.n c.requires.within in
     let ahead = all-from (λ layer. layer.items) c.args.layers.now c.args.first c.requires.from in
-    let subset : IsTrue c.is_subset.result ↔ ((x : ℕ) → Has c.layers.shown x → Has c.add_layer.new.into x) =
-    c.is_subset.ensures in
     rw (← count) (
       λ bad. absurd (true≢false (sym bad)),
       λ meets.
           absurd
           (true≢false
-          (sym (subset.1
+          (sym (c.is_subset.ensures.1
           (tested_subset c.args.first c.min-least.result c.layers.i inv.least.0 all _ _ _ _ inv.tested
           grown c.args.n c.args.source lists depth (omega arith) ahead ok table depths meets))
           ∙ c.if-not-is_subset.true)),
@@ -64,14 +58,12 @@ returns-then-i-layers c lists depth table depths =
     let grown = rw (c.deref.ensures.value, ← here) at c.add_layer.ensures.has in
     let ok = all-within (λ layer. layer.items) c.args.layers.now c.args.n c.requires.within in
     let ahead = all-from (λ layer. layer.items) c.args.layers.now c.args.first c.requires.from in
-    let subset : IsTrue c.is_subset.result ↔ ((x : ℕ) → Has c.layers.shown x → Has c.add_layer.new.into x) =
-    c.is_subset.ensures in
     let shown = rw (c.deref-then-i-layers.ensures.value, ← here) at c.is_shown.ensures in
     let none = negated c.is_shown.result _ shown in
     let gradual_to =
     gradual_more c.args.first c.min-least.result c.layers.i inv.least.0 all c.args.table.now
     c.layers.standing c.layers.shown c.add_layer.new.into inv.tested grown
-    (subset.0 c.if-not-is_subset.false) in
+    (c.is_subset.ensures.0 c.if-not-is_subset.false) in
     let more_to =
     shown_more c.args.first c.min-least.result c.layers.i inv.least.0 all c.args.table.now
     c.layers.standing c.layers.shown c.add_layer.new.into inv.tested grown c.args.source inv.least.1 in
