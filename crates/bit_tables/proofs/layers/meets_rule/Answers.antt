@@ -66,17 +66,15 @@ returns-then-i-layers c lists depth table depths =
 
 pub returns : goal.returns
 returns c lists depth table depths =
-    let inv = c.layers.invariant in
     let all : List (List ℕ) = map (λ layer. layer.items) c.args.layers.now in
-    let count : length all ≡ length c.args.layers.now = length-map c.args.layers.now (λ layer. layer.items) in
-    let empty : length all ≡ 0 = elim inv.last [
+    let count = length-map c.args.layers.now (λ layer. layer.items) in
+    let empty : length all ≡ 0 = elim c.layers.invariant.last [
       | inl none ↦ omega (arith, none, count, c.layers-test.false)
       | inr some ↦ absurd (omega (arith, some, count, c.layers-test.false))
     ] in
-    let ok = all-within (λ layer. layer.items) c.args.layers.now c.args.n c.requires.within in
-    let ahead = all-from (λ layer. layer.items) c.args.layers.now c.args.first c.requires.from in
     let whole =
-    tested_all c.args.n c.args.first c.args.source all c.args.table.now lists ⊥ depth ahead ok
+    tested_all c.args.n c.args.first c.args.source all c.args.table.now lists ⊥ depth
+    (all-from _ _ _ c.requires.from) (all-within _ _ _ c.requires.within)
     (λ j x y low. absurd (omega (arith, low, empty)))
     (λ no. absurd no, λ s. none_below all c.args.table.now c.args.source empty s) table depths in
     rw (← count) (λ _. whole.0 (λ no. no), λ _. refl)
