@@ -3,7 +3,7 @@
 use Rattle.std.proofs.Common.{◌≡◌, ℕ, ◌+◌, ◌-◌, ◌<◌, ◌≤◌, inl, inr, List, [], ◌∷◌, ◌++◌, length, get_or}
 use Rattle.std.proofs.Common.{arith, refl, sym, ◌∙◌, ap, subst}
 use Rattle.std.specs.Prelude.{◌↔◌, All, min, slice_index_or}
-use Rattle.std.proofs.Math.Nat.{min-eq_left, min-eq_right}
+use Rattle.std.proofs.Math.Nat.{lt_of_not-le, min-eq_left, min-eq_right, not-le_of_lt}
 use Rattle.std.proofs.lemmas.Bool.{cases_eq, cases_lt}
 use Rattle.std.proofs.lemmas.List.{get_or_default, get_or_past, get_or_append_left, get_or-append_right}
 use Rattle.std.proofs.lemmas.List.{length-append}
@@ -231,34 +231,23 @@ module _ (depths small : List ℕ) (count most : ℕ) (is : AreSmall depths coun
       let same : get_or small k d ≡ get_or small k most = get_or_default small k d most lt in
       omega arith
 
+  -- a depth is below the count where the small one is below the small count
+  below-alike : (x : ℕ) → x < length depths → (get_or depths x 0 < count) ↔ (get_or small x 0 < most)
+  below-alike x low =
+      let known : get_or depths x 0 ≡ get_or depths x count = get_or_default depths x 0 count low in
+      let same : get_or small x 0 ≡ get_or small x most =
+      get_or_default small x 0 most (omega (arith, low, is.len)) in
+      let order : (count ≤ get_or depths x 0) ↔ (most ≤ get_or small x 0) =
+      rw (known, same) (count-alike x).order in (
+        λ wide. lt_of_not-le (λ le. not-le_of_lt wide (order.1 le)),
+        λ narrow. lt_of_not-le (λ le. not-le_of_lt narrow (order.0 le)),
+      )
+
   -- the same numbers have a small depth below the small count
   pub small-noted : (noted : List ℕ) → HaveDepths depths count noted → HaveDepths small most noted
   small-noted noted has x = (
-    λ c.
-        let p = (has x).0 c in
-        let low : x < length small = (let lt = p.0 in omega (arith, lt, is.len)) in
-        let known : get_or depths x 0 ≡ get_or depths x count = get_or_default depths x 0 count p.0 in
-        let same : get_or small x 0 ≡ get_or small x most = get_or_default small x 0 most low in (
-          low,
-          elim (cases_lt (get_or small x 0) most) [
-            | inl below ↦ below
-            | inr le ↦
-                let wide : count ≤ get_or depths x count = (count-alike x).order.1 (omega arith) in
-                absurd (let lt = p.1 in omega arith)
-          ],
-        ),
-    λ p. (has x).1
-        (let low : x < length depths = (let lt = p.0 in omega (arith, lt, is.len)) in
-        let known : get_or depths x 0 ≡ get_or depths x count = get_or_default depths x 0 count low in
-        let same : get_or small x 0 ≡ get_or small x most = get_or_default small x 0 most p.0 in (
-          low,
-          elim (cases_lt (get_or depths x 0) count) [
-            | inl below ↦ below
-            | inr le ↦
-                let narrow : most ≤ get_or small x most = (count-alike x).order.0 (omega arith) in
-                absurd (let lt = p.1 in omega arith)
-          ],
-        )),
+    λ c. let p = (has x).0 c in (omega (arith, p.0, is.len), (below-alike x p.0).0 p.1),
+    λ p. let low : x < length depths = omega (arith, p.0, is.len) in (has x).1 (low, (below-alike x low).1 p.1),
   )
 
   pub meets-alike : (lists : List (List ℕ)) (first source : ℕ)

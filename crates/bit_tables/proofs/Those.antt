@@ -119,6 +119,14 @@ lacking-bit a b i small low =
       ],
     )
 
+-- of the same bits those from a place on are a word
+pub rest-small : (a b place : ℕ) → a < 2 ^ 64 → bit_and a (bit_not w64 b) / 2 ^ place < 2 ^ 64
+rest-small a b place fits =
+    let n : ℕ = bit_and a (bit_not w64 b) in
+    let less : n ≤ a = and_le_l a (bit_not w64 b) in
+    let part : n / 2 ^ place ≤ n = div-le_self n (2 ^ place) in
+    omega (arith, fits, less, part)
+
 module _ (set other : List ℕ) (word a b : ℕ) (one : a ≡ get_or set word 0) (two : b ≡ get_or other word 0)
     (small : b < 2 ^ 64) where
   -- a number of the word
@@ -164,24 +172,15 @@ module _ (set other : List ℕ) (word a b : ℕ) (one : a ≡ get_or set word 0)
         rest-before 64 (λ j low. ap (λ w. bit_at w j) zero ∙ bit_at-zero j) x here from (omega arith) has
 
     -- the first bit of the rest that is 1
-    pub rest-small : a < 2 ^ 64 → bit_and a (bit_not w64 b) / 2 ^ place < 2 ^ 64
-    rest-small fits =
-        let n : ℕ = bit_and a (bit_not w64 b) in
-        let less : n ≤ a = and_le_l a (bit_not w64 b) in
-        let part : n / 2 ^ place ≤ n = div-le_self n (2 ^ place) in
-        omega (arith, fits, less, part)
-
-    pub rest-first : (i : ℕ) → place + i < 64 → bit_at (bit_and a (bit_not w64 b) / 2 ^ place) i ≡ 1
-        → Has set (64 * word + place + i) × (¬ Has other (64 * word + place + i))
-    rest-first i low bit =
-        let same : 64 * word + (place + i) ≡ 64 * word + place + i = omega arith in
-        subst (λ y. Has set y × (¬ Has other y)) same
-        ((lacking-has (place + i) low).0 (sym (rest-bit i) ∙ bit))
-
-    pub rest-within : (i : ℕ) → a < 2 ^ 64 → bit_at (bit_and a (bit_not w64 b) / 2 ^ place) i ≡ 1
-        → place + i < 64
-    rest-within i fits bit = elim (cases_lt (place + i) 64) [
-      | inl low ↦ low
+    pub rest-first : (i x : ℕ) → a < 2 ^ 64 → bit_at (bit_and a (bit_not w64 b) / 2 ^ place) i ≡ 1
+        → 64 * word + place + i ≡ x → (x / 64 ≡ word) × (place ≤ x % 64) × Has set x × (¬ Has other x)
+    rest-first i x fits bit is = elim (cases_lt (place + i) 64) [
+      | inl low ↦
+          let same : 64 * word + (place + i) ≡ x = omega (arith, is) in
+          let has =
+          subst (λ y. Has set y × (¬ Has other y)) same
+          ((lacking-has (place + i) low).0 (sym (rest-bit i) ∙ bit)) in
+          (omega (arith, same, low), omega (arith, same, low), has.0, has.1)
       | inr high ↦
           let less : bit_and a (bit_not w64 b) ≤ a = and_le_l a (bit_not w64 b) in
           let none : bit_at (bit_and a (bit_not w64 b)) (place + i) ≡ 0 =

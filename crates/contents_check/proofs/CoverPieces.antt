@@ -25,27 +25,20 @@ module _ (h : History) where
   pub none-cover : AreCovering h [] []
   none-cover = record { part = tt; covered = λ o i. absurd (In-from_Contains [] o i) }
 
+  -- what covers an operation of these among some is among more
+  covered-among : (xs some more : List Operation) → AreCovering h xs some
+      → ((p : Operation) → In p some → In p more) → (o : Operation) → In o xs
+      → (p : Operation) × Contains more p × ((p ≡ o) ⊎ ComesBefore p o)
+      × IsSubsequence (response h o) (response h p)
+  covered-among xs some more are among o i = let c = are.covered o (Contains-from_In xs o i) in
+      (c.0, Contains-from_In more c.0 (among c.0 (In-from_Contains some c.0 c.1)), c.2, c.3)
+
   pub covering-append : (xs ys some more : List Operation) → AreCovering h xs some → AreCovering h ys more
       → AreCovering h (xs ++ ys) (some ++ more)
   covering-append xs ys some more one other = record {
     part = part-append some xs more ys one.part other.part;
-    covered = λ o i. go o (In-append_cases o xs ys (In-from_Contains (xs ++ ys) o i));
+    covered = λ o i. elim (In-append_cases o xs ys (In-from_Contains (xs ++ ys) o i)) [
+      | inl j ↦ covered-among xs some (some ++ more) one (λ p k. In-append_left p some more k) o j
+      | inr j ↦ covered-among ys more (some ++ more) other (λ p k. In-append_right p some more k) o j
+    ];
   }
-    where
-      go : (o : Operation) → In o xs ⊎ In o ys
-          → (p : Operation) × Contains (some ++ more) p × ((p ≡ o) ⊎ ComesBefore p o)
-          × IsSubsequence (response h o) (response h p)
-      go o (inl i) = let c = one.covered o (Contains-from_In xs o i) in (
-        c.0,
-        Contains-from_In (some ++ more) c.0
-            (In-append_left c.0 some more (In-from_Contains some c.0 c.1)),
-        c.2,
-        c.3,
-      )
-      go o (inr i) = let c = other.covered o (Contains-from_In ys o i) in (
-        c.0,
-        Contains-from_In (some ++ more) c.0
-            (In-append_right c.0 some more (In-from_Contains more c.0 c.1)),
-        c.2,
-        c.3,
-      )

@@ -1,7 +1,7 @@
 -- One operation more, kept or covered by one that is kept; and one place more of a response that is looked
 -- for in another.
 use Rattle.std.proofs.Common.{◌≡◌, ℕ, zero, suc, ◌+◌, ◌≤◌, ◌⊎◌, inl, inr, List, [], ◌∷◌, ◌++◌, length, take}
-use Rattle.std.proofs.Common.{drop, refl, sym, ◌∙◌, subst, arith}
+use Rattle.std.proofs.Common.{drop, refl, sym, subst, arith, length-drop}
 use Rattle.std.specs.Prelude.{AllPairs}
 use Rattle.std.proofs.lemmas.List.{drop_all, drop-drop}
 use Rattle.events.specs.Names.{NameBytes}
@@ -11,7 +11,7 @@ use Rattle.events.specs.Operations.{response}
 use Rattle.specification.specs.Orders.{IsSubsequence}
 use Rattle.specification.proofs.Members.{In, Before, In-append_left, In-append_right, In-append_cases}
 use Rattle.specification.proofs.Members.{In-from_Contains, Contains-from_In, AllPairs-Before}
-use Rattle.specification.proofs.Subsequences.{subsequence-refl, subsequence-trans}
+use Rattle.specification.proofs.Subsequences.{subsequence-refl}
 use Rattle.element_numbers.specs.Covering.{AreCovering}
 use Rattle.contents_check.specs.Covering.{AreKeptOf, IsFoundIn}
 use Rattle.element_numbers.proofs.Parts.{In-part}
@@ -28,6 +28,11 @@ drop-later [] zero s h = h
 drop-later [] (suc i) s h = h
 drop-later (b ∷ w) zero s h = subsequence-later b s w h
 drop-later (b ∷ w) (suc i) s h = drop-later w i s h
+
+-- a run from a place on ends within the list
+pub run-within : {X : Type 0} (xs : List X) (i n : ℕ) → i ≤ length xs → n ≤ length (drop i xs)
+    → i + n ≤ length xs
+run-within xs i n within ends = omega (arith, within, ends, length-drop i xs)
 
 -- what is left of one response is in what is left of the other where both go on alike
 alike-first : (n : ℕ) (w order : List NameBytes) → take n w ≡ take n order

@@ -83,9 +83,11 @@ module _ (h : History) (table : SightTable) (elements : Elements) where
       }
 
   -- the replica at a place is on the way
-  pub way_at : (replicas : List ℕ) (ways : List OnTheWay) (k : ℕ) (d : OnTheWay) → k < length ways
-      → AreOnTheWay h table elements replicas ways → IsOnTheWay h table elements (get_or ways k d)
-  way_at replicas ways k d lt are = All-get_or (IsOnTheWay h table elements) ways k d lt are.each
+  pub way_at : (replicas : List ℕ) (ways : List OnTheWay) (k : ℕ) (way : OnTheWay) → k < length ways
+      → way ≡ get_or ways k way → AreOnTheWay h table elements replicas ways → IsOnTheWay h table elements way
+  way_at replicas ways k way lt is are =
+      subst (IsOnTheWay h table elements) (sym is)
+      (All-get_or (IsOnTheWay h table elements) ways k way lt are.each)
 
   -- there are as many as replicas
   pub as_many : (replicas : List ℕ) (ways : List OnTheWay) → AreOnTheWay h table elements replicas ways
@@ -93,10 +95,11 @@ module _ (h : History) (table : SightTable) (elements : Elements) where
   as_many replicas ways are = sym (length-map ways (λ (w : OnTheWay). w.replica)) ∙ ap length are.replicas_are
 
   -- and it is that of this replica
-  pub replica_at : (replicas : List ℕ) (ways : List OnTheWay) (k : ℕ) (d : OnTheWay) → k < length ways
+  pub replica_at : (replicas : List ℕ) (ways : List OnTheWay) (k : ℕ) (d : OnTheWay) → k < length replicas
       → AreOnTheWay h table elements replicas ways → (get_or ways k d).replica ≡ get_or replicas k 0
   replica_at replicas ways k d lt are =
-      sym (get_or-map (λ (w : OnTheWay). w.replica) ways k d 0 lt) ∙ ap (λ l. get_or l k 0) are.replicas_are
+      sym (get_or-map (λ (w : OnTheWay). w.replica) ways k d 0 (omega (arith, lt, as_many replicas ways are)))
+      ∙ ap (λ l. get_or l k 0) are.replicas_are
 
   -- one replica more begins
   pub one_more : (replicas : List ℕ) (ways : List OnTheWay) (way : OnTheWay)

@@ -415,9 +415,9 @@ pub joined_all : (w : List NameBytes) (i : ℕ) → length w ≤ i → take i w 
 joined_all w i le = take_all i w le
 
 -- notes behind notes
-pub notes-on : (elements : Elements) (old between new : Standings) → OnlyNotes elements old between
+pub notes-on : {elements : Elements} {old between new : Standings} → OnlyNotes elements old between
     → OnlyNotes elements between new → OnlyNotes elements old new
-notes-on elements old between new first later = record {
+notes-on first later = record {
   fits = later.fits;
   counts = later.counts ∙ first.counts;
   behind = λ h was. later.behind h (first.behind h was);

@@ -24,7 +24,7 @@ use Rattle.contents_check.specs.declared.elements.Elements.{Elements as Kept}
 use Rattle.contents_check.specs.declared.fault.Fault.{Fault}
 use Rattle.contents_check.specs.declared.fault.Fault.TheVariants.{Doubled, Contents, Position}
 use Rattle.contents_check.specs.declared.walk.Walked.TheVariants.{Right}
-use Rattle.contents_check.specs.declared.first.Checked.TheVariants.{Faulty, Sound}
+use Rattle.contents_check.specs.declared.first.Checked.TheVariants.{Faulty}
 use Rattle.element_numbers.specs.Covering.{AreCovering, Covers}
 use Rattle.contents_check.specs.Covering.{first_operations, operations_of, IsChecked, IsFaultAt}
 use Rattle.contents_check.specs.Covering.{IsFirstFaultAmong, IsWalked}

@@ -53,6 +53,10 @@ pub length-cut : {X : Type 0} (from : ℕ) (es : List ℕ) (xs : List X) → len
 length-cut from [] xs = refl
 length-cut from (e ∷ es) xs = ap suc (length-cut e es (drop (e - from) xs))
 
+-- there are as many rows as ends
+pub length-rows : {X : Type 0} (rows : Rows X) → length (rows_of rows) ≡ length rows.ends.items
+length-rows rows = length-cut 0 rows.ends.items rows.items.items
+
 -- where a row begins
 pub begin-later : (from n : ℕ) (es : List ℕ) → n ≢ 0 → get_or es (n - 1) 0 ≡ begin_of from es n
 begin-later from zero es later = absurd (later refl)

@@ -4,7 +4,7 @@ use Rattle.std.proofs.Common.{[], ◌∷◌, ◌++◌, length, take, drop, map, 
 use Rattle.std.proofs.Common.{ap, ◌∙◌, subst, arith}
 use Rattle.std.proofs.lemmas.Bool.{cases_lt}
 use Rattle.std.proofs.lemmas.List.{length-drop, length-append, append-nil, take-take, take-append-drop}
-use Rattle.std.proofs.lemmas.List.Elements.{All-take, All-drop}
+use Rattle.std.proofs.lemmas.List.Elements.{All-drop}
 use Rattle.std.proofs.lemmas.Option.{slice_get-get_or}
 use Rattle.std.proofs.Math.Seq.{drop-append_seam, take-append_seam}
 use Rattle.events.specs.Names.{NameBytes, IsName}
@@ -164,31 +164,31 @@ module _ (text : List ℕ) (names : List NameBytes) (c : ℕ) (same : take c tex
       | inr done ↦ done
     ]
 
-    pub all-of-them : (n ≡ 0) ⊎ (may_follow (slice_get text (size names n)) ≡ true)
-        → IsLongestRun text names n (size names n)
-    all-of-them follows = record {
+    pub all-of-them : (b : ℕ) → b ≡ size names n → (n ≡ 0) ⊎ (may_follow (slice_get text b) ≡ true)
+        → IsLongestRun text names n b
+    all-of-them b is follows = record {
       within = within;
-      bytes_are = refl;
+      bytes_are = is;
       begins = λ some. record {
         same = front-same n low;
         ends = elim follows [
           | inl none ↦ absurd (omega (arith, some, none))
-          | inr follow ↦ follow
+          | inr follow ↦ ap (λ x. may_follow (slice_get text x)) (sym is) ∙ follow
         ];
       };
       most = no-more;
     }
 
-    pub one-less : 0 < n → may_follow (slice_get text (size names n)) ≡ false
-        → IsLongestRun text names (n - 1) (size names (n - 1))
-    one-less some follows =
+    pub one-less : (b short : ℕ) → b ≡ size names n → short ≡ size names (n - 1) → 0 < n
+        → may_follow (slice_get text b) ≡ false → IsLongestRun text names (n - 1) short
+    one-less b short size_is short_is some follows =
         let next : suc (n - 1) ≡ n = omega (arith, some) in
         let more : size names (n - 1) + 1 ≤ size names n =
         subst (λ k. size names (n - 1) + 1 ≤ size names k) next
         (size-more names (n - 1) (omega (arith, some, within))) in
         record {
           within = omega (arith, within);
-          bytes_are = refl;
+          bytes_are = short_is;
           begins = λ _. record {
             same = front-same (n - 1) (omega (arith, more, low));
             ends = ap may_follow
@@ -199,8 +199,8 @@ module _ (text : List ℕ) (names : List NameBytes) (c : ℕ) (same : take c tex
             | inr past ↦
                 let is : m ≡ n = omega (arith, past, no-more m h begins) in
                 absurd (true-false
-                (sym (subst (λ k. may_follow (slice_get text (size names k)) ≡ true) is begins.ends)
-                ∙ follows))
+                (sym begins.ends ∙ ap (λ k. may_follow (slice_get text (size names k))) is
+                ∙ ap (λ x. may_follow (slice_get text x)) (sym size_is) ∙ follows))
           ];
         }
       where
@@ -216,34 +216,28 @@ no-run text names none = record {
   most = λ m h begins. omega (arith, h, none);
 }
 
--- where a piece begins in a list that is another one
-pub same-start : (from j : ℕ) (list ends : List ℕ) → from ≡ start_at 0 list j → list ≡ ends
-    → from ≡ start_at 0 ends j
-same-start from j list ends is same = is ∙ ap (λ l. start_at 0 l j) same
+pub as-many-ends : {bytes ends : List ℕ} {names : List NameBytes} → IsPacked bytes ends
+    → pieces bytes 0 ends ≡ names → length ends ≡ length names
+as-many-ends {names} packed are = ap length (packed.ends_are ∙ ap (ends_of 0) are) ∙ ends-length 0 names
 
--- the names of packed bytes from a place on
-module _ (bytes ends : List ℕ) (h : IsPacked bytes ends) (names : List NameBytes)
-    (are : pieces bytes 0 ends ≡ names) (j from : ℕ) (is : from ≡ start_at 0 ends j) where
-  all-bytes : bytes ≡ spaced names
-  all-bytes = h.bytes_are ∙ ap spaced are
+-- the bytes of packed names from place j on begin at `from`, and so do their ends
+pub record ArePackedFrom (bytes ends : List ℕ) (names : List NameBytes) (j from : ℕ) : Type 0 where
+  pub within : from ≤ length bytes
+  pub bytes_are : drop from bytes ≡ spaced (drop j names)
+  pub ends_are : drop j ends ≡ ends_of from (drop j names)
+  pub are : All IsName (drop j names)
 
-  all-ends : ends ≡ ends_of 0 names
-  all-ends = h.ends_are ∙ ap (ends_of 0) are
-
-  from-there : from ≡ start_at 0 (ends_of 0 names) j
-  from-there = is ∙ ap (λ l. start_at 0 l j) all-ends
-
-  from-is : from ≡ size names j
-  from-is = omega (arith, from-there, start-of 0 names j)
-
-  pub from-within : from ≤ length bytes
-  from-within = omega (arith, from-is, ap length all-bytes, size-within names j)
-
-  pub bytes-from : drop from bytes ≡ spaced (drop j names)
-  bytes-from = ap (λ n. drop n bytes) from-is ∙ ap (drop (size names j)) all-bytes ∙ drop-spaced names j
-
-  pub ends-from : drop j ends ≡ ends_of from (drop j names)
-  ends-from = ap (drop j) all-ends ∙ ends-drop 0 names j ∙ ap (λ n. ends_of n (drop j names)) (sym from-there)
-
-  pub names-from : (n : ℕ) → All IsName (take n (drop j names))
-  names-from n = All-take IsName n (drop j names) (All-drop IsName j names (subst (All IsName) are h.names))
+pub packed-from : (j : ℕ) {bytes ends own_ends : List ℕ} {names : List NameBytes} {from : ℕ}
+    → IsPacked bytes ends → pieces bytes 0 ends ≡ names → from ≡ start_at 0 own_ends j → own_ends ≡ ends
+    → ArePackedFrom bytes ends names j from
+packed-from j {bytes} {ends} {own_ends} {names} {from} packed are begins same =
+    let all_bytes : bytes ≡ spaced names = packed.bytes_are ∙ ap spaced are in
+    let all_ends : ends ≡ ends_of 0 names = packed.ends_are ∙ ap (ends_of 0) are in
+    let start : from ≡ start_at 0 (ends_of 0 names) j = begins ∙ ap (λ l. start_at 0 l j) (same ∙ all_ends) in
+    let size_is : from ≡ size names j = omega (arith, start, start-of 0 names j) in
+    record {
+      within = omega (arith, size_is, ap length all_bytes, size-within names j);
+      bytes_are = rw (size_is, all_bytes) (drop-spaced names j);
+      ends_are = ap (drop j) all_ends ∙ ends-drop 0 names j ∙ ap (λ n. ends_of n (drop j names)) (sym start);
+      are = All-drop IsName j names (subst (All IsName) are packed.names);
+    }

@@ -1,8 +1,8 @@
-use Rattle.std.proofs.Common.{ℕ, Bool, ◌≤◌, List, length, subst, sym}
-use Rattle.std.specs.Prelude.{◌↔◌, All, IfOk, IsTrue, slice_index_or}
+use Rattle.std.proofs.Common.{ℕ, Bool, List, length, subst, sym}
+use Rattle.std.specs.Prelude.{◌↔◌, IfOk, IsTrue, slice_index_or}
 use Rattle.std.proofs.lemmas.Result.{IfOk-weaker}
 use Rattle.bit_tables.specs.Lists.{IsTableOf}
-use Rattle.bit_tables.specs.Rule.{HaveDepths, MeetsRule}
+use Rattle.bit_tables.specs.Rule.{MeetsRule}
 use Rattle.bit_tables.specs.Narrow.{AreSmall}
 use Rattle.bit_tables.proofs.NarrowLemmas.{meets-alike, small-most, small-noted}
 use Rattle.bit_tables.proofs.depths.are_deep.Goals as goal
@@ -15,15 +15,11 @@ Tells depths count rows first source deep =
 
 pub are_deep_in_layers-requires-2-clause-most : goal.are_deep_in_layers-requires-2-clause-most
 are_deep_in_layers-requires-2-clause-most c =
-    subst (λ (l : List ℕ). All (λ d. d ≤ c.in_ok-small.most) l) (sym c.deref.ensures.value)
-    (small-most c.args.depths.now c.in_ok-small.small.items c.args.count c.in_ok-small.most
-    c.in_ok-small.ensures.alike c.requires.most)
+    rw c.deref.ensures.value (small-most _ _ _ _ c.in_ok-small.ensures.alike c.requires.most)
 
 pub are_deep_in_layers-requires-2-clause-noted : goal.are_deep_in_layers-requires-2-clause-noted
 are_deep_in_layers-requires-2-clause-noted c =
-    subst (λ (l : List ℕ). HaveDepths l c.in_ok-small.most c.args.noted.now) (sym c.deref.ensures.value)
-    (small-noted c.args.depths.now c.in_ok-small.small.items c.args.count c.in_ok-small.most
-    c.in_ok-small.ensures.alike c.args.noted.now c.requires.noted)
+    rw c.deref.ensures.value (small-noted _ _ _ _ c.in_ok-small.ensures.alike _ c.requires.noted)
 
 pub returns : goal.returns
 returns c =

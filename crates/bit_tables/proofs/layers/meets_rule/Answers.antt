@@ -1,8 +1,6 @@
-use Rattle.std.proofs.Common.{◌≡◌, ℕ, ◌∙◌, ◌+◌, inl, inr, List, [], length, map, get_or, refl, sym, arith}
+use Rattle.std.proofs.Common.{◌≡◌, ℕ, ◌∙◌, ◌+◌, inl, inr, List, length, map, refl, sym, arith}
 use Rattle.std.proofs.Common.{true≢false}
-use Rattle.std.specs.Prelude.{◌↔◌, IsTrue}
 use Rattle.std.proofs.lemmas.List.{length-map}
-use Rattle.bit_tables.specs.Sets.{Has}
 use Rattle.bit_tables.proofs.LayerLemmas.{all-from, all-within, list-here, tested_step, tested_subset}
 use Rattle.bit_tables.proofs.LayerLemmas.{tested_all, gradual_more, shown_more, none_below, negated}
 use Rattle.bit_tables.proofs.layers.meets_rule.Goals as goal
@@ -10,91 +8,73 @@ use Rattle.bit_tables.proofs.layers.meets_rule.Goals as goal
 pub layers-preserved : goal.layers-preserved
 layers-preserved c =
     let inv = c.layers.invariant in
-    let all : List (List ℕ) = map (λ layer. layer.items) c.args.layers.now in
-    let here : get_or all c.layers.i [] ≡ c.index-layers-i.result.items =
-    list-here (λ layer. layer.items) c.args.layers.now c.layers.i c.index-layers-i.result
-    (omega arith) c.index-layers-i.is in
+    let here =
+    list-here (λ layer. layer.items) c.args.layers.now c.layers.i c.index-layers-i.result (omega arith)
+    c.index-layers-i.is in
     let grown = rw (c.deref.ensures.value, ← here) at c.add_layer.ensures.has in
     let more = rw (c.deref-in-layers.ensures.value, ← here) at c.add_successors.ensures.has in
-    let subset : IsTrue c.is_subset.result ↔ ((x : ℕ) → Has c.layers.shown x → Has c.add_layer.new.into x) =
-    c.is_subset.ensures in
     record {
       standing_len = c.add_layer.ensures.len ∙ inv.standing_len;
       shown_len = c.add_successors.ensures.len ∙ inv.shown_len;
       last = inr (omega arith);
       least = inv.least;
       tested =
-          tested_step c.args.first c.min-least.result c.layers.i inv.least.0 all _ _ _ _ inv.tested grown _
-          (subset.0 c.if-not-is_subset.false) more;
+          tested_step _ _ _ inv.least.0 _ _ _ _ _ inv.tested grown _
+          (c.is_subset.ensures.0 c.if-not-is_subset.false) more;
     }
 
 pub returns-then-not-is_subset : goal.returns-then-not-is_subset
 returns-then-not-is_subset c lists depth table depths =
     let inv = c.layers.invariant in
-    let all : List (List ℕ) = map (λ layer. layer.items) c.args.layers.now in
-    let count : length all ≡ length c.args.layers.now = length-map c.args.layers.now (λ layer. layer.items) in
-    let here : get_or all c.layers.i [] ≡ c.index-layers-i.result.items =
-    list-here (λ layer. layer.items) c.args.layers.now c.layers.i c.index-layers-i.result
-    (omega arith) c.index-layers-i.is in
+    let count = length-map c.args.layers.now (λ layer. layer.items) in
+    let here =
+    list-here (λ layer. layer.items) c.args.layers.now c.layers.i c.index-layers-i.result (omega arith)
+    c.index-layers-i.is in
     let grown = rw (c.deref.ensures.value, ← here) at c.add_layer.ensures.has in
-    let ok = all-within (λ layer. layer.items) c.args.layers.now c.args.n c.requires.within in
-    let ahead = all-from (λ layer. layer.items) c.args.layers.now c.args.first c.requires.from in
-    let subset : IsTrue c.is_subset.result ↔ ((x : ℕ) → Has c.layers.shown x → Has c.add_layer.new.into x) =
-    c.is_subset.ensures in
     rw (← count) (
       λ bad. absurd (true≢false (sym bad)),
       λ meets.
           absurd
           (true≢false
-          (sym (subset.1
-          (tested_subset c.args.first c.min-least.result c.layers.i inv.least.0 all _ _ _ _ inv.tested
-          grown c.args.n c.args.source lists depth (omega arith) ahead ok table depths meets))
+          (sym (c.is_subset.ensures.1
+          (tested_subset _ _ _ inv.least.0 _ _ _ _ _ inv.tested grown c.args.n c.args.source lists depth
+          (omega (arith, count)) (all-from _ _ _ c.requires.from) (all-within _ _ _ c.requires.within)
+          table depths meets))
           ∙ c.if-not-is_subset.true)),
     )
 
 pub returns-then-i-layers : goal.returns-then-i-layers
 returns-then-i-layers c lists depth table depths =
     let inv = c.layers.invariant in
-    let all : List (List ℕ) = map (λ layer. layer.items) c.args.layers.now in
-    let count : length all ≡ length c.args.layers.now = length-map c.args.layers.now (λ layer. layer.items) in
-    let last : c.layers.i + 1 ≡ length all = omega arith in
-    let here : get_or all c.layers.i [] ≡ c.index-layers-i.result.items =
-    list-here (λ layer. layer.items) c.args.layers.now c.layers.i c.index-layers-i.result
-    (omega arith) c.index-layers-i.is in
+    let count = length-map c.args.layers.now (λ layer. layer.items) in
+    let last : c.layers.i + 1 ≡ length (map (λ layer. layer.items) c.args.layers.now) = omega (arith, count) in
+    let here =
+    list-here (λ layer. layer.items) c.args.layers.now c.layers.i c.index-layers-i.result (omega arith)
+    c.index-layers-i.is in
     let grown = rw (c.deref.ensures.value, ← here) at c.add_layer.ensures.has in
-    let ok = all-within (λ layer. layer.items) c.args.layers.now c.args.n c.requires.within in
-    let ahead = all-from (λ layer. layer.items) c.args.layers.now c.args.first c.requires.from in
-    let subset : IsTrue c.is_subset.result ↔ ((x : ℕ) → Has c.layers.shown x → Has c.add_layer.new.into x) =
-    c.is_subset.ensures in
     let shown = rw (c.deref-then-i-layers.ensures.value, ← here) at c.is_shown.ensures in
     let none = negated c.is_shown.result _ shown in
-    let gradual_to =
-    gradual_more c.args.first c.min-least.result c.layers.i inv.least.0 all c.args.table.now
-    c.layers.standing c.layers.shown c.add_layer.new.into inv.tested grown
-    (subset.0 c.if-not-is_subset.false) in
-    let more_to =
-    shown_more c.args.first c.min-least.result c.layers.i inv.least.0 all c.args.table.now
-    c.layers.standing c.layers.shown c.add_layer.new.into inv.tested grown c.args.source inv.least.1 in
-    let gradual = rw last at gradual_to in
-    let more = rw last at more_to in
+    let gradual =
+    gradual_more _ _ _ inv.least.0 _ _ _ _ _ inv.tested grown
+    (c.is_subset.ensures.0 c.if-not-is_subset.false) in
+    let more = shown_more _ _ _ inv.least.0 _ _ _ _ _ inv.tested grown c.args.source inv.least.1 in
     let whole =
-    tested_all c.args.n c.args.first c.args.source all c.args.table.now lists _ depth ahead ok gradual
-    more table depths in
+    tested_all c.args.n c.args.first c.args.source _ c.args.table.now lists _ depth
+    (all-from _ _ _ c.requires.from) (all-within _ _ _ c.requires.within) (rw last at gradual)
+    (rw last at more) table depths in
     rw (← count) (λ t. whole.0 (none.0 t), λ meets. none.1 (whole.1 meets))
 
 pub returns : goal.returns
 returns c lists depth table depths =
-    let inv = c.layers.invariant in
     let all : List (List ℕ) = map (λ layer. layer.items) c.args.layers.now in
-    let count : length all ≡ length c.args.layers.now = length-map c.args.layers.now (λ layer. layer.items) in
-    let empty : length all ≡ 0 = elim inv.last [
+    let count = length-map c.args.layers.now (λ layer. layer.items) in
+    let empty : length all ≡ 0 = elim c.layers.invariant.last [
       | inl none ↦ omega (arith, none, count, c.layers-test.false)
       | inr some ↦ absurd (omega (arith, some, count, c.layers-test.false))
     ] in
-    let ok = all-within (λ layer. layer.items) c.args.layers.now c.args.n c.requires.within in
-    let ahead = all-from (λ layer. layer.items) c.args.layers.now c.args.first c.requires.from in
     let whole =
-    tested_all c.args.n c.args.first c.args.source all c.args.table.now lists ⊥ depth ahead ok
+    tested_all c.args.n c.args.first c.args.source all c.args.table.now lists ⊥ depth
+    (all-from _ _ _ c.requires.from) (all-within _ _ _ c.requires.within)
     (λ j x y low. absurd (omega (arith, low, empty)))
     (λ no. absurd no, λ s. none_below all c.args.table.now c.args.source empty s) table depths in
     rw (← count) (λ _. whole.0 (λ no. no), λ _. refl)

@@ -1,6 +1,6 @@
 use Rattle.std.proofs.Common.{◌≡◌, ℕ, ◌+◌, ◌/◌, ◌<◌, ◌≤◌, ◌∙◌, ◌⊎◌, List, [], ◌∷◌, ◌++◌, Vec, Global, map}
 use Rattle.std.proofs.Common.{length, ap, sym, subst, arith}
-use Rattle.std.specs.Prelude.{◌↔◌, All, Contains}
+use Rattle.std.specs.Prelude.{◌↔◌, Contains}
 use Rattle.std.proofs.lemmas.List.{map-append}
 use Rattle.bit_tables.specs.Sets.{Has, room}
 use Rattle.bit_tables.specs.Lists.{row_of}
@@ -11,15 +11,13 @@ use Rattle.bit_tables.proofs.ways.layers_from.Goals as goal
 pub add_layer-requires : goal.add_layer-requires
 add_layer-requires c =
     let size : length c.loop-d.reached ≡ c.args.n / 64 + 1 = c.loop-d.invariant.reached_len in
-    subst (λ l. All (λ x. x < room c.loop-d.reached) l) (sym c.as_slice.ensures.value)
-    (those_all (λ x. Has c.loop-d.shown x × (¬ Has c.loop-d.reached x)) c.args.n
-    (room c.loop-d.reached) c.in_ok-layer.layer.items (omega arith) c.in_ok-layer.ensures)
+    rw c.as_slice.ensures.value
+    (those_all _ c.args.n (room c.loop-d.reached) _ (omega arith) c.in_ok-layer.ensures)
 
 pub add_unless_last-requires-clause-within : goal.add_unless_last-requires-clause-within
 add_unless_last-requires-clause-within c =
-    subst (λ l. All (λ x. x < length c.args.table.now) l) (sym c.as_slice-in-loop-d.ensures.value)
-    (those_all (λ x. Has c.loop-d.shown x × (¬ Has c.loop-d.reached x)) c.args.n
-    (length c.args.table.now) c.in_ok-layer.layer.items (omega arith) c.in_ok-layer.ensures)
+    rw c.as_slice-in-loop-d.ensures.value
+    (those_all _ c.args.n (length c.args.table.now) _ (omega arith) c.in_ok-layer.ensures)
 
 pub loop-d-preserved : goal.loop-d-preserved
 loop-d-preserved c =

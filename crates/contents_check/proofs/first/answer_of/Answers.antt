@@ -1,12 +1,12 @@
 -- What all replicas are found to be says what the recording is.
-use Rattle.std.proofs.Common.{◌≡◌, ◌==◌, List, sym, ◌∙◌, ap, subst}
+use Rattle.std.proofs.Common.{◌==◌, List, sym, ◌∙◌, ap, subst}
 use Rattle.std.specs.Cmp.Lexicographic.{pointwise}
 use Rattle.indexmap.specs.IndexMap.{get}
 use Rattle.events.specs.Names.{NameBytes}
 use Rattle.events.specs.Operations.{numbers_from, operation_names}
 use Rattle.specification.specs.Elements.{number_in}
 use Rattle.specification.specs.Elements as named
-use Rattle.element_numbers.specs.Covering.{Covers, IsNumbered}
+use Rattle.element_numbers.specs.Covering.{Covers}
 use Rattle.contents_check.specs.Covering.{IsWalked}
 use Rattle.contents_check.specs.Known.{element_names}
 use Rattle.element_numbers.specs.declared.covering.Covering.{Covering}

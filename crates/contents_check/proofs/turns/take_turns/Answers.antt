@@ -1,8 +1,8 @@
 -- One of the replicas goes on, or none does.
-use Rattle.std.proofs.Common.{◌<◌, ◌≤◌, ℕ, length, sym, ◌∙◌, ap, subst, arith}
+use Rattle.std.proofs.Common.{◌≤◌, ℕ, length, sym, ◌∙◌, ap, subst, arith}
 use Rattle.std.proofs.lemmas.List.{length-set}
 use Rattle.contents_check.specs.declared.turns.OnTheWay.{OnTheWay}
-use Rattle.contents_check.specs.Turns.{AreOnTheWay, IsOnTheWay}
+use Rattle.contents_check.specs.Turns.{AreOnTheWay}
 use Rattle.contents_check.proofs.InTurns.{way_at, one_goes_on}
 use Rattle.contents_check.proofs.turns.take_turns.Goals as goal
 use Rattle.contents_check.proofs.turns.take_turns.Goals.{then-k-end+in_ok-go_on+then-is_some}
@@ -10,14 +10,9 @@ use Rattle.contents_check.proofs.turns.take_turns.Goals.{then-k-end+in_ok-go_on+
 
 pub go_on-requires-clause-on_the_way : goal.go_on-requires-clause-on_the_way
 go_on-requires-clause-on_the_way c =
-    let h = c.args.recording.now in
-    let ways = c.loop-i.ways.items in
-    let way = c.index_mut-way.result.now in
-    let there : c.in-Some.k < length ways = omega (arith, c.if-k-end.true, c.loop-i.invariant.end) in
-    subst (λ (w : OnTheWay). IsOnTheWay h c.args.sight.now c.args.elements.now w)
-    (sym c.index_mut-way.ensures.value)
-    (way_at h c.args.sight.now c.args.elements.now c.args.replicas.now ways c.in-Some.k way there
-    c.loop-i.invariant.on_the_way)
+    way_at c.args.recording.now c.args.sight.now c.args.elements.now c.args.replicas.now c.loop-i.ways.items
+    c.in-Some.k c.index_mut-way.result.now (omega (arith, c.if-k-end.true, c.loop-i.invariant.end))
+    c.index_mut-way.ensures.value c.loop-i.invariant.on_the_way
 
 pub loop-i-preserved : goal.loop-i-preserved
 loop-i-preserved c =

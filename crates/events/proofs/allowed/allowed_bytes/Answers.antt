@@ -7,16 +7,20 @@ use Rattle.std.proofs.lemmas.List.Sums.{prefix_len-le-length}
 use Rattle.events.specs.Names.{is_name_byte}
 use Rattle.events.proofs.Prefixes.{stops-there, goes-on}
 use Rattle.events.proofs.allowed.allowed_bytes.Goals as goal
+use Rattle.events.proofs.allowed.allowed_bytes.Goals.{After-not_allowed-marks}
 
-pub returns-then-marks-ne0 : goal.returns-then-marks-ne0
-returns-then-marks-ne0 c =
-    let long : 16 ≤ length c.after.result.now =
+sixteen-left : (c : After-not_allowed-marks) → 16 ≤ length c.after.result.now
+sixteen-left c =
     omega (
       arith,
       ap length c.after.ensures,
       length-drop c.lanes.allowed c.args.bytes.now,
       c.lanes-test.true,
-    ) in
+    )
+
+pub returns-then-marks-ne0 : goal.returns-then-marks-ne0
+returns-then-marks-ne0 c =
+    let long = sixteen-left (goal.at.returns-then-marks-ne0 c).After-not_allowed-marks in
     ap (λ n. c.lanes.allowed + n)
     (stops-there is_name_byte c.after.result.now c.not_allowed-marks.result long
     c.not_allowed-marks.ensures c.if-marks-ne0.true ∙ ap (prefix_len is_name_byte) c.after.ensures)
@@ -24,13 +28,7 @@ returns-then-marks-ne0 c =
 
 pub lanes-preserved : goal.lanes-preserved
 lanes-preserved c =
-    let long : 16 ≤ length c.after.result.now =
-    omega (
-      arith,
-      ap length c.after.ensures,
-      length-drop c.lanes.allowed c.args.bytes.now,
-      c.lanes-test.true,
-    ) in
+    let long = sixteen-left (goal.at.lanes-preserved c).After-not_allowed-marks in
     let more : prefix_len is_name_byte c.after.result.now ≡ 16
     + prefix_len is_name_byte (drop 16 c.after.result.now) =
     goes-on is_name_byte c.after.result.now c.not_allowed-marks.result long c.not_allowed-marks.ensures

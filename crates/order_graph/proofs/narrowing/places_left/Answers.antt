@@ -5,7 +5,7 @@ use Rattle.std.proofs.lemmas.List.{map_push, take_more, take_all}
 use Rattle.element_numbers.specs.Cuts.{rows_of}
 use Rattle.order_graph.specs.Renumbered.{numbers_left}
 use Rattle.element_numbers.specs.declared.rows.Rows.{Rows}
-use Rattle.element_numbers.proofs.Cuts.{length-cut, row-ended}
+use Rattle.element_numbers.proofs.Cuts.{length-rows, row-ended}
 use Rattle.order_graph.proofs.narrowing.places_left.Goals as goal
 
 pub loop-list-preserved : goal.loop-list-preserved
@@ -15,7 +15,7 @@ loop-list-preserved c =
     let anew : List (Option ℕ) = c.args.anew.now in
     let k : ℕ = c.loop-list.list in
     let r : List ℕ = get_or rows k [] in
-    let within : k < length rows = omega (arith, length-cut 0 t.ends.items t.items.items) in
+    let within : k < length rows = omega (arith, length-rows t) in
     let old : Rows ℕ = c.loop-list.left in
     let new : Rows ℕ = c.end_row.new.self in
     let items : new.items.items ≡ old.items.items ++ numbers_left anew r = c.in_ok-end_row.ensures.items
@@ -34,5 +34,5 @@ pub returns-clause-rows : goal.returns-clause-rows
 returns-clause-rows c =
     let t : Rows ℕ = c.args.places.now in
     let rows : List (List ℕ) = rows_of t in
-    let all : length rows ≤ c.loop-list.list = omega (arith, length-cut 0 t.ends.items t.items.items) in
+    let all : length rows ≤ c.loop-list.list = omega (arith, length-rows t) in
     c.loop-list.invariant.rows ∙ ap (map (numbers_left c.args.anew.now)) (take_all c.loop-list.list rows all)

@@ -4,7 +4,7 @@ use Rattle.std.proofs.Common.{subst, arith, length-append}
 use Rattle.std.proofs.lemmas.List.{take_all}
 use Rattle.std.proofs.lemmas.Option.{slice_get_past}
 use Rattle.element_numbers.specs.Cuts.{rows_of}
-use Rattle.element_numbers.proofs.Cuts.{length-cut}
+use Rattle.element_numbers.proofs.Cuts.{length-rows}
 use Rattle.order_graph.specs.Lists.{row}
 use Rattle.order_graph.specs.Spots.{spots_in, spots_from, spots_of}
 use Rattle.order_graph.specs.declared.spot.Spot.{Spot}
@@ -13,8 +13,7 @@ use Rattle.order_graph.proofs.OneSpot.{spot-of_list}
 use Rattle.order_graph.proofs.spots.spot_among.Goals as goal
 
 pub overflow_cast-list : goal.overflow_cast-list
-overflow_cast-list c = let t =
-    c.args.places.now in omega (arith, length-cut 0 t.ends.items t.items.items, c.requires.few)
+overflow_cast-list c = omega (arith, length-rows c.args.places.now, c.requires.few)
 
 pub spot_in-requires : goal.spot_in-requires
 spot_in-requires c =
@@ -23,16 +22,9 @@ spot_in-requires c =
 
 pub returns-in-Ok : goal.returns-in-Ok
 returns-in-Ok c =
-    let t = c.args.places.now in
-    let rows : List (List ℕ) = rows_of t in
+    let rows : List (List ℕ) = rows_of c.args.places.now in
     let l : ℕ = c.loop-list.list in
-    let within : l < length rows =
-    omega (
-      arith,
-      length-cut 0 t.ends.items t.items.items,
-      c.loop-list-test.true,
-      c.len-list-end.ensures,
-    ) in
+    let within : l < length rows = omega (arith, length-rows c.args.places.now) in
     let got : slice_get (spots_in l 0 (row rows l) c.args.x) c.loop-list.left ≡ Some c.in-Ok.spot =
     subst (λ (r : List ℕ). slice_get (spots_in l 0 r c.args.x) c.loop-list.left ≡ Some c.in-Ok.spot)
     c.row.ensures c.in-Ok.ensures in
@@ -41,17 +33,10 @@ returns-in-Ok c =
 
 pub loop-list-preserved : goal.loop-list-preserved
 loop-list-preserved c =
-    let t = c.args.places.now in
-    let rows : List (List ℕ) = rows_of t in
+    let rows : List (List ℕ) = rows_of c.args.places.now in
     let l : ℕ = c.loop-list.list in
     let x : ℕ = c.args.x in
-    let within : l < length rows =
-    omega (
-      arith,
-      length-cut 0 t.ends.items t.items.items,
-      c.loop-list-test.true,
-      c.len-list-end.ensures,
-    ) in
+    let within : l < length rows = omega (arith, length-rows c.args.places.now) in
     let left : c.loop-list.left ≡ length (spots_in l 0 (row rows l) x) + c.in-Err.more =
     subst (λ (r : List ℕ). c.loop-list.left ≡ length (spots_in l 0 r x) + c.in-Err.more) c.row.ensures
     c.in-Err.ensures in
@@ -63,16 +48,9 @@ loop-list-preserved c =
 
 pub returns : goal.returns
 returns c =
-    let t = c.args.places.now in
-    let rows : List (List ℕ) = rows_of t in
+    let rows : List (List ℕ) = rows_of c.args.places.now in
     let x : ℕ = c.args.x in
-    let all : length rows ≤ c.loop-list.list =
-    omega (
-      arith,
-      length-cut 0 t.ends.items t.items.items,
-      c.loop-list-test.false,
-      c.len-list-end.ensures,
-    ) in
+    let all : length rows ≤ c.loop-list.list = omega (arith, length-rows c.args.places.now) in
     let whole : length (spots_from 0 (take c.loop-list.list rows) x) ≡ length (spots_of rows x) =
     ap (λ (rs : List (List ℕ)). length (spots_from 0 rs x)) (take_all c.loop-list.list rows all) in
     sym (slice_get_past (spots_of rows x) c.args.i (omega (arith, whole, c.loop-list.invariant)))

@@ -1,4 +1,4 @@
-use Rattle.std.proofs.Common.{◌≡◌, ◌++◌, ◌/◌, length, take, drop, arith}
+use Rattle.std.proofs.Common.{◌∙◌, ◌/◌}
 use Rattle.std.proofs.lemmas.List.{take_at}
 use Rattle.bit_tables.proofs.SetLemmas.{Has-zero}
 use Rattle.bit_tables.proofs.bits.BitSet.clear.Goals as goal
@@ -6,7 +6,5 @@ use Rattle.bit_tables.proofs.bits.BitSet.clear.Goals as goal
 pub returns-clause-empty : goal.returns-clause-empty
 returns-clause-empty c =
     let new = c.empty.new.words in
-    let old = c.self.inside.words.items in
-    let whole : take c.self.inside.words.len (new ++ drop (length new) old) ≡ new =
-    take_at new _ _ (omega (arith, c.empty.ensures.len, c.deref_mut.ensures.len)) in
-    rw whole (λ x. Has-zero new x (c.empty.ensures.zero (x / 64)))
+    rw (take_at new _ _ (c.empty.ensures.len ∙ c.deref_mut.ensures.len))
+    (λ x. Has-zero new x (c.empty.ensures.zero (x / 64)))

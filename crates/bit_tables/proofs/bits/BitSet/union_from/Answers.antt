@@ -1,4 +1,4 @@
-use Rattle.std.proofs.Common.{◌≡◌, ◌++◌, length, take, drop, arith}
+use Rattle.std.proofs.Common.{◌∙◌}
 use Rattle.std.proofs.lemmas.List.{take_at}
 use Rattle.bit_tables.proofs.SetLemmas.{Has-or_words}
 use Rattle.bit_tables.proofs.bits.BitSet.union_from.Goals as goal
@@ -6,11 +6,8 @@ use Rattle.bit_tables.proofs.bits.BitSet.union_from.Goals as goal
 pub returns-clause-has : goal.returns-clause-has
 returns-clause-has c =
     let new = c.or_words.new.into in
-    let old = c.self.inside.words.items in
-    let whole : take c.self.inside.words.len (new ++ drop (length new) old) ≡ new =
-    take_at new _ _ (omega (arith, c.or_words.ensures.len, c.deref_mut.ensures.len)) in
     let joined = rw (c.deref_mut.ensures.value, c.deref.ensures.value) at c.or_words.ensures.joined in
     let same = rw (c.deref_mut.ensures.value) at c.or_words.ensures.len in
     let alike = rw (← c.self.view_is, ← c.other.view_is) at c.requires in
-    rw (whole, ← c.self.view_is, ← c.other.view_is)
-    (Has-or_words old new c.other.inside.words.items c.args.first alike same joined)
+    rw (take_at new _ _ (c.or_words.ensures.len ∙ c.deref_mut.ensures.len), ← c.self.view_is, ← c.other.view_is)
+    (Has-or_words c.self.inside.words.items new c.other.inside.words.items c.args.first alike same joined)

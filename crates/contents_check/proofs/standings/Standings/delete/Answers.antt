@@ -1,7 +1,6 @@
 -- A delete writes one standing, and what is missing or too many differs by that one.
 use Rattle.std.proofs.Common.{true, refl, rules, arith}
 use Rattle.std.proofs.lemmas.Grind.{common_steps}
-use Rattle.events.proofs.Places.{slice_get-within}
 use Rattle.contents_check.specs.declared.standings.Standing.{Standing}
 use Rattle.contents_check.proofs.Changed.{each_written}
 use Rattle.contents_check.proofs.standings.Standings.delete.Goals as goal
@@ -13,7 +12,5 @@ returns c = record {
   missing = grind (arith, common_steps);
   extra = grind (arith, common_steps);
   each = each_written (λ (y : Standing). record { inserted = y.inserted; deleted = true; shown = y.shown })
-      c.args.self.now.list.items c.args.number c.index_mut.result.now
-      (slice_get-within c.args.self.now.list.items c.args.number _ c.requires.within
-      c.index_mut.ensures.value);
+      _ _ _ c.requires.within c.index_mut.ensures.value;
 }

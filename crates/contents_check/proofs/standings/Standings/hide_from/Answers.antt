@@ -10,7 +10,6 @@ hide-requires-clause-known c =
 
 pub loop-k-preserved : goal.loop-k-preserved
 loop-k-preserved c = record {
-  notes = notes-on c.args.elements.now c.args.self.now c.loop-k.self c.hide.new.self c.loop-k.invariant.notes
-      c.hide.ensures.notes;
+  notes = notes-on c.loop-k.invariant.notes c.hide.ensures.notes;
   shown = λ front just. c.hide.ensures.shown front (c.loop-k.invariant.shown front just);
 }

@@ -1,7 +1,6 @@
 -- A note writes one standing, and what is missing or too many differs by that one.
 use Rattle.std.proofs.Common.{refl, rules, arith}
 use Rattle.std.proofs.lemmas.Grind.{common_steps}
-use Rattle.events.proofs.Places.{slice_get-within}
 use Rattle.contents_check.specs.declared.standings.Standing.{Standing}
 use Rattle.contents_check.proofs.Changed.{each_written}
 use Rattle.contents_check.proofs.standings.Standings.note.Goals as goal
@@ -16,7 +15,5 @@ returns c = record {
     inserted = y.inserted;
     deleted = y.deleted;
     shown = c.args.shown;
-  }) c.args.self.now.list.items c.args.number c.index_mut.result.now
-      (slice_get-within c.args.self.now.list.items c.args.number _ c.requires.within
-      c.index_mut.ensures.value);
+  }) _ _ _ c.requires.within c.index_mut.ensures.value;
 }

@@ -8,37 +8,25 @@ use Rattle.contents_check.proofs.standings.Standings.shows_live.Goals as goal
 
 pub returns-in-Wrong-clause-shows : goal.returns-in-Wrong-clause-shows
 returns-in-Wrong-clause-shows c = λ shows.
-    wrong-of _ c.args.elements.now c.args.last.now c.args.w.now c.show.new.self c.show.new.next.items
-    c.in_ok-shown.shown c.in-Wrong.is c.in_ok-shown.ensures.shows
+    wrong-of _ _ _ _ _ _ c.in_ok-shown.shown c.in-Wrong.is c.in_ok-shown.ensures.shows
     (shows_known c.args.elements.now c.requires.numbers c.show.new.self c.in_ok-shown.ensures.notes.fits
     c.args.w.now (IsView c.args.recording.now c.args.e) shows)
 
-pub returns-then-has_what_it_must : goal.returns-then-has_what_it_must
-returns-then-has_what_it_must c =
+pub returns-then-has_what_it_must-clause-shows : goal.returns-then-has_what_it_must-clause-shows
+returns-then-has_what_it_must-clause-shows c =
     let noted =
-    noted-of _ c.args.elements.now c.args.last.now c.args.w.now c.show.new.self c.show.new.next.items
-    c.in_ok-shown.shown c.in_default.not-Wrong c.in_ok-shown.ensures.shows in
-    record {
-      counts = c.in_ok-shown.ensures.notes.counts;
-      behind = c.in_ok-shown.ensures.notes.behind;
-      shows = showing-of _ _ c.args.elements.now c.args.last.now c.args.w.now c.show.new.self
-          c.show.new.next.items c.in_ok-shown.shown c.in_default.not-Wrong c.in_ok-shown.ensures.shows
-          (shows_live c.args.elements.now c.requires.numbers c.show.new.self c.in_ok-shown.ensures.notes.fits
-          c.args.w.now (IsView c.args.recording.now c.args.e) noted.just
-          (c.has_what_it_must.ensures.0 c.if-has_what_it_must.true));
-    }
+    noted-of _ _ _ _ _ _ c.in_ok-shown.shown c.in_default.not-Wrong c.in_ok-shown.ensures.shows in
+    showing-of _ _ _ _ _ _ _ c.in_ok-shown.shown c.in_default.not-Wrong c.in_ok-shown.ensures.shows
+    (shows_live c.args.elements.now c.requires.numbers c.show.new.self c.in_ok-shown.ensures.notes.fits
+    c.args.w.now (IsView c.args.recording.now c.args.e) noted.just
+    (c.has_what_it_must.ensures.0 c.if-has_what_it_must.true))
 
-pub returns-else-has_what_it_must : goal.returns-else-has_what_it_must
-returns-else-has_what_it_must c =
+pub returns-else-has_what_it_must-clause-shows : goal.returns-else-has_what_it_must-clause-shows
+returns-else-has_what_it_must-clause-shows c = λ shows.
     let noted =
-    noted-of _ c.args.elements.now c.args.last.now c.args.w.now c.show.new.self c.show.new.next.items
-    c.in_ok-shown.shown c.in_default.not-Wrong c.in_ok-shown.ensures.shows in
-    record {
-      counts = c.in_ok-shown.ensures.notes.counts;
-      behind = c.in_ok-shown.ensures.notes.behind;
-      shows = λ shows. false≢true (sym c.if-has_what_it_must.false
-          ∙ c.has_what_it_must.ensures.1
-          (has_what_it_must c.args.elements.now c.requires.numbers c.show.new.self
-          c.in_ok-shown.ensures.notes.fits c.args.w.now (IsView c.args.recording.now c.args.e) noted.just
-          shows));
-    }
+    noted-of _ _ _ _ _ _ c.in_ok-shown.shown c.in_default.not-Wrong c.in_ok-shown.ensures.shows in
+    false≢true (sym c.if-has_what_it_must.false
+    ∙ c.has_what_it_must.ensures.1
+    (has_what_it_must c.args.elements.now c.requires.numbers c.show.new.self
+    c.in_ok-shown.ensures.notes.fits c.args.w.now (IsView c.args.recording.now c.args.e) noted.just
+    shows))

@@ -4,7 +4,7 @@ use Rattle.std.proofs.lemmas.Grind.{common_steps}
 use Rattle.std.proofs.lemmas.List.{get_or_past}
 use Rattle.std.proofs.lemmas.Option.{gets}
 use Rattle.element_numbers.specs.Cuts.{cut, begin_of}
-use Rattle.element_numbers.proofs.Cuts.{Lies, row-lies, length-cut}
+use Rattle.element_numbers.proofs.Cuts.{Lies, row-lies, length-rows}
 use Rattle.element_numbers.proofs.rows.Rows.bounds.Goals as goal
 
 pub returns-in-None : goal.returns-in-None
@@ -15,7 +15,7 @@ returns-in-None g c =
       rising = omega arith;
       within = omega arith;
       row = get_or_past (cut 0 t.ends.items t.items.items) c.args.number []
-          (omega (arith, length-cut 0 t.ends.items t.items.items));
+          (omega (arith, length-rows t));
     }
 
 pub returns-in-Some : goal.returns-in-Some

@@ -11,28 +11,15 @@ longest-in : (text : List ℕ) (names others : List NameBytes) (n bytes : ℕ) �
     → IsLongestRun text names n bytes → IsLongestRun (spaced others) names n bytes
 longest-in text names others n bytes is h = subst (λ t. IsLongestRun t names n bytes) is h
 
-pub returns-clause-within : goal.returns-clause-within
-returns-clause-within c =
-    let longest =
-    longest-in c.text_from.result.now (drop c.args.i c.args.self.now) (drop c.args.j c.args.other.now)
-    c.run_in.result.names c.run_in.result.bytes c.text_from.ensures.text c.run_in.ensures.longest in (
-      longest.within,
-      others-within _ _ (All-drop IsName c.args.i c.args.self.now c.run_in.ensures.names)
-          (All-drop IsName c.args.j c.args.other.now c.text_from.ensures.names) _ _ longest,
-    )
-
-pub returns-clause-same : goal.returns-clause-same
-returns-clause-same c =
+pub returns : goal.returns
+returns c =
     let longest =
     longest-in c.text_from.result.now (drop c.args.i c.args.self.now) (drop c.args.j c.args.other.now)
     c.run_in.result.names c.run_in.result.bytes c.text_from.ensures.text c.run_in.ensures.longest in
-    fronts _ _ (All-drop IsName c.args.i c.args.self.now c.run_in.ensures.names)
-    (All-drop IsName c.args.j c.args.other.now c.text_from.ensures.names) _ _ longest
-
-pub returns-clause-most : goal.returns-clause-most
-returns-clause-most c =
-    let longest =
-    longest-in c.text_from.result.now (drop c.args.i c.args.self.now) (drop c.args.j c.args.other.now)
-    c.run_in.result.names c.run_in.result.bytes c.text_from.ensures.text c.run_in.ensures.longest in
-    none-more _ _ (All-drop IsName c.args.i c.args.self.now c.run_in.ensures.names)
-    (All-drop IsName c.args.j c.args.other.now c.text_from.ensures.names) _ _ longest
+    let named = All-drop IsName c.args.i c.args.self.now c.run_in.ensures.names in
+    let others_named = All-drop IsName c.args.j c.args.other.now c.text_from.ensures.names in
+    record {
+      within = (longest.within, others-within _ _ named others_named _ _ longest);
+      same = fronts _ _ named others_named _ _ longest;
+      most = none-more _ _ named others_named _ _ longest;
+    }

@@ -1,6 +1,6 @@
 -- So many names end where the text is still the same, or one less.
 use Rattle.std.proofs.Common.{◌≡◌, ◌≢◌, refl, ◌∙◌, ℕ, zero, suc, ◌+◌, ◌-◌, ◌<◌, ◌≤◌, ◌⊎◌, inl, inr, true}
-use Rattle.std.proofs.Common.{false, List, length, take, get_or, slice_get, slice_index, Some, sym, ap, subst}
+use Rattle.std.proofs.Common.{false, List, length, take, get_or, slice_get, Some, sym, ap}
 use Rattle.std.proofs.Common.{arith}
 use Rattle.std.proofs.lemmas.Option.{slice_get-get_or}
 use Rattle.events.specs.Names.{NameBytes}
@@ -8,26 +8,29 @@ use Rattle.events.specs.Packed.{spaced, ends_of}
 use Rattle.events.specs.Runs.{IsLongestRun, may_follow}
 use Rattle.events.proofs.Runs.{size, size-rises, ends-length, ends-index, all-of-them, one-less}
 use Rattle.events.proofs.response.runs.longest_run.Goals as goal
+use Rattle.events.proofs.response.runs.longest_run.Goals.{After-bytes_until-bytes}
 use Rattle.events.proofs.response.runs.longest_run.Goals.{then-names-eq0-via-then-names-eq0}
 use Rattle.events.proofs.response.runs.longest_run.Goals.{then-names-eq0-via-else-names-eq0+then-ends_word}
 
-module _ (text bytes ends : List ℕ) (from equal n : ℕ) (names : List NameBytes)
-    (bytes_are : bytes ≡ spaced names) (ends_are : ends ≡ ends_of from names)
-    (equal_bytes : take equal text ≡ take equal bytes) (other_bytes : (x : ℕ) → slice_get text equal ≡ Some x
-    → slice_get bytes equal ≡ Some x → ⊥)
-    (ends_within : n ≤ length ends) (ends_low : (k : ℕ) → k < n → slice_index ends k ≤ from + equal)
-    (ends_most : (x : ℕ) → slice_get ends n ≡ Some x → from + equal < x) where
-  count : length ends ≡ length names
-  count = ap length ends_are ∙ ends-length from names
+module _ (c : After-bytes_until-bytes) (names : List NameBytes) (bytes_are : c.args.bytes.now ≡ spaced names)
+    (ends_are : c.args.ends.now ≡ ends_of c.args.from names) where
+  abbrev n : ℕ
+  n = c.ends_within-names.result
+
+  abbrev equal : ℕ
+  equal = c.same_bytes.result
+
+  count : length c.args.ends.now ≡ length names
+  count = ap length ends_are ∙ ends-length c.args.from names
 
   within : n ≤ length names
-  within = omega (arith, count, ends_within)
+  within = omega (arith, count, c.ends_within-names.ensures.within)
 
-  same : take equal text ≡ take equal (spaced names)
-  same = equal_bytes ∙ ap (take equal) bytes_are
+  same : take equal c.args.text.now ≡ take equal (spaced names)
+  same = c.same_bytes.ensures.same ∙ ap (take equal) bytes_are
 
-  differ : (x : ℕ) → slice_get text equal ≡ Some x → slice_get (spaced names) equal ≡ Some x → ⊥
-  differ x here there = other_bytes x here (ap (λ l. slice_get l equal) bytes_are ∙ there)
+  differ : (x : ℕ) → slice_get c.args.text.now equal ≡ Some x → slice_get (spaced names) equal ≡ Some x → ⊥
+  differ x here there = c.same_bytes.ensures.most x here (ap (λ l. slice_get l equal) bytes_are ∙ there)
 
   low : size names n ≤ equal
   low = go n refl
@@ -35,31 +38,29 @@ module _ (text bytes ends : List ℕ) (from equal n : ℕ) (names : List NameByt
       go : (k : ℕ) → k ≡ n → size names k ≤ equal
       go zero is = omega arith
       go (suc k) is =
-          let end : get_or ends k 0 ≡ from + size names (suc k) =
-          ap (λ l. get_or l k 0) ends_are ∙ ends-index from names k 0 (omega (arith, is, within)) in
-          omega (arith, end, ends_low k (omega (arith, is)))
+          let end : get_or c.args.ends.now k 0 ≡ c.args.from + size names (suc k) =
+          ap (λ l. get_or l k 0) ends_are ∙ ends-index c.args.from names k 0 (omega (arith, is, within)) in
+          omega (arith, end, c.ends_within-names.ensures.low k (omega (arith, is)))
 
   high : n < length names → equal < size names (suc n)
   high some =
-      let end : get_or ends n 0 ≡ from + size names (suc n) =
-      ap (λ l. get_or l n 0) ends_are ∙ ends-index from names n 0 some in
-      let there : slice_get ends n ≡ Some (get_or ends n 0) =
-      slice_get-get_or ends n 0 (omega (arith, some, count)) in
-      omega (arith, end, ends_most (get_or ends n 0) there)
+      let end : get_or c.args.ends.now n 0 ≡ c.args.from + size names (suc n) =
+      ap (λ l. get_or l n 0) ends_are ∙ ends-index c.args.from names n 0 some in
+      let there : slice_get c.args.ends.now n ≡ Some (get_or c.args.ends.now n 0) =
+      slice_get-get_or c.args.ends.now n 0 (omega (arith, some, count)) in
+      omega (arith, end, c.ends_within-names.ensures.most (get_or c.args.ends.now n 0) there)
 
-  whole : (b : ℕ) → b ≡ size names n → (n ≡ 0) ⊎ (may_follow (slice_get text b) ≡ true)
-      → IsLongestRun text names n b
-  whole b is follows =
-      subst (IsLongestRun text names n) (sym is)
-      (all-of-them text names equal same differ n within low high
-      (subst (λ x. (n ≡ 0) ⊎ (may_follow (slice_get text x) ≡ true)) is follows))
+  whole : (n ≡ 0) ⊎ (may_follow (slice_get c.args.text.now c.bytes_until-bytes.result) ≡ true)
+      → IsLongestRun c.args.text.now names n c.bytes_until-bytes.result
+  whole = all-of-them c.args.text.now names equal same differ n within low high c.bytes_until-bytes.result
+      (c.bytes_until-bytes.ensures names ends_are)
 
-  less : (b short : ℕ) → b ≡ size names n → short ≡ size names (n - 1) → n ≢ 0
-      → may_follow (slice_get text b) ≡ false → IsLongestRun text names (n - 1) short
-  less b short is short_is some follows =
-      subst (IsLongestRun text names (n - 1)) (sym short_is)
-      (one-less text names equal same differ n within low high (omega (arith, some))
-      (subst (λ x. may_follow (slice_get text x) ≡ false) is follows))
+  less : (short : ℕ) → short ≡ size names (n - 1) → n ≢ 0
+      → may_follow (slice_get c.args.text.now c.bytes_until-bytes.result) ≡ false
+      → IsLongestRun c.args.text.now names (n - 1) short
+  less short short_is some = one-less c.args.text.now names equal same differ n within low high
+      c.bytes_until-bytes.result short (c.bytes_until-bytes.ensures names ends_are) short_is
+      (omega (arith, some))
 
 pub ends_within-names-requires : goal.ends_within-names-requires
 ends_within-names-requires c =
@@ -77,11 +78,7 @@ ends_within-names-requires c =
 
 pub returns-then-names-eq0 : goal.returns-then-names-eq0
 returns-then-names-eq0 c = λ names bytes_are ends_are.
-    whole c.args.text.now c.args.bytes.now c.args.ends.now c.args.from c.same_bytes.result
-    c.ends_within-names.result names bytes_are ends_are c.same_bytes.ensures.same
-    c.same_bytes.ensures.most
-    c.ends_within-names.ensures.within c.ends_within-names.ensures.low c.ends_within-names.ensures.most
-    c.bytes_until-bytes.result (c.bytes_until-bytes.ensures names ends_are)
+    whole (goal.at.returns-then-names-eq0 c).After-bytes_until-bytes names bytes_are ends_are
     (elim c.then-names-eq0.branch [
       | then-names-eq0-via-then-names-eq0 w ↦ inl w.if-names-eq0.true
       | then-names-eq0-via-else-names-eq0+then-ends_word w ↦
@@ -90,10 +87,6 @@ returns-then-names-eq0 c = λ names bytes_are ends_are.
 
 pub returns : goal.returns
 returns c = λ names bytes_are ends_are.
-    less c.args.text.now c.args.bytes.now c.args.ends.now c.args.from c.same_bytes.result
-    c.ends_within-names.result names bytes_are ends_are c.same_bytes.ensures.same
-    c.same_bytes.ensures.most
-    c.ends_within-names.ensures.within c.ends_within-names.ensures.low c.ends_within-names.ensures.most
-    c.bytes_until-bytes.result c.bytes_until.result
-    (c.bytes_until-bytes.ensures names ends_are) (c.bytes_until.ensures names ends_are) c.if-names-eq0.false
+    less (goal.at.returns c).After-bytes_until-bytes names bytes_are ends_are c.bytes_until.result
+    (c.bytes_until.ensures names ends_are) c.if-names-eq0.false
     (sym c.ends_word.ensures ∙ c.if-ends_word.false)

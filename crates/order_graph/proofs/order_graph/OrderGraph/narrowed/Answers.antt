@@ -13,6 +13,7 @@ use Rattle.order_graph.specs.Kept.{names_at, responses_kept, AreListed}
 use Rattle.order_graph.specs.Lists.{row}
 use Rattle.order_graph.specs.Renumbered.{numbers_left}
 use Rattle.order_graph.proofs.Renumbered.{AreLeft, whole-known, are-left}
+use Rattle.order_graph.proofs.order_graph.OrderGraph.narrowed.Goals.{After-deref-2, In_ok-shown}
 use Rattle.order_graph.proofs.order_graph.OrderGraph.narrowed.Goals as goal
 
 -- the clauses speak of what is lent
@@ -53,6 +54,23 @@ left-lent names lent lent_again among kept shown lent_shown copied places fewer 
     listed.count rising (known-in whole w kept view_is known)
     (lent-names names lent among kept e among_is) rows_left))
 
+kept-known : (c : After-deref-2) → All (λ x. x < length c.self.inside.names.items) c.args.kept.now
+kept-known c =
+    let g = c.self.inside in
+    known-in (responses_kept g.names.items g.shown.items (rows_of g.places)) c.args.self.now
+    c.args.kept.now c.self.view_is c.requires.known
+
+are-lent : (c : In_ok-shown) → AreLeft c.args.self.now (names_at c.args.self.now.elements c.args.kept.now)
+    c.in_ok-names.names.items c.in_ok-shown.shown.items (rows_of c.in_ok-places.places)
+are-lent c =
+    let g = c.self.inside in
+    left-lent g.names.items c.deref.result.now c.deref-2.result.now c.in_ok-names.names.items
+    c.args.kept.now g.shown.items c.as_slice.result.now c.in_ok-shown.shown.items g.places
+    (rows_of c.in_ok-places.places) c.in_ok-anew.anew.items c.deref-3.result.now c.args.self.now
+    c.self.invariant.listed c.requires.rising c.self.view_is c.requires.known c.deref.ensures.value
+    c.in_ok-names.ensures c.deref-2.ensures.value c.deref-3.ensures.value c.in_ok-anew.ensures
+    c.in_ok-places.ensures.rows c.as_slice.ensures.value c.in_ok-shown.ensures.items
+
 pub new_numbers-requires-clause-distinct : goal.new_numbers-requires-clause-distinct
 new_numbers-requires-clause-distinct c =
     subst (λ (l : List NameBytes). AllPairs (λ a b. a ≢ b) l)
@@ -68,19 +86,14 @@ new_numbers-requires-clause-few c =
 
 pub new_numbers-requires-clause-known : goal.new_numbers-requires-clause-known
 new_numbers-requires-clause-known c =
-    let g = c.self.inside in
-    let known =
-    known-in (responses_kept g.names.items g.shown.items (rows_of g.places)) c.args.self.now
-    c.args.kept.now c.self.view_is c.requires.known in
+    let known = kept-known c in
     subst (λ (l : List NameBytes). All (λ x. x < length l) c.args.kept.now)
     (sym c.deref-2.ensures.value) known
 
 pub places_left-requires-clause-known : goal.places_left-requires-clause-known
 places_left-requires-clause-known c =
     let g = c.self.inside in
-    let known =
-    known-in (responses_kept g.names.items g.shown.items (rows_of g.places)) c.args.self.now
-    c.args.kept.now c.self.view_is c.requires.known in
+    let known = kept-known (goal.at.places_left-requires-clause-known c).After-deref-2 in
     let among_is =
     lent-names g.names.items c.deref.result.now c.in_ok-names.names.items c.args.kept.now
     c.deref.ensures.value c.in_ok-names.ensures in
@@ -100,14 +113,7 @@ places_left-requires-clause-known c =
 
 pub with_spots-requires : goal.with_spots-requires
 with_spots-requires c =
-    let g = c.self.inside in
-    let left =
-    left-lent g.names.items c.deref.result.now c.deref-2.result.now c.in_ok-names.names.items
-    c.args.kept.now g.shown.items c.as_slice.result.now c.in_ok-shown.shown.items g.places
-    (rows_of c.in_ok-places.places) c.in_ok-anew.anew.items c.deref-3.result.now c.args.self.now
-    c.self.invariant.listed c.requires.rising c.self.view_is c.requires.known c.deref.ensures.value
-    c.in_ok-names.ensures c.deref-2.ensures.value c.deref-3.ensures.value c.in_ok-anew.ensures
-    c.in_ok-places.ensures.rows c.as_slice.ensures.value c.in_ok-shown.ensures.items in
+    let left = are-lent (goal.at.with_spots-requires c).In_ok-shown in
     record {
       proper = left.proper;
       few = left.few;
@@ -118,12 +124,5 @@ with_spots-requires c =
 
 pub returns : goal.returns
 returns c =
-    let g = c.self.inside in
-    let left =
-    left-lent g.names.items c.deref.result.now c.deref-2.result.now c.in_ok-names.names.items
-    c.args.kept.now g.shown.items c.as_slice.result.now c.in_ok-shown.shown.items g.places
-    (rows_of c.in_ok-places.places) c.in_ok-anew.anew.items c.deref-3.result.now c.args.self.now
-    c.self.invariant.listed c.requires.rising c.self.view_is c.requires.known c.deref.ensures.value
-    c.in_ok-names.ensures c.deref-2.ensures.value c.deref-3.ensures.value c.in_ok-anew.ensures
-    c.in_ok-places.ensures.rows c.as_slice.ensures.value c.in_ok-shown.ensures.items in
+    let left = are-lent (goal.at.returns c).In_ok-shown in
     IfOk-weaker c.with_spots.result _ _ (λ w is. is ∙ left.narrowed_is) c.with_spots.ensures
