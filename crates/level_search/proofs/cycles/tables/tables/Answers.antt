@@ -8,19 +8,14 @@ use Rattle.list_search.specs.Rings.{IsTable, IsTableOf}
 use Rattle.level_search.proofs.TableRows.{bits_of, push_before, push_last, last_table}
 use Rattle.level_search.proofs.cycles.tables.tables.Goals as goal
 
-pub next_table-requires-clause-table : goal.next_table-requires-clause-table
-next_table-requires-clause-table c =
-    (last_table (IsTableOf (graph_of c.args.graph.now) c.args.z) c.loop-n.n c.loop-n.all.items
+pub next_table-requires : goal.next_table-requires
+next_table-requires c =
+    let last =
+    last_table (IsTableOf (graph_of c.args.graph.now) c.args.z) c.loop-n.n c.loop-n.all.items
     c.index.result.now c.as_slice.result.now (omega (arith, c.loop-n.auto.n))
     (omega (arith, c.loop-n.invariant.count, c.loop-n.all.ok)) c.loop-n.invariant.tables c.index.ensures
-    c.as_slice.ensures.value).table_is
-
-pub next_table-requires-clause-count : goal.next_table-requires-clause-count
-next_table-requires-clause-count c =
-    (last_table (IsTableOf (graph_of c.args.graph.now) c.args.z) c.loop-n.n c.loop-n.all.items
-    c.index.result.now c.as_slice.result.now (omega (arith, c.loop-n.auto.n))
-    (omega (arith, c.loop-n.invariant.count, c.loop-n.all.ok)) c.loop-n.invariant.tables c.index.ensures
-    c.as_slice.ensures.value).count
+    c.as_slice.ensures.value in
+    record { table = last.table_is; count = last.count }
 
 pub loop-n-preserved : goal.loop-n-preserved
 loop-n-preserved c =
