@@ -29,24 +29,17 @@ gathered-first-requires g c =
 
 pub returns-clause-looked : goal.returns-clause-looked
 returns-clause-looked g c =
-    let n : ℕ = length c.args.graph.now.elements in
-    let rows : List (List ℕ) = lists_of c.args.graph.now in
     let found = c.in_ok-sources.ensures in
-    let sources : List ℕ = c.in_ok-sources.sources.items in
-    let seat : SeatView = c.gathered-first.result.0 in
     let looks = c.gathered-first.ensures.looked in
     record {
-      sources = sources;
+      sources = c.in_ok-sources.sources.items;
       known = found.known;
       few = found.count;
       met = found.met;
-      places = seat.claimed;
-      once = subst (λ (s : List ℕ). IsPermutation (range_with_len 0 (length s)) seat.claimed)
-          c.deref-4.ensures.value c.closed.ensures.claimed;
+      places = c.gathered-first.result.0.claimed;
+      once = rw c.deref-4.ensures.value at c.closed.ensures.claimed;
       count = looks.0;
       counts =
-          counts-lower n rows seat.low c.closed.result sources seat.claimed looks.0 c.closed.ensures.low
-          (subst (λ (s : List ℕ). AreCountsAt n rows seat.low s seat.claimed looks.0) c.deref-3.ensures.value
-          looks.1);
+          counts-lower _ _ _ _ _ _ looks.0 c.closed.ensures.low (rw c.deref-3.ensures.value at looks.1);
       looked_is = looks.2;
     }
