@@ -55,13 +55,6 @@ layer-gap sets from (suc x) le none = elim (cases_lt x from) [
       )
 ]
 
--- one element more after a gap
-pub layer-next : (sets : Sets) (from x : ℕ) → from ≤ x → ((y : ℕ) → from ≤ y → y < x → Has sets.reached y
-    → Has sets.near y) → Has sets.reached x → ¬ Has sets.near x
-    → layer_size (x + 1) sets ≡ layer_size from sets + 1
-layer-next sets from x le none reached not_near =
-    omega (arith, layer-gap sets from x le none, layer-more sets x reached not_near)
-
 pub layer-up : (sets : Sets) (m n : ℕ) → m ≤ n → layer_size m sets ≤ layer_size n sets
 layer-up sets m zero le = let e : m ≡ zero = omega (arith, le) in omega (arith, ap (λ k. layer_size k sets) e)
 layer-up sets m (suc n) le = elim (cases_lt n m) [
@@ -112,7 +105,15 @@ near-none (suc n) set none = omega (arith, near-none n set none, bit-not set n (
 pub counted-next : (k next old : ℕ) → next ≡ k + 1 → ticked (counted k old) ≡ counted next old
 counted-next k next old is = ap (λ n. counted n old) (sym (is ∙ add-one k))
 
--- so many looks, and then so many more
+-- one look more, at the next element of the layer after a gap
+pub looked-next : (sets : Sets) (from x old was new : ℕ) → from ≤ x
+    → ((y : ℕ) → from ≤ y → y < x → Has sets.reached y → Has sets.near y)
+    → Has sets.reached x → ¬ Has sets.near x → was ≡ counted (layer_size from sets) old → new ≡ ticked was
+    → new ≡ counted (layer_size (x + 1) sets) old
+looked-next sets from x old was new le none reached not_near looked more =
+    more ∙ ap ticked looked ∙ counted-next _ _ old
+    (omega (arith, layer-gap sets from x le none, layer-more sets x reached not_near))
+
 pub counted-plus : (m n old : ℕ) → counted m (counted n old) ≡ counted (n + m) old
 counted-plus zero n old = let e : n ≡ n + zero = omega arith in ap (λ k. counted k old) e
 counted-plus (suc m) n old =
