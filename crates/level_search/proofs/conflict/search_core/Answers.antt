@@ -25,7 +25,5 @@ returns-clause-least g c =
       table = c.in_ok-table.ensures;
       least = c.in_ok-searched.ensures.least;
       looked = c.in_ok-searched.ensures.looked;
-      few = within-searches v (length whole.elements) (lists_of whole) c.in_ok-searched.searched.least
-          c.in_ok-searched.searched.looked (subst (λ n. n ≤ length v.elements) (sym size) core.few.0)
-          (subst (λ n. n ≤ place_count v) (sym size) core.few.1) c.in_ok-searched.ensures.looked;
+      few = within-searches v _ _ _ _ (rw size core.few.0) (rw size core.few.1) c.in_ok-searched.ensures.looked;
     }
