@@ -44,19 +44,17 @@ returns-clause-front c =
           let added = w.add_few.ensures in
           let new : List ℕ = w.add_few.new.set in
           let kept : (y : ℕ) → Has (row_of rows x) y → Has new y =
-          λ y has. added.kept y (subst (λ (r : List ℕ). Has r y) (sym here_is) has) in
+          λ y has. added.kept y (rw here_is has) in
           rw (w.rows-is, w.front-is)
           (front_step lists l j x here rows f new c.insert.new.self f.fresh (last.place + 1) within front
           (added.len ∙ ap length here_is ∙ front.sized.width x within)
           kept
           (λ p y early at. elim (front.known p y early at) [
-            | inl contains ↦
-                added.few y (subst (λ (s : List ℕ). Contains s y) (sym w.as_slice.ensures.value) contains)
+            | inl contains ↦ added.few y (rw w.as_slice.ensures.value contains)
             | inr back ↦ kept y (back_noted lists l j x rows f last within front goes.0 goes.2 stands y back)
           ])
           (λ y has. elim (added.only y has) [
-            | inl was ↦
-                inl (subst (λ (r : List ℕ). Has r y) here_is was)
+            | inl was ↦ inl (rw here_is at was)
             | inr early ↦ inr early
           ])
           (rw w.front-is at c.insert.ensures.len)
@@ -82,20 +80,17 @@ returns-clause-front c =
           rw (w.rows-is, w.front-is)
           (front_step lists l j x here rows f new c.insert.new.self w.push.new.self f.next within front
           (joined.len ∙ ap length here_is ∙ front.sized.width x within)
-          (λ y has. (joined.has y).1 (inl (subst (λ (r : List ℕ). Has r y) (sym here_is) has)))
+          (λ y has. (joined.has y).1 (inl (rw here_is has)))
           (λ p y early at. (joined.has y).1
           (inr ((front.before y).1 (record { place = p; early = early; stands = at }))))
           (λ y has. elim ((joined.has y).0 has) [
-            | inl was ↦
-                inl (subst (λ (r : List ℕ). Has r y) here_is was)
+            | inl was ↦ inl (rw here_is at was)
             | inr early ↦ inr early
           ])
           (rw w.front-is at c.insert.ensures.len)
           (rw w.front-is at c.insert.ensures.has)
-          (λ y contains. subst (λ (s : List ℕ). Contains s y) (sym pushed)
-          (Contains-append_left f.fresh.items (x ∷ []) y contains))
-          (λ y contains. Contains-push_cases f.fresh.items x y
-          (subst (λ (s : List ℕ). Contains s y) pushed contains))
+          (λ y contains. rw pushed (Contains-append_left f.fresh.items (x ∷ []) y contains))
+          (λ y contains. Contains-push_cases f.fresh.items x y (rw pushed at contains))
           (omega arith)
-          (inl (subst (λ (s : List ℕ). Contains s x) (sym pushed) (Contains-push f.fresh.items x))))
+          (inl (rw pushed (Contains-push f.fresh.items x))))
     ]
