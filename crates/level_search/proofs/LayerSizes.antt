@@ -1,13 +1,12 @@
 -- Sizes of sets and layers: one element more, and what the next set of near elements has; and counts of
 -- looks.
-use Rattle.std.proofs.Common.{◌≡◌, ℕ, zero, suc, ◌+◌, ◌-◌, ◌<◌, ◌≤◌, ◌⊎◌, List, add-one, inl, inr, refl, sym}
+use Rattle.std.proofs.Common.{◌≡◌, ℕ, zero, suc, ◌+◌, ◌-◌, ◌<◌, ◌≤◌, ◌⊎◌, List, add-one, inl, inr, sym}
 use Rattle.std.proofs.Common.{ap, ◌∙◌, arith}
 use Rattle.std.specs.Prelude.{◌↔◌}
 use Rattle.std.proofs.lemmas.Bool.{cases_lt}
 use Rattle.std.proofs.lemmas.Nat.Bits.{bit_at-lt}
 use Rattle.bit_tables.specs.Sets.{Has}
 use Rattle.bit_tables.proofs.SetLemmas.{Has-either}
-use Rattle.level_search.specs.Balls.{IsInLayer}
 use Rattle.order_graph.specs.Lists.{ticked}
 use Rattle.level_search.specs.LayerSizes.{bit, counted, set_size, layer_size}
 use Rattle.level_search.specs.declared.tabled.sets.Sets.{Sets}

@@ -1,8 +1,8 @@
 -- Lists noted place by place.
-use Rattle.std.proofs.Common.{◌≡◌, ℕ, ◌+◌, ◌<◌, ◌≤◌, ◌⊎◌, ◌∙◌, List, [], ◌∷◌, ◌++◌, Some, Vec, Global, length}
+use Rattle.std.proofs.Common.{◌≡◌, ℕ, ◌+◌, ◌<◌, ◌≤◌, ◌⊎◌, ◌∙◌, List, [], Some, Vec, Global, length}
 use Rattle.std.proofs.Common.{get_or, set, ap, sym, inl, inr, arith, subst, get_or-set_same, get_or-set_other}
 use Rattle.std.proofs.Common.{length-set}
-use Rattle.std.specs.Prelude.{◌↔◌, slice_get, Contains}
+use Rattle.std.specs.Prelude.{◌↔◌, Contains}
 use Rattle.std.proofs.lemmas.Bool.{cases_eq, cases_lt}
 use Rattle.std.proofs.lemmas.List.{get_or_past}
 use Rattle.std.proofs.lemmas.Option.{slice_get_within, slice_get-get_or, get_or_from_slice_get}
@@ -12,7 +12,7 @@ use Rattle.bit_tables.specs.Sets.{Has}
 use Rattle.bit_tables.specs.Lists.{HaveWidth, row_of}
 use Rattle.bit_tables.proofs.Places.{width_set}
 use Rattle.level_search.specs.Tables.{IsShown}
-use Rattle.level_search.specs.Fronts.{AreLast, AreNotedTo, IsFront, IsShownBelow, IsShownTo, StandsBack}
+use Rattle.level_search.specs.Fronts.{AreLast, AreNotedTo, IsFront, IsShownTo, StandsBack}
 use Rattle.level_search.specs.Fronts.{StandsTo}
 use Rattle.level_search.specs.declared.before_table.front.Front.{Front}
 use Rattle.order_graph.specs.declared.spot.Spot.{Spot}

@@ -1,7 +1,7 @@
 -- What workers over one bound leave: a claim, an offer, a seat taken in, and the end.
-use Rattle.std.proofs.Common.{◌≡◌, ◌≢◌, ℕ, zero, suc, ◌+◌, ◌-◌, ◌*◌, ◌<◌, ◌≤◌, max, List, [], ◌∷◌, ◌++◌}
+use Rattle.std.proofs.Common.{◌≡◌, ℕ, zero, suc, ◌+◌, ◌-◌, ◌<◌, ◌≤◌, max, List, [], ◌∷◌, ◌++◌}
 use Rattle.std.proofs.Common.{length, get_or, sym, refl, ap, arith, All, subst, le_trans, ◌∙◌, ◌⊎◌, inl, inr}
-use Rattle.std.proofs.Common.{Option, Some, None, min, take, drop, true, false, length-append, IsPermutation}
+use Rattle.std.proofs.Common.{Option, Some, min, take, drop, true, false, length-append, IsPermutation}
 use Rattle.std.proofs.lemmas.List.{append-nil}
 use Rattle.std.specs.List.{range_with_len}
 use Rattle.std.proofs.lemmas.List.Sorted.{All-permutation, IsPermutation-sym, length_permutation}

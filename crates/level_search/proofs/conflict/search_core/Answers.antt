@@ -1,10 +1,7 @@
 -- The core has no more elements than the whole, and than there are places.
-use Rattle.std.proofs.Common.{◌≡◌, ℕ, ◌≤◌, List, length, ◌∙◌, ap, sym, subst}
+use Rattle.std.proofs.Common.{◌≡◌, ℕ, List, length, ◌∙◌, ap}
 use Rattle.std.proofs.lemmas.List.{length-map}
-use Rattle.specification.specs.Responses.{Responses, place_count}
-use Rattle.specification.specs.LayerRule.{narrowed}
-use Rattle.order_graph.specs.Kept.{names_at}
-use Rattle.order_graph.specs.Lists.{lists_of}
+use Rattle.specification.specs.Responses.{Responses}
 use Rattle.list_search.proofs.Joining.{name}
 use Rattle.level_search.proofs.Placed.{within-searches}
 use Rattle.level_search.proofs.conflict.search_core.Goals as goal

@@ -1,7 +1,7 @@
 -- One element more, with a rank or without.
-use Rattle.std.proofs.Common.{◌≡◌, ℕ, ◌<◌, Vec, Global, inl, inr, List, [], ◌∷◌, ◌+◌, length, length-append}
-use Rattle.std.proofs.Common.{slice_index, sym, ap, ◌∙◌, subst, arith}
-use Rattle.std.specs.Prelude.{All, AllPairs, Contains}
+use Rattle.std.proofs.Common.{◌≡◌, ℕ, ◌<◌, inl, inr, List, [], ◌∷◌, ◌+◌, length, length-append}
+use Rattle.std.proofs.Common.{slice_index, sym, ap, ◌∙◌, arith}
+use Rattle.std.specs.Prelude.{All}
 use Rattle.std.proofs.lemmas.Bool.{cases_lt}
 use Rattle.std.proofs.lemmas.List.Elements.{All-get_or, All-push, All-weaker}
 use Rattle.std.proofs.lemmas.List.Quantifiers.{all_pairs_push}

@@ -1,10 +1,10 @@
 -- One element of the layer more is looked at; those before it are none of the layer.
-use Rattle.std.proofs.Common.{◌≡◌, ℕ, ◌+◌, ◌<◌, ◌≤◌, ◌∙◌, List, length, inl, inr, refl, sym, ap, subst, arith}
+use Rattle.std.proofs.Common.{◌≡◌, ℕ, ◌∙◌, List, length, inl, inr, refl, sym, ap, subst, arith}
 use Rattle.std.proofs.Common.{true≢false}
 use Rattle.std.proofs.lemmas.Bool.{cases_lt}
 use Rattle.bit_tables.specs.Lists.{row_of}
 use Rattle.bit_tables.specs.Sets.{Has}
-use Rattle.order_graph.specs.Lists.{lists_of, ticked}
+use Rattle.order_graph.specs.Lists.{lists_of}
 use Rattle.level_search.specs.LayerSizes.{counted}
 use Rattle.level_search.proofs.BallLemmas.{before_shown, shown_before}
 use Rattle.level_search.proofs.LayerSizes.{layer-gap, looked-next}

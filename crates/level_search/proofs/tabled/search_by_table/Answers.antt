@@ -1,6 +1,6 @@
 -- From level to level.
-use Rattle.std.proofs.Common.{◌≡◌, ℕ, ◌+◌, ◌*◌, ◌<◌, ◌≤◌, ◌⊎◌, Option, None, Some, List, length, ◌∙◌, inl}
-use Rattle.std.proofs.Common.{inr, refl, sym, subst, arith}
+use Rattle.std.proofs.Common.{◌≡◌, ℕ, ◌+◌, ◌*◌, ◌≤◌, ◌⊎◌, Option, None, List, length, ◌∙◌, inl}
+use Rattle.std.proofs.Common.{inr, refl, subst, arith}
 use Rattle.std.specs.Prelude.{◌↔◌}
 use Rattle.bit_tables.specs.Sets.{Has}
 use Rattle.order_graph.specs.Lists.{lists_of}

@@ -1,6 +1,4 @@
-use Rattle.std.proofs.Common.{◌≡◌, subst, ℕ, ◌∙◌, IsPermutation, rules}
-use Rattle.std.specs.List.{range_with_len}
-use Rattle.shared_bound.specs.Bound.{IsRun}
+use Rattle.std.proofs.Common.{◌∙◌, rules}
 use Rattle.level_search.proofs.Teams.{settled}
 use Rattle.level_search.proofs.workers.closed.Goals as goal
 

@@ -1,8 +1,6 @@
-use Rattle.std.proofs.Common.{◌≡◌, ℕ, ap, sym, subst, ◌∙◌, arith, All, List, [], ◌∷◌, Bool, ◌||◌, min, length}
+use Rattle.std.proofs.Common.{◌≡◌, ap, ◌∙◌, arith, [], ◌∷◌, Bool, ◌||◌, min, length}
 use Rattle.std.proofs.Common.{length-append}
-use Rattle.order_graph.specs.Lists.{lists_of}
 use Rattle.shared_bound.specs.Seats.{SeatView}
-use Rattle.level_search.specs.Team.{AreLooksOfClaims, Honest}
 use Rattle.level_search.specs.declared.workers.worker.Worker.{Worker}
 use Rattle.level_search.proofs.Teams.{all_front, looks_taken_in, taken_in, IsOther}
 use Rattle.level_search.proofs.workers.gathered.Goals as goal

@@ -1,11 +1,6 @@
 -- What the workers' slice is lent and written back is the team that worked, of which the last has the first
 -- seat.
-use Rattle.std.proofs.Common.{◌≡◌, ℕ, ◌-◌, List, length, true, vec_len, sym, subst, ◌∙◌, arith, IsPermutation}
-use Rattle.std.specs.List.{range_with_len}
-use Rattle.order_graph.specs.Lists.{lists_of}
-use Rattle.shared_bound.specs.Seats.{SeatView}
-use Rattle.level_search.specs.Looks.{AreCountsAt}
-use Rattle.level_search.specs.Team.{AreLooksOfClaims, HaveWorked, Honest, IsTeam}
+use Rattle.std.proofs.Common.{sym, ◌∙◌, arith}
 use Rattle.level_search.proofs.Counts.{counts-lower}
 use Rattle.level_search.proofs.Teams.{taken_of_team}
 use Rattle.level_search.proofs.workers.least_length.Goals as goal

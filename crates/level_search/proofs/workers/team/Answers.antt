@@ -1,7 +1,7 @@
-use Rattle.std.proofs.Common.{◌≡◌, ◌+◌, ◌-◌, false, ap, sym, subst, ◌∙◌, arith, All}
+use Rattle.std.proofs.Common.{◌≡◌, ◌+◌, ◌-◌, false, ap, ◌∙◌, arith}
 use Rattle.std.proofs.lemmas.List.Elements.{All-push}
 use Rattle.shared_bound.specs.Seats.{SeatView, fresh_seat}
-use Rattle.level_search.specs.Team.{AreNumbered, IsReady, IsTeam}
+use Rattle.level_search.specs.Team.{IsReady}
 use Rattle.level_search.specs.declared.workers.worker.Worker.{Worker}
 use Rattle.level_search.proofs.Teams.{numbered-push, team_grown}
 use Rattle.level_search.proofs.workers.team.Goals as goal

@@ -1,14 +1,14 @@
 -- One place more: the element goes on where the list before has it, or it is fresh.
-use Rattle.std.proofs.Common.{◌≡◌, ℕ, ◌<◌, ◌≤◌, ◌+◌, ◌⊎◌, ◌∙◌, inl, inr, List, [], ◌∷◌, ◌++◌, Some, length}
-use Rattle.std.proofs.Common.{get_or, ap, refl, sym, subst, arith}
-use Rattle.std.specs.Prelude.{slice_get, Contains}
+use Rattle.std.proofs.Common.{◌≡◌, ℕ, ◌<◌, ◌+◌, ◌∙◌, inl, inr, List, [], ◌∷◌, Some, length}
+use Rattle.std.proofs.Common.{ap, refl, sym, arith}
+use Rattle.std.specs.Prelude.{slice_get}
 use Rattle.std.proofs.lemmas.List.{get_or_read}
 use Rattle.std.proofs.lemmas.List.Elements.{Contains-push, Contains-append_left, Contains-push_cases}
 use Rattle.std.proofs.lemmas.Option.{slice_get-get_or, get_or_from_slice_get}
 use Rattle.order_graph.specs.Lists.{lists_of, row, Stands}
 use Rattle.bit_tables.specs.Sets.{Has}
 use Rattle.bit_tables.specs.Lists.{row_of}
-use Rattle.level_search.specs.Fronts.{IsFront, StandsBack}
+use Rattle.level_search.specs.Fronts.{IsFront}
 use Rattle.level_search.proofs.Noting.{back_noted, front_step}
 use Rattle.level_search.proofs.before_table.table.note_place.Goals as goal
 use Rattle.level_search.proofs.before_table.table.note_place.Goals.{then-goes_on, else-goes_on+in_ok-push}

@@ -1,12 +1,11 @@
 -- What is not taken has no rank, and is the core.
-use Rattle.std.proofs.Common.{◌≡◌, ℕ, ◌<◌, ◌≤◌, inl, inr, List, length, slice_index, sym, ◌∙◌, ap, subst}
+use Rattle.std.proofs.Common.{◌≡◌, ℕ, ◌<◌, inl, inr, List, length, slice_index, ◌∙◌, ap, subst}
 use Rattle.std.proofs.Common.{arith, rules}
 use Rattle.std.specs.Prelude.{All, Contains}
 use Rattle.std.proofs.lemmas.Bool.{cases_eq}
 use Rattle.specification.specs.Responses.{Responses}
 use Rattle.specification.proofs.Members.{All-member, In-from_Contains}
 use Rattle.order_graph.specs.Lists.{lists_of}
-use Rattle.witness_order.specs.Taken.{IsTakenInTurn}
 use Rattle.level_search.specs.Cores.{IsPlaced}
 use Rattle.level_search.specs.Sources.{IsRanked, UNRANKED}
 use Rattle.level_search.proofs.Cores.{core_of_rest}

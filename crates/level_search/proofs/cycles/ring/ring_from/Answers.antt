@@ -1,11 +1,10 @@
-use Rattle.std.proofs.Common.{◌≡◌, ℕ, ◌+◌, ◌-◌, ◌<◌, ◌≤◌, ◌++◌, [], ◌∷◌, Bool, List, length, get_or, map}
+use Rattle.std.proofs.Common.{◌≡◌, ℕ, ◌+◌, ◌-◌, ◌<◌, ◌≤◌, ◌++◌, [], ◌∷◌, List, length, get_or, map}
 use Rattle.std.proofs.Common.{subst, sym, ap, ◌∙◌, arith, inl, inr}
 use Rattle.std.proofs.lemmas.Bool.{cases_eq}
 use Rattle.std.proofs.lemmas.Grind.{common_steps}
 use Rattle.std.proofs.lemmas.List.{get_or_append_left, get_or_push, length_push}
 use Rattle.order_graph.specs.Lists.{lists_of}
-use Rattle.list_search.specs.Graph.{graph_of}
-use Rattle.list_search.specs.Rings.{IsLeastNext, IsTableOf, Reaches}
+use Rattle.list_search.specs.Rings.{IsLeastNext, Reaches}
 use Rattle.list_search.proofs.Firsts.{reaches_walk}
 use Rattle.level_search.proofs.TableRows.{bits_of, table_at}
 use Rattle.level_search.proofs.cycles.ring.ring_from.Goals as goal

@@ -1,7 +1,4 @@
-use Rattle.std.proofs.Common.{ℕ, ◌≤◌, length, sym, subst, ◌∙◌, All}
-use Rattle.order_graph.specs.Lists.{lists_of}
-use Rattle.shared_bound.specs.Seats.{SeatView}
-use Rattle.level_search.specs.Team.{IsLength, AreLooksOfClaims}
+use Rattle.std.proofs.Common.{◌∙◌}
 use Rattle.level_search.proofs.Teams.{claimed_one, claimed_then, fewer_left, finished, looks_claimed}
 use Rattle.level_search.proofs.workers.worker.work.Goals as goal
 

@@ -3,7 +3,6 @@ use Rattle.std.proofs.Common.{◌≡◌, ℕ, ◌+◌, ◌<◌, ◌≤◌, ◌�
 use Rattle.std.proofs.lemmas.Bool.{cases_eq}
 use Rattle.bit_tables.specs.Sets.{Has}
 use Rattle.bit_tables.specs.Lists.{row_of}
-use Rattle.order_graph.specs.Lists.{ticked}
 use Rattle.level_search.specs.Balls.{IsInLayer}
 use Rattle.level_search.specs.LayerSizes.{counted}
 use Rattle.level_search.proofs.BallLemmas.{layer_from, layer_to}
