@@ -61,28 +61,24 @@ module _ (lists : List (List ℕ)) (l j x : ℕ) (here : Stands lists l j x) whe
             ]
             | inr early ↦
                 let at = (is a).0 early in
-                inr (rw e
-                (record {
+                inr (rw e (record {
                   place = at.place;
                   later = j;
                   in_order = at.early;
                   within = omega arith;
-                  first =
-                      at.stands;
+                  first = at.stands;
                   second = here;
                 }))
           ]
           | inr apart ↦
-              elim (noted.sound a b (omega (arith, long))
-              (rw (others b apart) at has)) [
+              elim (noted.sound a b (omega (arith, long)) (rw (others b apart) at has)) [
                 | inl below ↦ inl below
                 | inr s ↦ inr (shown_more lists l j a b s)
               ]
         ];
         below = λ a b low s. elim (cases_eq b x) [
           | inl e ↦ rw (e, same) (kept a (rw e at (noted.below a b (omega (arith, long)) s)))
-          | inr apart ↦
-              rw (others b apart) (noted.below a b (omega (arith, long)) s)
+          | inr apart ↦ rw (others b apart) (noted.below a b (omega (arith, long)) s)
         ];
         here = λ a b low s. elim (cases_lt s.later j) [
           | inl early ↦

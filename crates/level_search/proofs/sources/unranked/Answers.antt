@@ -17,7 +17,8 @@ loop-x-preserved c =
     let ranks : List ℕ = c.args.ranks.now in
     let inv = c.loop-x.invariant in
     let few = inv.few in
-    let below : All (λ s. s < n + 1) xs = All-weaker (λ s. s < n) (λ s. s < n + 1) (λ s lt. omega arith) xs inv.below in
+    let below : All (λ s. s < n + 1) xs =
+    All-weaker (λ s. s < n) (λ s. s < n + 1) (λ s lt. omega arith) xs inv.below in
     elim c.if-rank.branch [
       | then-rank+in_ok-push w ↦
           rw (w.elements-is, w.in_ok-push.ensures.items)

@@ -92,7 +92,7 @@ loop-level-init g c =
       bound = omega arith;
       reads = g.met.B.BoundSource.reads_none _;
       looked =
-          looked-as 0 (2 * set_size n c.begin.new.self.near) c.args.looked.now c.args.looked.now refl
+          looked-as 0 _ c.args.looked.now _ refl
           (let none = near-none n c.begin.new.self.near begun.near in omega (arith, none));
       read = λ some. absurd (omega (arith, some));
     }
@@ -112,7 +112,8 @@ loop-level-preserved g c =
       bound = omega (arith, falls, inv.bound);
       reads = g.met.B.BoundSource.reads_more _ _ _ inv.reads c.best-least.ensures.reads;
       looked =
-          twice _ _ c.next_layer.new.self _ _ _ _ inv.looked (c.if-closes.ensures.looked refl) next.looked next.near;
+          twice _ _ c.next_layer.new.self _ _ _ _ inv.looked (c.if-closes.ensures.looked refl) next.looked
+          next.near;
       read = λ some. omega arith;
     }
 

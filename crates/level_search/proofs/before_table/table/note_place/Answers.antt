@@ -38,13 +38,11 @@ returns-clause-front c =
           let read : slice_get f.last.items x ≡ Some last =
           slice_get-get_or f.last.items x last in_last ∙ ap Some (sym c.index-last.ensures) in
           let stands : Stands lists last.list last.place x = front.last x last read goes.1 in
-          let is : w.index-rows-x.result ≡ row_of rows x =
-          get_or_read rows x w.index-rows-x.result within w.index-rows-x.is [] in
-          let here_is = sym w.index-rows-x.is ∙ is in
+          let row = w.index-rows-x in
+          let here_is = sym row.is ∙ get_or_read rows x row.result within row.is [] in
           let added = w.add_few.ensures in
           let new : List ℕ = w.add_few.new.set in
-          let kept : (y : ℕ) → Has (row_of rows x) y → Has new y =
-          λ y has. added.kept y (rw here_is has) in
+          let kept : (y : ℕ) → Has (row_of rows x) y → Has new y = λ y has. added.kept y (rw here_is has) in
           rw (w.rows-is, w.front-is)
           (front_step lists l j x here rows f new c.insert.new.self f.fresh (last.place + 1) within front
           (added.len ∙ ap length here_is ∙ front.sized.width x within)
@@ -70,10 +68,8 @@ returns-clause-front c =
             stands = stands;
           })))
       | else-goes_on+in_ok-push w ↦
-          let is : w.index-rows-x-else-goes_on.result ≡ row_of rows x =
-          get_or_read rows x w.index-rows-x-else-goes_on.result within w.index-rows-x-else-goes_on.is
-          [] in
-          let here_is = sym w.index-rows-x-else-goes_on.is ∙ is in
+          let row = w.index-rows-x-else-goes_on in
+          let here_is = sym row.is ∙ get_or_read rows x row.result within row.is [] in
           let joined = w.union_with.ensures in
           let new : List ℕ = w.union_with.new.self in
           let pushed = w.in_ok-push.ensures.items in

@@ -30,11 +30,10 @@ returns c =
           c.in_ok-elements.ensures.all x (omega (arith, count, ap length made))
           (ap (λ (l : List ℕ). slice_index l x) made ∙ e)
       | inr ranked ↦
-          absurd (absent (subst (λ (l : List ℕ). Contains l x) lent
+          absurd (absent (rw lent at
           (c.in_ok-ranks.ensures.taken x ranked (omega (arith, c.elements.ensures.value)))))
     ] in
-    let ranked : All (IsRanked ranks) taken =
-    rw lent at c.in_ok-ranks.ensures.others in
+    let ranked : All (IsRanked ranks) taken = rw lent at c.in_ok-ranks.ensures.others in
     let only : All (λ x. slice_index ranks x ≡ UNRANKED) left =
     rw made at c.in_ok-elements.ensures.only in
     -- each element of the core stands after another one of it, and so at a place
