@@ -22,5 +22,6 @@ returns-clause-least g c =
       table = c.in_ok-table.ensures;
       least = c.in_ok-searched.ensures.least;
       looked = c.in_ok-searched.ensures.looked;
-      few = within-searches v _ _ _ _ (rw size core.few.0) (rw size core.few.1) c.in_ok-searched.ensures.looked;
+      few = within-searches v _ _ _ _ (rw size core.few.0) (rw size core.few.1)
+          c.in_ok-searched.ensures.looked;
     }

@@ -176,7 +176,8 @@ returns-then-least-level-2-clause-looks g c =
           rw (w.sets-is, w.looked-is)
           (none_at _ _ _ _ (c.loop-level.level + 1) _ _ _ then
           (inr (λ x here. here.not_near (w.if-not-next_layer.ensures.last refl x here.reached)))
-          (twice _ _ w.next_layer.new.self _ _ _ _ c.loop-level.invariant.looked closes next.looked next.near))
+          (twice _ _ w.next_layer.new.self _ _ _ _ c.loop-level.invariant.looked closes next.looked
+          next.near))
     ]
 
 pub returns-clause-looks : goal.returns-clause-looks

@@ -23,9 +23,7 @@ loop-i-preserved c =
         | inr other ↦ let old = before.least k q y (omega arith) get follows marked in omega arith
       ];
       first = elim after.first [
-        | inl same ↦
-            subst (λ n. (n ≡ (length c.args.graph.now.elements))
-            ⊎ (Before rows c.args.a n × (get_or c.args.marked.now n false ≡ true))) (sym same) before.first
+        | inl same ↦ rw same before.first
         | inr new ↦ inr new
       ];
     }

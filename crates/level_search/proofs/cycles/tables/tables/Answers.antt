@@ -27,23 +27,14 @@ loop-n-preserved c =
     let pushed : c.push-in-loop-n.new.self.items ≡ all ++ next ∷ [] =
     grind (arith, common_steps, c.in_ok-push-2.ensures.items) in
     let table : IsTable (lists_of c.args.graph.now) c.args.z n next.items =
-    subst (λ m. IsTable (lists_of c.args.graph.now) c.args.z m next.items)
-    (let e : n - 1 + 1 ≡ n = omega arith in e) c.in_ok-next.ensures.table in
+    rw (let e : n - 1 + 1 ≡ n = omega arith in e) at c.in_ok-next.ensures.table in
     let last : IsTableOf (graph_of c.args.graph.now) c.args.z n next.items =
     record { count = let h = c.in_ok-next.ensures.count in omega arith; table_is = table } in
-    let at : (i : ℕ) → get_or (map bits_of c.push-in-loop-n.new.self.items) i []
-    ≡ get_or (map bits_of (all ++ next ∷ [])) i [] =
-    λ i. ap (λ l. get_or (map bits_of l) i []) pushed in
     record {
       count = let h = ap length pushed in grind (arith, common_steps, c.in_ok-push-2.ensures.len);
       tables = λ i h. elim (cases_eq i n) [
-        | inl same ↦
-            subst (λ (t : List Bool). IsTableOf (graph_of c.args.graph.now) c.args.z i t)
-            (sym (at i ∙ push_last all next i (omega arith)))
-            (subst (λ m. IsTableOf (graph_of c.args.graph.now) c.args.z m next.items) (sym same) last)
+        | inl same ↦ rw (pushed, push_last all next i (omega arith), same) last
         | inr other ↦
-            subst (λ (t : List Bool). IsTableOf (graph_of c.args.graph.now) c.args.z i t)
-            (sym (at i ∙ push_before all next i (omega arith)))
-            (c.loop-n.invariant.tables i (omega arith))
+            rw (pushed, push_before all next i (omega arith)) (c.loop-n.invariant.tables i (omega arith))
       ];
     }
