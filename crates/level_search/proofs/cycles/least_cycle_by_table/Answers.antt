@@ -1,4 +1,4 @@
-use Rattle.std.proofs.Common.{◌≡◌, ◌∙◌, ℕ, List, length, subst, sym, ap}
+use Rattle.std.proofs.Common.{◌≡◌, ◌∙◌, ℕ, List, length, ap}
 use Rattle.specification.specs.Conflict.{AreLeastSteps, Step}
 use Rattle.level_search.specs.Steps.{AreStepsOf}
 use Rattle.level_search.proofs.StepsRound.{least_steps_of_ring}

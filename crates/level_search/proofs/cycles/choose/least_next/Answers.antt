@@ -1,9 +1,8 @@
-use Rattle.std.proofs.Common.{◌≡◌, ◌⊎◌, ℕ, ◌<◌, Some, true, false, get_or, length, slice_get, subst, sym}
+use Rattle.std.proofs.Common.{◌≡◌, ℕ, ◌<◌, Some, length, slice_get, subst, sym}
 use Rattle.std.proofs.Common.{arith, inl, inr}
 use Rattle.std.proofs.lemmas.Bool.{cases_eq}
 use Rattle.std.proofs.lemmas.Option.{slice_get_within}
 use Rattle.order_graph.specs.Lists.{lists_of, Stands}
-use Rattle.list_search.specs.Graph.{Before}
 use Rattle.order_graph.specs.Spots.{spots_of}
 use Rattle.order_graph.proofs.AllSpots.{spots_complete}
 use Rattle.level_search.proofs.cycles.choose.least_next.Goals as goal

@@ -1,11 +1,11 @@
-use Rattle.std.proofs.Common.{◌≡◌, ℕ, ◌+◌, ◌-◌, ◌++◌, [], ◌∷◌, Bool, List, length, get_or, map, subst, sym}
-use Rattle.std.proofs.Common.{ap, ◌∙◌, arith, inl, inr}
+use Rattle.std.proofs.Common.{◌≡◌, ℕ, ◌+◌, ◌-◌, ◌++◌, [], ◌∷◌, length}
+use Rattle.std.proofs.Common.{ap, arith, inl, inr}
 use Rattle.std.proofs.lemmas.Bool.{cases_eq}
 use Rattle.std.proofs.lemmas.Grind.{common_steps}
 use Rattle.order_graph.specs.Lists.{lists_of}
 use Rattle.list_search.specs.Graph.{graph_of}
 use Rattle.list_search.specs.Rings.{IsTable, IsTableOf}
-use Rattle.level_search.proofs.TableRows.{bits_of, push_before, push_last, last_table}
+use Rattle.level_search.proofs.TableRows.{push_before, push_last, last_table}
 use Rattle.level_search.proofs.cycles.tables.tables.Goals as goal
 
 pub next_table-requires : goal.next_table-requires
