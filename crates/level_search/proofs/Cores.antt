@@ -2,7 +2,7 @@
 -- with is a core.
 use Rattle.std.proofs.Common.{◌≡◌, ◌≢◌, ℕ, zero, suc, ◌+◌, ◌<◌, ◌≤◌, ◌⊎◌, inl, inr, Some, List, [], ◌∷◌}
 use Rattle.std.proofs.Common.{length, map, get_or, refl, sym, ◌∙◌, ap, subst, arith}
-use Rattle.std.specs.Prelude.{All, AllPairs, Contains, IsTrue, slice_get, slice_index, unwrap_or, nat_lt}
+use Rattle.std.specs.Prelude.{All, AllPairs, Contains, IsTrue, slice_get, unwrap_or, nat_lt}
 use Rattle.std.specs.Prelude.{◌==◌, ◌&&◌}
 use Rattle.std.proofs.lemmas.Bool.{or_cases, or_left, or_right, and_parts, and_from, ltb-true, eqb-true}
 use Rattle.std.proofs.lemmas.Bool.{lt-ltb, eq-eqb}
@@ -16,14 +16,14 @@ use Rattle.specification.specs.Conflict.{AreLeastSteps, HasConflictNumber, HasNo
 use Rattle.specification.specs.Conflict.{ring_from}
 use Rattle.specification.specs.LayerRule.{narrowed}
 use Rattle.specification.specs.Orders.{dictionary_lt}
-use Rattle.specification.specs.Search.{IsShortestLength, HasNoCycle}
+use Rattle.specification.specs.Search.{IsShortestLength}
 use Rattle.specification.proofs.Members.{In, Before, In-from_Contains, Contains-from_In, In-from_place}
 use Rattle.specification.proofs.Members.{In-map, All-member, All-from_members, Before-cases}
 use Rattle.specification.proofs.Members.{Before-from_places, places_of_Before, place_of_In}
 use Rattle.specification.proofs.OperationNames.{In_map-from}
 use Rattle.specification.proofs.Numbers.{number, number-rises}
 use Rattle.specification.proofs.Dictionary.{same_number}
-use Rattle.specification.proofs.Shown.{ShowsIn, ShowsIn-from_Shows, Shows-from_ShowsIn, elements-once}
+use Rattle.specification.proofs.Shown.{ShowsIn-from_Shows, Shows-from_ShowsIn, elements-once}
 use Rattle.specification.proofs.Cycles.{IsShownPair, cycle-elements}
 use Rattle.specification.proofs.Narrowed.{narrowed-shows, narrowed_shows-from}
 use Rattle.order_graph.specs.Kept.{names_at}

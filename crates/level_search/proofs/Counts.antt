@@ -1,10 +1,10 @@
 -- Counts of looks: of a search under a lower bound, of several together, and how many at most.
-use Rattle.std.proofs.Common.{◌≡◌, ℕ, zero, suc, ◌+◌, ◌*◌, ◌<◌, ◌≤◌, ◌⊎◌, Option, Some, None, List, [], ◌∷◌}
-use Rattle.std.proofs.Common.{◌++◌, length, min, inl, inr, refl, sym, ap, subst, ◌∙◌, le_trans, arith}
+use Rattle.std.proofs.Common.{◌≡◌, ℕ, zero, suc, ◌+◌, ◌*◌, ◌≤◌, Option, Some, None, List, [], ◌∷◌}
+use Rattle.std.proofs.Common.{◌++◌, length, min, inl, inr, refl, subst, le_trans, arith}
 use Rattle.std.specs.Prelude.{slice_index}
 use Rattle.std.proofs.Math.Nat.{add-mul}
-use Rattle.level_search.specs.LayerSizes.{counted, layer_size, set_size}
-use Rattle.level_search.specs.Looks.{AreCountsAt, HasLooked, HaveLooked, IsAtEnd, IsCountOf, IsLastPart}
+use Rattle.level_search.specs.LayerSizes.{counted, layer_size}
+use Rattle.level_search.specs.Looks.{AreCountsAt, HasLooked, IsAtEnd, IsCountOf, IsLastPart}
 use Rattle.level_search.specs.declared.tabled.sets.Sets.{Sets}
 use Rattle.level_search.proofs.LayerSizes.{layer-up, sizes-within}
 

@@ -1,13 +1,12 @@
 -- Sizes of sets and layers: one element more, and what the next set of near elements has; and counts of
 -- looks.
-use Rattle.std.proofs.Common.{◌≡◌, ℕ, zero, suc, ◌+◌, ◌-◌, ◌<◌, ◌≤◌, ◌⊎◌, List, add-one, inl, inr, refl, sym}
+use Rattle.std.proofs.Common.{◌≡◌, ℕ, zero, suc, ◌+◌, ◌-◌, ◌<◌, ◌≤◌, ◌⊎◌, List, add-one, inl, inr, sym}
 use Rattle.std.proofs.Common.{ap, ◌∙◌, arith}
 use Rattle.std.specs.Prelude.{◌↔◌}
 use Rattle.std.proofs.lemmas.Bool.{cases_lt}
 use Rattle.std.proofs.lemmas.Nat.Bits.{bit_at-lt}
 use Rattle.bit_tables.specs.Sets.{Has}
 use Rattle.bit_tables.proofs.SetLemmas.{Has-either}
-use Rattle.level_search.specs.Balls.{IsInLayer}
 use Rattle.order_graph.specs.Lists.{ticked}
 use Rattle.level_search.specs.LayerSizes.{bit, counted, set_size, layer_size}
 use Rattle.level_search.specs.declared.tabled.sets.Sets.{Sets}
@@ -54,13 +53,6 @@ layer-gap sets from (suc x) le none = elim (cases_lt x from) [
         out-of-layer sets x (none x ge (omega arith)),
       )
 ]
-
--- one element more after a gap
-pub layer-next : (sets : Sets) (from x : ℕ) → from ≤ x → ((y : ℕ) → from ≤ y → y < x → Has sets.reached y
-    → Has sets.near y) → Has sets.reached x → ¬ Has sets.near x
-    → layer_size (x + 1) sets ≡ layer_size from sets + 1
-layer-next sets from x le none reached not_near =
-    omega (arith, layer-gap sets from x le none, layer-more sets x reached not_near)
 
 pub layer-up : (sets : Sets) (m n : ℕ) → m ≤ n → layer_size m sets ≤ layer_size n sets
 layer-up sets m zero le = let e : m ≡ zero = omega (arith, le) in omega (arith, ap (λ k. layer_size k sets) e)
@@ -112,7 +104,15 @@ near-none (suc n) set none = omega (arith, near-none n set none, bit-not set n (
 pub counted-next : (k next old : ℕ) → next ≡ k + 1 → ticked (counted k old) ≡ counted next old
 counted-next k next old is = ap (λ n. counted n old) (sym (is ∙ add-one k))
 
--- so many looks, and then so many more
+-- one look more, at the next element of the layer after a gap
+pub looked-next : (sets : Sets) (from x old was new : ℕ) → from ≤ x
+    → ((y : ℕ) → from ≤ y → y < x → Has sets.reached y → Has sets.near y)
+    → Has sets.reached x → ¬ Has sets.near x → was ≡ counted (layer_size from sets) old → new ≡ ticked was
+    → new ≡ counted (layer_size (x + 1) sets) old
+looked-next sets from x old was new le none reached not_near looked more =
+    more ∙ ap ticked looked ∙ counted-next _ _ old
+    (omega (arith, layer-gap sets from x le none, layer-more sets x reached not_near))
+
 pub counted-plus : (m n old : ℕ) → counted m (counted n old) ≡ counted (n + m) old
 counted-plus zero n old = let e : n ≡ n + zero = omega arith in ap (λ k. counted k old) e
 counted-plus (suc m) n old =

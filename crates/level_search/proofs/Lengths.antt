@@ -1,4 +1,4 @@
-use Rattle.std.proofs.Common.{◌≡◌, ◌≢◌, ℕ, ◌⊎◌, inl, inr, arith}
+use Rattle.std.proofs.Common.{◌≡◌, ◌≢◌, ℕ, inl, inr, arith}
 use Rattle.specification.specs.Responses.{Responses, AreProper}
 use Rattle.specification.specs.Conflict.{HasConflictNumber, HasNoConflict}
 use Rattle.specification.proofs.ConflictNumber.{conflict_number_is_shortest_cycle}

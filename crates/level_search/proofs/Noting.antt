@@ -1,8 +1,8 @@
 -- Lists noted place by place.
-use Rattle.std.proofs.Common.{◌≡◌, ℕ, ◌+◌, ◌<◌, ◌≤◌, ◌⊎◌, ◌∙◌, List, [], ◌∷◌, ◌++◌, Some, Vec, Global, length}
+use Rattle.std.proofs.Common.{◌≡◌, ℕ, ◌+◌, ◌<◌, ◌≤◌, ◌⊎◌, ◌∙◌, List, [], Some, Vec, Global, length}
 use Rattle.std.proofs.Common.{get_or, set, ap, sym, inl, inr, arith, subst, get_or-set_same, get_or-set_other}
 use Rattle.std.proofs.Common.{length-set}
-use Rattle.std.specs.Prelude.{◌↔◌, slice_get, Contains}
+use Rattle.std.specs.Prelude.{◌↔◌, Contains}
 use Rattle.std.proofs.lemmas.Bool.{cases_eq, cases_lt}
 use Rattle.std.proofs.lemmas.List.{get_or_past}
 use Rattle.std.proofs.lemmas.Option.{slice_get_within, slice_get-get_or, get_or_from_slice_get}
@@ -12,7 +12,7 @@ use Rattle.bit_tables.specs.Sets.{Has}
 use Rattle.bit_tables.specs.Lists.{HaveWidth, row_of}
 use Rattle.bit_tables.proofs.Places.{width_set}
 use Rattle.level_search.specs.Tables.{IsShown}
-use Rattle.level_search.specs.Fronts.{AreLast, AreNotedTo, IsFront, IsShownBelow, IsShownTo, StandsBack}
+use Rattle.level_search.specs.Fronts.{AreLast, AreNotedTo, IsFront, IsShownTo, StandsBack}
 use Rattle.level_search.specs.Fronts.{StandsTo}
 use Rattle.level_search.specs.declared.before_table.front.Front.{Front}
 use Rattle.order_graph.specs.declared.spot.Spot.{Spot}
@@ -23,32 +23,21 @@ pub one_stands : (lists : List (List ℕ)) (l p q x y : ℕ) → p ≡ q → Sta
 one_stands lists l p q x y e first second =
     sym first.here ∙ ap (λ i. get_or (row lists l) i 0) e ∙ second.here
 
--- what is shown up to a place is shown up to the next
-pub shown_more : (lists : List (List ℕ)) (l j a b : ℕ) → IsShownTo lists l j a b
-    → IsShownTo lists l (j + 1) a b
-shown_more lists l j a b s =
-    record {
-      place = s.place;
-      later = s.later;
-      in_order = s.in_order;
-      within =
-          (let w = s.within in omega arith);
-      first = s.first;
-      second = s.second;
-    }
-
-pub shown_less : (lists : List (List ℕ)) (l j a b : ℕ) (s : IsShownTo lists l (j + 1) a b) → s.later < j
+-- what is shown up to one place is shown up to each place after its later one
+shown_to : (lists : List (List ℕ)) (l i j a b : ℕ) (s : IsShownTo lists l i a b) → s.later < j
     → IsShownTo lists l j a b
-shown_less lists l j a b s early =
+shown_to lists l i j a b s early =
     record {
       place = s.place;
       later = s.later;
       in_order = s.in_order;
       within = early;
-      first =
-          s.first;
+      first = s.first;
       second = s.second;
     }
+
+shown_more : (lists : List (List ℕ)) (l j a b : ℕ) → IsShownTo lists l j a b → IsShownTo lists l (j + 1) a b
+shown_more lists l j a b s = shown_to lists l j (j + 1) a b s (let w = s.within in omega arith)
 
 -- the row of the element at place j has now what stands before it there
 module _ (lists : List (List ℕ)) (l j x : ℕ) (here : Stands lists l j x) where
@@ -63,55 +52,45 @@ module _ (lists : List (List ℕ)) (l j x : ℕ) (here : Stands lists l j x) whe
       let others : (b : ℕ) → ¬ (b ≡ x) → row_of (set rows x new) b ≡ row_of rows b =
       λ b apart. get_or-set_other rows x b new [] apart in
       let long : length (set rows x new) ≡ length rows = length-set rows x new in
-      let to_x : (a b : ℕ) → b ≡ x → Has new a → Has (row_of (set rows x new) b) a =
-      λ a b e h. subst (λ (r : List ℕ). Has r a) (sym (ap (row_of (set rows x new)) e ∙ same)) h in
-      let from_x : (a b : ℕ) → b ≡ x → Has (row_of (set rows x new) b) a → Has new a =
-      λ a b e h. subst (λ (r : List ℕ). Has r a) (ap (row_of (set rows x new)) e ∙ same) h in
-      let old_x : (a b : ℕ) → b ≡ x → Has (row_of rows b) a → Has (row_of rows x) a =
-      λ a b e h. subst (λ i. Has (row_of rows i) a) e h in
       record {
         sound = λ a b low has. elim (cases_eq b x) [
-          | inl e ↦ elim (only a (from_x a b e has)) [
+          | inl e ↦ elim (only a (rw (e, same) at has)) [
             | inl was ↦ elim (noted.sound a x within was) [
-              | inl below ↦ inl (subst (λ i. IsShownBelow lists l a i) (sym e) below)
-              | inr s ↦ inr (subst (λ i. IsShownTo lists l (j + 1) a i) (sym e) (shown_more lists l j a x s))
+              | inl below ↦ inl (rw e below)
+              | inr s ↦ inr (rw e (shown_more lists l j a x s))
             ]
             | inr early ↦
                 let at = (is a).0 early in
-                inr (subst (λ i. IsShownTo lists l (j + 1) a i) (sym e)
-                (record {
+                inr (rw e (record {
                   place = at.place;
                   later = j;
                   in_order = at.early;
                   within = omega arith;
-                  first =
-                      at.stands;
+                  first = at.stands;
                   second = here;
                 }))
           ]
           | inr apart ↦
-              elim (noted.sound a b (omega (arith, long))
-              (subst (λ (r : List ℕ). Has r a) (others b apart) has)) [
+              elim (noted.sound a b (omega (arith, long)) (rw (others b apart) at has)) [
                 | inl below ↦ inl below
                 | inr s ↦ inr (shown_more lists l j a b s)
               ]
         ];
         below = λ a b low s. elim (cases_eq b x) [
-          | inl e ↦ to_x a b e (kept a (old_x a b e (noted.below a b (omega (arith, long)) s)))
-          | inr apart ↦
-              subst (λ (r : List ℕ). Has r a) (sym (others b apart)) (noted.below a b (omega (arith, long)) s)
+          | inl e ↦ rw (e, same) (kept a (rw e at (noted.below a b (omega (arith, long)) s)))
+          | inr apart ↦ rw (others b apart) (noted.below a b (omega (arith, long)) s)
         ];
         here = λ a b low s. elim (cases_lt s.later j) [
           | inl early ↦
-              let was = noted.here a b (omega (arith, long)) (shown_less lists l j a b s early) in
+              let was = noted.here a b (omega (arith, long)) (shown_to lists l (j + 1) j a b s early) in
               elim (cases_eq b x) [
-                | inl e ↦ to_x a b e (kept a (old_x a b e was))
-                | inr apart ↦ subst (λ (r : List ℕ). Has r a) (sym (others b apart)) was
+                | inl e ↦ rw (e, same) (kept a (rw e at was))
+                | inr apart ↦ rw (others b apart) was
               ]
           | inr late ↦
               let at_j : s.later ≡ j = let w = s.within in omega arith in
               let e : b ≡ x = one_stands lists l s.later j b x at_j s.second here in
-              to_x a b e (all s.place a (let o = s.in_order in omega arith) s.first)
+              rw (e, same) (all s.place a (let o = s.in_order in omega arith) s.first)
         ];
       }
 

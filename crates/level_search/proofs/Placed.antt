@@ -1,5 +1,5 @@
 -- Numbers that stand at places of lists are no more than the places.
-use Rattle.std.proofs.Common.{◌≡◌, ◌≢◌, ℕ, zero, suc, ◌+◌, ◌*◌, ◌<◌, ◌≤◌, Some, List, [], ◌∷◌, ◌++◌, length}
+use Rattle.std.proofs.Common.{◌≡◌, ℕ, zero, suc, ◌+◌, ◌*◌, ◌<◌, ◌≤◌, Some, List, [], ◌∷◌, ◌++◌, length}
 use Rattle.std.proofs.Common.{refl, ap, ◌∙◌, arith, length-append}
 use Rattle.std.specs.Prelude.{AllPairs, Contains, sum_by}
 use Rattle.std.specs.List.{range_with_len}
@@ -11,7 +11,7 @@ use Rattle.std.proofs.lemmas.Option.{slice_get-get_or}
 use Rattle.specification.specs.Responses.{Responses, place_count}
 use Rattle.specification.proofs.Members.{In, Once, Once-bounded, Once-from_AllPairs, In-append_left}
 use Rattle.specification.proofs.Members.{In-append_right, In-from_place, Contains-from_In}
-use Rattle.order_graph.specs.Lists.{lists_of, row, Stands}
+use Rattle.order_graph.specs.Lists.{lists_of, row}
 use Rattle.order_graph.proofs.Shown.{lists-total}
 use Rattle.level_search.specs.Conflicts.{IsWithinSearches}
 use Rattle.level_search.specs.Cores.{IsPlaced}

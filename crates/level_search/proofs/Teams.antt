@@ -1,7 +1,7 @@
 -- What workers over one bound leave: a claim, an offer, a seat taken in, and the end.
-use Rattle.std.proofs.Common.{◌≡◌, ◌≢◌, ℕ, zero, suc, ◌+◌, ◌-◌, ◌*◌, ◌<◌, ◌≤◌, max, List, [], ◌∷◌, ◌++◌}
+use Rattle.std.proofs.Common.{◌≡◌, ℕ, zero, suc, ◌+◌, ◌-◌, ◌<◌, ◌≤◌, max, List, [], ◌∷◌, ◌++◌}
 use Rattle.std.proofs.Common.{length, get_or, sym, refl, ap, arith, All, subst, le_trans, ◌∙◌, ◌⊎◌, inl, inr}
-use Rattle.std.proofs.Common.{Option, Some, None, min, take, drop, true, false, length-append, IsPermutation}
+use Rattle.std.proofs.Common.{Option, Some, min, take, drop, true, false, length-append, IsPermutation}
 use Rattle.std.proofs.lemmas.List.{append-nil}
 use Rattle.std.specs.List.{range_with_len}
 use Rattle.std.proofs.lemmas.List.Sorted.{All-permutation, IsPermutation-sym, length_permutation}
@@ -183,38 +183,34 @@ length-named v proper m found =
     (named.0, named.1.is_cycle, named.2)
 
 -- what all workers together found: each cycle leads through a source, and each source was searched from
-pub covered : (v : Responses) → AreProper v
-    → (sources : List ℕ) (n m : ℕ) (s : SeatView) (calls : List BoundCall) → n ≡ length sources
-    → MeetsCycles (lists_of v) (length v.elements) sources → m ≤ s.low
-    → Honest (lists_of v) sources s → IsPermutation (range_with_len 0 n) s.claimed
-    → IsRun (length sources) s.claimed s.offered m calls → CoversAllSources v sources calls
-covered v proper sources n m s calls count meets low h same run = record {
-  met = met v proper sources meets;
-  offered = λ k d within. length-named v proper (get_or (offers calls) k d) (told k d within);
-  given = ap (λ (b : BoundState). b.given) run.leads
-      ∙ (length_permutation (range_with_len 0 n) s.claimed same ∙ (length-range_with_len 0 n ∙ count));
-  searched = λ place within. (
-    s.low,
-    inr (inr (subst (λ (b : BoundState). b.least ≤ s.low) (sym run.leads) low)),
-    λ cycle through. all_claimed (IsSearchedAt (lists_of v) sources s.low) n s.claimed same h.claims place
-        (omega arith) (length cycle) (walk_of_names v proper (slice_index sources place) cycle through),
-  );
-}
-  where
-    told : All (IsLength (lists_of v)) (offers calls)
-    told = All-permutation (IsLength (lists_of v)) s.offered (offers calls)
-        (IsPermutation-sym (offers calls) s.offered run.told) h.offers
+module _ (v : Responses) (proper : AreProper v) (sources : List ℕ) (n m : ℕ) (s : SeatView)
+    (calls : List BoundCall) (count : n ≡ length sources)
+    (meets : MeetsCycles (lists_of v) (length v.elements) sources) (low : m ≤ s.low)
+    (h : Honest (lists_of v) sources s) (same : IsPermutation (range_with_len 0 n) s.claimed)
+    (run : IsRun (length sources) s.claimed s.offered m calls) where
+  told : All (IsLength (lists_of v)) (offers calls)
+  told = All-permutation (IsLength (lists_of v)) s.offered (offers calls)
+      (IsPermutation-sym (offers calls) s.offered run.told) h.offers
 
--- so the answer at the end is the length of a shortest cycle, or there is none
-pub settled : (v : Responses) → AreProper v
-    → (sources : List ℕ) (n m : ℕ) (s : SeatView) (calls : List BoundCall) → n ≡ length sources
-    → MeetsCycles (lists_of v) (length v.elements) sources → m ≤ s.low
-    → Honest (lists_of v) sources s → IsPermutation (range_with_len 0 n) s.claimed
-    → IsRun (length sources) s.claimed s.offered m calls → IsLeastLength v m
-settled v proper sources n m s calls count meets low h same run =
-    subst (IsLeastLength v) (ap (λ (b : BoundState). b.least) run.leads)
-    (least_offer_is_shortest v sources calls proper
-    (covered v proper sources n m s calls count meets low h same run))
+  covered : CoversAllSources v sources calls
+  covered = record {
+    met = met v proper sources meets;
+    offered = λ k d within. length-named v proper (get_or (offers calls) k d) (told k d within);
+    given = ap (λ (b : BoundState). b.given) run.leads
+        ∙ (length_permutation (range_with_len 0 n) s.claimed same ∙ (length-range_with_len 0 n ∙ count));
+    searched = λ place within. (
+      s.low,
+      inr (inr (subst (λ (b : BoundState). b.least ≤ s.low) (sym run.leads) low)),
+      λ cycle through. all_claimed (IsSearchedAt (lists_of v) sources s.low) n s.claimed same h.claims place
+          (omega arith) (length cycle) (walk_of_names v proper (slice_index sources place) cycle through),
+    );
+  }
+
+  -- so the answer at the end is the length of a shortest cycle, or there is none
+  pub settled : IsLeastLength v m
+  settled =
+      subst (IsLeastLength v) (ap (λ (b : BoundState). b.least) run.leads)
+      (least_offer_is_shortest v sources calls proper covered)
 
 drop_whole : {X : Type 0} (n : ℕ) (xs : List X) → length xs ≤ n → drop n xs ≡ []
 drop_whole zero [] h = refl

@@ -1,10 +1,7 @@
 -- The core has no more elements than the whole, and than there are places.
-use Rattle.std.proofs.Common.{◌≡◌, ℕ, ◌≤◌, List, length, ◌∙◌, ap, sym, subst}
+use Rattle.std.proofs.Common.{◌≡◌, ℕ, List, length, ◌∙◌, ap}
 use Rattle.std.proofs.lemmas.List.{length-map}
-use Rattle.specification.specs.Responses.{Responses, place_count}
-use Rattle.specification.specs.LayerRule.{narrowed}
-use Rattle.order_graph.specs.Kept.{names_at}
-use Rattle.order_graph.specs.Lists.{lists_of}
+use Rattle.specification.specs.Responses.{Responses}
 use Rattle.list_search.proofs.Joining.{name}
 use Rattle.level_search.proofs.Placed.{within-searches}
 use Rattle.level_search.proofs.conflict.search_core.Goals as goal
@@ -25,7 +22,6 @@ returns-clause-least g c =
       table = c.in_ok-table.ensures;
       least = c.in_ok-searched.ensures.least;
       looked = c.in_ok-searched.ensures.looked;
-      few = within-searches v (length whole.elements) (lists_of whole) c.in_ok-searched.searched.least
-          c.in_ok-searched.searched.looked (subst (λ n. n ≤ length v.elements) (sym size) core.few.0)
-          (subst (λ n. n ≤ place_count v) (sym size) core.few.1) c.in_ok-searched.ensures.looked;
+      few = within-searches v _ _ _ _ (rw size core.few.0) (rw size core.few.1)
+          c.in_ok-searched.ensures.looked;
     }

@@ -1,9 +1,5 @@
 -- What is shortest and least in the core is so in the whole.
-use Rattle.std.proofs.Common.{◌≡◌, ℕ, List, subst}
 use Rattle.std.proofs.lemmas.Result.{IfOk-weaker}
-use Rattle.specification.specs.Responses.{Responses, AreProper}
-use Rattle.specification.specs.LayerRule.{narrowed}
-use Rattle.order_graph.specs.Kept.{names_at}
 use Rattle.level_search.proofs.Cores.{shortest_in_core, steps_of_core}
 use Rattle.level_search.proofs.cycles.least_cycle.Goals as goal
 

@@ -1,4 +1,4 @@
-use Rattle.std.proofs.Common.{◌≡◌, ◌∙◌, ℕ, List, length, subst, sym, ap}
+use Rattle.std.proofs.Common.{◌≡◌, ◌∙◌, ℕ, List, length, ap}
 use Rattle.specification.specs.Conflict.{AreLeastSteps, Step}
 use Rattle.level_search.specs.Steps.{AreStepsOf}
 use Rattle.level_search.proofs.StepsRound.{least_steps_of_ring}
@@ -13,9 +13,8 @@ returns c =
     let made = c.in_ok-steps.ensures in
     let first = c.in_ok-ring.ensures.first in
     let count : length steps ≡ length numbers = made.count ∙ ap length same in
-    let each : AreStepsOf v numbers steps = subst (λ (l : List ℕ). AreStepsOf v l steps) same made.steps in
+    let each : AreStepsOf v numbers steps = rw same at made.steps in
     let least : AreLeastSteps v steps =
     least_steps_of_ring v c.in_ok-ring.ensures.proper c.args.k numbers steps c.requires.shortest first
     count each in
-    subst (λ (l : List Step). AreLeastSteps v l × (length l ≡ c.args.k)) (sym c.from_items.ensures)
-    (least, count ∙ first.count)
+    rw c.from_items.ensures (least, count ∙ first.count)

@@ -1,6 +1,5 @@
 -- One element more.
-use Rattle.std.proofs.Common.{ℕ, ◌<◌, List, [], ◌∷◌, length, length-append, ap, sym, subst, arith}
-use Rattle.std.specs.Prelude.{All, Contains}
+use Rattle.std.proofs.Common.{ℕ, ◌<◌, List, [], ◌∷◌, length, length-append, arith}
 use Rattle.std.proofs.lemmas.List.Elements.{All-push}
 use Rattle.level_search.proofs.Rising.{listed-next}
 use Rattle.level_search.proofs.sources.all_elements.Goals as goal
@@ -9,13 +8,10 @@ pub loop-x-preserved : goal.loop-x-preserved
 loop-x-preserved c =
     let n : ℕ = c.loop-x.x in
     let xs : List ℕ = c.loop-x.elements.items in
-    let is = sym c.in_ok-push.ensures.items in
-    record {
-      known = subst (λ (l : List ℕ). All (λ s. s < length c.args.graph.now.elements) l) is
-          (All-push (λ s. s < length c.args.graph.now.elements) xs n c.loop-x.invariant.known
-          (omega (arith, c.elements-x-end.ensures.value)));
-      few = (let more = c.loop-x.invariant.few in let long = length-append xs (n ∷ []) in
-          let same = ap length is in omega arith);
-      all = λ y under. subst (λ (l : List ℕ). Contains l y) is
-          (listed-next xs n y (c.loop-x.invariant.all y) under);
-    }
+    rw c.in_ok-push.ensures.items
+    (record {
+      known = All-push (λ s. s < length c.args.graph.now.elements) xs n c.loop-x.invariant.known
+          (omega (arith, c.elements-x-end.ensures.value));
+      few = omega (arith, c.loop-x.invariant.few, length-append xs (n ∷ []));
+      all = λ y under. listed-next xs n y (c.loop-x.invariant.all y) under;
+    })

@@ -1,7 +1,7 @@
 -- One element more, with a rank or without.
-use Rattle.std.proofs.Common.{◌≡◌, ℕ, ◌<◌, Vec, Global, inl, inr, List, [], ◌∷◌, ◌+◌, length, length-append}
-use Rattle.std.proofs.Common.{slice_index, sym, ap, ◌∙◌, subst, arith}
-use Rattle.std.specs.Prelude.{All, AllPairs, Contains}
+use Rattle.std.proofs.Common.{◌≡◌, ℕ, ◌<◌, inl, inr, List, [], ◌∷◌, ◌+◌, length, length-append}
+use Rattle.std.proofs.Common.{slice_index, sym, ap, ◌∙◌, arith}
+use Rattle.std.specs.Prelude.{All}
 use Rattle.std.proofs.lemmas.Bool.{cases_lt}
 use Rattle.std.proofs.lemmas.List.Elements.{All-get_or, All-push, All-weaker}
 use Rattle.std.proofs.lemmas.List.Quantifiers.{all_pairs_push}
@@ -15,39 +15,35 @@ loop-x-preserved c =
     let n : ℕ = c.loop-x.x in
     let xs : List ℕ = c.loop-x.elements.items in
     let ranks : List ℕ = c.args.ranks.now in
+    let inv = c.loop-x.invariant in
+    let few = inv.few in
+    let below : All (λ s. s < n + 1) xs =
+    All-weaker (λ s. s < n) (λ s. s < n + 1) (λ s lt. omega arith) xs inv.below in
     elim c.if-rank.branch [
       | then-rank+in_ok-push w ↦
-          let is = sym (ap (λ (v : Vec ℕ Global). v.items) w.elements-is ∙ w.in_ok-push.ensures.items) in
-          record {
-            rising = subst (λ (l : List ℕ). AllPairs (λ x y. x < y) l) is
-                (all_pairs_push (λ x y. x < y) xs n c.loop-x.invariant.rising
-                (λ k d lt. All-get_or (λ s. s < n) xs k d lt c.loop-x.invariant.below));
-            below = subst (λ (l : List ℕ). All (λ s. s < n + 1) l) is
-                (All-push (λ s. s < n + 1) xs n (All-weaker (λ s. s < n) (λ s. s < n + 1)
-                (λ s lt. omega arith) xs c.loop-x.invariant.below) (omega arith));
-            known = subst (λ (l : List ℕ). All (λ s. s < length ranks) l) is
-                (All-push (λ s. s < length ranks) xs n c.loop-x.invariant.known c.loop-x-test.true);
-            few = (let more = c.loop-x.invariant.few in let long = length-append xs (n ∷ []) in
-                let same = ap length is in omega arith);
-            only = subst (λ (l : List ℕ). All (λ s. slice_index ranks s ≡ UNRANKED) l) is
-                (All-push (λ s. slice_index ranks s ≡ UNRANKED) xs n c.loop-x.invariant.only w.if-rank.true);
-            all = λ y under out. subst (λ (l : List ℕ). Contains l y) is
-                (listed-next xs n y (λ lt. c.loop-x.invariant.all y lt out) under);
-          }
+          rw (w.elements-is, w.in_ok-push.ensures.items)
+          (record {
+            rising = all_pairs_push (λ x y. x < y) xs n inv.rising
+                (λ k d lt. All-get_or (λ s. s < n) xs k d lt inv.below);
+            below = All-push (λ s. s < n + 1) xs n below (omega arith);
+            known = All-push (λ s. s < length ranks) xs n inv.known c.loop-x-test.true;
+            few = omega (arith, few, length-append xs (n ∷ []));
+            only = All-push (λ s. slice_index ranks s ≡ UNRANKED) xs n inv.only w.if-rank.true;
+            all = λ y under out. listed-next xs n y (λ lt. inv.all y lt out) under;
+          })
       | else-rank w ↦
-          let is = sym (ap (λ (v : Vec ℕ Global). v.items) w.elements-is) in
-          record {
-            rising = subst (λ (l : List ℕ). AllPairs (λ x y. x < y) l) is c.loop-x.invariant.rising;
-            below = subst (λ (l : List ℕ). All (λ s. s < n + 1) l) is
-                (All-weaker (λ s. s < n) (λ s. s < n + 1) (λ s lt. omega arith) xs c.loop-x.invariant.below);
-            known = subst (λ (l : List ℕ). All (λ s. s < length ranks) l) is c.loop-x.invariant.known;
-            few = (let more = c.loop-x.invariant.few in let same = ap length is in omega arith);
-            only = subst (λ (l : List ℕ). All (λ s. slice_index ranks s ≡ UNRANKED) l) is
-                c.loop-x.invariant.only;
-            all = λ y under out. subst (λ (l : List ℕ). Contains l y) is (elim (cases_lt y n) [
-              | inl lt ↦ c.loop-x.invariant.all y lt out
-              | inr over ↦ let e : y ≡ n =
-                  omega arith in absurd (w.if-rank.false (ap (λ i. slice_index ranks i) (sym e) ∙ out))
-            ]);
-          }
+          rw w.elements-is
+          (record {
+            rising = inv.rising;
+            below = below;
+            known = inv.known;
+            few = omega (arith, few);
+            only = inv.only;
+            all = λ y under out. elim (cases_lt y n) [
+              | inl lt ↦ inv.all y lt out
+              | inr over ↦
+                  let e : y ≡ n = omega arith in
+                  absurd (w.if-rank.false (ap (λ i. slice_index ranks i) (sym e) ∙ out))
+            ];
+          })
     ]

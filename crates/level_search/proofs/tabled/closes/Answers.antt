@@ -1,13 +1,13 @@
 -- One element of the layer more is looked at; those before it are none of the layer.
-use Rattle.std.proofs.Common.{◌≡◌, ℕ, ◌+◌, ◌<◌, ◌≤◌, ◌∙◌, List, length, inl, inr, refl, sym, ap, subst, arith}
+use Rattle.std.proofs.Common.{◌≡◌, ℕ, ◌∙◌, List, length, inl, inr, refl, sym, ap, subst, arith}
 use Rattle.std.proofs.Common.{true≢false}
 use Rattle.std.proofs.lemmas.Bool.{cases_lt}
 use Rattle.bit_tables.specs.Lists.{row_of}
 use Rattle.bit_tables.specs.Sets.{Has}
-use Rattle.order_graph.specs.Lists.{lists_of, ticked}
+use Rattle.order_graph.specs.Lists.{lists_of}
 use Rattle.level_search.specs.LayerSizes.{counted}
 use Rattle.level_search.proofs.BallLemmas.{before_shown, shown_before}
-use Rattle.level_search.proofs.LayerSizes.{counted-next, layer-gap, layer-next}
+use Rattle.level_search.proofs.LayerSizes.{layer-gap, looked-next}
 use Rattle.level_search.proofs.tabled.closes.Goals as goal
 
 pub returns-then-contains-clause-found : goal.returns-then-contains-clause-found
@@ -32,9 +32,8 @@ returns-then-contains-clause-found c =
           | inr from ↦ absurd (layer.not_near (c.in-Some.ensures.first y from low layer.reached))
         ];
       },
-      c.expand.ensures.ticked ∙ ap ticked inv.looked
-          ∙ counted-next _ _ c.args.looked.now
-          (layer-next sets c.layer.from x some.0 c.in-Some.ensures.first some.1.reached some.1.not_near),
+      looked-next _ _ _ _ _ _ some.0 c.in-Some.ensures.first some.1.reached some.1.not_near inv.looked
+          c.expand.ensures.ticked,
     )
 
 pub layer-preserved : goal.layer-preserved
@@ -46,9 +45,8 @@ layer-preserved c =
     record {
       within = (let known = some.1.known in omega (arith, known));
       looked =
-          c.expand.ensures.ticked ∙ ap ticked inv.looked
-          ∙ counted-next _ _ c.args.looked.now
-          (layer-next sets c.layer.from x some.0 c.in-Some.ensures.first some.1.reached some.1.not_near);
+          looked-next _ _ _ _ _ _ some.0 c.in-Some.ensures.first some.1.reached some.1.not_near inv.looked
+          c.expand.ensures.ticked;
       missed = λ y low reached not_near. elim (cases_lt y c.layer.from) [
         | inl before ↦ inv.missed y before reached not_near
         | inr from ↦ elim (cases_lt y x) [

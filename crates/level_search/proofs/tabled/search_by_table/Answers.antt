@@ -1,6 +1,6 @@
 -- From level to level.
-use Rattle.std.proofs.Common.{◌≡◌, ℕ, ◌+◌, ◌*◌, ◌<◌, ◌≤◌, ◌⊎◌, Option, None, Some, List, length, ◌∙◌, inl}
-use Rattle.std.proofs.Common.{inr, refl, sym, subst, arith}
+use Rattle.std.proofs.Common.{◌≡◌, ℕ, ◌+◌, ◌*◌, ◌≤◌, ◌⊎◌, Option, None, List, length, ◌∙◌, inl}
+use Rattle.std.proofs.Common.{inr, refl, subst, arith}
 use Rattle.std.specs.Prelude.{◌↔◌}
 use Rattle.bit_tables.specs.Sets.{Has}
 use Rattle.order_graph.specs.Lists.{lists_of}
@@ -8,7 +8,8 @@ use Rattle.level_search.proofs.BallLemmas.{before_shown, cycle_closes, cycle_lon
 use Rattle.level_search.proofs.BallLemmas.{no_cycle_left}
 use Rattle.list_search.proofs.Joining.{before-known}
 use Rattle.level_search.specs.LayerSizes.{counted, layer_size, set_size}
-use Rattle.level_search.specs.Looks.{HasLooked}
+use Rattle.level_search.specs.Balls.{IsAtLevel}
+use Rattle.level_search.specs.Looks.{HasLooked, IsAtEnd, IsLastPart}
 use Rattle.list_search.specs.Rings.{Reaches}
 use Rattle.level_search.specs.declared.tabled.sets.Sets.{Sets}
 use Rattle.level_search.proofs.Counts.{count-most}
@@ -23,10 +24,8 @@ twice : (n : ℕ) (old new : Sets) (begun was closed now : ℕ) → was ≡ coun
     → ((x : ℕ) → Has new.near x ↔ (Has old.near x ⊎ Has old.reached x))
     → now ≡ counted (2 * set_size n new.near) begun
 twice n old new begun was closed now first second third near =
-    looked-as (2 * set_size n old.near + layer_size n old + layer_size n old)
-    (2 * set_size n new.near) begun now
-    (looked-more (2 * set_size n old.near + layer_size n old) (layer_size n old) begun closed now
-    (looked-more (2 * set_size n old.near) (layer_size n old) begun was closed first second) third)
+    looked-as (2 * set_size n old.near + layer_size n old + layer_size n old) _ _ _
+    (looked-more _ _ _ _ _ (looked-more _ _ _ _ _ first second) third)
     (omega (arith, near-next n old new.near near))
 
 pub returns-then-closes-clause-answer : goal.returns-then-closes-clause-answer
@@ -37,8 +36,7 @@ returns-then-closes-clause-answer g c =
     let last = c.best-least.ensures.answer in
     let bound = c.if-least-level.false in (
       record {
-        cycle = cycle_closes (length v.elements) (lists_of v) c.args.table.now c.requires.table
-            (before-known v c.elements.ensures.proper) c.args.element c.loop-level.level c.loop-level.sets at
+        cycle = cycle_closes _ _ _ c.requires.table (before-known v c.elements.ensures.proper) _ _ _ at
             found.0 found.1.here ((c.requires.table.shown c.args.element found.0 found.1.here.known).1
             (before_shown (lists_of v) c.args.element found.0 found.1.before));
         shortest = λ n cycle. let long = at.long n cycle in omega arith;
@@ -55,19 +53,15 @@ returns-then-least-level-2-clause-answer g c n cycle =
     let last = c.best-least.ensures.answer in
     elim c.then-least-level-2.branch [
       | then-least-level-2-via-then-least-level-2 w ↦
-          let long =
-          cycle_longer (length v.elements) (lists_of v) c.args.table.now c.requires.table known
-          c.args.element c.loop-level.level c.loop-level.sets at missed n cycle in
+          let long = cycle_longer _ _ _ c.requires.table known _ _ _ at missed n cycle in
           let low = w.if-least-level-2.true in
           omega arith
       | then-least-level-2-via-else-least-level-2+then-not-next_layer w ↦
           let next = w.next_layer.ensures in
           let then =
-          level_next (length v.elements) (lists_of v) c.args.table.now c.requires.table known
-          c.args.element c.loop-level.level c.loop-level.sets w.next_layer.new.self at missed next.near
+          level_next _ _ _ c.requires.table known _ _ _ w.next_layer.new.self at missed next.near
           next.reached in
-          absurd (no_cycle_left (length v.elements) (lists_of v) c.args.table.now c.requires.table known
-          c.args.element (c.loop-level.level + 1) w.next_layer.new.self then
+          absurd (no_cycle_left _ _ _ c.requires.table known _ _ _ then
           (w.if-not-next_layer.ensures.last refl) n cycle)
     ]
 
@@ -98,7 +92,7 @@ loop-level-init g c =
       bound = omega arith;
       reads = g.met.B.BoundSource.reads_none _;
       looked =
-          looked-as 0 (2 * set_size n c.begin.new.self.near) c.args.looked.now c.args.looked.now refl
+          looked-as 0 _ c.args.looked.now _ refl
           (let none = near-none n c.begin.new.self.near begun.near in omega (arith, none));
       read = λ some. absurd (omega (arith, some));
     }
@@ -112,130 +106,86 @@ loop-level-preserved g c =
     let last = c.best-least.ensures.answer in
     let falls = c.best-least.ensures.falls in
     record {
-      at = level_next (length v.elements) (lists_of v) c.args.table.now c.requires.table
-          (before-known v c.elements.ensures.proper) c.args.element c.loop-level.level c.loop-level.sets
-          c.next_layer.new.self inv.at missed next.near next.reached;
+      at = level_next _ _ _ c.requires.table (before-known v c.elements.ensures.proper) _ _ _ _ inv.at
+          missed next.near next.reached;
       fits = next.fits;
       bound = omega (arith, falls, inv.bound);
       reads = g.met.B.BoundSource.reads_more _ _ _ inv.reads c.best-least.ensures.reads;
       looked =
-          twice (length v.elements) c.loop-level.sets c.next_layer.new.self c.args.looked.now
-          c.loop-level.looked c.closes.new.looked c.next_layer.new.looked inv.looked
-          (c.if-closes.ensures.looked refl) next.looked next.near;
+          twice _ _ c.next_layer.new.self _ _ _ _ inv.looked (c.if-closes.ensures.looked refl) next.looked
+          next.near;
       read = λ some. omega arith;
     }
 
-none-of : (n : ℕ) (sets : Sets) (old new : ℕ) → new ≡ counted (2 * set_size n sets.near) old
-    → new ≡ counted (2 * set_size n sets.near + 0) old
-none-of n sets old new is = looked-as _ _ old new is (omega arith)
+-- the looks of a search that ends at a level
+looks_at : (n : ℕ) (rows : List (List ℕ)) (s low level part count : ℕ) (sets : Sets) (answer : Option ℕ)
+    (old new : ℕ) → IsAtLevel rows s level sets → IsLastPart n rows s low sets level answer part
+    → count ≡ 2 * set_size n sets.near + part → new ≡ counted count old
+    → HasLooked n rows s low sets answer old new
+looks_at n rows s low level part count sets answer old new at part_is sum is = (
+  count,
+  record {
+    level = level;
+    near = at.near;
+    reached = at.reached;
+    part = part;
+    is_part = part_is;
+    is_sum = sum;
+  },
+  is,
+)
+
+-- the same where it looks at none of the last layer
+none_at : (n : ℕ) (rows : List (List ℕ)) (s low level : ℕ) (sets : Sets) (old new : ℕ)
+    → IsAtLevel rows s level sets → IsAtEnd n sets low level → new ≡ counted (2 * set_size n sets.near) old
+    → HasLooked n rows s low sets None old new
+none_at n rows s low level sets old new at end =
+    looks_at n rows s low level 0 _ sets None old new at (inl (refl, end)) (omega arith)
 
 pub returns-then-least-level-clause-looks : goal.returns-then-least-level-clause-looks
 returns-then-least-level-clause-looks g c =
-    let n : ℕ = length c.args.graph.now.elements in
-    let at = c.loop-level.invariant.at in
     let last = c.best-least.ensures.answer in
-    let low = c.if-least-level.true in (
-      _,
-      record {
-        level = c.loop-level.level;
-        near = at.near;
-        reached = at.reached;
-        part = 0;
-        is_part = inl (refl, inl (omega (arith, last, low)));
-        is_sum = refl;
-      },
-      none-of n c.loop-level.sets c.args.looked.now c.loop-level.looked c.loop-level.invariant.looked,
-    )
+    let low = c.if-least-level.true in
+    none_at _ _ _ _ c.loop-level.level _ _ _ c.loop-level.invariant.at (inl (omega (arith, last, low)))
+    c.loop-level.invariant.looked
 
 pub returns-then-closes-clause-looks : goal.returns-then-closes-clause-looks
 returns-then-closes-clause-looks g c =
-    let n : ℕ = length c.args.graph.now.elements in
-    let at = c.loop-level.invariant.at in
-    let found = c.if-closes.ensures.found refl in (
-      _,
-      record {
-        level = c.loop-level.level;
-        near = at.near;
-        reached = at.reached;
-        part = layer_size (found.0 + 1) c.loop-level.sets;
-        is_part = (refl, found.0, found.1, refl);
-        is_sum = refl;
-      },
-      looked-more (2 * set_size n c.loop-level.sets.near) (layer_size (found.0 + 1) c.loop-level.sets)
-          c.args.looked.now c.loop-level.looked c.closes.new.looked c.loop-level.invariant.looked found.2,
-    )
+    let found = c.if-closes.ensures.found refl in
+    looks_at _ _ _ _ c.loop-level.level _ _ _ _ _ _ c.loop-level.invariant.at (refl, found.0, found.1, refl)
+    refl (looked-more _ _ _ _ _ c.loop-level.invariant.looked found.2)
 
 pub returns-then-least-level-2-clause-looks : goal.returns-then-least-level-2-clause-looks
 returns-then-least-level-2-clause-looks g c =
     let v = c.args.graph.now in
-    let n : ℕ = length v.elements in
     let at = c.loop-level.invariant.at in
     let missed = c.if-closes.ensures.missed refl in
+    let closes = c.if-closes.ensures.looked refl in
     let last = c.best-least.ensures.answer in
-    let P : Sets × ℕ → Type 0 =
-    λ z. HasLooked n (lists_of v) c.args.element (g.B.BoundSource.last c.best-least.new.self) z.0 None
-    c.args.looked.now z.1 in
     elim c.then-least-level-2.branch [
       | then-least-level-2-via-then-least-level-2 w ↦
           let low = w.if-least-level-2.true in
-          subst P (λ i. (sym w.sets-is i, sym w.looked-is i)) (
-            _,
-            record {
-              level = c.loop-level.level;
-              near = at.near;
-              reached = at.reached;
-              part = layer_size n c.loop-level.sets;
-              is_part = inr (refl, omega (arith, last, low));
-              is_sum = refl;
-            },
-            looked-more (2 * set_size n c.loop-level.sets.near)
-                (layer_size n c.loop-level.sets) c.args.looked.now c.loop-level.looked c.closes.new.looked
-                c.loop-level.invariant.looked (c.if-closes.ensures.looked refl),
-          )
+          rw (w.sets-is, w.looked-is)
+          (looks_at _ _ _ _ c.loop-level.level _ _ _ _ _ _ at (inr (refl, omega (arith, last, low))) refl
+          (looked-more _ _ _ _ _ c.loop-level.invariant.looked closes))
       | then-least-level-2-via-else-least-level-2+then-not-next_layer w ↦
           let next = w.next_layer.ensures in
           let then =
-          level_next n (lists_of v) c.args.table.now c.requires.table
-          (before-known v c.elements.ensures.proper) c.args.element c.loop-level.level c.loop-level.sets
+          level_next _ _ _ c.requires.table (before-known v c.elements.ensures.proper) _ _ _
           w.next_layer.new.self at missed next.near next.reached in
-          subst P (λ i. (sym w.sets-is i, sym w.looked-is i)) (
-            _,
-            record {
-              level = c.loop-level.level + 1;
-              near = then.near;
-              reached = then.reached;
-              part = 0;
-              is_part =
-                  inl (
-                    refl,
-                    inr (λ x here. here.not_near (w.if-not-next_layer.ensures.last refl x here.reached)),
-                  );
-              is_sum = refl;
-            },
-            none-of n w.next_layer.new.self c.args.looked.now w.next_layer.new.looked
-                (twice n c.loop-level.sets w.next_layer.new.self c.args.looked.now c.loop-level.looked
-                c.closes.new.looked w.next_layer.new.looked c.loop-level.invariant.looked
-                (c.if-closes.ensures.looked refl) next.looked next.near),
-          )
+          rw (w.sets-is, w.looked-is)
+          (none_at _ _ _ _ (c.loop-level.level + 1) _ _ _ then
+          (inr (λ x here. here.not_near (w.if-not-next_layer.ensures.last refl x here.reached)))
+          (twice _ _ w.next_layer.new.self _ _ _ _ c.loop-level.invariant.looked closes next.looked
+          next.near))
     ]
 
 pub returns-clause-looks : goal.returns-clause-looks
 returns-clause-looks g c =
-    let n : ℕ = length c.args.graph.now.elements in
-    let at = c.loop-level.invariant.at in
     let past = c.loop-level-test.false in
-    let read = c.loop-level.invariant.read (omega (arith, past)) in (
-      _,
-      record {
-        level = c.loop-level.level;
-        near = at.near;
-        reached = at.reached;
-        part = 0;
-        is_part = inl (refl, inl (omega (arith, past, read)));
-        is_sum = refl;
-      },
-      none-of n c.loop-level.sets c.args.looked.now c.loop-level.looked c.loop-level.invariant.looked,
-    )
+    let read = c.loop-level.invariant.read (omega (arith, past)) in
+    none_at _ _ _ _ c.loop-level.level _ _ _ c.loop-level.invariant.at (inl (omega (arith, past, read)))
+    c.loop-level.invariant.looked
 
 -- so many looks are no more than two at the row of each element
 few : (n : ℕ) (rows : List (List ℕ)) (s low : ℕ) (sets : Sets) (answer : Option ℕ) (old new : ℕ)

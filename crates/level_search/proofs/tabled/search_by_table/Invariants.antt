@@ -1,4 +1,4 @@
-use Rattle.std.proofs.Common.{◌≡◌, ◌+◌, ◌*◌, ◌<◌, ◌≤◌, ◌^◌, length}
+use Rattle.std.proofs.Common.{◌≡◌, ◌*◌, ◌<◌, ◌≤◌, ◌^◌, length}
 use Rattle.order_graph.specs.Lists.{lists_of}
 use Rattle.level_search.specs.Balls.{FitsSets, IsAtLevel}
 use Rattle.level_search.specs.LayerSizes.{counted, set_size}

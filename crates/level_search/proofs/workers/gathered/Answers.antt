@@ -1,8 +1,6 @@
-use Rattle.std.proofs.Common.{◌≡◌, ℕ, ap, sym, subst, ◌∙◌, arith, All, List, [], ◌∷◌, Bool, ◌||◌, min, length}
+use Rattle.std.proofs.Common.{◌≡◌, ap, ◌∙◌, arith, [], ◌∷◌, Bool, ◌||◌, min, length}
 use Rattle.std.proofs.Common.{length-append}
-use Rattle.order_graph.specs.Lists.{lists_of}
 use Rattle.shared_bound.specs.Seats.{SeatView}
-use Rattle.level_search.specs.Team.{AreLooksOfClaims, Honest}
 use Rattle.level_search.specs.declared.workers.worker.Worker.{Worker}
 use Rattle.level_search.proofs.Teams.{all_front, looks_taken_in, taken_in, IsOther}
 use Rattle.level_search.proofs.workers.gathered.Goals as goal
@@ -11,11 +9,10 @@ pub loop-other-preserved : goal.loop-other-preserved
 loop-other-preserved c =
     let inv = c.loop-other.invariant in
     let e = c.take_in.ensures.first in
-    let n : ℕ = length c.args.graph.now.elements in
-    let rows : List (List ℕ) = lists_of c.args.graph.now in
     let items = c.in-Some.ensures.items in
     let P : Worker → Type 0 = IsOther c.args.bound.now c.args.graph.now c.args.sources.now in
-    let front = all_front P c.pop.new.self.items c.in-Some.other (subst (All P) items inv.6) in
+    let front = all_front P c.pop.new.self.items c.in-Some.other (rw items at inv.6) in
+    let other = c.into_seat-seat.ensures in
     let ok = c.loop-other.others.ok.0 in
     let ok' = c.pop.new.self.ok.0 in
     let long = ap length items in
@@ -28,17 +25,12 @@ loop-other-preserved c =
       ap (λ (s : SeatView). s.is_first) e ∙ inv.1,
       omega arith,
       ap (λ (s : SeatView). s.done) e ∙ ap (λ (b : Bool). b || c.into_seat-seat.result.0.done) inv.3,
-      taken_in rows c.args.sources.now c.loop-other.first c.into_seat-seat.result.0 c.take_in.new.first inv.4
-          (subst (Honest rows c.args.sources.now) (sym c.into_seat-seat.ensures.seat) front.1.2)
+      taken_in _ _ c.loop-other.first c.into_seat-seat.result.0 c.take_in.new.first inv.4
+          (rw other.seat front.1.2)
           (ap (λ (s : SeatView). s.claimed) e) (ap (λ (s : SeatView). s.offered) e) (omega arith)
           (omega arith),
-      looks_taken_in n rows c.args.sources.now c.loop-other.first c.into_seat-seat.result.0
-          c.take_in.new.first c.loop-other.looked c.into_seat-seat.result.1 c.saturating_add-looked.result
-          (ap (λ (s : SeatView). s.claimed) e) (omega arith) (omega arith) inv.5
-          (subst (λ (s : SeatView). AreLooksOfClaims n rows c.args.sources.now s c.into_seat-seat.result.1)
-          (sym c.into_seat-seat.ensures.seat)
-          (subst (λ m. AreLooksOfClaims n rows c.args.sources.now c.in-Some.other.seat m)
-          (sym c.into_seat-seat.ensures.looked) front.1.3))
-          c.saturating_add-looked.ensures,
+      looks_taken_in _ _ _ c.loop-other.first c.into_seat-seat.result.0 c.take_in.new.first _
+          c.into_seat-seat.result.1 _ (ap (λ (s : SeatView). s.claimed) e) (omega arith) (omega arith) inv.5
+          (rw (other.seat, other.looked) front.1.3) c.saturating_add-looked.ensures,
       front.0,
     )

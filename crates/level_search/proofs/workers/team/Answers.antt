@@ -1,7 +1,7 @@
-use Rattle.std.proofs.Common.{◌≡◌, ◌+◌, ◌-◌, false, ap, sym, subst, ◌∙◌, arith, All}
+use Rattle.std.proofs.Common.{◌≡◌, ◌+◌, ◌-◌, false, ap, ◌∙◌, arith}
 use Rattle.std.proofs.lemmas.List.Elements.{All-push}
 use Rattle.shared_bound.specs.Seats.{SeatView, fresh_seat}
-use Rattle.level_search.specs.Team.{AreNumbered, IsReady, IsTeam}
+use Rattle.level_search.specs.Team.{IsReady}
 use Rattle.level_search.specs.declared.workers.worker.Worker.{Worker}
 use Rattle.level_search.proofs.Teams.{numbered-push, team_grown}
 use Rattle.level_search.proofs.workers.team.Goals as goal
@@ -30,13 +30,13 @@ loop-number-preserved c =
       omega arith,
       omega arith,
       omega arith,
-      subst (All P) (sym c.in_ok-push.ensures.items)
+      rw c.in_ok-push.ensures.items
           (All-push P c.loop-number.team.items c.in_ok-new.field-0 inv.8 (
             ap (λ (s : SeatView). s.bound) other,
             ap (λ (s : SeatView). s.is_first) other,
             c.in_ok-new.ensures.ready c.args.sources.now,
           )),
-      subst AreNumbered (sym c.in_ok-push.ensures.items)
+      rw c.in_ok-push.ensures.items
           (numbered-push c.loop-number.team.items c.in_ok-new.field-0 inv.9
           (c.in_ok-new.ensures.number ∙ omega arith)),
     )
@@ -51,11 +51,7 @@ returns c =
     let was = inv.5 in
     let sum = inv.6 in
     let count = inv.7 in
-    subst (IsTeam c.args.bound.now c.args.graph.now c.args.sources.now (c.args.workers - 1))
-    (sym c.in_ok-push-2.ensures.items)
-    (
-    team_grown c.args.bound.now c.args.graph.now c.args.sources.now
-    (c.args.workers - 1) c.loop-number.team.items c.in_ok-new-2.field-0 inv.8 inv.9 (omega arith)
+    rw c.in_ok-push-2.ensures.items
+    (team_grown _ _ _ _ c.loop-number.team.items c.in_ok-new-2.field-0 inv.8 inv.9 (omega arith)
     (ap (λ (s : SeatView). s.bound) e ∙ inv.0) (ap (λ (s : SeatView). s.is_first) e ∙ inv.1) (omega arith)
-    (c.in_ok-new-2.ensures.ready c.args.sources.now) c.in_ok-new-2.ensures.number
-    )
+    (c.in_ok-new-2.ensures.ready c.args.sources.now) c.in_ok-new-2.ensures.number)

@@ -1,9 +1,8 @@
-use Rattle.std.proofs.Common.{◌≡◌, ◌⊎◌, ℕ, ◌<◌, Some, true, false, get_or, length, slice_get, subst, sym}
+use Rattle.std.proofs.Common.{◌≡◌, ℕ, ◌<◌, Some, length, slice_get, subst, sym}
 use Rattle.std.proofs.Common.{arith, inl, inr}
 use Rattle.std.proofs.lemmas.Bool.{cases_eq}
 use Rattle.std.proofs.lemmas.Option.{slice_get_within}
 use Rattle.order_graph.specs.Lists.{lists_of, Stands}
-use Rattle.list_search.specs.Graph.{Before}
 use Rattle.order_graph.specs.Spots.{spots_of}
 use Rattle.order_graph.proofs.AllSpots.{spots_complete}
 use Rattle.level_search.proofs.cycles.choose.least_next.Goals as goal
@@ -23,9 +22,7 @@ loop-i-preserved c =
         | inr other ↦ let old = before.least k q y (omega arith) get follows marked in omega arith
       ];
       first = elim after.first [
-        | inl same ↦
-            subst (λ n. (n ≡ (length c.args.graph.now.elements))
-            ⊎ (Before rows c.args.a n × (get_or c.args.marked.now n false ≡ true))) (sym same) before.first
+        | inl same ↦ rw same before.first
         | inr new ↦ inr new
       ];
     }

@@ -1,12 +1,21 @@
-use Rattle.std.proofs.Common.{◌≡◌, ℕ, ◌+◌, ◌*◌, ◌<◌, ◌≤◌, length, add-one, inl, inr, sym, subst, arith}
+use Rattle.std.proofs.Common.{◌≡◌, ℕ, ◌+◌, ◌*◌, ◌<◌, Option, List, length, add-one, inl, inr, subst}
+use Rattle.std.proofs.Common.{arith}
 use Rattle.std.proofs.lemmas.Bool.{cases_lt}
 use Rattle.std.proofs.Math.Nat.{add-mul}
 use Rattle.order_graph.specs.Lists.{lists_of}
 use Rattle.level_search.specs.Looks.{HasLooked, HaveLooked}
 use Rattle.list_search.specs.Walks.{HasCycle}
+use Rattle.level_search.specs.declared.tabled.sets.Sets.{Sets}
 use Rattle.list_search.proofs.Joining.{found-here, none-here, shortest_of_all}
 use Rattle.level_search.proofs.ShortestFew.{shortest-fits}
 use Rattle.level_search.proofs.cycles.ring.first_source.Goals as goal
+
+-- the looks of a search from one element more
+next-looked : (n : ℕ) (rows : List (List ℕ)) (low s old was new : ℕ) (sets : Sets) (answer : Option ℕ)
+    → HaveLooked n rows low s old was → HasLooked n rows s low sets answer was new
+    → HaveLooked n rows low (s + 1) old new
+next-looked n rows low s old was new sets answer before looks =
+    rw (add-one s) (was, before, sets, answer, looks)
 
 pub overflow_add-bound : goal.overflow_add-bound
 overflow_add-bound c =
@@ -44,16 +53,7 @@ loop-element-preserved c =
     record {
       fits = search.fits;
       looked = omega (arith, inv.looked, search.looked, add-mul s 1 (2 * n));
-      looks = subst
-          (λ k. HaveLooked n (lists_of v) (c.args.k + 1) k c.args.looked.now c.search_by_table.new.looked)
-          (sym (add-one s)) (
-            c.loop-element.looked,
-            inv.looks,
-            c.search_by_table.new.sets,
-            c.search_by_table.result,
-            subst (λ low. HasLooked n (lists_of v) s low c.search_by_table.new.sets c.search_by_table.result
-                c.loop-element.looked c.search_by_table.new.looked) search.reads search.looks,
-          );
+      looks = next-looked _ _ _ s _ _ _ _ _ inv.looks (rw search.reads at search.looks);
       none = λ t low. elim (cases_lt t s) [
         | inl less ↦ inv.none t less
         | inr more ↦ λ cycle.
@@ -66,16 +66,6 @@ loop-element-preserved c =
 
 pub returns-then-is_some-clause-looks : goal.returns-then-is_some-clause-looks
 returns-then-is_some-clause-looks c =
-    let v = c.args.graph.now in
-    let s : ℕ = c.loop-element.element in
     let search = c.search_by_table.ensures in
-    subst (λ k. HaveLooked (length v.elements) (lists_of v) (c.args.k + 1) k c.args.looked.now
-    c.search_by_table.new.looked) (sym (add-one s)) (
-      c.loop-element.looked,
-      c.loop-element.invariant.looks,
-      c.search_by_table.new.sets,
-      c.search_by_table.result,
-      subst (λ low. HasLooked (length v.elements) (lists_of v) s low c.search_by_table.new.sets
-          c.search_by_table.result c.loop-element.looked c.search_by_table.new.looked) search.reads
-          search.looks,
-    )
+    next-looked _ _ _ c.loop-element.element _ _ _ _ _ c.loop-element.invariant.looks
+    (rw search.reads at search.looks)

@@ -1,11 +1,10 @@
-use Rattle.std.proofs.Common.{◌≡◌, ℕ, ◌+◌, ◌-◌, ◌<◌, ◌≤◌, ◌++◌, [], ◌∷◌, Bool, List, length, get_or, map}
+use Rattle.std.proofs.Common.{◌≡◌, ℕ, ◌+◌, ◌-◌, ◌<◌, ◌≤◌, ◌++◌, [], ◌∷◌, List, length, get_or, map}
 use Rattle.std.proofs.Common.{subst, sym, ap, ◌∙◌, arith, inl, inr}
 use Rattle.std.proofs.lemmas.Bool.{cases_eq}
 use Rattle.std.proofs.lemmas.Grind.{common_steps}
 use Rattle.std.proofs.lemmas.List.{get_or_append_left, get_or_push, length_push}
 use Rattle.order_graph.specs.Lists.{lists_of}
-use Rattle.list_search.specs.Graph.{graph_of}
-use Rattle.list_search.specs.Rings.{IsLeastNext, IsTableOf, Reaches}
+use Rattle.list_search.specs.Rings.{IsLeastNext, Reaches}
 use Rattle.list_search.proofs.Firsts.{reaches_walk}
 use Rattle.level_search.proofs.TableRows.{bits_of, table_at}
 use Rattle.level_search.proofs.cycles.ring.ring_from.Goals as goal
@@ -37,8 +36,7 @@ next_of_ring-a-requires-clause-table c =
     let is : get_or (map bits_of c.in_ok-all.all.items) n [] ≡ c.as_slice.result.now =
     table_at c.in_ok-all.all.items n c.index.result.now (omega arith) c.index.ensures
     ∙ sym c.as_slice.ensures.value in
-    subst (λ (t : List Bool). IsTableOf (graph_of c.args.graph.now) c.args.element n t) is
-    (c.in_ok-all.ensures.tables n below)
+    rw is at (c.in_ok-all.ensures.tables n below)
 
 pub loop-i-preserved : goal.loop-i-preserved
 loop-i-preserved c =
@@ -70,13 +68,9 @@ loop-i-preserved c =
       chosen = λ j from to. elim (cases_eq j i) [
         | inl same ↦
             let here : a ≡ get_or more (i - 1) 0 = sym before.last ∙ old (i - 1) (omega arith) in
-            let one = subst (λ x. IsLeastNext rows s (k - i) x b) here chosen in
-            let two = subst (λ x. IsLeastNext rows s (k - i) (get_or more (i - 1) 0) x) last one in
-            subst (λ n. IsLeastNext rows s (k - n) (get_or more (n - 1) 0) (get_or more n 0)) (sym same) two
+            rw (same, sym here, sym last) chosen
         | inr other ↦
-            let one =
-            subst (λ x. IsLeastNext rows s (k - j) x (get_or ring j 0)) (old (j - 1) (omega arith))
-            (before.chosen j from (omega arith)) in
-            subst (λ x. IsLeastNext rows s (k - j) (get_or more (j - 1) 0) x) (old j (omega arith)) one
+            rw (sym (old (j - 1) (omega arith)), sym (old j (omega arith)))
+            (before.chosen j from (omega arith))
       ];
     }

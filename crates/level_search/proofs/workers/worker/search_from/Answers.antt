@@ -1,10 +1,8 @@
-use Rattle.std.proofs.Common.{◌≡◌, ℕ, Option, List, [], ◌∷◌, ◌++◌, length, ap, sym, subst, ◌∙◌, arith, All}
+use Rattle.std.proofs.Common.{◌≡◌, ℕ, List, [], ◌∷◌, ◌++◌, ap, sym, subst, ◌∙◌, arith, All}
 use Rattle.std.proofs.lemmas.List.Elements.{All-push}
 use Rattle.order_graph.specs.Lists.{lists_of}
 use Rattle.shared_bound.specs.Seats.{SeatView}
-use Rattle.level_search.specs.Looks.{HasLooked}
 use Rattle.level_search.specs.Team.{IsLength}
-use Rattle.level_search.specs.declared.tabled.sets.Sets.{Sets}
 use Rattle.level_search.specs.declared.workers.worker.Worker.{Worker}
 use Rattle.level_search.proofs.Counts.{looked-lower}
 use Rattle.level_search.proofs.workers.worker.search_from.Goals as goal
@@ -36,22 +34,13 @@ returns-clause-offers g c =
 -- the least length that the seat knows of is no greater than the bound that was read last
 pub returns-clause-looks : goal.returns-clause-looks
 returns-clause-looks g c =
-    let n : ℕ = length c.args.graph.now.elements in
-    let rows : List (List ℕ) = lists_of c.args.graph.now in
-    let old : ℕ = c.args.worker.now.looked in
-    let low : ℕ = c.search_by_table.new.bound.low in
-    let sets : Sets = c.search_by_table.new.sets in
-    let new : ℕ = c.search_by_table.new.looked in
     let looks = c.search_by_table.ensures.looks in
-    let P : Worker → Type 0 =
-    λ w. (answer : Option ℕ) × HasLooked n rows c.args.source w.seat.low w.sets answer old w.looked in
     elim c.match-search_by_table.branch [
       | in-Some w ↦
           let less = w.offer.ensures.low in
-          subst P (sym w.worker-is) (
+          rw w.worker-is (
             c.search_by_table.result,
-            looked-lower n rows c.args.source low w.offer.new.self.low sets c.search_by_table.result old new
-                (omega (arith, less)) looks,
+            looked-lower _ _ _ c.search_by_table.new.bound.low _ _ _ _ _ (omega (arith, less)) looks,
           )
-      | in_default w ↦ subst P (sym w.worker-is) (c.search_by_table.result, looks)
+      | in_default w ↦ rw w.worker-is (c.search_by_table.result, looks)
     ]

@@ -1,5 +1,5 @@
 -- All lists are noted.
-use Rattle.std.proofs.Common.{◌≡◌, ◌≤◌, ◌∙◌, length, ap, sym, subst, arith}
+use Rattle.std.proofs.Common.{◌≤◌, length, subst, arith}
 use Rattle.std.proofs.lemmas.List.{length-map}
 use Rattle.specification.specs.Elements.{numbers_in}
 use Rattle.specification.specs.Responses.{Returned}

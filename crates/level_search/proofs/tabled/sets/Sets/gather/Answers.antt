@@ -3,11 +3,10 @@ use Rattle.std.proofs.Common.{◌≡◌, ℕ, ◌+◌, ◌<◌, ◌≤◌, ◌�
 use Rattle.std.proofs.lemmas.Bool.{cases_eq}
 use Rattle.bit_tables.specs.Sets.{Has}
 use Rattle.bit_tables.specs.Lists.{row_of}
-use Rattle.order_graph.specs.Lists.{ticked}
 use Rattle.level_search.specs.Balls.{IsInLayer}
 use Rattle.level_search.specs.LayerSizes.{counted}
 use Rattle.level_search.proofs.BallLemmas.{layer_from, layer_to}
-use Rattle.level_search.proofs.LayerSizes.{counted-next, layer-gap, layer-next}
+use Rattle.level_search.proofs.LayerSizes.{layer-gap, looked-next}
 use Rattle.level_search.proofs.tabled.sets.Sets.gather.Goals as goal
 
 pub layer-preserved : goal.layer-preserved
@@ -19,12 +18,11 @@ layer-preserved c =
     let table : List (List ℕ) = c.args.table.now in
     let some = c.in-Some.ensures.some in
     let none : (y : ℕ) → from ≤ y → y < x → Has sets.reached y → Has sets.near y =
-    λ y low high has. subst (λ (s : List ℕ). Has s y) inv.near
-    (c.in-Some.ensures.first y low high (subst (λ (s : List ℕ). Has s y) (sym inv.reached) has)) in
+    rw (inv.near, inv.reached) at c.in-Some.ensures.first in
     let here : IsInLayer (x + 1) sets x = record {
       known = omega arith;
-      reached = subst (λ (s : List ℕ). Has s x) inv.reached some.1.reached;
-      not_near = λ has. some.1.not_near (subst (λ (s : List ℕ). Has s x) (sym inv.near) has);
+      reached = rw inv.reached at some.1.reached;
+      not_near = rw inv.near at some.1.not_near;
     } in
     let row : List ℕ = c.before-in-Some.result.now in
     let is : row ≡ row_of table x = c.before-in-Some.ensures in
@@ -33,9 +31,7 @@ layer-preserved c =
       within = (let k = some.1.known in omega (arith, k));
       fits = record { near = inv.fits.near; reached = inv.fits.reached; next = joined.len ∙ inv.fits.next };
       looked =
-          c.expand.ensures.ticked ∙ ap ticked inv.looked
-          ∙ counted-next _ _ c.args.looked.now
-          (layer-next sets from x some.0 none here.reached here.not_near);
+          looked-next _ _ _ _ _ _ some.0 none here.reached here.not_near inv.looked c.expand.ensures.ticked;
       near = inv.near;
       reached = inv.reached;
       next = λ y. (
@@ -58,6 +54,5 @@ returns-clause-looked c =
     let from : ℕ = c.layer.from in
     let n : ℕ = length c.args.graph.now.elements in
     let none : (y : ℕ) → from ≤ y → y < n → Has sets.reached y → Has sets.near y =
-    λ y low high has. subst (λ (s : List ℕ). Has s y) inv.near
-    (c.in_default.ensures.none y low high (subst (λ (s : List ℕ). Has s y) (sym inv.reached) has)) in
+    rw (inv.near, inv.reached) at c.in_default.ensures.none in
     inv.looked ∙ ap (λ k. counted k c.args.looked.now) (sym (layer-gap sets from n inv.within none))
