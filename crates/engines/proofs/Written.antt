@@ -2,6 +2,8 @@
 use Rattle.std.proofs.Common.{◌≡◌, ℕ, Bool, true, List, Option, Some, None, Result, Ok, Err, IfSome, IfOk}
 use Rattle.std.proofs.Common.{IfErr, subst, sym}
 use Rattle.std.specs.Io.KnownBytes.{Appends, Consumes, IsAtEnd}
+use Rattle.std.specs.Result.{IsErrAnd}
+use Rattle.std.proofs.lemmas.Result.{err_from_is_err_and}
 use Rattle.std.proofs.KnownBytes.{Consumes-whole}
 use Rattle.byte_streams.specs.Streams.{AppendsFront}
 use Rattle.engines.specs.declared.status.Status.{Status}
@@ -12,6 +14,11 @@ use Rattle.events.specs.History.{History}
 use Rattle.specification.specs.TraceText.{Spells}
 use Rattle.engines.specs.Certified.{IsCertificateFor, IsCertificateOn}
 use Rattle.engines.specs.Runs.{IsReportOf, IsReportOn}
+
+-- what is so of the fault that a call met is so of the one that is handed on
+pub handed-on : (R : RunFault → Type 0) {given : RunFault} (answer : Result Status RunFault)
+    → IsErrAnd answer (λ fault. fault ≡ given) → R given → IfErr answer R
+handed-on R answer is so = let p = err_from_is_err_and answer is in rw (p.1, p.2) so
 
 -- the bytes of the text, as they were read and as they were handed on
 pub record WasRead (before after : Option (List ℕ)) (text read : List ℕ) : Type 0 where

@@ -1,7 +1,6 @@
 use Rattle.std.proofs.Common.{inl, inr}
-use Rattle.std.proofs.lemmas.Result.{err_from_is_err_and}
 use Rattle.command_line.specs.declared.task.Form.TheVariants.{Text}
-use Rattle.engines.proofs.Written.{written-on, front-on, report-on}
+use Rattle.engines.proofs.Written.{handed-on, written-on, front-on, report-on}
 use Rattle.finder_cli.proofs.Sessions.{stalled-on}
 use Rattle.engines.specs.Runs.{IsReportOf}
 use Rattle.finder_cli.proofs.live.live.Goals as goal
@@ -22,20 +21,17 @@ returns-clause-write g c =
 
 pub returns-in_err-recording-clause-place : goal.returns-in_err-recording-clause-place
 returns-in_err-recording-clause-place g c =
-    let p = err_from_is_err_and c.from_residual.result c.from_residual.ensures.1 in
-    rw (p.1, p.2) (λ memory. inl (c.in_err-recording.ensures.place memory))
+    handed-on _ c.from_residual.result c.from_residual.ensures.1
+    (λ memory. inl (c.in_err-recording.ensures.place memory))
 
 pub returns-in_err-report-clause-place : goal.returns-in_err-report-clause-place
 returns-in_err-report-clause-place g c =
-    let p = err_from_is_err_and c.from_residual-in_err-report.result
-    c.from_residual-in_err-report.ensures.1 in
     let end = c.in_ok-recording.ensures.end in
-    rw (p.1, p.2) (λ _. inr (c.in_ok-recording.recording, end.2, end.0, c.in_ok-recording.ensures.ok))
+    handed-on _ c.from_residual-in_err-report.result c.from_residual-in_err-report.ensures.1
+    (λ _. inr (c.in_ok-recording.recording, end.2, end.0, c.in_ok-recording.ensures.ok))
 
 pub returns-in_err-report-clause-stalled : goal.returns-in_err-report-clause-stalled
 returns-in_err-report-clause-stalled g c =
-    let p = err_from_is_err_and c.from_residual-in_err-report.result
-    c.from_residual-in_err-report.ensures.1 in
-    rw (p.1, p.2)
+    handed-on _ c.from_residual-in_err-report.result c.from_residual-in_err-report.ensures.1
     (λ e. stalled-on c.args.source.now.bytes c.in_ok-recording.recording c.in_ok-recording.ensures.ok
     (c.in_err-report.ensures.stalled e))
