@@ -42,7 +42,9 @@ loop-i-preserved c = record {
   fresh = rw c.in_default-2.is at c.in_ok-fault.ensures.fresh;
   judged = λ layers each text.
       let so = c.loop-i.invariant.judged layers each text in
-      let row = row-at c.args.k layers c.loop-i.i each so.0 c.in-Some.ensures.0 c.in-Some.ensures.1 in
+      let row =
+      row-at c.args.k layers c.loop-i.i {line = c.in-Some.line.now} {behind = c.in-Some.behind.now} each so.0
+      c.in-Some.ensures.0 c.in-Some.ensures.1 in
       let right = rw c.in_default-2.is at c.in_ok-fault.ensures.fault in (
         row.4,
         λ h of j source lt there. elim (cases_lt j c.loop-i.i) [
