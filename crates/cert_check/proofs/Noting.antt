@@ -80,10 +80,6 @@ module _ (names : List NameBytes) (unset : ℕ) (all : List Word) where
   state-start values holds =
       ([], holds, refl, (let e : slashes all ≡ 0 + slashes all = omega arith in e), (λ h. h))
 
-  pub state-size : (values : List ℕ) (d : ℕ) (ws : List Word) → State values d ws
-      → length values ≡ length names
-  state-size values d ws state = state.1.size
-
   module _ (values : List ℕ) (d : ℕ) (left : List Word) (w : Word) (ws : List Word)
       (is : word_at left ≡ Some (w, ws)) (so_far : State values d left) where
     state : State values d (w ∷ ws)
@@ -115,10 +111,6 @@ module _ (names : List NameBytes) (count : ℕ) (all : List Word) where
 
   pub placed-start : (values : List ℕ) → Holds names count [] values → Placed values 0 all
   placed-start values holds = ([], holds, refl, refl, (λ h. h))
-
-  pub placed-size : (values : List ℕ) (place : ℕ) (ws : List Word) → Placed values place ws
-      → length values ≡ length names
-  placed-size values place ws state = state.1.size
 
   module _ (values : List ℕ) (place : ℕ) (left : List Word) (w : Word) (ws : List Word)
       (is : word_at left ≡ Some (w, ws)) (so_far : Placed values place left) where

@@ -44,16 +44,21 @@ no-rows [] text is one = refl
 no-rows (row ∷ rows) text is one =
     absurd (some-line (row_line row) (map row_line rows) (subst IsOneLine is one))
 
--- rows, the first of which has this line
-pub row-off : (k : ℕ) (rows : List Row) (text line behind : List ℕ) → All (IsRow k) rows
-    → text ≡ text_of (map row_line rows) → IsOneLine line → text ≡ line ++ 10 ∷ behind →
-    (row : Row) × (more : List Row) × (rows ≡ row ∷ more) × (line ≡ row_line row)
-    × (behind ≡ text_of (map row_line more))
-row-off k [] text line behind h is one cut = absurd (nothing-cut line behind (sym is ∙ cut))
-row-off k (row ∷ rows) text line behind h is one cut =
-    let p = line-off line behind (row_line row) (map row_line rows)
-    (row-lacks k row (All-head (IsRow k) row rows h)) one (sym is ∙ cut) in
-    (row, rows, refl, p.0, p.1)
+-- the first line of the rows from a place on is that of the row there
+pub row-at : (k : ℕ) (rows : List Row) (i : ℕ) {text line behind : List ℕ} → All (IsRow k) rows
+    → text ≡ text_of (map row_line (drop i rows)) → IsOneLine line → text ≡ line ++ 10 ∷ behind →
+    (row : Row) × (slice_get rows i ≡ Some row) × IsRow k row × (line ≡ row_line row)
+    × (behind ≡ text_of (map row_line (drop (i + 1) rows)))
+row-at k [] zero each is one cut = absurd (nothing-cut _ _ (sym is ∙ cut))
+row-at k [] (suc i) each is one cut = absurd (nothing-cut _ _ (sym is ∙ cut))
+row-at k (row ∷ rows) zero each is one cut =
+    let h = All-head (IsRow k) row rows each in
+    let p = line-off _ _ (row_line row) (map row_line rows) (row-lacks k row h) one (sym is ∙ cut) in
+    (row, refl, h, p.0, p.1)
+row-at k (row ∷ rows) (suc i) each is one cut =
+    let next : suc (i + 1) ≡ suc i + 1 = omega arith in
+    let p = row-at k rows i (All-tail (IsRow k) row rows each) is one cut in
+    (p.0, p.1, p.2, p.3, p.4 ∙ ap (λ (n : ℕ). text_of (map row_line (drop n (row ∷ rows)))) next)
 
 -- steps
 -- a text begins with one step's line at most
@@ -88,32 +93,14 @@ names-behind (a ∷ order) h =
     (names-lack order (All-tail IsName a order h))
 
 -- what is left from a place on
-drop-suc : {X : Type 0} (xs : List X) (i : ℕ) → i < length xs
-    → (x : X) × (slice_get xs i ≡ Some x) × (drop i xs ≡ x ∷ drop (suc i) xs)
-drop-suc [] i lt = absurd (omega arith)
-drop-suc (x ∷ xs) zero lt = (x, refl, refl)
-drop-suc (x ∷ xs) (suc i) lt = drop-suc xs i (omega arith)
-
 pub drop-next : {X : Type 0} (xs : List X) (i : ℕ) → i < length xs
     → (x : X) × (slice_get xs i ≡ Some x) × (drop i xs ≡ x ∷ drop (i + 1) xs)
-drop-next xs i lt =
-    let p = drop-suc xs i lt in
-    let one : suc i ≡ i + 1 = omega arith in
-    (p.0, p.1, p.2 ∙ ap (λ (n : ℕ). p.0 ∷ drop n xs) one)
-
-suc-is : {X : Type 0} (xs : List X) (i : ℕ) (x : X) (more : List X) → drop i xs ≡ x ∷ more
-    → (slice_get xs i ≡ Some x) × (more ≡ drop (suc i) xs)
-suc-is [] zero x more e = absurd Prim.cc
-suc-is [] (suc i) x more e = absurd Prim.cc
-suc-is (y ∷ xs) zero x more e = (let f : y ≡ x = Prim.cc in ap Some f, (let f : more ≡ xs = Prim.cc in f))
-suc-is (y ∷ xs) (suc i) x more e = suc-is xs i x more e
-
-pub drop-is : {X : Type 0} (xs : List X) (i : ℕ) (x : X) (more : List X) → drop i xs ≡ x ∷ more
-    → (slice_get xs i ≡ Some x) × (more ≡ drop (i + 1) xs)
-drop-is xs i x more e =
-    let p = suc-is xs i x more e in
-    let one : suc i ≡ i + 1 = omega arith in
-    (p.0, p.1 ∙ ap (λ (n : ℕ). drop n xs) one)
+drop-next [] i lt = absurd (omega arith)
+drop-next (x ∷ xs) zero lt = (x, refl, refl)
+drop-next (x ∷ xs) (suc i) lt =
+    let next : suc (i + 1) ≡ suc i + 1 = omega arith in
+    let p = drop-next xs i (omega arith) in
+    (p.0, p.1, p.2 ∙ ap (λ (n : ℕ). p.0 ∷ drop n (x ∷ xs)) next)
 
 pub drop-none : {X : Type 0} (xs : List X) (i : ℕ) → drop i xs ≡ [] → length xs ≤ i
 drop-none [] i e = omega arith

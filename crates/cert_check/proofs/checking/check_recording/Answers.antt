@@ -5,23 +5,19 @@ use Rattle.certificate_text.proofs.OneCertificate.{one-certificate}
 use Rattle.cert_check.proofs.Implied.{if_err, implied_on, judged_on}
 use Rattle.cert_check.proofs.checking.check_recording.Goals as goal
 
-pub returns-in-Ok-clause-answer : goal.returns-in-Ok-clause-answer
-returns-in-Ok-clause-answer g c =
+pub returns-in-Ok : goal.returns-in-Ok
+returns-in-Ok g c =
     let ok = c.in-Ok.ensures.ok in
-    judged_on c.args.cert.now (version_in c.in-Ok.version) c.args.recording.now ok.0 c.judge.result ok.1
-    (IfOk-weaker c.judge.result _ _ (λ a judged. judged ok.0 ok.1.0 ok.2) c.judge.ensures)
-
-pub returns-in-Ok-clause-implies : goal.returns-in-Ok-clause-implies
-returns-in-Ok-clause-implies g c =
-    let ok = c.in-Ok.ensures.ok in
-    implied_on c.args.cert.now (version_in c.in-Ok.version) c.args.recording.now ok.0 c.judge.result
-    c.replicas-replicas.ensures.legal ok.1.0 (λ version d spells. one-certificate c.args.cert.now
-    (version_in c.in-Ok.version) version ok.0 d ok.1 spells)
-    (IfOk-weaker c.judge.result _ _ (λ a judged. judged ok.0 ok.1.0 ok.2) c.judge.ensures)
-
-pub returns-in-Ok-clause-memory : goal.returns-in-Ok-clause-memory
-returns-in-Ok-clause-memory g c = let ok = c.in-Ok.ensures.ok in
-    if_err c.judge.result _ (version_in c.in-Ok.version, ok.0, ok.1)
+    let version = version_in c.in-Ok.version in
+    let judged =
+    IfOk-weaker c.judge.result _ _ (λ a judged. judged ok.0 ok.1.0 ok.2) c.judge.ensures in
+    record {
+      answer = judged_on c.args.cert.now version c.args.recording.now ok.0 c.judge.result ok.1 judged;
+      implies = implied_on c.args.cert.now version c.args.recording.now ok.0 c.judge.result
+          c.replicas-replicas.ensures.legal ok.1.0
+          (λ other d spells. one-certificate c.args.cert.now version other ok.0 d ok.1 spells) judged;
+      memory = if_err c.judge.result _ (version, ok.0, ok.1);
+    }
 
 pub returns-in-Err-clause-answer : goal.returns-in-Err-clause-answer
 returns-in-Err-clause-answer g c =

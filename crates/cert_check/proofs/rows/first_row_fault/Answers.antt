@@ -1,20 +1,17 @@
 -- Each row is judged at its place; then there is no other, or one too many.
-use Rattle.std.proofs.Common.{◌≡◌, ◌∙◌, ◌<◌, ◌≤◌, ℕ, [], inl, inr, Some, List, drop, map, length, sym, ap}
+use Rattle.std.proofs.Common.{◌≡◌, ◌∙◌, ◌<◌, ◌≤◌, ℕ, [], inl, inr, Some, List, drop, length, sym, ap}
 use Rattle.std.proofs.Common.{subst, arith}
-use Rattle.std.specs.Prelude.{All, slice_get}
+use Rattle.std.specs.Prelude.{slice_get}
 use Rattle.std.proofs.lemmas.Bool.{cases_lt}
-use Rattle.std.proofs.lemmas.List.Elements.{All-head}
 use Rattle.std.proofs.lemmas.Option.{slice_get_within}
 use Rattle.events.specs.Names.{NameBytes}
-use Rattle.specification.specs.LayerRule.{Row}
-use Rattle.specification.specs.Lines.{text_of}
-use Rattle.specification.specs.CertificateText.{IsRow, row_line}
+use Rattle.specification.specs.CertificateText.{IsRow}
 use Rattle.specification.specs.ValidCertificate.{RowIsRight}
 use Rattle.specification.specs.Elements.{elements}
 use Rattle.specification.specs.Responses.{responses_of}
 use Rattle.certificate_text.specs.CertificateOf.{version_in}
 use Rattle.cert_check.proofs.RowsJudged.{element_at, rows_meet, first_fault}
-use Rattle.cert_check.proofs.TextLines.{no-rows, row-off, drop-is, drop-none, first-of-drop, drop-all}
+use Rattle.cert_check.proofs.TextLines.{no-rows, row-at, drop-none, first-of-drop, drop-all}
 use Rattle.cert_check.proofs.rows.first_row_fault.Goals as goal
 
 pub returns-in_default : goal.returns-in_default
@@ -35,36 +32,28 @@ returns-in_default c = λ layers each text h of.
 pub returns-in-Some-2 : goal.returns-in-Some-2
 returns-in-Some-2 c = λ layers each text h of.
     let so = c.loop-i.invariant.judged layers each text in
-    let left = drop-all (IsRow c.args.k) layers c.loop-i.i each in
-    let off =
-    row-off c.args.k (drop c.loop-i.i layers) c.loop-i.rest.now c.in-Some.line.now c.in-Some.behind.now
-    left so.0 c.in-Some.ensures.0 c.in-Some.ensures.1 in
-    let is = All-head (IsRow c.args.k) off.0 off.1 (subst (All (IsRow c.args.k)) off.2 left) in
-    let at = drop-is layers c.loop-i.i off.0 off.1 off.2 in
+    let row = row-at c.args.k layers c.loop-i.i each so.0 c.in-Some.ensures.0 c.in-Some.ensures.1 in
     let fault = rw c.in-Some-2.is at c.in_ok-fault.ensures.fault in
     first_fault (version_in c.args.version) (responses_of h) c.args.k layers c.loop-i.i c.in-Some-2.fault
-    (fault layers off.0 at.0 is off.3 h of) (so.1 h of)
+    (fault layers row.0 row.1 row.2 row.3 h of) (so.1 h of)
 
 pub loop-i-preserved : goal.loop-i-preserved
 loop-i-preserved c = record {
   fresh = rw c.in_default-2.is at c.in_ok-fault.ensures.fresh;
   judged = λ layers each text.
       let so = c.loop-i.invariant.judged layers each text in
-      let left = drop-all (IsRow c.args.k) layers c.loop-i.i each in
-      let off =
-      row-off c.args.k (drop c.loop-i.i layers) c.loop-i.rest.now c.in-Some.line.now c.in-Some.behind.now
-      left so.0 c.in-Some.ensures.0 c.in-Some.ensures.1 in
-      let is = All-head (IsRow c.args.k) off.0 off.1 (subst (All (IsRow c.args.k)) off.2 left) in
-      let at = drop-is layers c.loop-i.i off.0 off.1 off.2 in
+      let row =
+      row-at c.args.k layers c.loop-i.i {line = c.in-Some.line.now} {behind = c.in-Some.behind.now} each so.0
+      c.in-Some.ensures.0 c.in-Some.ensures.1 in
       let right = rw c.in_default-2.is at c.in_ok-fault.ensures.fault in (
-        off.4 ∙ ap (λ (l : List Row). text_of (map row_line l)) at.1,
+        row.4,
         λ h of j source lt there. elim (cases_lt j c.loop-i.i) [
           | inl low ↦ so.1 h of j source low there
           | inr high ↦
               let same : j ≡ c.loop-i.i = omega (arith, high, lt) in
               subst (λ (m : ℕ). RowIsRight (version_in c.args.version)
               (responses_of h) c.args.k layers m source) (sym same)
-              (right layers off.0 at.0 is off.3 h of source
+              (right layers row.0 row.1 row.2 row.3 h of source
               (subst (λ (m : ℕ). slice_get (elements h) m ≡ Some source) same there))
         ],
       );

@@ -21,6 +21,12 @@ use Rattle.cert_check.proofs.RulesFrom.{MeetsRuleFrom, from-rule, to-rule}
 use Rattle.cert_check.proofs.Depths.{can_rule, names_from, noted_from, rule_from_lists, lists_from_rule}
 use Rattle.cert_check.proofs.TableRule.{depths-most, lists_from_table, table_from_lists}
 use Rattle.cert_check.proofs.rows.meets_rule.Goals as goal
+use Rattle.cert_check.proofs.rows.meets_rule.Goals.{Else-not-is_noted}
+
+-- the row's words are noted
+row_noted : (c : Else-not-is_noted) → Holds c.args.numbered.now.names.items (c.args.k - 1)
+    (pairs_of 0 (words_behind c.args.words.now)) c.note_row.new.row.depths.items
+row_noted c = rw c.if-not-is_noted.false at c.in_ok-is_noted.ensures.row
 
 pub returns-then-not-is_noted-clause-meets : goal.returns-then-not-is_noted-clause-meets
 returns-then-not-is_noted-clause-meets c = λ row says h a of at. (
@@ -48,10 +54,9 @@ returns-then-not-are_from-clause-meets c = λ row says h a of at. (
       let names : List NameBytes = c.args.numbered.now.names.items in
       let depths : List ℕ = c.note_row.new.row.depths.items in
       let noted : List ℕ = c.note_row.new.row.noted.items in
-      let got : Holds names (c.args.k - 1) (pairs_of 0 (words_behind c.args.words.now)) depths =
-      rw c.if-not-is_noted.false at c.in_ok-is_noted.ensures.row in
       let some : Holds names (c.args.k - 1) (pairs_from 0 row) depths =
-      subst (λ (ps : List Noted). Holds names (c.args.k - 1) ps depths) says.pairs got in
+      subst (λ (ps : List Noted). Holds names (c.args.k - 1) ps depths) says.pairs
+      (row_noted (goal.at.returns-then-not-are_from-clause-meets c).Else-not-is_noted) in
       let holds : Holds (elements h) (c.args.k - 1) (pairs_from 0 row) depths =
       subst (λ (ns : List NameBytes). Holds ns (c.args.k - 1) (pairs_from 0 row) depths) of.names some in
       let from : MeetsRuleFrom v first c.args.k a row =
@@ -78,30 +83,20 @@ are_deep-requires-clause-noted c =
 
 pub are_deep-requires-clause-most : goal.are_deep-requires-clause-most
 are_deep-requires-clause-most c =
-    let got : Holds c.args.numbered.now.names.items (c.args.k - 1)
-    (pairs_of 0 (words_behind c.args.words.now)) c.note_row.new.row.depths.items =
-    rw c.if-not-is_noted.false at c.in_ok-is_noted.ensures.row in
     subst (λ (ds : List ℕ). All (λ d. d ≤ c.args.k - 1) ds) (sym c.deref-2.ensures.value)
-    (depths-most c.args.numbered.now.names.items (c.args.k - 1)
-    (pairs_of 0 (words_behind c.args.words.now)) c.note_row.new.row.depths.items got)
+    (depths-most _ _ _ _ (row_noted (goal.at.are_deep-requires-clause-most c).Else-not-is_noted))
 
 pub clear-requires-clause-noted : goal.clear-requires-clause-noted
 clear-requires-clause-noted c = c.in_ok-is_noted.ensures.numbers c.if-not-is_noted.false
 
 pub clear-requires-clause-most : goal.clear-requires-clause-most
 clear-requires-clause-most c =
-    let got : Holds c.args.numbered.now.names.items (c.args.k - 1)
-    (pairs_of 0 (words_behind c.args.words.now)) c.note_row.new.row.depths.items =
-    rw c.if-not-is_noted.false at c.in_ok-is_noted.ensures.row in
-    depths-most c.args.numbered.now.names.items (c.args.k - 1)
-    (pairs_of 0 (words_behind c.args.words.now)) c.note_row.new.row.depths.items got
+    depths-most _ _ _ _ (row_noted (goal.at.clear-requires-clause-most c).Else-not-is_noted)
 
 pub returns-clause-fresh : goal.returns-clause-fresh
 returns-clause-fresh c = λ meets.
-    let got : Holds c.args.numbered.now.names.items (c.args.k - 1)
-    (pairs_of 0 (words_behind c.args.words.now)) c.note_row.new.row.depths.items =
-    rw c.if-not-is_noted.false at c.in_ok-is_noted.ensures.row in
-    subst (λ (n : ℕ). IsUnset n (c.args.k - 1) c.clear.new.self) got.size c.clear.ensures
+    subst (λ (n : ℕ). IsUnset n (c.args.k - 1) c.clear.new.self)
+    (row_noted (goal.at.returns-clause-fresh c).Else-not-is_noted).size c.clear.ensures
 
 pub returns-clause-meets : goal.returns-clause-meets
 returns-clause-meets c = λ row says h a of at.
@@ -113,11 +108,9 @@ returns-clause-meets c = λ row says h a of at.
     let depths : List ℕ = c.deref-2.result.now in
     let noted : List ℕ = c.note_row.new.row.noted.items in
     let names : List NameBytes = t.names.items in
-    let got : Holds names (c.args.k - 1) (pairs_of 0 (words_behind c.args.words.now))
-    c.note_row.new.row.depths.items = rw c.if-not-is_noted.false at c.in_ok-is_noted.ensures.row in
     let some : Holds names (c.args.k - 1) (pairs_from 0 row) c.note_row.new.row.depths.items =
     subst (λ (ps : List Noted). Holds names (c.args.k - 1) ps c.note_row.new.row.depths.items) says.pairs
-    got in
+    (row_noted (goal.at.returns-clause-meets c).Else-not-is_noted) in
     let lent : Holds names (c.args.k - 1) (pairs_from 0 row) depths =
     subst (Holds names (c.args.k - 1) (pairs_from 0 row)) (sym c.deref-2.ensures.value) some in
     let holds : Holds (elements h) (c.args.k - 1) (pairs_from 0 row) depths =

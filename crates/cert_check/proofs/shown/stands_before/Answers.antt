@@ -1,10 +1,9 @@
 -- One name more.
-use Rattle.std.proofs.Common.{◌≡◌, ◌≢◌, ◌⊎◌, inl, inr, ℕ, ◌<◌, ◌+◌, Bool, true, false, None, Some, List}
+use Rattle.std.proofs.Common.{◌≡◌, ◌≢◌, ◌⊎◌, inl, inr, ℕ, ◌<◌, ◌+◌, Bool, false, None, Some, List}
 use Rattle.std.proofs.Common.{length, take, drop, suc, get_or, sym, subst, ap, ◌∙◌, arith, refl, ◌++◌, ◌∷◌}
 use Rattle.std.proofs.Common.{[]}
-use Rattle.std.specs.Prelude.{slice_get, ◌↔◌, IsTrue}
-use Rattle.std.proofs.lemmas.Slice.Eq.{slice_eq-Decides}
-use Rattle.std.proofs.lemmas.Bool.Decides.{Decides-eqb}
+use Rattle.std.specs.Prelude.{slice_get, ◌↔◌, IsTrue, bytes_eq}
+use Rattle.std.specs.Cmp.Lexicographic.{bytes_decides}
 use Rattle.std.proofs.lemmas.Bool.{false≢true}
 use Rattle.std.proofs.lemmas.Option.{slice_get-get_or}
 use Rattle.visibility.proofs.Entries.{split_at, take_next}
@@ -17,56 +16,40 @@ use Rattle.cert_check.proofs.shown.stands_before.Goals.{else-has_from-via-then-h
 use Rattle.cert_check.proofs.shown.stands_before.Goals.{else-has_from-via-else-has_from}
 use Rattle.cert_check.proofs.shown.stands_before.Goals.{in-Some+else-has_from+else-eq-2, in_default}
 
--- what is known of a front, with one name more
+-- what is known of a front
 abbrev IsFront : NameBytes → NameBytes → List NameBytes → Bool → Type 0
-IsFront from to front has = (IsTrue has ↔ In from front) × (¬ Before from to front)
+IsFront from to front has = record { has : IsTrue has ↔ In from front; none : ¬ Before from to front }
 
-more : (from to x : NameBytes) (front : List NameBytes) (has new : Bool) → IsFront from to front has →
-    ((has ≡ true) × (x ≢ to)) ⊎ (has ≡ false) → ((x ≡ from) × (new ≡ true)) ⊎ ((x ≢ from) × (new ≡ has))
-    → IsFront from to (front ++ x ∷ []) new
-more from to x front has new is apart which = (has_more, none_more)
-  where
-    new_true : ((x ≡ from) × (new ≡ true)) ⊎ ((x ≢ from) × (new ≡ has)) → IsTrue new
-        → In from (front ++ x ∷ [])
-    new_true (inl w) t = In-append_right from front (x ∷ []) (inl (sym w.0))
-    new_true (inr w) t = In-append_left from front (x ∷ []) (is.0.0 (sym w.1 ∙ t))
-
-    new_in : ((x ≡ from) × (new ≡ true)) ⊎ ((x ≢ from) × (new ≡ has)) → In from front ⊎ (from ≡ x)
-        → IsTrue new
-    new_in (inl w) i = w.1
-    new_in (inr w) (inl i) = w.1 ∙ is.0.1 i
-    new_in (inr w) (inr e) = absurd (w.0 (sym e))
-
-    has_more : IsTrue new ↔ In from (front ++ x ∷ [])
-    has_more = (new_true which, λ i. new_in which (In-push from x front i))
-
-    last : ((has ≡ true) × (x ≢ to)) ⊎ (has ≡ false) → In from front → to ≡ x → ⊥
-    last (inl w) i e = w.1 (sym e)
-    last (inr f) i e = false≢true (sym f ∙ is.0.1 i)
-
-    none_more : Before from to (front ++ x ∷ []) → ⊥
-    none_more b = elim (Before-push from to x front b) [ inl k ↦ is.1 k | inr k ↦ last apart k.0 k.1 ]
-
--- one place further
+-- and of that with one name more
 further : (from to x : NameBytes) (xs : List NameBytes) (i : ℕ) (has new : Bool) → slice_get xs i ≡ Some x
-    → IsFront from to (take i xs) has →
-    ((has ≡ true) × (x ≢ to)) ⊎ (has ≡ false) → ((x ≡ from) × (new ≡ true)) ⊎ ((x ≢ from) × (new ≡ has))
+    → IsFront from to (take i xs) has → (IsTrue has → x ≢ to) → (IsTrue new ↔ (IsTrue has ⊎ (from ≡ x)))
     → IsFront from to (take (i + 1) xs) new
-further from to x xs i has new at is apart which =
-    subst (λ (front : List NameBytes). IsFront from to front new) (sym (take_next xs i x at))
-    (more from to x (take i xs) has new is apart which)
+further from to x xs i has new at is apart grows =
+    let front : List NameBytes = take i xs in
+    subst (λ (more : List NameBytes). IsFront from to more new) (sym (take_next xs i x at)) (record {
+      has = (
+        λ t. elim (grows.0 t) [
+          | inl h ↦ In-append_left from front (x ∷ []) (is.has.0 h)
+          | inr e ↦ In-append_right from front (x ∷ []) (inl e)
+        ],
+        λ m. grows.1 (elim (In-push from x front m) [ inl m ↦ inl (is.has.1 m) | inr e ↦ inr e ]),
+      );
+      none = λ b. elim (Before-push from to x front b) [
+        | inl b ↦ is.none b
+        | inr p ↦ apart (is.has.1 p.0) (sym p.1)
+      ];
+    })
 
--- a name that the test told from another is not that
-other : (x to : NameBytes) (same : Bool) → (x ≡ to → same ≡ true) → same ≡ false → x ≢ to
-other x to same is differ e = false≢true (sym differ ∙ is e)
+-- names that the test told apart are two
+two : (x y : NameBytes) (same : Bool) → same ≡ bytes_eq x y → same ≡ false → x ≢ y
+two x y same is unlike e = false≢true (sym unlike ∙ is ∙ (bytes_decides x y).1 e)
 
 pub returns-then-eq : goal.returns-then-eq
 returns-then-eq c =
     let xs : List NameBytes = c.args.response.now in
     let i : ℕ = c.loop-i.i in
     let at : slice_get xs i ≡ Some c.in-Some.name.now = c.in-Some.ensures.value in
-    let same : c.in-Some.name.now ≡ c.args.to.now =
-    (slice_eq-Decides Decides-eqb _ _ _ c.eq.ensures).0 c.if-eq.true in
+    let same : c.in-Some.name.now ≡ c.args.to.now = (bytes_decides _ _).0 (sym c.if-eq.ensures) in
     let has = c.loop-i.invariant.has.0 c.if-has_from.true in
     let split : xs ≡ take i xs ++ c.args.to.now ∷ drop (suc i) xs =
     split_at xs i c.args.to.now (at ∙ ap Some same) in
@@ -78,48 +61,28 @@ returns-then-eq c =
 pub loop-i-preserved : goal.loop-i-preserved
 loop-i-preserved c =
     let xs : List NameBytes = c.args.response.now in
-    let i : ℕ = c.loop-i.i in
-    let from : NameBytes = c.args.from.now in
-    let to : NameBytes = c.args.to.now in
-    let has : Bool = c.loop-i.has_from in
-    let new : Bool = c.match-bytes_at.has_from in
-    let lt : i < length xs = omega (arith, c.len-i-end.ensures.value) in
-    let so_far : IsFront from to (take i xs) has = (c.loop-i.invariant.has, c.loop-i.invariant.none) in
+    let lt : c.loop-i.i < length xs = omega (arith, c.len-i-end.ensures.value) in
     elim c.match-bytes_at.branch [
       | in-Some+else-has_from+then-eq-2 w ↦
-          (let x : NameBytes = w.in-Some.name.now in
-          let apart : ((has ≡ true) × (x ≢ to)) ⊎ (has ≡ false) = elim w.else-has_from.branch [
-            | else-has_from-via-then-has_from+else-eq v ↦
-                inl (
-                  v.if-has_from.true,
-                  other x to _ (slice_eq-Decides Decides-eqb _ _ _ v.eq.ensures).1 v.if-eq.false,
-                )
-            | else-has_from-via-else-has_from v ↦ inr v.if-has_from.false
-          ] in
-          let same : x ≡ from = (slice_eq-Decides Decides-eqb _ _ _ w.eq-in-Some.ensures).0 w.if-eq-2.true in
-          let all =
-          further from to x xs i has new w.in-Some.ensures.value so_far apart
-          (inl (same, w.has_from-is)) in
-          record { has = all.0; none = all.1 })
+          further _ _ _ xs _ _ _ w.in-Some.ensures.value c.loop-i.invariant
+          (elim w.else-has_from.branch [
+            | else-has_from-via-then-has_from+else-eq v ↦ λ t. two _ _ _ v.eq.ensures v.if-eq.false
+            | else-has_from-via-else-has_from v ↦ λ t. absurd (false≢true (sym v.if-has_from.false ∙ t))
+          ])
+          (λ t. inr (sym ((bytes_decides _ _).0 (sym w.if-eq-2.ensures))), λ h. w.has_from-is)
       | in-Some+else-has_from+else-eq-2 w ↦
-          (let x : NameBytes = w.in-Some.name.now in
-          let apart : ((has ≡ true) × (x ≢ to)) ⊎ (has ≡ false) = elim w.else-has_from.branch [
-            | else-has_from-via-then-has_from+else-eq v ↦
-                inl (
-                  v.if-has_from.true,
-                  other x to _ (slice_eq-Decides Decides-eqb _ _ _ v.eq.ensures).1 v.if-eq.false,
-                )
-            | else-has_from-via-else-has_from v ↦ inr v.if-has_from.false
-          ] in
-          let all =
-          further from to x xs i has new w.in-Some.ensures.value so_far apart
-          (inr (
-            other x from _ (slice_eq-Decides Decides-eqb _ _ _ w.eq-in-Some.ensures).1
-                w.if-eq-2.false,
-            w.has_from-is,
-          )) in
-          record { has = all.0; none = all.1 })
+          further _ _ _ xs _ _ _ w.in-Some.ensures.value c.loop-i.invariant
+          (elim w.else-has_from.branch [
+            | else-has_from-via-then-has_from+else-eq v ↦ λ t. two _ _ _ v.eq.ensures v.if-eq.false
+            | else-has_from-via-else-has_from v ↦ λ t. absurd (false≢true (sym v.if-has_from.false ∙ t))
+          ]) (
+            λ t. inl (sym w.has_from-is ∙ t),
+            λ h. elim h [
+              | inl t ↦ w.has_from-is ∙ t
+              | inr e ↦ absurd (two _ _ _ w.eq-in-Some.ensures w.if-eq-2.false (sym e))
+            ],
+          )
       | in_default w ↦
-          (let missing : None ≡ Some (get_or xs i []) = sym w.in_default.ensures.value
-          ∙ slice_get-get_or xs i [] lt in absurd Prim.cc)
+          (let missing : None ≡ Some (get_or xs c.loop-i.i []) = sym w.in_default.ensures.value
+          ∙ slice_get-get_or xs c.loop-i.i [] lt in absurd Prim.cc)
     ]

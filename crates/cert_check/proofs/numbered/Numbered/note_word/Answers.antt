@@ -1,6 +1,6 @@
 -- A name that cannot be noted, and one that is.
 use Rattle.std.proofs.Common.{◌≡◌, ◌≢◌, ◌∙◌, ℕ, List, [], ◌∷◌, ◌++◌, length, take, drop, codes, sym, subst}
-use Rattle.std.proofs.Common.{arith}
+use Rattle.std.proofs.Common.{arith, rules}
 use Rattle.std.proofs.lemmas.Grind.{common_steps}
 use Rattle.std.proofs.lemmas.List.{take_at}
 use Rattle.std.proofs.lemmas.Slice.Eq.{slice_eq-Decides}
@@ -26,35 +26,32 @@ returns-in_default-clause-noted c = λ noted holds row.
     name-stops names c.args.unset noted c.args.at.depth c.args.word.now depths other
     (none noted lent (word-name names c.args.unset noted c.args.at.depth c.args.word.now depths other row))
 
-pub returns-clause-numbers : goal.returns-clause-numbers
-returns-clause-numbers c =
-    let depths : List ℕ = c.args.row.now.depths.items in
-    let noted : List ℕ = c.args.row.now.noted.items in
-    let new : List ℕ = c.note.new.values in
-    let number : ℕ = c.in-Some.number in
-    let whole : take c.args.row.now.depths.len (new ++ drop (length new) depths) ≡ new =
-    take_at new _ _ (omega (arith, c.note.ensures.room, c.deref_mut.ensures.len)) in
-    let written : IsWritten depths c.args.unset number c.args.at.depth new =
-    subst (λ (l : List ℕ). IsWritten l c.args.unset number c.args.at.depth new) c.deref_mut.ensures.value
-    c.in-Some.ensures.written in
-    let pushed : c.push.new.self.items ≡ noted ++ number ∷ [] =
-    grind (arith, common_steps, c.in_ok-push.ensures.items) in
-    let more : HaveDepths new c.args.unset (noted ++ number ∷ []) =
-    depths-more depths noted new c.args.unset number c.args.at.depth c.requires.below written
-    c.requires.numbers in
-    rw whole (subst (λ (l : List ℕ). HaveDepths new c.args.unset l) (sym pushed) more)
-
-pub returns-clause-noted : goal.returns-clause-noted
-returns-clause-noted c = λ noted holds.
-    let names = c.args.self.now.names.items in
+pub returns : goal.returns
+returns c =
     let depths : List ℕ = c.args.row.now.depths.items in
     let new : List ℕ = c.note.new.values in
     let whole : take c.args.row.now.depths.len (new ++ drop (length new) depths) ≡ new =
     take_at new _ _ (omega (arith, c.note.ensures.room, c.deref_mut.ensures.len)) in
-    let lent : Holds names c.args.unset noted c.deref_mut.result.now =
-    subst (Holds names c.args.unset noted) (sym c.deref_mut.ensures.value) holds in
-    let other : c.args.word.now ≢ codes "/" =
-    λ e. false≢true (sym c.if-eq.false
-    ∙ (slice_eq-Decides Decides-eqb _ _ _ c.eq.ensures).1 (e ∙ sym c.as_slice.ensures)) in
-    rw whole (name-goes-on names c.args.unset noted c.args.at.depth c.args.word.now new other
-    (c.in-Some.ensures.noted noted lent))
+    record {
+      below = search rules;
+      numbers =
+          (let old : List ℕ = c.args.row.now.noted.items in
+          let number : ℕ = c.in-Some.number in
+          let written : IsWritten depths c.args.unset number c.args.at.depth new =
+          subst (λ (l : List ℕ). IsWritten l c.args.unset number c.args.at.depth new)
+          c.deref_mut.ensures.value c.in-Some.ensures.written in
+          let pushed : c.push.new.self.items ≡ old ++ number ∷ [] =
+          grind (arith, common_steps, c.in_ok-push.ensures.items) in
+          rw whole (subst (λ (l : List ℕ). HaveDepths new c.args.unset l) (sym pushed)
+          (depths-more depths old new c.args.unset number c.args.at.depth c.requires.below written
+          c.requires.numbers)));
+      noted = λ noted holds.
+          let names = c.args.self.now.names.items in
+          let lent : Holds names c.args.unset noted c.deref_mut.result.now =
+          subst (Holds names c.args.unset noted) (sym c.deref_mut.ensures.value) holds in
+          let other : c.args.word.now ≢ codes "/" =
+          λ e. false≢true (sym c.if-eq.false
+          ∙ (slice_eq-Decides Decides-eqb _ _ _ c.eq.ensures).1 (e ∙ sym c.as_slice.ensures)) in
+          rw whole (name-goes-on names c.args.unset noted c.args.at.depth c.args.word.now new other
+          (c.in-Some.ensures.noted noted lent));
+    }
