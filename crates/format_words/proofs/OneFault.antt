@@ -30,6 +30,19 @@ pub data Why {Cause : Type 0} (Wrong : List Line → Line → Cause → Type 0)
   lacking : {cause : Cause} → behind ≡ [] → line ≡ [] → Missing good cause
       → Why Wrong Missing cut good line behind cause
 
+-- behind the last line there is none
+nothing-longer : (good : List Line) (line : Line) (behind longer : List Line) (other : Line)
+    (rest : List Line) → behind ≡ [] → good ++ line ∷ behind ≡ longer ++ other ∷ rest
+    → length good < length longer → ⊥
+nothing-longer good line behind longer other rest none is shorter =
+    absurd (omega (
+      arith,
+      ap length is,
+      ap length none,
+      length-append good (line ∷ behind),
+      length-append longer (other ∷ rest),
+    ))
+
 module _ {Cause : Type 0} (Begins : List Line → Type 0) (Wrong : List Line → Line → Cause → Type 0)
     (Missing : List Line → Cause → Type 0) (cut : Cause) where
   abbrev pub Fault : List ℕ → ℕ → Cause → Type 0
@@ -95,21 +108,9 @@ module _ {Cause : Type 0} (Begins : List Line → Type 0) (Wrong : List Line →
       let p = inner good longer line other behind rest is shorter in
       right good line p.0 cause (subst Begins p.1 begins) faulty
   not-before right good line behind longer other rest cause (unended none some) begins is shorter =
-      absurd (omega (
-        arith,
-        ap length is,
-        ap length none,
-        length-append good (line ∷ behind),
-        length-append longer (other ∷ rest),
-      ))
+      nothing-longer good line behind longer other rest none is shorter
   not-before right good line behind longer other rest cause (lacking none empty missing) begins is shorter =
-      absurd (omega (
-        arith,
-        ap length is,
-        ap length none,
-        length-append good (line ∷ behind),
-        length-append longer (other ∷ rest),
-      ))
+      nothing-longer good line behind longer other rest none is shorter
 
   same-why : ((good : List Line) (line : Line) (cause why : Cause) → Wrong good line cause
       → Wrong good line why → cause ≡ why) →
