@@ -1,12 +1,14 @@
 use Rattle.std.proofs.Common.{◌≡◌, ◌≤◌, length, arith}
 use Rattle.std.proofs.lemmas.Grind.{common_steps}
 use Rattle.specification.specs.Lines.{text_of}
-use Rattle.specification.specs.CertificateText.{IsCertificateCut}
+use Rattle.specification.specs.CertificateText.{BeginsCertificate, IsCertificateCut}
 use Rattle.certificate_text.specs.CertificateOf.{cause_of}
 use Rattle.certificate_text.specs.Progress.{good}
 use Rattle.certificate_text.proofs.Begins.{right-begins}
 use Rattle.certificate_text.proofs.FirstFaults.{wrong-fault, lacking-fault, cut-fault, nothing-left}
-use Rattle.certificate_text.proofs.FirstFaults.{behind-right, ended-line}
+use Rattle.certificate_text.proofs.FirstFaults.{behind-right}
+use Rattle.certificate_text.specs.Place.{TakesMemory}
+use Rattle.format_words.proofs.Places.{is-there, takes-at}
 use Rattle.certificate_text.proofs.reading.read_lines.Goals as goal
 
 pub returns-in_default-clause-fault : goal.returns-in_default-clause-fault
@@ -22,9 +24,11 @@ pub returns-in-Err-clause-fault : goal.returns-in-Err-clause-fault
 returns-in-Err-clause-fault c =
     let cut = c.in-Some.ensures in
     wrong-fault c.args.bytes.now c.loop-rest.line (good c.loop-rest.progress) c.in-Some.next.now
-    c.loop-rest.rest.now c.in-Some.behind.now (cause_of c.in-Err.cause)
+    (cause_of c.in-Err.cause)
+    (is-there BeginsCertificate c.args.bytes.now c.loop-rest.line (good c.loop-rest.progress)
+    c.in-Some.next.now c.loop-rest.rest.now c.in-Some.behind.now
     c.loop-rest.invariant.text cut.1 cut.0 c.loop-rest.invariant.number
-    (right-begins c.loop-rest.progress c.loop-rest.invariant.right) c.in-Err.ensures.fault
+    (right-begins c.loop-rest.progress c.loop-rest.invariant.right)) c.in-Err.ensures.fault
 
 pub returns-in-Err-end-clause-fault : goal.returns-in-Err-end-clause-fault
 returns-in-Err-end-clause-fault c =
@@ -56,10 +60,12 @@ returns-in-Err-end-clause-place c =
 pub returns-in-Err-clause-memory : goal.returns-in-Err-clause-memory
 returns-in-Err-clause-memory c =
     let cut = c.in-Some.ensures in
-    λ is. ended-line c.args.bytes.now c.loop-rest.line (good c.loop-rest.progress) c.in-Some.next.now
-    c.loop-rest.rest.now c.in-Some.behind.now
+    λ is. takes-at BeginsCertificate TakesMemory c.args.bytes.now c.loop-rest.line
+    (good c.loop-rest.progress) c.in-Some.next.now
+    (is-there BeginsCertificate c.args.bytes.now c.loop-rest.line (good c.loop-rest.progress)
+    c.in-Some.next.now c.loop-rest.rest.now c.in-Some.behind.now
     c.loop-rest.invariant.text cut.1 cut.0 c.loop-rest.invariant.number
-    (right-begins c.loop-rest.progress c.loop-rest.invariant.right) (c.in-Err.ensures.memory is)
+    (right-begins c.loop-rest.progress c.loop-rest.invariant.right)) (c.in-Err.ensures.memory is)
 
 pub returns-in-Err-end-clause-memory : goal.returns-in-Err-end-clause-memory
 returns-in-Err-end-clause-memory c = λ is. absurd (c.in-Err-end.ensures.memory is)
