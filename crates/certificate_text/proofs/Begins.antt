@@ -1,6 +1,6 @@
 -- Right lines begin a spelling.
-use Rattle.std.proofs.Common.{◌≡◌, ℕ, ◌-◌, ◌<◌, ◌≤◌, List, [], ◌∷◌, ◌++◌, length, map, replicate, codes, decimal}
-use Rattle.std.proofs.Common.{refl, sym, ap, ◌∙◌, arith, inl, inr, length-append}
+use Rattle.std.proofs.Common.{◌≡◌, ℕ, ◌-◌, ◌<◌, ◌≤◌, List, [], ◌∷◌, ◌++◌, length, map, replicate, codes}
+use Rattle.std.proofs.Common.{decimal, refl, sym, ap, ◌∙◌, arith, inl, inr, length-append}
 use Rattle.std.specs.List.{All}
 use Rattle.std.proofs.lemmas.Bool.{cases_lt}
 use Rattle.std.proofs.lemmas.List.{append-nil, length-replicate, map-append}
@@ -11,7 +11,8 @@ use Rattle.specification.specs.Faults.{doubled, contents, position}
 use Rattle.specification.specs.LayerRule.{Row}
 use Rattle.specification.specs.Lines.{Line, order_line}
 use Rattle.specification.specs.CertificateText.{names_fault, gives_order, gives_cycle, certificate_lines}
-use Rattle.specification.specs.CertificateText.{step_line, IsStep, IsRow, IsSpellable, BeginsCertificate, version_line}
+use Rattle.specification.specs.CertificateText.{step_line, IsStep, IsRow, IsSpellable, BeginsCertificate}
+use Rattle.specification.specs.CertificateText.{version_line}
 use Rattle.specification.specs.Versions.{Version, one}
 use Rattle.certificate_text.specs.CertificateOf.{version_in}
 use Rattle.certificate_text.specs.declared.kind.Kind.{Kind}

@@ -22,7 +22,6 @@ use Rattle.format_words.proofs.Places.{is-there}
 use Rattle.format_words.specs.Words.{words_of}
 use Rattle.certificate_text.specs.declared.kind.Kind.{Kind}
 use Rattle.certificate_text.specs.declared.kind.Kind.TheVariants as kind
-use Rattle.certificate_text.specs.declared.progress.Progress.TheVariants as progress
 use Rattle.certificate_text.specs.Reading.{kind_at, order_at, step_at, row_at}
 use Rattle.certificate_text.specs.Progress.{IsKind, IsPartOfCycle, kind_line}
 use Rattle.certificate_text.proofs.KindLines.{kind-spells}

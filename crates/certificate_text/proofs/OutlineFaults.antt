@@ -32,7 +32,7 @@ use Rattle.certificate_text.proofs.Begins.{cycle-begins, empty-order, headed-beg
 use Rattle.certificate_text.proofs.Begins.{order-begins}
 use Rattle.certificate_text.proofs.FirstFaults.{wrong-fault, lacking-fault, cut-fault}
 use Rattle.certificate_text.proofs.GoingOn.{kind_of, rest_lines, kind-behind, no-kind, no-order, no-step}
-use Rattle.certificate_text.proofs.GoingOn.{no-row, no-more-of-two, lacks-step, no-steps}
+use Rattle.certificate_text.proofs.GoingOn.{no-row, no-more-of-two, lacks-step}
 
 pub unread-line : (unsaid : CertCause) (Unread : Line → Type 0) (text line more : List ℕ)
     → IsOneLine line × (text ≡ line ++ 10 ∷ more) → Unread line → Misses unsaid Unread text unsaid

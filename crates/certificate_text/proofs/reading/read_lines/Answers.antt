@@ -1,4 +1,4 @@
-use Rattle.std.proofs.Common.{◌≡◌, ◌≤◌, length, arith, rules}
+use Rattle.std.proofs.Common.{◌≡◌, ◌≤◌, length, arith}
 use Rattle.std.proofs.lemmas.Grind.{common_steps}
 use Rattle.specification.specs.Lines.{text_of}
 use Rattle.specification.specs.CertificateText.{BeginsCertificate}
