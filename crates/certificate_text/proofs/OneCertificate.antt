@@ -18,6 +18,7 @@ use Rattle.specification.specs.CertificateText.{BeginsCertificate, HasWrongLine,
 use Rattle.specification.specs.CertificateText.{IsCertificateCut, IsFirstCertFault, version_line}
 use Rattle.specification.specs.Versions.{Version, one, two}
 use Rattle.format_words.proofs.Bytes.{lacks-literal}
+use Rattle.format_words.proofs.LineLists.{same-list, same-all}
 use Rattle.format_words.proofs.Spaced.{spaced-lacks}
 use Rattle.format_words.proofs.TextLines.{LacksLf, all-front, same-lines, never-cut, line-stands}
 use Rattle.certificate_text.specs.CertificateOf.{certificate_of, version_in, cause_of}
@@ -74,24 +75,6 @@ beginning-lacks lines (version, c, spellable, more, is) =
 
 -- the lines tell the certificate
 
-module _ {X : Type 0} (f : X → Line) (P : X → Type 0) (one : (x y : X) → P x → P y → f x ≡ f y → x ≡ y) where
-  same-list : (xs ys : List X) (more rest : List Line) → length xs ≡ length ys → All P xs → All P ys
-      → map f xs ++ more ≡ map f ys ++ rest → (xs ≡ ys) × (more ≡ rest)
-  same-list [] [] more rest n h k is = (refl, is)
-  same-list [] (y ∷ ys) more rest n h k is = absurd (omega arith)
-  same-list (x ∷ xs) [] more rest n h k is = absurd (omega arith)
-  same-list (x ∷ xs) (y ∷ ys) more rest n h k is =
-      let head : f x ≡ f y = cc in
-      let tail : map f xs ++ more ≡ map f ys ++ rest = cc in
-      let first = one x y (All-head P x xs h) (All-head P y ys k) head in
-      let others = same-list xs ys more rest (omega arith) (All-tail P x xs h) (All-tail P y ys k) tail in
-      (ap (λ z. z ∷ xs) first ∙ ap (λ l. y ∷ l) others.0, others.1)
-
-  same-all : (xs ys : List X) → All P xs → All P ys → map f xs ≡ map f ys → xs ≡ ys
-  same-all xs ys h k is =
-      let many : length xs ≡ length ys = sym (length-map xs f) ∙ ap length is ∙ length-map ys f in
-      (same-list xs ys [] [] many h k (ap (λ l. l ++ []) is)).0
-
 of-kind : (c d : Certificate) → IsSpellable c → IsSpellable d → kind_of c ≡ kind_of d
     → rest_lines c ≡ rest_lines d → c ≡ d
 of-kind (names_fault (doubled a b)) (names_fault (doubled f g)) h k e is = cc
@@ -123,9 +106,9 @@ of-kind (gives_cycle m ss rs) (gives_cycle n steps rows) h k e is =
     let number : m ≡ n = cc in
     let many : length ss ≡ length steps = h.2 ∙ number ∙ sym k.2 in
     let both =
-    same-list step_line IsStep one-step ss steps (map row_line rs) (map row_line rows) many h.3 k.3 is in
+    same-list step_line IsStep IsStep one-step ss steps (map row_line rs) (map row_line rows) many h.3 k.3 is in
     let others =
-    same-all row_line (IsRow n) (one-row n) rs rows (subst (λ (m : ℕ). All (IsRow m) rs) number h.5) k.5
+    same-all row_line (IsRow n) (IsRow n) (one-row n) rs rows (subst (λ (m : ℕ). All (IsRow m) rs) number h.5) k.5
     both.1 in
     ap (λ (i : ℕ). gives_cycle i ss rs) number ∙ ap (λ (l : List Step). gives_cycle n l rs) both.0
     ∙ ap (λ (l : List Row). gives_cycle n steps l) others

@@ -13,6 +13,7 @@ pub mod Operations
 pub mod Spaced
 pub mod CutText
 pub mod ByLines
+pub mod LineLists
 pub mod TwoCuts
 pub mod Places
 pub mod OneFault

@@ -14,6 +14,7 @@ use Rattle.specification.specs.TraceText.{header_line, entry_line, replicas_line
 use Rattle.specification.specs.TraceText.{IsEntry, IsSpelledIn, IsFaultyLine, IsMissingLine, BeginsSpelling}
 use Rattle.specification.specs.TraceText.{HasWholeFault, IsCutAt, LacksLine, IsFirstLineFault}
 use Rattle.specification.specs.Versions.{Version}
+use Rattle.format_words.proofs.LineLists.{line-there, all-of, same-all}
 use Rattle.format_words.proofs.TextLines.{same-lines, never-cut, line-stands}
 use Rattle.trace_text.proofs.TextLines.{lines-lack, beginning-lacks, legal-entries}
 use Rattle.trace_text.proofs.Spelled.{one-spelling}
@@ -26,15 +27,7 @@ same-replicas m n small few is =
 
 same-entries : (v w : Version) (ds es : List Entry) → All (IsEntry v) ds → All (IsEntry w) es
     → map entry_line ds ≡ map entry_line es → ds ≡ es
-same-entries v w [] [] h k is = refl
-same-entries v w [] (e ∷ es) h k is = absurd (cc)
-same-entries v w (d ∷ ds) [] h k is = absurd (cc)
-same-entries v w (d ∷ ds) (e ∷ es) h k is =
-    let line : entry_line d ≡ entry_line e = cc in
-    let lines : map entry_line ds ≡ map entry_line es = cc in
-    let first = one-spelling v w d e (All-head (IsEntry v) d ds h) (All-head (IsEntry w) e es k) line in
-    let rest = same-entries v w ds es (All-tail (IsEntry v) d ds h) (All-tail (IsEntry w) e es k) lines in
-    ap (λ x. x ∷ ds) first ∙ ap (λ l. e ∷ l) rest
+same-entries v w = same-all entry_line (IsEntry v) (IsEntry w) (one-spelling v w)
 
 few : (h : History) → IsLegal h → h.replicas < 2 ^ 32
 few h legal = omega (arith, legal.few_replicas)
@@ -54,27 +47,6 @@ pub one-recording : (text : List ℕ) (g h : History) → Spells text g → Spel
 one-recording text g h (v, spelled, is) (w, good, other) =
     same-history v w g h spelled good (same-lines text (trace_lines v g) (trace_lines w h)
     (lines-lack v g spelled) (lines-lack w h good) is other)
-
--- one of the entries' lines is an entry's
-pub entry-there : (entries : List Entry) (before rest : List Line) (line : Line)
-    → map entry_line entries ≡ before ++ line ∷ rest →
-    (earlier : List Entry) × (later : List Entry) × (e : Entry) × (entries ≡ earlier ++ e ∷ later)
-    × (before ≡ map entry_line earlier) × (line ≡ entry_line e)
-entry-there [] [] rest line is = absurd (cc)
-entry-there [] (b ∷ before) rest line is = absurd (cc)
-entry-there (e ∷ entries) [] rest line is = ([], entries, e, refl, refl, cc)
-entry-there (e ∷ entries) (b ∷ before) rest line is =
-    let head : b ≡ entry_line e = cc in
-    let tail : map entry_line entries ≡ before ++ line ∷ rest = cc in
-    let p = entry-there entries before rest line tail in
-    (e ∷ p.0, p.1, p.2, ap (λ l. e ∷ l) p.3, ap (λ y. y ∷ before) head ∙ ap (λ l. entry_line e ∷ l) p.4, p.5)
-
-pub all-of : (P : Entry → Type 0) (earlier later : List Entry) (e : Entry) → All P (earlier ++ e ∷ later)
-    → All P earlier × P e
-all-of P [] later e h = (All-nil P, All-head P e later h)
-all-of P (d ∷ earlier) later e h =
-    let p = all-of P earlier later e (All-tail P d (earlier ++ e ∷ later) h) in
-    (All-cons P d earlier (All-head P d (earlier ++ e ∷ later) h) p.0, p.1)
 
 -- no line of a legal recording's entries is refused
 not-refused : (v w : Version) (h g : History) (earlier later : List Entry) (e d : Entry) (why : Refusal)
@@ -115,7 +87,7 @@ line-right version h (a ∷ b ∷ good) line rest format.replicas spelled is fau
 line-right version h (a ∷ b ∷ good) line rest format.shape spelled is faulty =
     let first : a ≡ header_line version = cc in
     let others : map entry_line h.entries ≡ good ++ line ∷ rest = cc in
-    let p = entry-there h.entries good rest line others in
+    let p = line-there entry_line h.entries good rest line others in
     faulty version p.2 first (all-of (IsEntry version) p.0 p.1 p.2
     (subst (All (IsEntry version)) p.3 (legal-entries version h spelled))).1 p.5
 line-right version h (a ∷ b ∷ good) line rest format.cut spelled is faulty = faulty
@@ -123,7 +95,7 @@ line-right version h (a ∷ b ∷ good) line rest (format.refused why) spelled i
     (w, g, well, lines, d, k, read, refused) =
     let second : replicas_line h.replicas ≡ b = cc in
     let others : map entry_line h.entries ≡ good ++ line ∷ rest = cc in
-    let p = entry-there h.entries good rest line others in
+    let p = line-there entry_line h.entries good rest line others in
     let own : replicas_line g.replicas ≡ b = cc in
     let entries : map entry_line g.entries ≡ good = cc in
     not-refused version w h g p.0 p.1 p.2 d why spelled well p.3 (own ∙ sym second) (entries ∙ p.4) k
