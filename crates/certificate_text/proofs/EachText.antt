@@ -1,10 +1,8 @@
 -- Each text spells a certificate or has a fault.
-use Rattle.std.proofs.Common.{◌≡◌, ℕ, ◌+◌, ◌<◌, ◌≤◌, Bool, true, false, List, [], ◌∷◌, ◌++◌, length, codes}
+use Rattle.std.proofs.Common.{◌≡◌, ℕ, ◌+◌, ◌<◌, ◌≤◌, List, [], ◌∷◌, ◌++◌, length, codes}
 use Rattle.std.proofs.Common.{refl, sym, ap, ◌∙◌, arith, Option, Some, None, ◌⊎◌, inl, inr}
 use Rattle.std.specs.List.{All}
-use Rattle.std.specs.Str.{bytes_eq}
-use Rattle.std.proofs.lemmas.Bool.{cases_lt, false≢true}
-use Rattle.std.proofs.lemmas.Slice.Eq.{bytes_eq-Decides}
+use Rattle.std.proofs.lemmas.Bool.{cases_lt}
 use Rattle.events.specs.Names.{NameBytes, IsName}
 use Rattle.events.specs.Operation.{Operation}
 use Rattle.specification.specs.Conflict.{Step}
@@ -16,8 +14,8 @@ use Rattle.specification.specs.CertificateText.{Certificate, names_fault, gives_
 use Rattle.specification.specs.CertificateText.{certificate_lines, SpellsCertificate, BeginsCertificate}
 use Rattle.specification.specs.CertificateText.{IsWholeCertificate, IsFirstCertFault, cause_behind}
 use Rattle.specification.specs.CertificateText.{version_line}
-use Rattle.specification.specs.Versions.{Version, one, two}
-use Rattle.format_words.proofs.ByLines.{by-lines}
+use Rattle.specification.specs.Versions.{Version}
+use Rattle.format_words.proofs.ByLines.{by-lines, version-of}
 use Rattle.format_words.proofs.Places.{is-there}
 use Rattle.format_words.specs.Words.{words_of}
 use Rattle.certificate_text.specs.declared.kind.Kind.{Kind}
@@ -69,27 +67,10 @@ GoesOn good l =
     (¬ BeginsCertificate (good ++ l ∷ [])) ⊎ ((t : Known) × IsRight t × (lines_so_far t ≡ good ++ l ∷ []))
 
 header-step : (l : Line) → GoesOn [] l
-header-step l = by (bytes_eq l (version_line one)) refl (bytes_eq l (version_line two)) refl
-  where
-    headed-by : (version : Version) → bytes_eq l (version_line version) ≡ true → GoesOn [] l
-    headed-by version e =
-        inr (
-          headed version,
-          tt,
-          ap (λ (first : Line). first ∷ []) (sym ((bytes_eq-Decides l (version_line version)).0 e)),
-        )
-
-    neither : bytes_eq l (version_line one) ≡ false → bytes_eq l (version_line two) ≡ false
-        → (version : Version) → l ≡ version_line version → ⊥
-    neither e f one same = false≢true (sym e ∙ (bytes_eq-Decides l (version_line one)).1 same)
-    neither e f two same = false≢true (sym f ∙ (bytes_eq-Decides l (version_line two)).1 same)
-
-    by : (s : Bool) → bytes_eq l (version_line one) ≡ s → (t : Bool) → bytes_eq l (version_line two) ≡ t
-        → GoesOn [] l
-    by true e t f = headed-by one e
-    by false e true f = headed-by two f
-    by false e false f =
-        inl (λ (w, c, spellable, more, is). let same : l ≡ version_line w = cc in neither e f w same)
+header-step l = elim (version-of version_line l) [
+  | inl none ↦ inl (λ (w, c, spellable, more, is). let same : l ≡ version_line w = cc in none w same)
+  | inr p ↦ inr (headed p.0, tt, ap (λ (first : Line). first ∷ []) (sym p.1))
+]
 
 kind-step : (version : Version) → (l : Line) → GoesOn (version_line version ∷ []) l
 kind-step version l = by (kind_at (words_of l)) refl

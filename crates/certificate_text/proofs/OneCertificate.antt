@@ -1,10 +1,9 @@
 -- A text that spells a certificate spells no other, and has no fault.
-use Rattle.std.proofs.Common.{◌≡◌, ℕ, List, [], ◌∷◌, ◌++◌, length, map, codes, refl, sym, ap, ◌∙◌, subst}
+use Rattle.std.proofs.Common.{◌≡◌, ℕ, List, [], ◌∷◌, length, map, codes, refl, sym, ap, ◌∙◌, subst}
 use Rattle.std.proofs.Common.{arith, inl, inr, append_assoc, get_or, Result, Ok, Err, MatchResult, IfOk}
 use Rattle.std.proofs.Common.{IfErr, IfSome}
 use Rattle.std.specs.List.{All}
-use Rattle.std.proofs.lemmas.List.{length-map}
-use Rattle.std.proofs.lemmas.List.Elements.{All-head, All-tail, All-cons, All-nil, All-append, All-map}
+use Rattle.std.proofs.lemmas.List.Elements.{All-cons, All-nil, All-append, All-map}
 use Rattle.std.proofs.lemmas.List.Elements.{All-weaker}
 use Rattle.specification.specs.Conflict.{Step}
 use Rattle.specification.specs.Faults.{doubled, contents, position}

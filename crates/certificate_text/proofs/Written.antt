@@ -1,7 +1,7 @@
 -- A text, one line or one layer longer.
 use Rattle.std.proofs.Common.{◌≡◌, ℕ, zero, suc, ◌+◌, ◌==◌, false, cond, List, [], ◌∷◌, ◌++◌, map, take}
 use Rattle.std.proofs.Common.{slice_get, Some, codes, sym, ap, ◌∙◌, arith}
-use Rattle.std.proofs.lemmas.List.{map_push, flat_map_more, append_assoc, append-nil}
+use Rattle.std.proofs.lemmas.List.{append_assoc, append-nil}
 use Rattle.std.proofs.lemmas.Option.{slice_get_within}
 use Rattle.std.proofs.lemmas.Bool.{ne_eqb}
 use Rattle.events.specs.Names.{NameBytes}

@@ -1,9 +1,14 @@
 -- A text read line by line, in a format that says what right lines say.
-use Rattle.std.proofs.Common.{◌≡◌, ℕ, ◌≤◌, List, [], ◌∷◌, ◌++◌, length, sym, ap, ◌∙◌, arith, ◌⊎◌, inl, inr}
+use Rattle.std.proofs.Common.{◌≡◌, ◌≢◌, ℕ, ◌≤◌, Bool, true, false, List, [], ◌∷◌, ◌++◌, length, refl, sym}
+use Rattle.std.proofs.Common.{ap, ◌∙◌, arith, ◌⊎◌, inl, inr}
 use Rattle.std.specs.List.{All}
+use Rattle.std.specs.Str.{bytes_eq}
 use Rattle.std.proofs.lemmas.List.{append-nil}
 use Rattle.std.proofs.lemmas.List.Elements.{All-head, All-tail}
+use Rattle.std.proofs.lemmas.Bool.{false≢true}
+use Rattle.std.proofs.lemmas.Slice.Eq.{bytes_eq-Decides}
 use Rattle.specification.specs.Lines.{Line, text_of, IsOneLine}
+use Rattle.specification.specs.Versions.{Version, one, two}
 use Rattle.format_words.proofs.CutText.{cut-text, line-off, line-on}
 
 -- after right lines, a line is right or a fault, bytes without LF are a fault, and the end may be one
@@ -33,3 +38,18 @@ module _ {Known : Type 0} (so_far : Known → List Line) (IsRight : Known → Ty
   by-lines s right none = let c = cut-text text in
       from-here s c.lines c.rest right c.each c.last
       (c.whole ∙ ap (λ (ls : List Line). text_of ls ++ (text_of c.lines ++ c.rest)) (sym none))
+
+-- a line is the first of a version, or of none
+pub version-of : (first : Version → Line) (l : Line)
+    → ((version : Version) → l ≢ first version) ⊎ ((version : Version) × (l ≡ first version))
+version-of first l = by (bytes_eq l (first one)) refl (bytes_eq l (first two)) refl
+  where
+    by : (s : Bool) → bytes_eq l (first one) ≡ s → (t : Bool) → bytes_eq l (first two) ≡ t
+        → ((version : Version) → l ≢ first version) ⊎ ((version : Version) × (l ≡ first version))
+    by true e t f = inr (one, (bytes_eq-Decides l (first one)).0 e)
+    by false e true f = inr (two, (bytes_eq-Decides l (first two)).0 f)
+    by false e false f = inl neither
+      where
+        neither : (version : Version) → l ≢ first version
+        neither one same = absurd (false≢true (sym e ∙ (bytes_eq-Decides l (first one)).1 same))
+        neither two same = absurd (false≢true (sym f ∙ (bytes_eq-Decides l (first two)).1 same))

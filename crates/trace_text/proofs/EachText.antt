@@ -1,9 +1,7 @@
 -- Each text spells a recording or has a fault.
-use Rattle.std.proofs.Common.{◌≡◌, ◌≢◌, ℕ, ◌+◌, ◌≤◌, Bool, true, false, List, [], ◌∷◌, ◌++◌, length, refl}
-use Rattle.std.proofs.Common.{sym, ap, ◌∙◌, arith, Option, Some, None, ◌⊎◌, inl, inr}
-use Rattle.std.proofs.lemmas.Bool.{cases_lt, false≢true}
-use Rattle.std.proofs.lemmas.Slice.Eq.{bytes_eq-Decides}
-use Rattle.std.specs.Str.{bytes_eq}
+use Rattle.std.proofs.Common.{◌≡◌, ◌≢◌, ℕ, ◌+◌, ◌≤◌, List, [], ◌∷◌, ◌++◌, length, refl}
+use Rattle.std.proofs.Common.{sym, ap, arith, Option, Some, None, ◌⊎◌, inl, inr}
+use Rattle.std.proofs.lemmas.Bool.{cases_lt}
 use Rattle.events.specs.History.{History, with_entry}
 use Rattle.events.specs.Session.{first_refusal}
 use Rattle.events.specs.declared.TheConstants.{MOST_REPLICAS}
@@ -15,7 +13,7 @@ use Rattle.specification.specs.TraceText.{header_line, entry_line, replicas_line
 use Rattle.specification.specs.TraceText.{IsEntry, IsSpelledIn, IsFaultyLine, BeginsSpelling}
 use Rattle.specification.specs.TraceText.{IsFirstLineFault}
 use Rattle.specification.specs.Versions.{Version, one, two}
-use Rattle.format_words.proofs.ByLines.{by-lines}
+use Rattle.format_words.proofs.ByLines.{by-lines, version-of}
 use Rattle.format_words.proofs.Places.{is-there}
 use Rattle.format_words.specs.Words.{words_of}
 use Rattle.trace_text.specs.Reading.{entry_at, replicas_at}
@@ -23,7 +21,6 @@ use Rattle.trace_text.specs.Progress.{good, IsLegalSoFar}
 use Rattle.trace_text.specs.Versions.{has_views, version_in}
 use Rattle.trace_text.specs.declared.reading.Reading.{Reading}
 use Rattle.trace_text.specs.declared.reading.Reading.TheVariants.{Start, Headed, Entries}
-use Rattle.trace_text.specs.declared.version.Version as declared_version
 use Rattle.trace_text.specs.declared.version.Version.TheVariants as version
 use Rattle.trace_text.proofs.Spelled.{line-spells}
 use Rattle.trace_text.proofs.SecondLine.{replicas-spells, replicas-none, replicas-same}
@@ -43,21 +40,9 @@ GoesOn r l =
     ((cause : format.Cause) × IsFaultyLine (good r) l cause)
     ⊎ ((t : Reading) × IsLegalSoFar t × (good t ≡ good r ++ l ∷ []))
 
--- the first line names a version, or none
-first-step : (l : Line) → ((version : Version) → l ≢ header_line version)
-    ⊎ ((version : declared_version.Version) × (l ≡ header_line (version_in version)))
-first-step l = by-first (bytes_eq l (header_line one)) refl (bytes_eq l (header_line two)) refl
-  where
-    by-first : (s : Bool) → bytes_eq l (header_line one) ≡ s → (t : Bool) → bytes_eq l (header_line two) ≡ t
-        → ((version : Version) → l ≢ header_line version)
-        ⊎ ((version : declared_version.Version) × (l ≡ header_line (version_in version)))
-    by-first true e t f = inr (version.One, (bytes_eq-Decides l (header_line one)).0 e)
-    by-first false e true f = inr (version.Two, (bytes_eq-Decides l (header_line two)).0 f)
-    by-first false e false f = inl neither
-      where
-        neither : (version : Version) → l ≢ header_line version
-        neither one same = absurd (false≢true (sym e ∙ (bytes_eq-Decides l (header_line one)).1 same))
-        neither two same = absurd (false≢true (sym f ∙ (bytes_eq-Decides l (header_line two)).1 same))
+headed-step : (version : Version) (l : Line) → l ≡ header_line version → GoesOn Start l
+headed-step one l is = inr (Headed version.One, tt, ap (λ (first : Line). first ∷ []) (sym is))
+headed-step two l is = inr (Headed version.Two, tt, ap (λ (first : Line). first ∷ []) (sym is))
 
 -- the second line begins a recording, or is faulty
 second-step : (l : Line) → ((n : ℕ) → 1 ≤ n → n ≤ MOST_REPLICAS → l ≢ replicas_line n)
@@ -101,9 +86,9 @@ entry-step version h l spelled = by-entry (entry_at (has_views version) (words_o
         by-refusal e p.0 p.1 (first_refusal h.replicas h.entries e) refl
 
 step : (r : Reading) (l : Line) → IsLegalSoFar r → GoesOn r l
-step Start l legal = elim (first-step l) [
+step Start l legal = elim (version-of header_line l) [
   | inl wrong ↦ inl (format.header, wrong)
-  | inr p ↦ inr (Headed p.0, tt, ap (λ (first : Line). first ∷ []) (sym p.1))
+  | inr p ↦ headed-step p.0 l p.1
 ]
 step (Headed version) l legal = elim (second-step l) [
   | inl wrong ↦ inl (format.replicas, wrong)

@@ -4,7 +4,6 @@ use Rattle.std.proofs.Common.{◌++◌, map, take, slice_get, Option, Some, None
 use Rattle.std.proofs.lemmas.Bool.{false≢true}
 use Rattle.std.proofs.lemmas.Option.{same_Some}
 use Rattle.std.specs.List.{All}
-use Rattle.std.proofs.lemmas.List.{map_push, flat_map_more}
 use Rattle.std.proofs.lemmas.List.Elements.{All-nil, All-cons}
 use Rattle.events.specs.History.{History, IsLegal, is_view}
 use Rattle.events.specs.declared.entry.Entry.{Entry}
