@@ -1,6 +1,6 @@
 -- A text that spells a certificate spells no other, and has no fault.
 use Rattle.std.proofs.Common.{◌≡◌, ℕ, List, [], ◌∷◌, length, map, codes, refl, sym, ap, ◌∙◌, subst}
-use Rattle.std.proofs.Common.{arith, inl, inr, append_assoc, get_or, Result, Ok, Err, MatchResult, IfOk}
+use Rattle.std.proofs.Common.{inl, inr, append_assoc, Result, Ok, Err, MatchResult, IfOk}
 use Rattle.std.proofs.Common.{IfErr, IfSome}
 use Rattle.std.specs.List.{All}
 use Rattle.std.proofs.lemmas.List.Elements.{All-cons, All-nil, All-append, All-map}
@@ -17,6 +17,7 @@ use Rattle.specification.specs.CertificateText.{BeginsCertificate, HasWrongLine,
 use Rattle.specification.specs.CertificateText.{IsCertificateCut, IsFirstCertFault, version_line}
 use Rattle.specification.specs.Versions.{Version, one, two}
 use Rattle.format_words.proofs.Bytes.{lacks-literal}
+use Rattle.format_words.proofs.ByLines.{one-version}
 use Rattle.format_words.proofs.LineLists.{same-list, same-all}
 use Rattle.format_words.proofs.Spaced.{spaced-lacks}
 use Rattle.format_words.proofs.TextLines.{LacksLf, all-front, same-lines, never-cut, line-stands}
@@ -112,21 +113,13 @@ of-kind (gives_cycle m ss rs) (gives_cycle n steps rows) h k e is =
     ap (λ (i : ℕ). gives_cycle i ss rs) number ∙ ap (λ (l : List Step). gives_cycle n l rs) both.0
     ∙ ap (λ (l : List Row). gives_cycle n steps l) others
 
-one-first : (version other : Version) → version_line version ≡ version_line other → version ≡ other
-one-first one one e = refl
-one-first one two e = let digit : ◌≡◌ {A = ℕ} 49 50 = ap (λ (l : Line). get_or l 5 0) e in
-    absurd (omega (arith, digit))
-one-first two one e = let digit : ◌≡◌ {A = ℕ} 50 49 = ap (λ (l : Line). get_or l 5 0) e in
-    absurd (omega (arith, digit))
-one-first two two e = refl
-
 same-certificate : (version other : Version) (c d : Certificate) → IsSpellable c → IsSpellable d
     → certificate_lines version c ≡ certificate_lines other d → (version ≡ other) × (c ≡ d)
 same-certificate version other c d h k is =
     let p = kind-behind other (version_line version) d (kind_of c) (rest_lines c) k (kind-good c h)
     (sym (lines-parts version c) ∙ is) in
     let first : version_line version ≡ version_line other = cc in
-    (one-first version other first, of-kind c d h k (sym p.0) p.1)
+    (one-version version_line refl version other first, of-kind c d h k (sym p.0) p.1)
 
 -- a text spells at most one certificate
 pub one-certificate : (text : List ℕ) (version other : Version) (c d : Certificate)

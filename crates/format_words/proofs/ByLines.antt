@@ -53,3 +53,13 @@ version-of first l = by (bytes_eq l (first one)) refl (bytes_eq l (first two)) r
         neither : (version : Version) → l ≢ first version
         neither one same = absurd (false≢true (sym e ∙ (bytes_eq-Decides l (first one)).1 same))
         neither two same = absurd (false≢true (sym f ∙ (bytes_eq-Decides l (first two)).1 same))
+
+-- a version's first line is its own
+pub one-version : (first : Version → Line) → bytes_eq (first one) (first two) ≡ false → (v w : Version)
+    → first v ≡ first w → v ≡ w
+one-version first differ one one is = refl
+one-version first differ one two is =
+    absurd (false≢true (sym differ ∙ (bytes_eq-Decides (first one) (first two)).1 is))
+one-version first differ two one is =
+    absurd (false≢true (sym differ ∙ (bytes_eq-Decides (first one) (first two)).1 (sym is)))
+one-version first differ two two is = refl
