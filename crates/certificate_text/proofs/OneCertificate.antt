@@ -1,10 +1,8 @@
 -- A text that spells a certificate spells no other, and has no fault.
 use Rattle.std.proofs.Common.{◌≡◌, ℕ, List, [], ◌∷◌, length, map, codes, refl, sym, ap, ◌∙◌, subst}
-use Rattle.std.proofs.Common.{inl, inr, append_assoc, Result, Ok, Err, MatchResult, IfOk}
-use Rattle.std.proofs.Common.{IfErr, IfSome}
+use Rattle.std.proofs.Common.{inl, inr, append_assoc, Result, Ok, Err, MatchResult, IfOk, IfErr, IfSome}
 use Rattle.std.specs.List.{All}
-use Rattle.std.proofs.lemmas.List.Elements.{All-cons, All-nil, All-append, All-map}
-use Rattle.std.proofs.lemmas.List.Elements.{All-weaker}
+use Rattle.std.proofs.lemmas.List.Elements.{All-cons, All-nil, All-append, All-map, All-weaker}
 use Rattle.specification.specs.Conflict.{Step}
 use Rattle.specification.specs.Faults.{doubled, contents, position}
 use Rattle.specification.specs.LayerRule.{Row}
@@ -106,10 +104,11 @@ of-kind (gives_cycle m ss rs) (gives_cycle n steps rows) h k e is =
     let number : m ≡ n = cc in
     let many : length ss ≡ length steps = h.2 ∙ number ∙ sym k.2 in
     let both =
-    same-list step_line IsStep IsStep one-step ss steps (map row_line rs) (map row_line rows) many h.3 k.3 is in
+    same-list step_line IsStep IsStep one-step ss steps (map row_line rs) (map row_line rows) many h.3 k.3
+    is in
     let others =
-    same-all row_line (IsRow n) (IsRow n) (one-row n) rs rows (subst (λ (m : ℕ). All (IsRow m) rs) number h.5) k.5
-    both.1 in
+    same-all row_line (IsRow n) (IsRow n) (one-row n) rs rows
+    (subst (λ (m : ℕ). All (IsRow m) rs) number h.5) k.5 both.1 in
     ap (λ (i : ℕ). gives_cycle i ss rs) number ∙ ap (λ (l : List Step). gives_cycle n l rs) both.0
     ∙ ap (λ (l : List Row). gives_cycle n steps l) others
 

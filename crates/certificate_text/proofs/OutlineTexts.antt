@@ -19,8 +19,7 @@ use Rattle.specification.specs.Versions.{Version}
 use Rattle.certificate_text.specs.CertificateOf.{version_in, cause_of}
 use Rattle.format_words.specs.Words.{words_of}
 use Rattle.format_words.specs.Reading.{GivesOne}
-use Rattle.certificate_text.specs.Outlines.{Outlines, Tells, EndsOutline, IsFaultOfKind}
-use Rattle.certificate_text.specs.Outlines.{SaysAll}
+use Rattle.certificate_text.specs.Outlines.{Outlines, Tells, EndsOutline, IsFaultOfKind, SaysAll}
 use Rattle.certificate_text.specs.Progress.{IsKind, kind_line}
 use Rattle.certificate_text.specs.Reading.{order_at, row_at}
 use Rattle.certificate_text.specs.declared.kind.Kind.{Kind}
