@@ -1,6 +1,6 @@
 -- Right lines begin a spelling.
-use Rattle.std.proofs.Common.{◌≡◌, ℕ, ◌-◌, ◌<◌, List, [], ◌∷◌, ◌++◌, length, map, replicate, codes, decimal}
-use Rattle.std.proofs.Common.{refl, sym, ap, ◌∙◌, arith, inl, inr, length-append}
+use Rattle.std.proofs.Common.{◌≡◌, ℕ, ◌-◌, ◌<◌, ◌≤◌, List, [], ◌∷◌, ◌++◌, length, map, replicate, codes}
+use Rattle.std.proofs.Common.{decimal, refl, sym, ap, ◌∙◌, arith, inl, inr, length-append}
 use Rattle.std.specs.List.{All}
 use Rattle.std.proofs.lemmas.Bool.{cases_lt}
 use Rattle.std.proofs.lemmas.List.{append-nil, length-replicate, map-append}
@@ -11,7 +11,8 @@ use Rattle.specification.specs.Faults.{doubled, contents, position}
 use Rattle.specification.specs.LayerRule.{Row}
 use Rattle.specification.specs.Lines.{Line, order_line}
 use Rattle.specification.specs.CertificateText.{names_fault, gives_order, gives_cycle, certificate_lines}
-use Rattle.specification.specs.CertificateText.{step_line, IsStep, IsRow, BeginsCertificate, version_line}
+use Rattle.specification.specs.CertificateText.{step_line, IsStep, IsRow, IsSpellable, BeginsCertificate}
+use Rattle.specification.specs.CertificateText.{version_line}
 use Rattle.specification.specs.Versions.{Version, one}
 use Rattle.certificate_text.specs.CertificateOf.{version_in}
 use Rattle.certificate_text.specs.declared.kind.Kind.{Kind}
@@ -30,6 +31,18 @@ some-name = record { some_byte = omega arith; few_bytes = omega arith; each_byte
 some-step : IsStep some_step
 some-step = (some-name, some-name, (omega arith, omega arith, omega arith))
 
+-- no step is missing
+pub whole-cycle : (k : ℕ) (steps : List Step) (rows : List Row) → IsPartOfCycle k steps rows
+    → k ≤ length steps → IsSpellable (gives_cycle k steps rows)
+whole-cycle k steps rows part all = (
+  part.low,
+  part.high,
+  (let n : length steps ≡ k = omega (arith, part.few) in n),
+  part.each_step,
+  part.short,
+  part.each_row,
+)
+
 pub cycle-begins : (version : Version) → (k : ℕ) (steps : List Step) (rows : List Row)
     → IsPartOfCycle k steps rows → BeginsCertificate (certificate_lines version (gives_cycle k steps rows))
 cycle-begins version k steps rows part = elim (cases_lt (length steps) k) [
@@ -37,14 +50,7 @@ cycle-begins version k steps rows part = elim (cases_lt (length steps) k) [
   | inr whole ↦ (
     version,
     gives_cycle k steps rows,
-    (
-      part.low,
-      part.high,
-      (let n : length steps ≡ k = omega (arith, part.few) in n),
-      part.each_step,
-      part.short,
-      part.each_row,
-    ),
+    whole-cycle k steps rows part whole,
     [],
     append-nil (certificate_lines version (gives_cycle k steps rows)),
   )

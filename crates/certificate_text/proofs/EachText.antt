@@ -1,12 +1,8 @@
 -- Each text spells a certificate or has a fault.
-use Rattle.std.proofs.Common.{◌≡◌, ℕ, ◌+◌, ◌<◌, ◌≤◌, Bool, true, false, List, [], ◌∷◌, ◌++◌, length, codes}
+use Rattle.std.proofs.Common.{◌≡◌, ℕ, ◌+◌, ◌<◌, ◌≤◌, List, [], ◌∷◌, ◌++◌, length, codes}
 use Rattle.std.proofs.Common.{refl, sym, ap, ◌∙◌, arith, Option, Some, None, ◌⊎◌, inl, inr}
 use Rattle.std.specs.List.{All}
-use Rattle.std.specs.Str.{bytes_eq}
-use Rattle.std.proofs.lemmas.List.{append-nil}
-use Rattle.std.proofs.lemmas.List.Elements.{All-head, All-tail}
-use Rattle.std.proofs.lemmas.Bool.{cases_lt, false≢true}
-use Rattle.std.proofs.lemmas.Slice.Eq.{bytes_eq-Decides}
+use Rattle.std.proofs.lemmas.Bool.{cases_lt}
 use Rattle.events.specs.Names.{NameBytes, IsName}
 use Rattle.events.specs.Operation.{Operation}
 use Rattle.specification.specs.Conflict.{Step}
@@ -18,12 +14,12 @@ use Rattle.specification.specs.CertificateText.{Certificate, names_fault, gives_
 use Rattle.specification.specs.CertificateText.{certificate_lines, SpellsCertificate, BeginsCertificate}
 use Rattle.specification.specs.CertificateText.{IsWholeCertificate, IsFirstCertFault, cause_behind}
 use Rattle.specification.specs.CertificateText.{version_line}
-use Rattle.specification.specs.Versions.{Version, one, two}
-use Rattle.format_words.proofs.CutText.{cut-text, line-off, line-on}
+use Rattle.specification.specs.Versions.{Version}
+use Rattle.format_words.proofs.ByLines.{by-lines, version-of}
+use Rattle.format_words.proofs.Places.{is-there}
 use Rattle.format_words.specs.Words.{words_of}
 use Rattle.certificate_text.specs.declared.kind.Kind.{Kind}
 use Rattle.certificate_text.specs.declared.kind.Kind.TheVariants as kind
-use Rattle.certificate_text.specs.declared.progress.Progress.TheVariants as progress
 use Rattle.certificate_text.specs.Reading.{kind_at, order_at, step_at, row_at}
 use Rattle.certificate_text.specs.Progress.{IsKind, IsPartOfCycle, kind_line}
 use Rattle.certificate_text.proofs.KindLines.{kind-spells}
@@ -33,8 +29,8 @@ use Rattle.certificate_text.proofs.GoingOn.{kind_of, rest_lines, lines-parts, ki
 use Rattle.certificate_text.proofs.GoingOn.{no-step, no-row, no-more-of-two, lacks-step, no-steps, step-more}
 use Rattle.certificate_text.proofs.GoingOn.{row-more}
 use Rattle.certificate_text.proofs.Begins.{empty-order, headed-begins, kind-begins, order-begins}
-use Rattle.certificate_text.proofs.Begins.{cycle-begins}
-use Rattle.certificate_text.proofs.FirstFaults.{wrong-fault, lacking-fault}
+use Rattle.certificate_text.proofs.Begins.{cycle-begins, whole-cycle}
+use Rattle.certificate_text.proofs.FirstFaults.{wrong-fault, lacking-fault, cut-fault}
 
 -- what right lines say
 data Known : Type 0 where
@@ -71,27 +67,10 @@ GoesOn good l =
     (¬ BeginsCertificate (good ++ l ∷ [])) ⊎ ((t : Known) × IsRight t × (lines_so_far t ≡ good ++ l ∷ []))
 
 header-step : (l : Line) → GoesOn [] l
-header-step l = by (bytes_eq l (version_line one)) refl (bytes_eq l (version_line two)) refl
-  where
-    headed-by : (version : Version) → bytes_eq l (version_line version) ≡ true → GoesOn [] l
-    headed-by version e =
-        inr (
-          headed version,
-          tt,
-          ap (λ (first : Line). first ∷ []) (sym ((bytes_eq-Decides l (version_line version)).0 e)),
-        )
-
-    neither : bytes_eq l (version_line one) ≡ false → bytes_eq l (version_line two) ≡ false
-        → (version : Version) → l ≡ version_line version → ⊥
-    neither e f one same = false≢true (sym e ∙ (bytes_eq-Decides l (version_line one)).1 same)
-    neither e f two same = false≢true (sym f ∙ (bytes_eq-Decides l (version_line two)).1 same)
-
-    by : (s : Bool) → bytes_eq l (version_line one) ≡ s → (t : Bool) → bytes_eq l (version_line two) ≡ t
-        → GoesOn [] l
-    by true e t f = headed-by one e
-    by false e true f = headed-by two f
-    by false e false f =
-        inl (λ (w, c, spellable, more, is). let same : l ≡ version_line w = cc in neither e f w same)
+header-step l = elim (version-of version_line l) [
+  | inl none ↦ inl (λ (w, c, spellable, more, is). let same : l ≡ version_line w = cc in none w same)
+  | inr p ↦ inr (headed p.0, tt, ap (λ (first : Line). first ∷ []) (sym p.1))
+]
 
 kind-step : (version : Version) → (l : Line) → GoesOn (version_line version ∷ []) l
 kind-step version l = by (kind_at (words_of l)) refl
@@ -219,20 +198,7 @@ cycle-end : (version : Version) → (k : ℕ) (steps : List Step) (rows : List R
     ⊎ (¬ IsWholeCertificate (certificate_lines version (gives_cycle k steps rows)))
 cycle-end version k steps rows part = elim (cases_lt (length steps) k) [
   | inl less ↦ inr (lacks-step version k steps rows part less)
-  | inr all ↦
-      inl (
-        version,
-        gives_cycle k steps rows,
-        (
-          part.low,
-          part.high,
-          (let n : length steps ≡ k = omega (arith, part.few) in n),
-          part.each_step,
-          part.short,
-          part.each_row,
-        ),
-        refl,
-      )
+  | inr all ↦ inl (version, gives_cycle k steps rows, whole-cycle k steps rows part all, refl)
 ]
 
 end : (s : Known) → IsRight s → IsWholeCertificate (lines_so_far s) ⊎ (¬ IsWholeCertificate (lines_so_far s))
@@ -252,62 +218,44 @@ HasFault text = (line : ℕ) × (cause : format.CertCause) × IsFirstCertFault t
 abbrev IsSpelled : List ℕ → Type 0
 IsSpelled text = (version : Version) × (c : Certificate) × SpellsCertificate text version c
 
-cut-at : (text : List ℕ) (good : List Line) (b : ℕ) (rest : List ℕ) → BeginsCertificate good
-    → IsOneLine (b ∷ rest) → text ≡ text_of good ++ b ∷ rest → HasFault text
-cut-at text good b rest begins no_lf is = (
+at-line : (text : List ℕ) (s : Known) (l : Line) (behind : List ℕ) → IsRight s → IsOneLine l
+    → text ≡ text_of (lines_so_far s) ++ (l ++ 10 ∷ behind)
+    → HasFault text ⊎ ((t : Known) × IsRight t × (lines_so_far t ≡ lines_so_far s ++ l ∷ []))
+at-line text s l behind right no_lf is = let good = lines_so_far s in elim (step s l right) [
+  | inl wrong ↦
+      inl (
+        length good + 1,
+        cause_behind good,
+        wrong-fault text (length good + 1) good l (Some (cause_behind good))
+            (is-there BeginsCertificate text (length good + 1) good l (l ++ 10 ∷ behind) behind is refl no_lf
+            refl (begins s right))
+            (refl, wrong),
+      )
+  | inr t ↦ inr t
+]
+
+at-cut : (text : List ℕ) (s : Known) (rest : Line) → IsRight s → 1 ≤ length rest → IsOneLine rest
+    → text ≡ text_of (lines_so_far s) ++ rest → HasFault text
+at-cut text s rest right some no_lf is = let good = lines_so_far s in (
   length good + 1,
   format.cut,
-  record {
-    good = good;
-    begins = begins;
-    rest = b ∷ rest;
-    some_byte = omega arith;
-    one_line = no_lf;
-    text_is = is;
-    number = refl;
-  },
+  cut-fault text (length good + 1) good rest some no_lf is refl (begins s right),
 )
 
-wrong-at : (text : List ℕ) (good : List Line) (l : Line) (behind : List ℕ) → BeginsCertificate good
-    → IsOneLine l → text ≡ text_of good ++ (l ++ 10 ∷ behind) → ¬ BeginsCertificate (good ++ l ∷ [])
-    → HasFault text
-wrong-at text good l behind begins no_lf is wrong = (
-  length good + 1,
-  cause_behind good,
-  wrong-fault text (length good + 1) good l (l ++ 10 ∷ behind) behind
-      (Some (cause_behind good)) is refl no_lf refl begins (refl, wrong),
-)
-
-lacking-at : (text : List ℕ) (good : List Line) → BeginsCertificate good → text ≡ text_of good
-    → ¬ IsWholeCertificate good → HasFault text
-lacking-at text good begins is not = (
-  length good + 1,
-  cause_behind good,
-  lacking-fault text (length good + 1) good (Some (cause_behind good)) is refl begins (refl, not),
-)
-
-from-here : (text : List ℕ) (s : Known) (lines : List Line) (rest : List ℕ) → IsRight s → All IsOneLine lines
-    → IsOneLine rest → text ≡ text_of (lines_so_far s) ++ (text_of lines ++ rest)
+at-end : (text : List ℕ) (s : Known) → IsRight s → text ≡ text_of (lines_so_far s)
     → IsSpelled text ⊎ HasFault text
-from-here text s [] [] right each last is =
-    let all : text ≡ text_of (lines_so_far s) = is ∙ append-nil (text_of (lines_so_far s)) in
-    elim (end s right) [
-      | inl whole ↦ inl (whole.0, whole.1, (whole.2, all ∙ ap text_of whole.3))
-      | inr not ↦ inr (lacking-at text (lines_so_far s) (begins s right) all not)
-    ]
-from-here text s [] (b ∷ rest) right each last is =
-    inr (cut-at text (lines_so_far s) b rest (begins s right) last is)
-from-here text s (l ∷ lines) rest right each last is =
-    let off : text ≡ text_of (lines_so_far s) ++ (l ++ 10 ∷ (text_of lines ++ rest)) =
-    is ∙ ap (λ t. text_of (lines_so_far s) ++ t) (line-off l lines rest) in
-    elim (step s l right) [
-      | inl wrong ↦
-          inr (wrong-at text (lines_so_far s) l (text_of lines ++ rest) (begins s right)
-          (All-head IsOneLine l lines each) off wrong)
-      | inr t ↦ from-here text t.0 lines rest t.1 (All-tail IsOneLine l lines each) last
-          (off ∙ line-on (lines_so_far s) l (text_of lines ++ rest)
-          ∙ ap (λ (ls : List Line). text_of ls ++ (text_of lines ++ rest)) (sym t.2))
-    ]
+at-end text s right is = let good = lines_so_far s in elim (end s right) [
+  | inl whole ↦ inl (whole.0, whole.1, (whole.2, is ∙ ap text_of whole.3))
+  | inr not ↦
+      inr (
+        length good + 1,
+        cause_behind good,
+        lacking-fault text (length good + 1) good (Some (cause_behind good)) is refl (begins s right)
+            (refl, not),
+      )
+]
 
 pub each-text : (text : List ℕ) → IsSpelled text ⊎ HasFault text
-each-text text = let c = cut-text text in from-here text start c.lines c.rest tt c.each c.last c.whole
+each-text text =
+    by-lines lines_so_far IsRight text (IsSpelled text) (HasFault text) (at-line text) (at-cut text)
+    (at-end text) start tt refl

@@ -1,7 +1,8 @@
 -- The first fault of a text, from what its right lines are and what follows them.
-use Rattle.std.proofs.Common.{◌≡◌, ℕ, ◌+◌, ◌≤◌, List, [], ◌∷◌, ◌++◌, length, ◌∙◌, Option, Some, None, IfSome}
-use Rattle.std.proofs.Common.{inl, inr, arith}
+use Rattle.std.proofs.Common.{◌≡◌, ℕ, ◌+◌, ◌≤◌, List, [], ◌∷◌, ◌++◌, length, ◌∙◌, Option, None, IfSome}
+use Rattle.std.proofs.Common.{◌⊎◌, inl, inr, arith}
 use Rattle.std.proofs.lemmas.List.{append-nil}
+use Rattle.std.proofs.lemmas.Option.{IfSome_then}
 use Rattle.specification.specs.Lines.{Line, text_of, IsOneLine}
 use Rattle.specification.specs.CertificateText as format
 use Rattle.specification.specs.CertificateText.{BeginsCertificate, HasWrongLine, LacksCertificateLine}
@@ -13,63 +14,52 @@ use Rattle.certificate_text.specs.declared.fault.CertCause.{CertCause}
 use Rattle.certificate_text.specs.declared.fault.CertCause.TheVariants as cause
 use Rattle.certificate_text.specs.CertificateOf.{cause_of, cause_of_stop}
 use Rattle.certificate_text.specs.Progress.{IsWrongBehind, LacksMore}
-use Rattle.format_words.proofs.Places as places
-use Rattle.format_words.proofs.Places.{text-with}
-use Rattle.certificate_text.specs.Place.{IsBehindRightLines, TakesMemory, TakesMemoryAt}
+use Rattle.format_words.proofs.Places.{IsThere}
+use Rattle.certificate_text.specs.Place.{IsBehindRightLines}
 
 never-cut : (lines : List Line) → format.cut ≡ cause_behind lines → ⊥
 never-cut [] e = cc
 never-cut (a ∷ []) e = cc
 never-cut (a ∷ b ∷ lines) e = cc
 
-first-of-wrong : (text : List ℕ) (number : ℕ) (lines : List Line) (cause : format.CertCause)
-    → cause ≡ cause_behind lines → HasWrongLine text number cause → IsFirstCertFault text number cause
-first-of-wrong text number lines format.header e wrong = inl wrong
-first-of-wrong text number lines format.kind e wrong = inl wrong
-first-of-wrong text number lines format.shape e wrong = inl wrong
-first-of-wrong text number lines format.cut e wrong = absurd (never-cut lines e)
-
-first-of-lacking : (text : List ℕ) (number : ℕ) (lines : List Line) (cause : format.CertCause)
-    → cause ≡ cause_behind lines → LacksCertificateLine text number cause → IsFirstCertFault text number cause
-first-of-lacking text number lines format.header e lacks = inr lacks
-first-of-lacking text number lines format.kind e lacks = inr lacks
-first-of-lacking text number lines format.shape e lacks = inr lacks
-first-of-lacking text number lines format.cut e lacks = absurd (never-cut lines e)
+first-of : (text : List ℕ) (number : ℕ) (lines : List Line) (cause : format.CertCause)
+    → cause ≡ cause_behind lines → HasWrongLine text number cause ⊎ LacksCertificateLine text number cause
+    → IsFirstCertFault text number cause
+first-of text number lines format.header e fault = fault
+first-of text number lines format.kind e fault = fault
+first-of text number lines format.shape e fault = fault
+first-of text number lines format.cut e fault = absurd (never-cut lines e)
 
 -- a wrong line after right ones
-pub wrong-fault : (text : List ℕ) (number : ℕ) (lines : List Line) (line rest behind : List ℕ)
-    (cause : Option format.CertCause) →
-    text ≡ text_of lines ++ rest → rest ≡ line ++ 10 ∷ behind → IsOneLine line → number ≡ length lines + 1
-    → BeginsCertificate lines → IfSome cause (IsWrongBehind lines line)
-    → IfSome cause (IsFirstCertFault text number)
-wrong-fault text number lines line rest behind None whole cut one is begins wrong = tt
-wrong-fault text number lines line rest behind (Some cause) whole cut one is begins wrong =
-    first-of-wrong text number lines cause wrong.0 (record {
+pub wrong-fault : (text : List ℕ) (number : ℕ) (lines : List Line) (line : Line)
+    (cause : Option format.CertCause) → IsThere BeginsCertificate text number lines line
+    → IfSome cause (IsWrongBehind lines line) → IfSome cause (IsFirstCertFault text number)
+wrong-fault text number lines line cause at wrong = IfSome_then cause wrong
+    (λ why w. first-of text number lines why w.0 (inl (record {
       good = lines;
-      begins = begins;
+      begins = at.begins;
       faulty = line;
-      one_line = one;
-      more = behind;
-      text_is = text-with text lines line rest behind whole cut;
-      number = is;
-      wrong = wrong.1;
-      cause_is = wrong.0;
-    })
+      one_line = at.one_line;
+      more = at.more;
+      text_is = at.text_is;
+      number = at.number_is;
+      wrong = w.1;
+      cause_is = w.0;
+    })))
 
 -- a line is missing after right ones
 pub lacking-fault : (text : List ℕ) (number : ℕ) (lines : List Line) (cause : Option format.CertCause) →
     text ≡ text_of lines → number ≡ length lines + 1 → BeginsCertificate lines
     → IfSome cause (LacksMore lines) → IfSome cause (IsFirstCertFault text number)
-lacking-fault text number lines None whole is begins lacks = tt
-lacking-fault text number lines (Some cause) whole is begins lacks =
-    first-of-lacking text number lines cause lacks.0 (record {
+lacking-fault text number lines cause whole is begins lacks = IfSome_then cause lacks
+    (λ why l. first-of text number lines why l.0 (inr (record {
       good = lines;
       begins = begins;
       text_is = whole;
-      not_whole = lacks.1;
+      not_whole = l.1;
       number = is;
-      cause_is = lacks.0;
-    })
+      cause_is = l.0;
+    })))
 
 -- after right lines, bytes without LF
 pub cut-fault : (text : List ℕ) (number : ℕ) (lines : List Line) (rest : Line) → 1 ≤ length rest
@@ -95,13 +85,6 @@ pub behind-right : (text : List ℕ) (number : ℕ) (lines : List Line) (rest : 
     → IsBehindRightLines text number
 behind-right text number lines rest whole is begins =
     record { good = lines; begins = begins; rest = rest; text_is = whole; number = is }
-
-pub ended-line : (text : List ℕ) (number : ℕ) (lines : List Line) (line rest behind : List ℕ) →
-    text ≡ text_of lines ++ rest → rest ≡ line ++ 10 ∷ behind → IsOneLine line → number ≡ length lines + 1
-    → BeginsCertificate lines → TakesMemory lines line → TakesMemoryAt text number
-ended-line text number lines line rest behind whole cut one is begins takes =
-    places.ended-line BeginsCertificate TakesMemory text number lines line rest behind whole cut one is begins
-    takes
 
 -- a line whose reading stopped has the cause of one that says no such thing, or there was no memory
 pub stop-fault : {Y : Type 0} (takes : Y → Type 0) (unsaid : CertCause) (s : Stop) (read : Option Y)

@@ -15,6 +15,7 @@ use Rattle.specification.specs.CertificateText.{certificate_lines, step_line, ro
 use Rattle.specification.specs.CertificateText.{IsRow, BeginsCertificate, IsWholeCertificate, version_line}
 use Rattle.specification.specs.Versions.{Version}
 use Rattle.format_words.specs.Words.{words_of}
+use Rattle.format_words.proofs.LineLists.{line-there, all-of}
 use Rattle.certificate_text.specs.declared.kind.Kind.{Kind}
 use Rattle.certificate_text.specs.declared.kind.Kind.TheVariants as kind
 use Rattle.certificate_text.specs.Reading.{kind_at, order_at, step_at, row_at}
@@ -135,11 +136,9 @@ module _ {X : Type 0} (f : X → Line) (P : X → Type 0) where
 
   among : (xs ys : List X) (line : Line) (more : List Line) → All P ys → map f xs ++ line ∷ more ≡ map f ys
       → (y : X) × P y × (line ≡ f y)
-  among [] [] line more all is = absurd (cc)
-  among (x ∷ xs) [] line more all is = absurd (cc)
-  among [] (y ∷ ys) line more all is = (y, All-head P y ys all, cc)
-  among (x ∷ xs) (y ∷ ys) line more all is =
-      let tail : map f xs ++ line ∷ more ≡ map f ys = cc in among xs ys line more (All-tail P y ys all) tail
+  among xs ys line more all is =
+      let p = line-there f ys (map f xs) more line (sym is) in
+      (p.2, (all-of P p.0 p.1 p.2 (subst (All P) p.3 all)).1, p.5)
 
   behind-as-many : (xs ys : List X) (more rest : List Line) → length xs ≡ length ys
       → map f xs ++ more ≡ map f ys ++ rest → more ≡ rest

@@ -1,11 +1,10 @@
 -- What texts can name: the elements of a legal recording are names, its operations have numbers of 32 bits,
 -- and no conflict number is greater than there are operations.
 use Rattle.std.proofs.Common.{◌≡◌, ℕ, zero, suc, ◌+◌, ◌*◌, ◌<◌, ◌≤◌, ◌^◌, Option, Some, None, List, map}
-use Rattle.std.proofs.Common.{length, refl, ◌∙◌, arith, ap, subst, length-append}
-use Rattle.std.specs.Prelude.{All, Contains, filter, flat_map, option_and_then, ◌==◌}
+use Rattle.std.proofs.Common.{length, refl, ◌∙◌, arith, ap, subst}
+use Rattle.std.specs.Prelude.{All, Contains, filter, option_and_then, ◌==◌}
 use Rattle.std.proofs.lemmas.List.{length-map}
 use Rattle.std.proofs.lemmas.List.Elements.{All-filter, All-map}
-use Rattle.std.proofs.lemmas.List.Sums.{length-filter, count_by-le-length}
 use Rattle.events.specs.Names.{NameBytes, IsName}
 use Rattle.events.specs.Operation.{Operation}
 use Rattle.events.specs.History.{History, IsLegal, IsWellFormed, stream, is_operation, inserted_name}

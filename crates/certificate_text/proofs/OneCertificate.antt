@@ -1,15 +1,12 @@
 -- A text that spells a certificate spells no other, and has no fault.
-use Rattle.std.proofs.Common.{◌≡◌, ℕ, List, [], ◌∷◌, ◌++◌, length, map, codes, refl, sym, ap, ◌∙◌, subst}
-use Rattle.std.proofs.Common.{arith, inl, inr, append_assoc, get_or, Result, Ok, Err, MatchResult, IfOk}
-use Rattle.std.proofs.Common.{IfErr, IfSome}
+use Rattle.std.proofs.Common.{◌≡◌, ℕ, List, [], ◌∷◌, length, map, codes, refl, sym, ap, ◌∙◌, subst}
+use Rattle.std.proofs.Common.{inl, inr, append_assoc, Result, Ok, Err, MatchResult, IfOk, IfErr, IfSome}
 use Rattle.std.specs.List.{All}
-use Rattle.std.proofs.lemmas.List.{append-nil, append_cancel_right, length-map, same_from_push}
-use Rattle.std.proofs.lemmas.List.Elements.{All-head, All-tail, All-cons, All-nil, All-append, All-map}
-use Rattle.std.proofs.lemmas.List.Elements.{All-weaker}
+use Rattle.std.proofs.lemmas.List.Elements.{All-cons, All-nil, All-append, All-map, All-weaker}
 use Rattle.specification.specs.Conflict.{Step}
 use Rattle.specification.specs.Faults.{doubled, contents, position}
 use Rattle.specification.specs.LayerRule.{Row}
-use Rattle.specification.specs.Lines.{Line, text_of, order_line}
+use Rattle.specification.specs.Lines.{Line, order_line}
 use Rattle.specification.specs.CertificateText as format
 use Rattle.specification.specs.CertificateText.{Certificate, names_fault, gives_order, gives_cycle}
 use Rattle.specification.specs.CertificateText.{certificate_lines, certificate_text, step_line, row_line}
@@ -18,9 +15,10 @@ use Rattle.specification.specs.CertificateText.{BeginsCertificate, HasWrongLine,
 use Rattle.specification.specs.CertificateText.{IsCertificateCut, IsFirstCertFault, version_line}
 use Rattle.specification.specs.Versions.{Version, one, two}
 use Rattle.format_words.proofs.Bytes.{lacks-literal}
+use Rattle.format_words.proofs.ByLines.{one-version}
+use Rattle.format_words.proofs.LineLists.{same-list, same-all}
 use Rattle.format_words.proofs.Spaced.{spaced-lacks}
-use Rattle.format_words.proofs.TextLines.{lines_of, LacksLf, lacks-lf, lines-then, one-line, line-then}
-use Rattle.format_words.proofs.TextLines.{all-front, front-of-push, some-line}
+use Rattle.format_words.proofs.TextLines.{LacksLf, all-front, same-lines, never-cut, line-stands}
 use Rattle.certificate_text.specs.CertificateOf.{certificate_of, version_in, cause_of}
 use Rattle.certificate_text.specs.Progress.{kind_line}
 use Rattle.certificate_text.specs.declared.certificate.Certificate as declared
@@ -73,31 +71,7 @@ pub beginning-lacks : (lines : List Line) → BeginsCertificate lines → All La
 beginning-lacks lines (version, c, spellable, more, is) =
     all-front LacksLf lines more (subst (All LacksLf) (sym is) (lines-lack version c spellable))
 
--- a spelling's lines, from its text
-lines-are : (version : Version) (c : Certificate) → IsSpellable c
-    → lines_of (certificate_text version c) ≡ certificate_lines version c ++ [] ∷ []
-lines-are version c h = ap lines_of (sym (append-nil (certificate_text version c)))
-    ∙ lines-then (certificate_lines version c) [] (lines-lack version c h)
-
 -- the lines tell the certificate
-
-module _ {X : Type 0} (f : X → Line) (P : X → Type 0) (one : (x y : X) → P x → P y → f x ≡ f y → x ≡ y) where
-  same-list : (xs ys : List X) (more rest : List Line) → length xs ≡ length ys → All P xs → All P ys
-      → map f xs ++ more ≡ map f ys ++ rest → (xs ≡ ys) × (more ≡ rest)
-  same-list [] [] more rest n h k is = (refl, is)
-  same-list [] (y ∷ ys) more rest n h k is = absurd (omega arith)
-  same-list (x ∷ xs) [] more rest n h k is = absurd (omega arith)
-  same-list (x ∷ xs) (y ∷ ys) more rest n h k is =
-      let head : f x ≡ f y = cc in
-      let tail : map f xs ++ more ≡ map f ys ++ rest = cc in
-      let first = one x y (All-head P x xs h) (All-head P y ys k) head in
-      let others = same-list xs ys more rest (omega arith) (All-tail P x xs h) (All-tail P y ys k) tail in
-      (ap (λ z. z ∷ xs) first ∙ ap (λ l. y ∷ l) others.0, others.1)
-
-  same-all : (xs ys : List X) → All P xs → All P ys → map f xs ≡ map f ys → xs ≡ ys
-  same-all xs ys h k is =
-      let many : length xs ≡ length ys = sym (length-map xs f) ∙ ap length is ∙ length-map ys f in
-      (same-list xs ys [] [] many h k (ap (λ l. l ++ []) is)).0
 
 of-kind : (c d : Certificate) → IsSpellable c → IsSpellable d → kind_of c ≡ kind_of d
     → rest_lines c ≡ rest_lines d → c ≡ d
@@ -130,20 +104,13 @@ of-kind (gives_cycle m ss rs) (gives_cycle n steps rows) h k e is =
     let number : m ≡ n = cc in
     let many : length ss ≡ length steps = h.2 ∙ number ∙ sym k.2 in
     let both =
-    same-list step_line IsStep one-step ss steps (map row_line rs) (map row_line rows) many h.3 k.3 is in
+    same-list step_line IsStep IsStep one-step ss steps (map row_line rs) (map row_line rows) many h.3 k.3
+    is in
     let others =
-    same-all row_line (IsRow n) (one-row n) rs rows (subst (λ (m : ℕ). All (IsRow m) rs) number h.5) k.5
-    both.1 in
+    same-all row_line (IsRow n) (IsRow n) (one-row n) rs rows
+    (subst (λ (m : ℕ). All (IsRow m) rs) number h.5) k.5 both.1 in
     ap (λ (i : ℕ). gives_cycle i ss rs) number ∙ ap (λ (l : List Step). gives_cycle n l rs) both.0
     ∙ ap (λ (l : List Row). gives_cycle n steps l) others
-
-one-first : (version other : Version) → version_line version ≡ version_line other → version ≡ other
-one-first one one e = refl
-one-first one two e = let digit : ◌≡◌ {A = ℕ} 49 50 = ap (λ (l : Line). get_or l 5 0) e in
-    absurd (omega (arith, digit))
-one-first two one e = let digit : ◌≡◌ {A = ℕ} 50 49 = ap (λ (l : Line). get_or l 5 0) e in
-    absurd (omega (arith, digit))
-one-first two two e = refl
 
 same-certificate : (version other : Version) (c d : Certificate) → IsSpellable c → IsSpellable d
     → certificate_lines version c ≡ certificate_lines other d → (version ≡ other) × (c ≡ d)
@@ -151,52 +118,39 @@ same-certificate version other c d h k is =
     let p = kind-behind other (version_line version) d (kind_of c) (rest_lines c) k (kind-good c h)
     (sym (lines-parts version c) ∙ is) in
     let first : version_line version ≡ version_line other = cc in
-    (one-first version other first, of-kind c d h k (sym p.0) p.1)
+    (one-version version_line refl version other first, of-kind c d h k (sym p.0) p.1)
 
 -- a text spells at most one certificate
 pub one-certificate : (text : List ℕ) (version other : Version) (c d : Certificate)
     → SpellsCertificate text version c → SpellsCertificate text other d → (version ≡ other) × (c ≡ d)
 one-certificate text version other c d (h, is) (k, also) =
-    same-certificate version other c d h k
-    (append_cancel_right (certificate_lines version c) (certificate_lines other d) ([] ∷ [])
-    (sym (lines-are version c h) ∙ ap lines_of (sym is ∙ also) ∙ lines-are other d k))
+    same-certificate version other c d h k (same-lines text (certificate_lines version c)
+    (certificate_lines other d) (lines-lack version c h) (lines-lack other d k) is also)
 
 no-wrong-line : (version : Version) (c : Certificate) (text : List ℕ) (line : ℕ) (cause : format.CertCause)
     → SpellsCertificate text version c → HasWrongLine text line cause → ⊥
 no-wrong-line version c text line cause (h, is) fault =
-    let lines : certificate_lines version c ++ [] ∷ [] ≡ fault.good ++ fault.faulty ∷ lines_of fault.more =
-    sym (lines-are version c h) ∙ ap lines_of (sym is ∙ fault.text_is
-    ∙ append_assoc (text_of fault.good) fault.faulty (10 ∷ fault.more))
-    ∙ lines-then fault.good (fault.faulty ++ 10 ∷ fault.more) (beginning-lacks fault.good fault.begins)
-    ∙ ap (λ ls. fault.good ++ ls)
-    (line-then fault.faulty fault.more (lacks-lf fault.faulty fault.one_line)) in
     let stands =
-    front-of-push (certificate_lines version c) fault.good (lines_of fault.more) [] fault.faulty
-    (some-line fault.more) lines in
+    line-stands text (certificate_lines version c) fault.good fault.faulty fault.more
+    (lines-lack version c h) (beginning-lacks fault.good fault.begins) fault.one_line is fault.text_is in
     fault.wrong (version, c, h, stands.0, append_assoc fault.good (fault.faulty ∷ []) stands.0 ∙ sym stands.1)
 
 none-lacking : (version : Version) (c : Certificate) (text : List ℕ) (line : ℕ) (cause : format.CertCause)
     → SpellsCertificate text version c → LacksCertificateLine text line cause → ⊥
 none-lacking version c text line cause (h, is) lacks =
-    let lines : certificate_lines version c ++ [] ∷ [] ≡ lacks.good ++ [] ∷ [] =
-    sym (lines-are version c h) ∙ ap lines_of (sym is ∙ lacks.text_is ∙ sym (append-nil (text_of lacks.good)))
-    ∙ lines-then lacks.good [] (beginning-lacks lacks.good lacks.begins) in
     lacks.not_whole (
       version,
       c,
       h,
-      sym (append_cancel_right (certificate_lines version c) lacks.good ([] ∷ []) lines),
+      same-lines text lacks.good (certificate_lines version c) (beginning-lacks lacks.good lacks.begins)
+          (lines-lack version c h) lacks.text_is is,
     )
 
 not-cut : (version : Version) (c : Certificate) (text : List ℕ) (line : ℕ) → SpellsCertificate text version c
     → IsCertificateCut text line → ⊥
 not-cut version c text line (h, is) cut =
-    let lines : certificate_lines version c ++ [] ∷ [] ≡ cut.good ++ cut.rest ∷ [] =
-    sym (lines-are version c h) ∙ ap lines_of (sym is ∙ cut.text_is)
-    ∙ lines-then cut.good cut.rest (beginning-lacks cut.good cut.begins)
-    ∙ ap (λ ls. cut.good ++ ls) (one-line cut.rest (lacks-lf cut.rest cut.one_line)) in
-    let empty : [] ≡ cut.rest = (same_from_push (certificate_lines version c) cut.good [] cut.rest lines).1 in
-    absurd (omega (arith, ap length empty, cut.some_byte))
+    never-cut text (certificate_lines version c) cut.good cut.rest (lines-lack version c h)
+    (beginning-lacks cut.good cut.begins) cut.one_line cut.some_byte is cut.text_is
 
 -- a text that spells a certificate has no fault
 pub no-fault : (version : Version) (c : Certificate) (text : List ℕ) (line : ℕ) (why : format.CertCause)

@@ -19,6 +19,7 @@ use Rattle.specification.specs.CertificateText.{IsSpellable, IsStep, IsRow, Begi
 use Rattle.specification.specs.CertificateText.{IsWholeCertificate, IsFirstCertFault, cause_behind}
 use Rattle.specification.specs.Versions.{Version}
 use Rattle.format_words.specs.Words.{words_of}
+use Rattle.format_words.proofs.Places.{is-there}
 use Rattle.certificate_text.specs.CertificateOf.{cause_of}
 use Rattle.certificate_text.specs.Outlines.{Misses, IsFaultBehind, IsFaultOfKind, NamesFault}
 use Rattle.certificate_text.specs.Progress.{IsKind, IsPartOfCycle, IsWrongBehind, LacksMore, kind_line}
@@ -31,7 +32,7 @@ use Rattle.certificate_text.proofs.Begins.{cycle-begins, empty-order, headed-beg
 use Rattle.certificate_text.proofs.Begins.{order-begins}
 use Rattle.certificate_text.proofs.FirstFaults.{wrong-fault, lacking-fault, cut-fault}
 use Rattle.certificate_text.proofs.GoingOn.{kind_of, rest_lines, kind-behind, no-kind, no-order, no-step}
-use Rattle.certificate_text.proofs.GoingOn.{no-row, no-more-of-two, lacks-step, no-steps}
+use Rattle.certificate_text.proofs.GoingOn.{no-row, no-more-of-two, lacks-step}
 
 pub unread-line : (unsaid : CertCause) (Unread : Line → Type 0) (text line more : List ℕ)
     → IsOneLine line × (text ≡ line ++ 10 ∷ more) → Unread line → Misses unsaid Unread text unsaid
@@ -58,7 +59,8 @@ misses-fault lines text unsaid why Unread number at begins is whole wrong (inl (
 misses-fault lines text unsaid why Unread number at begins is whole wrong
     (inr (e, (line, more, one, cut, unread))) =
     said (IsFirstCertFault (text_of lines ++ text) number) unsaid why (cause_behind lines) e is
-    (wrong-fault (text_of lines ++ text) number lines line text more (cause_of unsaid) refl cut one at begins
+    (wrong-fault (text_of lines ++ text) number lines line (cause_of unsaid)
+    (is-there BeginsCertificate (text_of lines ++ text) number lines line text more refl cut one at begins)
     (subst (λ o. IfSome o (IsWrongBehind lines line)) (sym is) (refl, wrong line unread)))
 misses-fault lines text unsaid why Unread number at begins is whole wrong (inl (inr (e, some, one))) =
     subst (λ (w : CertCause). IsFaultBehind lines text number w) (sym e)

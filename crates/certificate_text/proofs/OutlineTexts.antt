@@ -3,25 +3,23 @@ use Rattle.std.proofs.Common.{◌≡◌, ◌≢◌, ℕ, ◌-◌, ◌==◌, List
 use Rattle.std.proofs.Common.{Option, Some, None, length, map, take, drop, Result, Ok, Err, IfOk, IfErr}
 use Rattle.std.proofs.Common.{IfSome, MatchResult, refl, sym, ap, ◌∙◌, subst, arith, append_assoc}
 use Rattle.std.proofs.Common.{length-append}
-use Rattle.std.specs.List.{All}
 use Rattle.std.proofs.Math.Seq.{take-append_seam}
 use Rattle.std.proofs.lemmas.Bool.{false≢true, eqb-true}
 use Rattle.std.proofs.lemmas.List.{append-nil, map_push}
 use Rattle.std.proofs.lemmas.List.Concat.{flat_map-append}
 use Rattle.events.specs.Names.{NameBytes}
 use Rattle.specification.specs.Conflict.{Step}
-use Rattle.specification.specs.Faults.{Fault, doubled, contents, position}
+use Rattle.specification.specs.Faults.{doubled, contents, position}
 use Rattle.specification.specs.LayerRule.{Row}
 use Rattle.specification.specs.Lines.{Line, text_of, names_text, order_line}
-use Rattle.specification.specs.CertificateText.{Certificate, names_fault, certificate_lines, certificate_text}
-use Rattle.specification.specs.CertificateText.{IsRow, IsSpellable, kind_lines, version_line, step_line}
+use Rattle.specification.specs.CertificateText.{Certificate, names_fault, certificate_text}
+use Rattle.specification.specs.CertificateText.{IsRow, kind_lines, version_line, step_line}
 use Rattle.specification.specs.CertificateText.{row_line, SpellsCertificate, IsFirstCertFault}
 use Rattle.specification.specs.Versions.{Version}
 use Rattle.certificate_text.specs.CertificateOf.{version_in, cause_of}
 use Rattle.format_words.specs.Words.{words_of}
 use Rattle.format_words.specs.Reading.{GivesOne}
-use Rattle.certificate_text.specs.Outlines.{Outlines, Tells, EndsOutline, IsFaultBehind, IsFaultOfKind}
-use Rattle.certificate_text.specs.Outlines.{SaysAll}
+use Rattle.certificate_text.specs.Outlines.{Outlines, Tells, EndsOutline, IsFaultOfKind, SaysAll}
 use Rattle.certificate_text.specs.Progress.{IsKind, kind_line}
 use Rattle.certificate_text.specs.Reading.{order_at, row_at}
 use Rattle.certificate_text.specs.declared.kind.Kind.{Kind}
@@ -30,7 +28,6 @@ use Rattle.certificate_text.specs.declared.version.Version as declared_version
 use Rattle.certificate_text.specs.declared.outline.Outline.{Outline}
 use Rattle.certificate_text.specs.declared.fault.CertFault.{CertFault}
 use Rattle.certificate_text.specs.declared.fault.CertCause.TheVariants as cause
-use Rattle.certificate_text.proofs.GoingOn.{kind_of}
 use Rattle.certificate_text.proofs.StepLines.{order-spells}
 use Rattle.certificate_text.proofs.RowLines.{row-spells}
 use Rattle.certificate_text.proofs.OneCertificate.{one-certificate, only-memory}

@@ -1,6 +1,6 @@
 -- The form of a row, counted word by word.
-use Rattle.std.proofs.Common.{◌≡◌, ◌≢◌, ℕ, ◌+◌, ◌==◌, ◌&&◌, Bool, true, false, cond, List, [], ◌∷◌, ◌++◌}
-use Rattle.std.proofs.Common.{length, codes, Option, Some, None, option_map, refl, sym, ap, ◌∙◌, subst, arith}
+use Rattle.std.proofs.Common.{◌≡◌, ◌≢◌, ℕ, ◌+◌, Bool, true, false, List, [], ◌∷◌, ◌++◌}
+use Rattle.std.proofs.Common.{length, codes, Option, Some, None, option_map, refl, sym, ap, ◌∙◌, arith}
 use Rattle.std.proofs.Common.{append_assoc, length-append}
 use Rattle.std.specs.Str.{bytes_eq}
 use Rattle.std.specs.Prelude.{slice_index_or}
@@ -8,7 +8,7 @@ use Rattle.std.proofs.lemmas.Slice.Eq.{bytes_eq-Decides}
 use Rattle.events.specs.Names.{NameBytes}
 use Rattle.specification.specs.LayerRule.{Row}
 use Rattle.format_words.specs.Words.{Word}
-use Rattle.format_words.specs.Reading.{◌>>=◌, after_word, name_of, GivesOne}
+use Rattle.format_words.specs.Reading.{after_word, name_of, GivesOne}
 use Rattle.certificate_text.specs.Outlines.{Tells}
 use Rattle.certificate_text.specs.Reading.{layers_at, onto_layers, has_form, row_at, form_of, is_form}
 use Rattle.certificate_text.specs.Reading.{HasForm, GoesOn}

@@ -1,13 +1,12 @@
 -- Lines whose reading takes memory.
-use Rattle.std.proofs.Common.{◌≡◌, ◌≢◌, ℕ, ◌<◌, ◌≤◌, List, [], ◌∷◌, ◌++◌, length, codes, Option, Some, None}
+use Rattle.std.proofs.Common.{◌≡◌, ℕ, ◌<◌, ◌≤◌, List, [], ◌∷◌, ◌++◌, length, codes, Option, Some, None}
 use Rattle.std.proofs.Common.{refl, sym, ap, ◌∙◌, subst, arith}
-use Rattle.std.specs.List.{All}
 use Rattle.std.proofs.lemmas.List.Elements.{All-nil}
 use Rattle.std.proofs.lemmas.Option.{same_Some}
 use Rattle.events.specs.Names.{NameBytes, IsName}
 use Rattle.specification.specs.Conflict.{Step}
 use Rattle.specification.specs.LayerRule.{Row}
-use Rattle.specification.specs.Lines.{Line, order_line}
+use Rattle.specification.specs.Lines.{Line}
 use Rattle.specification.specs.CertificateText.{gives_order, gives_cycle, certificate_lines, step_line}
 use Rattle.specification.specs.CertificateText.{row_line, BeginsCertificate, version_line}
 use Rattle.specification.specs.Versions.{Version}

@@ -1,29 +1,21 @@
 -- A text, one line or one layer longer.
 use Rattle.std.proofs.Common.{◌≡◌, ℕ, zero, suc, ◌+◌, ◌==◌, false, cond, List, [], ◌∷◌, ◌++◌, map, take}
 use Rattle.std.proofs.Common.{slice_get, Some, codes, sym, ap, ◌∙◌, arith}
-use Rattle.std.proofs.lemmas.List.{map_push, flat_map_more, append_assoc, append-nil}
+use Rattle.std.proofs.lemmas.List.{append_assoc, append-nil}
 use Rattle.std.proofs.lemmas.Option.{slice_get_within}
 use Rattle.std.proofs.lemmas.Bool.{ne_eqb}
 use Rattle.events.specs.Names.{NameBytes}
 use Rattle.specification.specs.Lines.{Line, text_of, names_text}
 use Rattle.specification.specs.LayerRule.{Row}
 use Rattle.specification.specs.CertificateText.{layers_text}
+use Rattle.format_words.proofs.LineLists.{line-more}
 use Rattle.format_words.proofs.NameList.{front-more}
 
-pub line-more : {X : Type 0} (f : X → Line) (start text : List ℕ) (xs : List X) (i : ℕ) (x : X)
-    → text ≡ start ++ text_of (map f (take i xs))
-    → slice_get xs i ≡ Some x → text ++ (f x ++ 10 ∷ []) ≡ start ++ text_of (map f (take (i + 1) xs))
-line-more f start text xs i x is at =
-    ap (λ t. t ++ (f x ++ 10 ∷ [])) is
-    ∙ flat_map_more (λ (l : Line). l ++ 10 ∷ []) start (map f (take i xs)) (f x)
-    ∙ ap (λ (ls : List Line). start ++ text_of ls) (sym (map_push f (take i xs) x)
-    ∙ ap (map f) (sym (front-more xs i x at)))
-
--- the same, where the line was added to a text that is now this one
+-- the line was added to a text that is now this one
 pub line-added : {X : Type 0} (f : X → Line) (start text new : List ℕ) (xs : List X) (i : ℕ) (x : X)
     → new ≡ text ++ (f x ++ 10 ∷ []) → text ≡ start ++ text_of (map f (take i xs))
     → slice_get xs i ≡ Some x → new ≡ start ++ text_of (map f (take (i + 1) xs))
-line-added f start text new xs i x added is at = added ∙ line-more f start text xs i x is at
+line-added f start text new xs i x added is at = added ∙ line-more f start text [] xs i x is at
 
 -- a layer after others
 layers-behind : (first : List NameBytes) (row : Row) (layer : List NameBytes)

@@ -12,6 +12,8 @@ pub mod TextLines
 pub mod Operations
 pub mod Spaced
 pub mod CutText
+pub mod ByLines
+pub mod LineLists
 pub mod TwoCuts
 pub mod Places
 pub mod OneFault

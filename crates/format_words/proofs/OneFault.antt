@@ -1,14 +1,12 @@
 -- A text has at most one first fault, in a format that says which lines are the first ones of a spelling, why
 -- a line after such lines is wrong, and why one is missing.
 use Rattle.std.proofs.Common.{◌≡◌, ℕ, ◌+◌, ◌<◌, ◌≤◌, List, [], ◌∷◌, ◌++◌, length, refl, sym, ap, ◌∙◌, subst}
-use Rattle.std.proofs.Common.{arith, inl, inr, append_assoc, length-append}
+use Rattle.std.proofs.Common.{arith, inl, inr, length-append}
 use Rattle.std.specs.List.{All}
-use Rattle.std.proofs.lemmas.List.{append-nil}
 use Rattle.std.proofs.lemmas.Bool.{cases_lt}
 use Rattle.specification.specs.Lines.{Line, text_of, IsOneLine}
 use Rattle.format_words.proofs.TwoCuts.{inner, same-cut}
-use Rattle.format_words.proofs.TextLines.{lines_of, LacksLf, lacks-lf, lines-then, one-line, line-then}
-use Rattle.format_words.proofs.TextLines.{some-line}
+use Rattle.format_words.proofs.TextLines.{lines_of, LacksLf, lines-with, lines-cut, lines-whole, some-line}
 
 -- a fault as it shows in the text's lines: right ones, the one that is named, and those after it; the last is
 -- what no LF ends
@@ -30,6 +28,19 @@ pub data Why {Cause : Type 0} (Wrong : List Line → Line → Cause → Type 0)
   lacking : {cause : Cause} → behind ≡ [] → line ≡ [] → Missing good cause
       → Why Wrong Missing cut good line behind cause
 
+-- behind the last line there is none
+nothing-longer : (good : List Line) (line : Line) (behind longer : List Line) (other : Line)
+    (rest : List Line) → behind ≡ [] → good ++ line ∷ behind ≡ longer ++ other ∷ rest
+    → length good < length longer → ⊥
+nothing-longer good line behind longer other rest none is shorter =
+    absurd (omega (
+      arith,
+      ap length is,
+      ap length none,
+      length-append good (line ∷ behind),
+      length-append longer (other ∷ rest),
+    ))
+
 module _ {Cause : Type 0} (Begins : List Line → Type 0) (Wrong : List Line → Line → Cause → Type 0)
     (Missing : List Line → Cause → Type 0) (cut : Cause) where
   abbrev pub Fault : List ℕ → ℕ → Cause → Type 0
@@ -46,9 +57,7 @@ module _ {Cause : Type 0} (Begins : List Line → Type 0) (Wrong : List Line →
       begins = begins;
       line = faulty;
       behind = lines_of more;
-      lines = ap lines_of (text_is ∙ append_assoc (text_of good) faulty (10 ∷ more))
-          ∙ lines-then good (faulty ++ 10 ∷ more) lack
-          ∙ ap (λ ls. good ++ ls) (line-then faulty more (lacks-lf faulty one));
+      lines = lines-with text good faulty more lack one text_is;
       is_number = is;
     },
     wrong why (some-line more),
@@ -63,8 +72,7 @@ module _ {Cause : Type 0} (Begins : List Line → Type 0) (Wrong : List Line →
       begins = begins;
       line = rest;
       behind = [];
-      lines = ap lines_of text_is ∙ lines-then good rest lack
-          ∙ ap (λ ls. good ++ ls) (one-line rest (lacks-lf rest one));
+      lines = lines-cut text good rest lack one text_is;
       is_number = is;
     },
     unended refl some,
@@ -79,7 +87,7 @@ module _ {Cause : Type 0} (Begins : List Line → Type 0) (Wrong : List Line →
       begins = begins;
       line = [];
       behind = [];
-      lines = ap lines_of (text_is ∙ sym (append-nil (text_of good))) ∙ lines-then good [] lack;
+      lines = lines-whole text good lack text_is;
       is_number = is;
     },
     lacking refl refl why,
@@ -95,21 +103,9 @@ module _ {Cause : Type 0} (Begins : List Line → Type 0) (Wrong : List Line →
       let p = inner good longer line other behind rest is shorter in
       right good line p.0 cause (subst Begins p.1 begins) faulty
   not-before right good line behind longer other rest cause (unended none some) begins is shorter =
-      absurd (omega (
-        arith,
-        ap length is,
-        ap length none,
-        length-append good (line ∷ behind),
-        length-append longer (other ∷ rest),
-      ))
+      nothing-longer good line behind longer other rest none is shorter
   not-before right good line behind longer other rest cause (lacking none empty missing) begins is shorter =
-      absurd (omega (
-        arith,
-        ap length is,
-        ap length none,
-        length-append good (line ∷ behind),
-        length-append longer (other ∷ rest),
-      ))
+      nothing-longer good line behind longer other rest none is shorter
 
   same-why : ((good : List Line) (line : Line) (cause why : Cause) → Wrong good line cause
       → Wrong good line why → cause ≡ why) →

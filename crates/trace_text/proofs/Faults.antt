@@ -1,12 +1,10 @@
 -- The first fault of a text, from what its right lines are and what follows them.
-use Rattle.std.proofs.Common.{◌≡◌, ℕ, ◌+◌, List, [], ◌∷◌, ◌++◌, length, Option, Some, None, IfSome, inl}
+use Rattle.std.proofs.Common.{◌≡◌, ℕ, ◌+◌, ◌≤◌, List, [], ◌∷◌, ◌++◌, length, inl}
 use Rattle.specification.specs.Lines.{Line, text_of, IsOneLine}
 use Rattle.specification.specs.TraceText as format
-use Rattle.specification.specs.TraceText.{IsFaultyLine, IsMissingLine, BeginsSpelling, HasWholeFault, IsCutAt}
-use Rattle.specification.specs.TraceText.{LacksLine, IsFirstLineFault}
-use Rattle.format_words.proofs.Places as places
-use Rattle.format_words.proofs.Places.{text-with}
-use Rattle.trace_text.specs.Place.{TakesMemory, TakesMemoryAt}
+use Rattle.specification.specs.TraceText.{IsFaultyLine, BeginsSpelling, HasWholeFault, IsCutAt}
+use Rattle.specification.specs.TraceText.{IsFirstLineFault}
+use Rattle.format_words.proofs.Places.{IsThere}
 
 pub never-cut : (lines : List Line) (line : Line) → IsFaultyLine lines line format.cut → ⊥
 never-cut [] line h = h
@@ -22,18 +20,17 @@ first-of-whole text number lines line format.cut h whole = absurd (never-cut lin
 first-of-whole text number lines line (format.refused why) h whole = whole
 
 -- a faulty line after right ones
-faulty-there : (text : List ℕ) (number : ℕ) (lines : List Line) (line rest behind : List ℕ)
-    (cause : format.Cause) →
-    text ≡ text_of lines ++ rest → rest ≡ line ++ 10 ∷ behind → IsOneLine line → number ≡ length lines + 1
-    → BeginsSpelling lines → IsFaultyLine lines line cause → HasWholeFault text number cause
-faulty-there text number lines line rest behind cause whole cut one_line is begins faulty = record {
+pub faulty-there : (text : List ℕ) (number : ℕ) (lines : List Line) (line : Line) (cause : format.Cause)
+    → IsThere BeginsSpelling text number lines line → IsFaultyLine lines line cause
+    → HasWholeFault text number cause
+faulty-there text number lines line cause at faulty = record {
   good = lines;
-  begins = begins;
+  begins = at.begins;
   faulty = line;
-  one_line = one_line;
-  more = behind;
-  text_is = text-with text lines line rest behind whole cut;
-  number = is;
+  one_line = at.one_line;
+  more = at.more;
+  text_is = at.text_is;
+  number = at.number_is;
   is_faulty = faulty;
 }
 
@@ -42,28 +39,17 @@ pub whole-is-first : (text : List ℕ) (number : ℕ) (cause : format.Cause) →
     → IsFirstLineFault text number cause
 whole-is-first text number cause f = first-of-whole text number f.good f.faulty cause f.is_faulty f
 
-pub line-holds : (text : List ℕ) (number : ℕ) (lines : List Line) (line rest behind : List ℕ)
-    (cause : Option format.Cause) →
-    text ≡ text_of lines ++ rest → rest ≡ line ++ 10 ∷ behind → IsOneLine line → number ≡ length lines + 1
-    → BeginsSpelling lines → IfSome cause (IsFaultyLine lines line)
-    → IfSome cause (HasWholeFault text number)
-line-holds text number lines line rest behind None whole cut one_line is begins faulty = tt
-line-holds text number lines line rest behind (Some cause) whole cut one_line is begins faulty =
-    faulty-there text number lines line rest behind cause whole cut one_line is begins faulty
-
-pub line-fault : (text : List ℕ) (number : ℕ) (lines : List Line) (line rest behind : List ℕ)
-    (cause : Option format.Cause) →
-    text ≡ text_of lines ++ rest → rest ≡ line ++ 10 ∷ behind → IsOneLine line → number ≡ length lines + 1
-    → BeginsSpelling lines → IfSome cause (IsFaultyLine lines line)
-    → IfSome cause (IsFirstLineFault text number)
-line-fault text number lines line rest behind None whole cut one_line is begins faulty = tt
-line-fault text number lines line rest behind (Some cause) whole cut one_line is begins faulty =
-    whole-is-first text number cause
-    (faulty-there text number lines line rest behind cause whole cut one_line is begins faulty)
-
-pub ended-line : (text : List ℕ) (number : ℕ) (lines : List Line) (line rest behind : List ℕ) →
-    text ≡ text_of lines ++ rest → rest ≡ line ++ 10 ∷ behind → IsOneLine line → number ≡ length lines + 1
-    → BeginsSpelling lines → TakesMemory lines line → TakesMemoryAt text number
-ended-line text number lines line rest behind whole cut one is begins takes =
-    places.ended-line BeginsSpelling TakesMemory text number lines line rest behind whole cut one is begins
-    takes
+-- after right lines, bytes without LF
+pub cut-fault : (text : List ℕ) (number : ℕ) (lines : List Line) (rest : Line) → BeginsSpelling lines
+    → 1 ≤ length rest → IsOneLine rest → text ≡ text_of lines ++ rest → number ≡ length lines + 1
+    → IsCutAt text number
+cut-fault text number lines rest begins some one whole is =
+    record {
+      good = lines;
+      begins = begins;
+      rest = rest;
+      some_byte = some;
+      one_line = one;
+      text_is = whole;
+      number = is;
+    }

@@ -1,12 +1,11 @@
 -- Which lines are faulty after right lines, and what begins a spelling.
 use Rattle.std.proofs.Common.{ℕ, ◌≡◌, ◌≢◌, ◌<◌, ◌≤◌, List, [], ◌∷◌, ◌++◌, length, map, refl, sym, ap, ◌∙◌}
-use Rattle.std.proofs.Common.{subst, codes, arith, Option, Some, None, Ok, IfSome}
+use Rattle.std.proofs.Common.{subst, arith, Option, Some, None, Ok, IfSome}
 use Rattle.std.proofs.lemmas.List.{append-nil, map_push}
 use Rattle.std.proofs.lemmas.List.Elements.{All-nil, All-cons, All-append}
-use Rattle.std.proofs.lemmas.Bool.{false≢true}
-use Rattle.std.proofs.lemmas.Slice.Eq.{bytes_eq-Decides}
 use Rattle.events.proofs.Legal.{legal_more}
 use Rattle.format_words.specs.Words.{words_of}
+use Rattle.format_words.proofs.ByLines.{one-version}
 use Rattle.trace_text.specs.Reading.{entry_at}
 use Rattle.trace_text.specs.Versions.{has_views, version_in}
 use Rattle.trace_text.proofs.Spelled.{line-spells-none}
@@ -21,7 +20,7 @@ use Rattle.events.specs.declared.refusal.Refusal.TheVariants.{InsertsFull, LongR
 use Rattle.specification.specs.Lines.{Line}
 use Rattle.specification.specs.TraceText.{header_line, entry_line, replicas_line, trace_lines, IsEntry}
 use Rattle.specification.specs.TraceText.{IsOfVersion, IsSpelledIn, IsFaultyLine, BeginsSpelling}
-use Rattle.specification.specs.Versions.{Version, one, two}
+use Rattle.specification.specs.Versions.{Version, one}
 use Rattle.trace_text.specs.Causes.{refusal_cause}
 use Rattle.trace_text.specs.Progress.{good, IsLegalSoFar}
 use Rattle.trace_text.specs.declared.reading.Reading.{Reading}
@@ -55,19 +54,13 @@ refused-line version h line e PlacesFull spelled k is first =
     (version, h, spelled, refl, e, k, is, first (λ p. cc))
 refused-line version h line e Memory spelled k is first = tt
 
--- a version's first line is its own
-pub one-header : (v w : Version) → header_line v ≡ header_line w → v ≡ w
-one-header one one is = refl
-one-header one two is = absurd (false≢true ((bytes_eq-Decides (codes "trace 1") (codes "trace 2")).1 is))
-one-header two one is = absurd (false≢true ((bytes_eq-Decides (codes "trace 2") (codes "trace 1")).1 is))
-one-header two two is = refl
-
 -- a line that is not read is no entry's in the version of the first line
 pub shape-of : (version : Version) (line : Line) → entry_at (has_views version) (words_of line) ≡ None
     → (other : Version) (e : Entry) → header_line version ≡ header_line other → IsEntry other e
     → line ≢ entry_line e
 shape-of version line none other e same k is =
-    line-spells-none version line none e (subst (λ v. IsEntry v e) (sym (one-header version other same)) k) is
+    line-spells-none version line none e
+    (subst (λ v. IsEntry v e) (sym (one-version header_line refl version other same)) k) is
 
 -- with an entry that is not refused, the version spells the recording still
 pub spelled-more : (version : Version) (h : History) (e : Entry) → IsSpelledIn version h → IsEntry version e

@@ -2,6 +2,7 @@
 use Rattle.std.proofs.Common.{◌≡◌, ℕ, zero, suc, ◌+◌, length, length-append, List, [], ◌∷◌, ◌++◌, Option}
 use Rattle.std.proofs.Common.{Some, None, IfSome, Result, Ok, Err, IfOk, IfErr, ◌⊎◌, inl, inr, refl, sym, ap}
 use Rattle.std.proofs.Common.{◌∙◌, subst, arith, append_assoc}
+use Rattle.std.proofs.lemmas.Option.{IfSome_then}
 use Rattle.events.specs.History.{History}
 use Rattle.events.specs.declared.refusal.Refusal.{Refusal}
 use Rattle.specification.specs.Lines.{Line, text_of, IsOneLine}
@@ -9,37 +10,35 @@ use Rattle.specification.specs.TraceText as format
 use Rattle.specification.specs.Versions as versions
 use Rattle.specification.specs.TraceText.{BeginsSpelling, HasWholeFault, IsFaultyLine, IsFirstLineFault}
 use Rattle.specification.specs.TraceText.{IsMissingLine, IsCutAt, IsSpelledIn, Spells, trace_lines}
-use Rattle.format_words.proofs.Places as places
+use Rattle.format_words.proofs.Places.{IsThere, takes-at}
 use Rattle.trace_text.specs.Causes.{cause_of}
 use Rattle.trace_text.specs.Fed.{EndsIn, HoldsFault, IsAdded, IsOpenAt, ReaderState, UNFED, WasFed, WasFedTo}
 use Rattle.trace_text.specs.Kept.{EMPTY, Kept}
 use Rattle.trace_text.specs.Place.{IsBehindRightLines}
 use Rattle.trace_text.specs.declared.cause.LineFault.{LineFault}
-use Rattle.trace_text.proofs.Faults.{line-holds, never-cut, whole-is-first}
+use Rattle.trace_text.proofs.Faults.{faulty-there, never-cut, whole-is-first}
 use Rattle.trace_text.proofs.FaultyLines.{nothing-begins}
 use Rattle.trace_text.proofs.GrowingText.{cut-there, ends-at, ends-on, no-byte}
 use Rattle.trace_text.proofs.KeptLines.{empty-kept}
 use Rattle.trace_text.proofs.OneFault.{one-fault}
 
-longer : (text more : List ℕ) (good : List Line) (line behind : List ℕ)
-    → text ≡ text_of good ++ line ++ 10 ∷ behind
-    → text ++ more ≡ text_of good ++ (line ++ 10 ∷ (behind ++ more))
-longer text more good line behind is =
-    ap (λ t. t ++ more) is ∙ append_assoc (text_of good ++ line) (10 ∷ behind) more
-    ∙ append_assoc (text_of good) line (10 ∷ (behind ++ more))
+-- whatever follows, the line is there
+still-there : (text more : List ℕ) (number : ℕ) (lines : List Line) (line : Line) (behind : List ℕ)
+    → BeginsSpelling lines → IsOneLine line → text ≡ text_of lines ++ line ++ 10 ∷ behind
+    → number ≡ length lines + 1 → IsThere BeginsSpelling (text ++ more) number lines line
+still-there text more number lines line behind begins one text_is is = record {
+  begins = begins;
+  one_line = one;
+  more = behind ++ more;
+  text_is = ap (λ t. t ++ more) text_is ∙ append_assoc (text_of lines ++ line) (10 ∷ behind) more;
+  number_is = is;
+}
 
 whole-on : (text more : List ℕ) (line : ℕ) (cause : format.Cause) → HasWholeFault text line cause
     → HasWholeFault (text ++ more) line cause
 whole-on text more line cause f =
-    line-holds (text ++ more) line f.good f.faulty (f.faulty ++ 10 ∷ (f.more ++ more)) (f.more ++ more)
-    (Some cause) (longer text more f.good f.faulty f.more f.text_is) refl f.one_line f.number f.begins
-    f.is_faulty
-
-first-whole : (text more : List ℕ) (line : ℕ) (cause : Option format.Cause)
-    → IfSome cause (HasWholeFault text line) → IfSome cause (IsFirstLineFault (text ++ more) line)
-first-whole text more line None f = tt
-first-whole text more line (Some cause) f =
-    whole-is-first (text ++ more) line cause (whole-on text more line cause f)
+    faulty-there (text ++ more) line f.good f.faulty cause
+    (still-there text more line f.good f.faulty f.more f.begins f.one_line f.text_is f.number) f.is_faulty
 
 holds-of : (reader : ReaderState) (text : List ℕ) (fault : LineFault) → reader.fault ≡ Some fault
     → WasFed reader text → HoldsFault text fault
@@ -49,7 +48,8 @@ holds-of reader text fault is fed = subst (λ o. WasFedTo reader.lines reader.be
 pub fault-of-all : (reader : ReaderState) (text more : List ℕ) (fault : LineFault) → reader.fault ≡ Some fault
     → WasFed reader text → IfSome (cause_of fault.cause) (IsFirstLineFault (text ++ more) fault.line)
 fault-of-all reader text more fault is fed =
-    first-whole text more fault.line (cause_of fault.cause) (holds-of reader text fault is fed).faulty
+    IfSome_then (cause_of fault.cause) (holds-of reader text fault is fed).faulty
+    (λ cause f. whole-is-first (text ++ more) fault.line cause (whole-on text more fault.line cause f))
 
 pub place-of-fault : (reader : ReaderState) (text : List ℕ) (fault : LineFault) → reader.fault ≡ Some fault
     → WasFed reader text → IsBehindRightLines text fault.line
@@ -97,20 +97,14 @@ none-faulty-in reader text line cause is fed =
     none-faulty reader.lines reader.begun text line cause
     (subst (λ o. WasFedTo reader.lines reader.begun o text) is fed)
 
-whole-still : (text more : List ℕ) (line : ℕ) (cause : Option format.Cause)
-    → IfSome cause (HasWholeFault text line) → IfSome cause (HasWholeFault (text ++ more) line)
-whole-still text more line None f = tt
-whole-still text more line (Some cause) f = whole-on text more line cause f
-
 -- a fault stays, whatever follows
 holds-still : (text more : List ℕ) (fault : LineFault) → HoldsFault text fault
     → HoldsFault (text ++ more) fault
 holds-still text more fault h = let there = h.there in record {
-  there = places.ended-line BeginsSpelling (λ lines next. Unit {0}) (text ++ more) fault.line there.good
-      there.next (there.next ++ 10 ∷ (there.more ++ more)) (there.more ++ more)
-      (longer text more there.good there.next there.more there.text_is) refl there.one_line there.number
-      there.begins tt;
-  faulty = whole-still text more fault.line (cause_of fault.cause) h.faulty;
+  there = takes-at BeginsSpelling (λ lines next. Unit {0}) (text ++ more) fault.line there.good there.next
+      (still-there text more fault.line there.good there.next there.more there.begins there.one_line
+      there.text_is there.number) tt;
+  faulty = IfSome_then (cause_of fault.cause) h.faulty (whole-on text more fault.line);
 }
 
 pub fed-after-fault : (reader : ReaderState) (text more : List ℕ) (fault : LineFault)

@@ -3,17 +3,17 @@ use Rattle.std.proofs.Common.{◌≡◌, ℕ, ◌+◌, ◌≤◌, List, [], ◌�
 use Rattle.std.proofs.Common.{Result, Ok, Err, OnOk, refl, sym, ap, ◌∙◌, subst, arith, inl, inr, append_assoc}
 use Rattle.std.proofs.Common.{length-append}
 use Rattle.std.proofs.lemmas.List.{append-nil}
-use Rattle.std.proofs.lemmas.Option.{same_Some}
+use Rattle.std.proofs.lemmas.Option.{same_Some, IfSome_then}
 use Rattle.std.proofs.lemmas.List.Elements.{Contains-append_cases}
 use Rattle.specification.specs.Lines.{Line, text_of, IsOneLine}
 use Rattle.specification.specs.TraceText.{BeginsSpelling, IsFaultyLine, IsCutAt}
 use Rattle.format_words.proofs.CutText.{line-on}
-use Rattle.format_words.proofs.Places as places
+use Rattle.format_words.proofs.Places.{IsThere, takes-at}
 use Rattle.trace_text.specs.Causes.{cause_of}
 use Rattle.trace_text.specs.Fed.{EndsIn, HoldsFault, IsAdded, IsOpenAt, IsClosed, ShowsWhole}
 use Rattle.trace_text.specs.Kept.{EMPTY, Kept, StandsFor}
 use Rattle.trace_text.specs.declared.cause.LineFault.{LineFault}
-use Rattle.trace_text.proofs.Faults.{line-holds}
+use Rattle.trace_text.proofs.Faults.{faulty-there, cut-fault}
 use Rattle.trace_text.proofs.KeptLines.{empty-kept, stands-right}
 
 one-line-both : (front back : Line) → IsOneLine front → IsOneLine back → IsOneLine (front ++ back)
@@ -110,15 +110,13 @@ lost-ended lines None text back behind ends one =
     (ends.0 ++ back, one-line-both ends.0 back ends.2 one, line-behind lines ends.0 text back behind ends.3)
 
 -- the fault of a line that is there
-pub holds : (text : List ℕ) (fault : LineFault) (lines : List Line) (line rest behind : List ℕ)
-    → text ≡ text_of lines ++ rest → rest ≡ line ++ 10 ∷ behind → IsOneLine line
-    → fault.line ≡ length lines + 1 → BeginsSpelling lines
+pub holds : (text : List ℕ) (fault : LineFault) (lines : List Line) (line : Line)
+    → IsThere BeginsSpelling text fault.line lines line
     → IfSome (cause_of fault.cause) (IsFaultyLine lines line) → HoldsFault text fault
-holds text fault lines line rest behind whole cut one is begins faulty = record {
-  there = places.ended-line BeginsSpelling (λ lines next. Unit {0}) text fault.line lines line rest behind
-      whole cut one is begins tt;
-  faulty =
-      line-holds text fault.line lines line rest behind (cause_of fault.cause) whole cut one is begins faulty;
+holds text fault lines line at faulty = record {
+  there = takes-at BeginsSpelling (λ lines next. Unit {0}) text fault.line lines line at tt;
+  faulty = IfSome_then (cause_of fault.cause) faulty
+      (λ cause f. faulty-there text fault.line lines line cause at f);
 }
 
 some-kept : (whole word : List ℕ) → (Some (record { whole = whole; word = word }) ≡ Some EMPTY → ⊥)
@@ -131,25 +129,10 @@ some-kept (b ∷ whole) word some = omega arith
 pub cut-there : (lines : List Line) (begun : Option Kept) (text : List ℕ) (number : ℕ) → BeginsSpelling lines
     → EndsIn lines begun text → (begun ≡ Some EMPTY → ⊥) → number ≡ length lines + 1 → IsCutAt text number
 cut-there lines (Some kept) text number begins ends some is =
-    record {
-      good = lines;
-      begins = begins;
-      rest = ends.0;
-      some_byte = ends.1.stands.some (some-kept kept.whole kept.word some);
-      one_line = ends.2;
-      text_is = ends.3;
-      number = is;
-    }
+    cut-fault text number lines ends.0 begins (ends.1.stands.some (some-kept kept.whole kept.word some))
+    ends.2 ends.3 is
 cut-there lines None text number begins ends some is =
-    record {
-      good = lines;
-      begins = begins;
-      rest = ends.0;
-      some_byte = ends.1;
-      one_line = ends.2;
-      text_is = ends.3;
-      number = is;
-    }
+    cut-fault text number lines ends.0 begins ends.1 ends.2 ends.3 is
 
 -- the text behind a line's end
 pub behind-end : (text back behind before piece : List ℕ) → text ++ (back ++ 10 ∷ []) ≡ before

@@ -28,7 +28,8 @@ use Rattle.trace_text.specs.Kept.{Kept, EMPTY, GIVEN_UP, EndsWithWord, HasNoSpac
 use Rattle.trace_text.proofs.LineWords.{entry_words, words-of-line}
 use Rattle.trace_text.proofs.LongLines.{IsShort, long-entry, words-apart, word-grows, entry-short}
 use Rattle.trace_text.proofs.LongLines.{number-short}
-use Rattle.trace_text.proofs.OneReading.{line-right, entry-there, all-of}
+use Rattle.format_words.proofs.LineLists.{line-there, all-of}
+use Rattle.trace_text.proofs.OneReading.{line-right}
 use Rattle.trace_text.proofs.TextLines.{legal-entries}
 use Rattle.trace_text.proofs.Accepted.{accepted}
 use Rattle.trace_text.proofs.SecondLine.{replicas-words}
@@ -278,7 +279,7 @@ long-not-right version h (a ∷ []) front back rest spelled is long =
     (λ n low high. long-never-second front back n long high)
 long-not-right version h (a ∷ b ∷ lines) front back rest spelled is long =
     let others : map entry_line h.entries ≡ lines ++ (front ++ 32 ∷ back) ∷ rest = cc in
-    let p = entry-there h.entries lines rest (front ++ 32 ∷ back) others in
+    let p = line-there entry_line h.entries lines rest (front ++ 32 ∷ back) others in
     let k = (all-of (IsEntry version) p.0 p.1 p.2
     (subst (All (IsEntry version)) p.3 (legal-entries version h spelled))).1 in
     let taken = is_taken h.replicas p.0 p.2 (accepted h p.0 p.1 p.2 spelled.0 p.3) in

@@ -1,32 +1,24 @@
 -- A text that spells a recording spells no other, and has no fault.
-use Rattle.std.proofs.Common.{◌≡◌, ℕ, ◌<◌, ◌^◌, List, [], ◌∷◌, ◌++◌, length, map, refl, sym, ap, ◌∙◌, subst}
+use Rattle.std.proofs.Common.{◌≡◌, ℕ, ◌<◌, ◌^◌, List, [], ◌∷◌, ◌++◌, map, refl, sym, ap, ◌∙◌, subst}
 use Rattle.std.proofs.Common.{arith, Some, inl, inr}
 use Rattle.std.specs.List.{All}
-use Rattle.std.proofs.lemmas.List.{append_assoc, append-nil, append_cancel_right, same_from_push}
 use Rattle.std.proofs.lemmas.Option.{none-some}
-use Rattle.std.proofs.lemmas.List.Elements.{All-head, All-tail, All-cons, All-nil}
 use Rattle.events.specs.History.{History, IsLegal}
 use Rattle.events.specs.Session.{first_refusal}
 use Rattle.events.specs.declared.refusal.Refusal.{Refusal}
 use Rattle.events.specs.declared.entry.Entry.{Entry}
-use Rattle.specification.specs.Lines.{Line, text_of, IsOneLine}
+use Rattle.specification.specs.Lines.{Line}
 use Rattle.specification.specs.TraceText as format
 use Rattle.specification.specs.TraceText.{header_line, entry_line, replicas_line, trace_lines, Spells}
 use Rattle.specification.specs.TraceText.{IsEntry, IsSpelledIn, IsFaultyLine, IsMissingLine, BeginsSpelling}
 use Rattle.specification.specs.TraceText.{HasWholeFault, IsCutAt, LacksLine, IsFirstLineFault}
 use Rattle.specification.specs.Versions.{Version}
-use Rattle.format_words.proofs.TextLines.{lines_of, lacks-lf, lines-then, one-line, line-then}
+use Rattle.format_words.proofs.LineLists.{line-there, all-of, same-all}
+use Rattle.format_words.proofs.TextLines.{same-lines, never-cut, line-stands}
 use Rattle.trace_text.proofs.TextLines.{lines-lack, beginning-lacks, legal-entries}
 use Rattle.trace_text.proofs.Spelled.{one-spelling}
 use Rattle.trace_text.proofs.SecondLine.{replicas-line-again, replicas-same}
 use Rattle.trace_text.proofs.Accepted.{accepted}
-use Rattle.format_words.proofs.TextLines.{front-of-push, some-line}
-
--- a recording's lines, from its text
-trace-lines-are : (version : Version) (h : History) → IsSpelledIn version h
-    → lines_of (text_of (trace_lines version h)) ≡ trace_lines version h ++ [] ∷ []
-trace-lines-are version h spelled = ap lines_of (sym (append-nil (text_of (trace_lines version h))))
-    ∙ lines-then (trace_lines version h) [] (lines-lack version h spelled)
 
 same-replicas : (m n : ℕ) → m < 2 ^ 32 → n < 2 ^ 32 → replicas_line m ≡ replicas_line n → m ≡ n
 same-replicas m n small few is =
@@ -34,15 +26,7 @@ same-replicas m n small few is =
 
 same-entries : (v w : Version) (ds es : List Entry) → All (IsEntry v) ds → All (IsEntry w) es
     → map entry_line ds ≡ map entry_line es → ds ≡ es
-same-entries v w [] [] h k is = refl
-same-entries v w [] (e ∷ es) h k is = absurd (cc)
-same-entries v w (d ∷ ds) [] h k is = absurd (cc)
-same-entries v w (d ∷ ds) (e ∷ es) h k is =
-    let line : entry_line d ≡ entry_line e = cc in
-    let lines : map entry_line ds ≡ map entry_line es = cc in
-    let first = one-spelling v w d e (All-head (IsEntry v) d ds h) (All-head (IsEntry w) e es k) line in
-    let rest = same-entries v w ds es (All-tail (IsEntry v) d ds h) (All-tail (IsEntry w) e es k) lines in
-    ap (λ x. x ∷ ds) first ∙ ap (λ l. e ∷ l) rest
+same-entries v w = same-all entry_line (IsEntry v) (IsEntry w) (one-spelling v w)
 
 few : (h : History) → IsLegal h → h.replicas < 2 ^ 32
 few h legal = omega (arith, legal.few_replicas)
@@ -60,43 +44,8 @@ same-history v w g h spelled good is =
 -- a text spells at most one recording
 pub one-recording : (text : List ℕ) (g h : History) → Spells text g → Spells text h → g ≡ h
 one-recording text g h (v, spelled, is) (w, good, other) =
-    let lines : trace_lines v g ++ [] ∷ [] ≡ trace_lines w h ++ [] ∷ [] =
-    sym (trace-lines-are v g spelled) ∙ ap lines_of (sym is ∙ other) ∙ trace-lines-are w h good in
-    same-history v w g h spelled good
-    (append_cancel_right (trace_lines v g) (trace_lines w h) ([] ∷ []) lines)
-
--- right lines and one more stand first among a recording's lines
-lines-stand : (version : Version) (h : History) (good : List Line) (line : Line) (more : List ℕ)
-    → IsSpelledIn version h → BeginsSpelling good → IsOneLine line
-    → text_of (trace_lines version h) ≡ text_of good ++ line ++ 10 ∷ more →
-    (rest : List Line) × (trace_lines version h ≡ good ++ line ∷ rest)
-lines-stand version h good line more spelled begins one is =
-    let lines : trace_lines version h ++ [] ∷ [] ≡ good ++ line ∷ lines_of more =
-    sym (trace-lines-are version h spelled) ∙ ap lines_of (is ∙ append_assoc (text_of good) line (10 ∷ more))
-    ∙ lines-then good (line ++ 10 ∷ more) (beginning-lacks good begins)
-    ∙ ap (λ ls. good ++ ls) (line-then line more (lacks-lf line one)) in
-    front-of-push (trace_lines version h) good (lines_of more) [] line (some-line more) lines
-
--- one of the entries' lines is an entry's
-pub entry-there : (entries : List Entry) (before rest : List Line) (line : Line)
-    → map entry_line entries ≡ before ++ line ∷ rest →
-    (earlier : List Entry) × (later : List Entry) × (e : Entry) × (entries ≡ earlier ++ e ∷ later)
-    × (before ≡ map entry_line earlier) × (line ≡ entry_line e)
-entry-there [] [] rest line is = absurd (cc)
-entry-there [] (b ∷ before) rest line is = absurd (cc)
-entry-there (e ∷ entries) [] rest line is = ([], entries, e, refl, refl, cc)
-entry-there (e ∷ entries) (b ∷ before) rest line is =
-    let head : b ≡ entry_line e = cc in
-    let tail : map entry_line entries ≡ before ++ line ∷ rest = cc in
-    let p = entry-there entries before rest line tail in
-    (e ∷ p.0, p.1, p.2, ap (λ l. e ∷ l) p.3, ap (λ y. y ∷ before) head ∙ ap (λ l. entry_line e ∷ l) p.4, p.5)
-
-pub all-of : (P : Entry → Type 0) (earlier later : List Entry) (e : Entry) → All P (earlier ++ e ∷ later)
-    → All P earlier × P e
-all-of P [] later e h = (All-nil P, All-head P e later h)
-all-of P (d ∷ earlier) later e h =
-    let p = all-of P earlier later e (All-tail P d (earlier ++ e ∷ later) h) in
-    (All-cons P d earlier (All-head P d (earlier ++ e ∷ later) h) p.0, p.1)
+    same-history v w g h spelled good (same-lines text (trace_lines v g) (trace_lines w h)
+    (lines-lack v g spelled) (lines-lack w h good) is other)
 
 -- no line of a legal recording's entries is refused
 not-refused : (v w : Version) (h g : History) (earlier later : List Entry) (e d : Entry) (why : Refusal)
@@ -137,7 +86,7 @@ line-right version h (a ∷ b ∷ good) line rest format.replicas spelled is fau
 line-right version h (a ∷ b ∷ good) line rest format.shape spelled is faulty =
     let first : a ≡ header_line version = cc in
     let others : map entry_line h.entries ≡ good ++ line ∷ rest = cc in
-    let p = entry-there h.entries good rest line others in
+    let p = line-there entry_line h.entries good rest line others in
     faulty version p.2 first (all-of (IsEntry version) p.0 p.1 p.2
     (subst (All (IsEntry version)) p.3 (legal-entries version h spelled))).1 p.5
 line-right version h (a ∷ b ∷ good) line rest format.cut spelled is faulty = faulty
@@ -145,7 +94,7 @@ line-right version h (a ∷ b ∷ good) line rest (format.refused why) spelled i
     (w, g, well, lines, d, k, read, refused) =
     let second : replicas_line h.replicas ≡ b = cc in
     let others : map entry_line h.entries ≡ good ++ line ∷ rest = cc in
-    let p = entry-there h.entries good rest line others in
+    let p = line-there entry_line h.entries good rest line others in
     let own : replicas_line g.replicas ≡ b = cc in
     let entries : map entry_line g.entries ≡ good = cc in
     not-refused version w h g p.0 p.1 p.2 d why spelled well p.3 (own ∙ sym second) (entries ∙ p.4) k
@@ -155,18 +104,15 @@ no-whole-fault : (h : History) (text : List ℕ) (line : ℕ) (cause : format.Ca
     → HasWholeFault text line cause → ⊥
 no-whole-fault h text line cause (version, spelled, is) fault =
     let stands =
-    lines-stand version h fault.good fault.faulty fault.more spelled fault.begins fault.one_line
-    (sym is ∙ fault.text_is) in
+    line-stands text (trace_lines version h) fault.good fault.faulty fault.more
+    (lines-lack version h spelled) (beginning-lacks fault.good fault.begins) fault.one_line is
+    fault.text_is in
     line-right version h fault.good fault.faulty stands.0 cause spelled stands.1 fault.is_faulty
 
 not-cut : (h : History) (text : List ℕ) (line : ℕ) → Spells text h → IsCutAt text line → ⊥
 not-cut h text line (version, spelled, is) cut =
-    let lines : trace_lines version h ++ [] ∷ [] ≡ cut.good ++ cut.rest ∷ [] =
-    sym (trace-lines-are version h spelled) ∙ ap lines_of (sym is ∙ cut.text_is)
-    ∙ lines-then cut.good cut.rest (beginning-lacks cut.good cut.begins)
-    ∙ ap (λ ls. cut.good ++ ls) (one-line cut.rest (lacks-lf cut.rest cut.one_line)) in
-    let empty : [] ≡ cut.rest = (same_from_push (trace_lines version h) cut.good [] cut.rest lines).1 in
-    absurd (omega (arith, ap length empty, cut.some_byte))
+    never-cut text (trace_lines version h) cut.good cut.rest (lines-lack version h spelled)
+    (beginning-lacks cut.good cut.begins) cut.one_line cut.some_byte is cut.text_is
 
 none-missing : (version : Version) (h : History) (good : List Line) (cause : format.Cause)
     → trace_lines version h ≡ good → IsMissingLine good cause → ⊥
@@ -181,12 +127,8 @@ none-missing version h (a ∷ b ∷ good) (format.refused why) is missing = miss
 lacks-none : (h : History) (text : List ℕ) (line : ℕ) (cause : format.Cause) → Spells text h
     → LacksLine text line cause → ⊥
 lacks-none h text line cause (version, spelled, is) lacks =
-    let lines : trace_lines version h ++ [] ∷ [] ≡ lacks.good ++ [] ∷ [] =
-    sym (trace-lines-are version h spelled)
-    ∙ ap lines_of (sym is ∙ lacks.text_is ∙ sym (append-nil (text_of lacks.good)))
-    ∙ lines-then lacks.good [] (beginning-lacks lacks.good lacks.begins) in
-    none-missing version h lacks.good cause
-    (append_cancel_right (trace_lines version h) lacks.good ([] ∷ []) lines) lacks.missing
+    none-missing version h lacks.good cause (same-lines text (trace_lines version h) lacks.good
+    (lines-lack version h spelled) (beginning-lacks lacks.good lacks.begins) is lacks.text_is) lacks.missing
 
 -- a text that spells a recording has no fault
 pub no-fault : (h : History) (text : List ℕ) (line : ℕ) (cause : format.Cause) → Spells text h

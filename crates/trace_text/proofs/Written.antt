@@ -4,11 +4,11 @@ use Rattle.std.proofs.Common.{◌++◌, map, take, slice_get, Option, Some, None
 use Rattle.std.proofs.lemmas.Bool.{false≢true}
 use Rattle.std.proofs.lemmas.Option.{same_Some}
 use Rattle.std.specs.List.{All}
-use Rattle.std.proofs.lemmas.List.{map_push, flat_map_more}
 use Rattle.std.proofs.lemmas.List.Elements.{All-nil, All-cons}
 use Rattle.events.specs.History.{History, IsLegal, is_view}
 use Rattle.events.specs.declared.entry.Entry.{Entry}
 use Rattle.specification.specs.Lines.{Line, text_of}
+use Rattle.format_words.proofs.LineLists.{line-more}
 use Rattle.format_words.proofs.NameList.{front-more, not-past}
 use Rattle.specification.specs.TraceText.{header_line, replicas_line, entry_line, version_of, IsOfVersion}
 use Rattle.specification.specs.TraceText.{Spells, trace_text}
@@ -21,12 +21,8 @@ first_lines version h i = header_line version ∷ replicas_line h.replicas ∷ m
 pub entry-more : (text : List ℕ) (version : Version) (h : History) (i : ℕ) (e : Entry)
     → text ≡ text_of (first_lines version h i) → slice_get h.entries i ≡ Some e
     → text ++ (entry_line e ++ 10 ∷ []) ≡ text_of (first_lines version h (i + 1))
-entry-more text version h i e is at =
-    ap (λ t. t ++ (entry_line e ++ 10 ∷ [])) is
-    ∙ flat_map_more (λ (l : Line). l ++ 10 ∷ []) [] (first_lines version h i) (entry_line e)
-    ∙ ap (λ (ls : List Line). text_of (header_line version ∷ replicas_line h.replicas ∷ ls))
-    (sym (map_push entry_line (take i h.entries) e)
-    ∙ ap (map entry_line) (sym (front-more h.entries i e at)))
+entry-more text version h i e =
+    line-more entry_line [] text (header_line version ∷ replicas_line h.replicas ∷ []) h.entries i e
 
 -- no view so far, and none after it
 pub no-view-more : (es : List Entry) (e : Entry) → version_of es ≡ one → is_view e.body ≡ false

@@ -1,6 +1,5 @@
-use Rattle.std.proofs.Common.{◌≡◌, ◌<◌, ◌∷◌, ◌++◌, [], length, ap, refl, sym, ◌∙◌, arith}
+use Rattle.std.proofs.Common.{◌≡◌, ◌<◌, ◌∷◌, ◌++◌, [], length, ap, refl, ◌∙◌, arith}
 use Rattle.std.proofs.lemmas.Grind.{common_steps}
-use Rattle.format_words.specs.Words.{words_behind}
 use Rattle.format_words.proofs.FirstWord.{none-behind}
 use Rattle.format_words.proofs.NamesRead.{some-word-at}
 use Rattle.certificate_text.specs.Reading.{layers_at, onto_layers}

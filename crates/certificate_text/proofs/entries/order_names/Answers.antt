@@ -1,4 +1,4 @@
-use Rattle.std.proofs.Common.{◌∙◌, drop, ap}
+use Rattle.std.proofs.Common.{◌∙◌}
 use Rattle.certificate_text.proofs.OutlineTexts.{some-order, order-long, order-rest}
 use Rattle.certificate_text.proofs.entries.order_names.Goals as goal
 

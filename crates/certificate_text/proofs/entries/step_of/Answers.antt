@@ -1,7 +1,6 @@
 -- Both names of a step are names.
 use Rattle.std.proofs.Common.{◌≡◌, ◌∙◌, Some, None, ap}
 use Rattle.events.specs.Names.{NameBytes}
-use Rattle.specification.specs.Conflict.{Step}
 use Rattle.specification.specs.CertificateText.{IsStep}
 use Rattle.format_words.specs.Reading.{name_of}
 use Rattle.format_words.proofs.NameWords.{name-is, name_of-name}

@@ -1,4 +1,4 @@
-use Rattle.std.proofs.Common.{◌≡◌, ◌<◌, ◌^◌, length, map, take, refl, sym, ◌∙◌, arith}
+use Rattle.std.proofs.Common.{◌<◌, ◌^◌, map, refl, ◌∙◌, arith}
 use Rattle.specification.specs.Lines.{text_of}
 use Rattle.specification.specs.CertificateText.{gives_cycle, step_line}
 use Rattle.certificate_text.specs.Progress.{kind_line}

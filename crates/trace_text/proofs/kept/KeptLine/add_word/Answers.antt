@@ -1,5 +1,5 @@
 use Rattle.std.proofs.Common.{◌∷◌, []}
-use Rattle.trace_text.proofs.KeptLines.{keeps-both, given-up-stays}
+use Rattle.trace_text.proofs.KeptLines.{given-up-stays}
 use Rattle.trace_text.proofs.kept.KeptLine.add_word.Goals as goal
 
 pub returns-then-is_given_up : goal.returns-then-is_given_up
