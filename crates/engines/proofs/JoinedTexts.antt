@@ -1,5 +1,5 @@
 -- Texts one after the other, as far as they are written.
-use Rattle.std.proofs.Common.{◌≡◌, ℕ, ◌+◌, ◌<◌, ◌≤◌, List, Option, ◌++◌, Vec, Global, get_or, take, drop}
+use Rattle.std.proofs.Common.{◌≡◌, ℕ, ◌+◌, ◌<◌, List, Option, ◌++◌, Vec, Global, get_or, take, drop}
 use Rattle.std.proofs.Common.{length, length-append, sym, ap, subst, ◌∙◌, arith}
 use Rattle.std.proofs.Math.Seq.{take-append-add}
 use Rattle.std.proofs.lemmas.Grind.{flat_map-append}

@@ -1,6 +1,5 @@
 -- The checker's line for an answer.
-use Rattle.std.specs.Prelude.{◌≡◌, List, ℕ, [], ◌∷◌, ◌++◌, codes, decimal}
-use Rattle.events.specs.Names.{NameBytes}
+use Rattle.std.specs.Prelude.{List, ℕ, [], ◌∷◌, ◌++◌, codes, decimal}
 use Rattle.specification.specs.Lines.{operation_text}
 use Rattle.cert_check.specs.declared.answer.Answer.{Answer}
 use Rattle.cert_check.specs.declared.answer.Answer.TheVariants.{Yes, No}

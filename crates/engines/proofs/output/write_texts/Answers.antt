@@ -1,4 +1,4 @@
-use Rattle.std.proofs.Common.{◌≡◌, ◌∙◌, refl, sym, ap, subst, Vec, Global, ℕ, List, get_or}
+use Rattle.std.proofs.Common.{◌∙◌, refl, ap, subst, Vec, Global, ℕ, List}
 use Rattle.std.specs.Io.KnownBytes.{Appends}
 use Rattle.byte_streams.specs.Streams.{AppendsFront}
 use Rattle.engines.proofs.JoinedTexts.{written_front, written_next}
