@@ -247,7 +247,8 @@ module _ (depths small : List ℕ) (count most : ℕ) (is : AreSmall depths coun
   pub small-noted : (noted : List ℕ) → HaveDepths depths count noted → HaveDepths small most noted
   small-noted noted has x = (
     λ c. let p = (has x).0 c in (omega (arith, p.0, is.len), (below-alike x p.0).0 p.1),
-    λ p. let low : x < length depths = omega (arith, p.0, is.len) in (has x).1 (low, (below-alike x low).1 p.1),
+    λ p. let low : x < length depths = omega (arith, p.0, is.len) in
+        (has x).1 (low, (below-alike x low).1 p.1),
   )
 
   pub meets-alike : (lists : List (List ℕ)) (first source : ℕ)

@@ -59,7 +59,8 @@ pub checked-on : (text now_text : List ℕ
     → Makes both half (closed trace_after ∷ []) → Makes half end (closed other_after ∷ [])
     → (deeds : List Deed) × ChecksOn text file cert deeds old new answer × Makes start end deeds
 checked-on text now_text word file other_word cert start middle both half end trace trace_after other
-    other_after old new ran answer same same_other stays fresh fresh_other went is first second third fourth = (
+    other_after old new ran answer same same_other stays fresh fresh_other went is first second third
+    fourth = (
       opened file trace ∷ opened cert other ∷ closed trace_after ∷ closed other_after ∷ [],
       inr (inr (
         trace,

@@ -166,7 +166,8 @@ met v proper sources meets cycle is =
     let walk = first-walk v proper cycle is in
     let t = meets walk.0 (length cycle) walk.1 walk.2 in
     let at = place_of sources t.0 t.1 in
-    let named = names_of_walk v proper t.0 (length cycle) (cycle-known v proper t.0 (length cycle) t.2) t.2 in (
+    let named =
+    names_of_walk v proper t.0 (length cycle) (cycle-known v proper t.0 (length cycle) t.2) t.2 in (
       at.0,
       at.1,
       subst (IsAsLongThrough v cycle) (sym at.2) (record {

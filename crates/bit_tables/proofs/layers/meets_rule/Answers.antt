@@ -47,7 +47,8 @@ pub returns-then-i-layers : goal.returns-then-i-layers
 returns-then-i-layers c lists depth table depths =
     let inv = c.layers.invariant in
     let count = length-map c.args.layers.now (λ layer. layer.items) in
-    let last : c.layers.i + 1 ≡ length (map (λ layer. layer.items) c.args.layers.now) = omega (arith, count) in
+    let last : c.layers.i + 1 ≡ length (map (λ layer. layer.items) c.args.layers.now) =
+    omega (arith, count) in
     let here =
     list-here (λ layer. layer.items) c.args.layers.now c.layers.i c.index-layers-i.result (omega arith)
     c.index-layers-i.is in

@@ -33,4 +33,5 @@ returns-in_ok-name_of-in-Ok-2 c =
     (name-is step.to.now c.in_ok-name_of-in-Ok-2.field-0 c.in_ok-name_of-in-Ok-2.ensures).0 in
     c.in-Ok.ensures
     ∙ ap (λ (w : NameBytes). Some (record { from = w; to = step.to.now; shown = step.shown })) from
-    ∙ ap (λ (w : NameBytes). Some (record { from = c.in_ok-name_of-in-Ok.field-0; to = w; shown = step.shown })) to
+    ∙ ap (λ (w : NameBytes). Some
+    (record { from = c.in_ok-name_of-in-Ok.field-0; to = w; shown = step.shown })) to

@@ -22,12 +22,14 @@ are-of g c =
 pub returns-clause-certificate : goal.returns-clause-certificate
 returns-clause-certificate g c =
     written-on IsCertificateOn c.args.source.now.bytes _ _ (joined c.deref.result.now) c.status_of.result
-    c.write_texts.result (are-of g (goal.at.returns-clause-certificate g c).After-status_of) c.write_texts.ensures.ok
+    c.write_texts.result (are-of g (goal.at.returns-clause-certificate g c).After-status_of)
+    c.write_texts.ensures.ok
 
 pub returns-clause-write : goal.returns-clause-write
 returns-clause-write g c =
     front-on IsCertificateOn _ c.args.source.now.bytes _ _ (joined c.deref.result.now) c.status_of.result
-    c.write_texts.result (are-of g (goal.at.returns-clause-write g c).After-status_of) c.write_texts.ensures.err
+    c.write_texts.result (are-of g (goal.at.returns-clause-write g c).After-status_of)
+    c.write_texts.ensures.err
 
 pub returns-in_err-recording-clause-place : goal.returns-in_err-recording-clause-place
 returns-in_err-recording-clause-place g c =

@@ -26,7 +26,7 @@ returns c =
       some =
           rest-first _ _ _ _ _ c.word-bits.ensures c.word.ensures small place c.requires i _ fits least.1 is;
       first = λ y here from before.
-          rest-before _ _ _ _ _ c.word-bits.ensures c.word.ensures small place c.requires i least.2 y here from
-          (omega (arith, is, here, before));
+          rest-before _ _ _ _ _ c.word-bits.ensures c.word.ensures small place c.requires i least.2 y here
+          from (omega (arith, is, here, before));
       none = search rules;
     }

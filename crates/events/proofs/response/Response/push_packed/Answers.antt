@@ -30,7 +30,8 @@ module _ (c : After-put_ends) (names : List NameBytes) where
 
   all_ends : c.args.ends.now ≡ ends_of c.args.from names → c.put_ends.new.own.items ≡ ends_of 0 behind
   all_ends ends_are =
-      let begin : c.len-begin.result ≡ length c.self.inside.bytes.items = omega (arith, c.len-begin.ensures) in
+      let begin : c.len-begin.result ≡ length c.self.inside.bytes.items =
+      omega (arith, c.len-begin.ensures) in
       let there : map (λ end. c.len-begin.result + (end - c.args.from)) c.args.ends.now
       ≡ ends_of (length c.self.inside.bytes.items) names =
       ap (map (λ end. c.len-begin.result + (end - c.args.from))) ends_are

@@ -19,10 +19,12 @@ returns-then-j-ends-clause-ok c =
       length-drop c.args.j c.args.other.now,
     ))
 
-names_from_j : (c : After-start_from-from) → ArePackedFrom c.other.inside.bytes.items c.other.inside.ends.items
-    c.args.other.now c.args.j c.start_from-from.result
+names_from_j : (c : After-start_from-from)
+    → ArePackedFrom c.other.inside.bytes.items c.other.inside.ends.items c.args.other.now c.args.j
+    c.start_from-from.result
 names_from_j c =
-    packed-from c.args.j c.other.invariant c.other.view_is c.start_from-from.ensures.value c.as_slice-ends.ensures.value
+    packed-from c.args.j c.other.invariant c.other.view_is c.start_from-from.ensures.value
+    c.as_slice-ends.ensures.value
 
 pub after-requires : goal.after-requires
 after-requires c =
@@ -83,7 +85,8 @@ push_packed-requires c =
         run.bytes_are,
       ) (take-spaced (drop c.args.j c.args.other.now) c.longest_run-run.result.names),
       rw (c.front-2.ensures, c.after-4.ensures, c.as_slice-ends.ensures.value, rest.ends_are)
-          (ends-take c.start_from-from.result (drop c.args.j c.args.other.now) c.longest_run-run.result.names),
+          (ends-take c.start_from-from.result (drop c.args.j c.args.other.now)
+          c.longest_run-run.result.names),
     )
 
 pub returns-clause-ok : goal.returns-clause-ok

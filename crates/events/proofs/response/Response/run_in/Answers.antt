@@ -6,7 +6,12 @@ use Rattle.events.proofs.response.Response.run_in.Goals.{After-after-2}
 
 pub start_from-from-requires : goal.start_from-from-requires
 start_from-from-requires c =
-    omega (arith, as-many-ends c.self.invariant c.self.view_is, c.requires, ap length c.as_slice-ends.ensures.value)
+    omega (
+      arith,
+      as-many-ends c.self.invariant c.self.view_is,
+      c.requires,
+      ap length c.as_slice-ends.ensures.value,
+    )
 
 pub after-requires : goal.after-requires
 after-requires c =
@@ -16,7 +21,12 @@ after-requires c =
 
 pub after-requires-2 : goal.after-requires-2
 after-requires-2 c =
-    omega (arith, as-many-ends c.self.invariant c.self.view_is, c.requires, ap length c.as_slice-ends.ensures.value)
+    omega (
+      arith,
+      as-many-ends c.self.invariant c.self.view_is,
+      c.requires,
+      ap length c.as_slice-ends.ensures.value,
+    )
 
 pub longest_run-requires-clause-packed : goal.longest_run-requires-clause-packed
 longest_run-requires-clause-packed c =

@@ -5,7 +5,12 @@ use Rattle.events.proofs.response.Response.text_from.Goals as goal
 
 pub start_from-from-requires : goal.start_from-from-requires
 start_from-from-requires c =
-    omega (arith, as-many-ends c.self.invariant c.self.view_is, c.requires, ap length c.as_slice.ensures.value)
+    omega (
+      arith,
+      as-many-ends c.self.invariant c.self.view_is,
+      c.requires,
+      ap length c.as_slice.ensures.value,
+    )
 
 pub after-requires : goal.after-requires
 after-requires c =
