@@ -14,8 +14,7 @@ use Rattle.specification.proofs.Members.{In-from_Contains, Contains-from_In, All
 use Rattle.specification.proofs.Subsequences.{subsequence-refl}
 use Rattle.element_numbers.specs.Covering.{AreCovering}
 use Rattle.contents_check.specs.Covering.{AreKeptOf, IsFoundIn}
-use Rattle.element_numbers.proofs.Parts.{In-part}
-use Rattle.contents_check.proofs.Parts.{part-skip, part-keep}
+use Rattle.element_numbers.proofs.Parts.{In-part, part-skip, part-keep}
 
 subsequence-later : (b : NameBytes) (w order : List NameBytes) → IsSubsequence w order
     → IsSubsequence w (b ∷ order)

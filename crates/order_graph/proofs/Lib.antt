@@ -6,7 +6,6 @@ pub mod Adding
 pub mod InOrder
 pub mod Shown
 pub mod Totals
-pub mod Parts
 pub mod Made
 pub mod Listed
 pub mod Covers

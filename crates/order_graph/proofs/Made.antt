@@ -19,8 +19,7 @@ use Rattle.element_numbers.specs.Covering.{IsPart}
 use Rattle.order_graph.specs.Covers.{responses_on}
 use Rattle.order_graph.specs.Lists.{lists_of, AreFew}
 use Rattle.order_graph.specs.Kept.{responses_kept}
-use Rattle.element_numbers.proofs.Parts.{In-part, Rising-part}
-use Rattle.order_graph.proofs.Parts.{sum-part, length-part, part-map}
+use Rattle.element_numbers.proofs.Parts.{In-part, Rising-part, sum-part, length-part, part-map}
 use Rattle.order_graph.proofs.Totals.{few-responses, returned-back}
 
 map-twice : {X Y Z : Type 0} (g : Y → Z) (f : X → Y) (xs : List X) → map g (map f xs) ≡ map (λ x. g (f x)) xs
