@@ -21,8 +21,8 @@ use std::fmt;
 
 /// How many workers search where the words give no number.
 pub const WORKERS: u32 = 4;
-/// The most workers that may search; the fewest is 1. The number is that of `level_search`, on which this crate
-/// does not stand.
+/// The most workers that may search; the fewest is 1. The number is that of `level_search`, on which this
+/// crate does not stand.
 pub const MOST_WORKERS: u32 = 64;
 
 /// The version of the program, which `--version` prints after its name.

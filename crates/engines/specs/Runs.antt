@@ -27,7 +27,7 @@ status_of (faulty fault) = Bad
 status_of (accepted order) = Good
 status_of (refused k steps) = Bad
 
--- the exit status of a verdict
+-- the exit status for a status
 abbrev pub number_of_status : Status → ℕ
 number_of_status Good = 0
 number_of_status Bad = 1

@@ -1,10 +1,10 @@
-//! The engines that wait for nobody, over any readers and writers: a trace in, the report or the certificate
-//! of its verdict out; or a trace and a certificate in, the checker's line out.
+//! The engines that need no session, over any `Source` and `Sink`: [`run`] is the command `verdict`,
+//! [`run_cert`] is `cert`, and [`run_verify`] is `verify`.
 //!
-//! - [`run`], [`run_cert`] and [`run_verify`] say by [`Status`] what they found, or by [`RunFault`] why they
-//!   wrote no output, or not the whole of it.
-//! - [`recording_from`], [`verdict_on`], [`status_of`] and [`write_output`] are their parts, of which the
-//!   engine of a live session is made too, in the program's own crate: it alone stands on sessions.
+//! - They say by [`Status`] what they found, or by [`RunFault`] why they wrote no output, or not the whole of
+//!   it.
+//! - [`recording_from`], [`verdict_on`], [`status_of`], [`Output`] and [`write_output`] are parts that the
+//!   engine `live` has too. It stands in `finder_cli`, since no other engine needs sessions.
 #![tactic(auto)]
 
 mod answer_line;

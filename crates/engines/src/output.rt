@@ -1,4 +1,4 @@
-//! What the engines share: a certificate's whole text, the verdict, an output and its status.
+//! What the engines read and write by: a certificate's whole text, the verdict, an output and its status.
 
 ghost use Rattle.std.specs.Prelude.{◌≡◌, ◌≤◌, true, false, IfOk, IfErr};
 ghost use Rattle.std.specs.Io.KnownBytes.{Appends, Consumes, IsAtEnd};
@@ -24,7 +24,7 @@ pub struct Output {
     pub status: Status,
 }
 
-/// The text of a source, to its end.
+/// The text of a source, to its end. Out of memory only after bytes came.
 pub fn whole_text<R: Reader + Drop>(
     alloc: Global,
     source: &mut Source<R>,
@@ -43,7 +43,7 @@ pub fn whole_text<R: Reader + Drop>(
     }
 }
 
-/// Writes an output, and answers its status.
+/// Writes an output, and answers its status. Where a write fails a prefix of it was written, and not all.
 pub fn write_output<W: Writer + Drop>(
     sink: &mut Sink<W>,
     output: &Output,
@@ -60,7 +60,7 @@ pub fn write_output<W: Writer + Drop>(
 }
 
 /// Writes texts one after the other, and answers the status. Where a write fails a prefix of them all was
-/// written.
+/// written, and not all.
 pub fn write_texts<W: Writer + Drop>(
     sink: &mut Sink<W>,
     texts: &[Vec<u8>],
@@ -79,7 +79,7 @@ pub fn write_texts<W: Writer + Drop>(
     Ok(status)
 }
 
-/// The verdict on the recording.
+/// The verdict on the recording, by 1 to 64 workers. Its only fault is out of memory.
 pub fn verdict_on<H: Threads + Sync>(
     rt: &H,
     alloc: Global,

@@ -8,7 +8,7 @@ use trace_text::LineFault;
 #[derive(Clone, Copy, Debug, PartialEq, Eq)]
 pub enum Status {
     /// The recording is accepted: it has no fault, and some order follows every response. Of the checker:
-    /// yes.
+    /// yes. Of a help: it was written.
     Good,
     /// It has a fault, or no order follows every response. Of the checker: no.
     Bad,
@@ -29,8 +29,9 @@ impl Status {
     }
 }
 
-/// Why an engine wrote no output, or not the whole of it. `Workers` is tested first; out of memory is
-/// answered where it is met. `Thread` and `Stalled` are of `live` alone.
+/// Why an engine wrote no output, or not the whole of it. `Workers` is tested first. Out of memory is
+/// answered where it is met; by `live`, in a session, after its threads are joined. `Thread` and `Stalled`
+/// are of `live` alone.
 #[derive(Clone, Copy, Debug, PartialEq, Eq, Error)]
 pub enum RunFault {
     /// The number of workers is not 1 to 64.
@@ -42,13 +43,13 @@ pub enum RunFault {
     /// The text spells no recording: its first faulty line.
     #[error(transparent)]
     Trace(LineFault),
-    /// A thread couldn't be started.
+    /// A recorder or the watcher of `live` couldn't be started.
     #[error("thread")]
     Thread,
     /// A recorder gave up on a receipt of an operation that had not come.
     #[error("stalled")]
     Stalled,
-    /// A write failed or took no byte. A prefix of the output was written.
+    /// A write failed or took no byte. A prefix of the output was written, and not all of it.
     #[error("cannot write")]
     Write,
     /// An allocation failed.

@@ -111,7 +111,7 @@ fn feed(reader: &mut trace_text::Reader, piece: &[u8]) -> Result<(), RunFault>
     }
 }
 
-/// The recording that was handed on.
+/// The recording that the pieces spell which were handed on.
 fn end(reader: trace_text::Reader) -> Result<Recording, RunFault>
     ensures ok { IfOk result (λ h. (text : List ℕ) → WasFed reader text → Spells text h) }
     ensures faults { IfErr result IsOfText }

@@ -61,7 +61,8 @@ pub fn run_verify<H: Threads + Sync, T: Reader + Drop, C: Reader + Drop, W: Writ
     write_output(sink, &output)
 }
 
-/// The line of the checker's answer on the certificate's text and each trace of which this was read.
+/// The line of the checker's answer, with its status, on the certificate's text and any trace that spells
+/// this recording; or, where there is none, any trace that spells none.
 fn line_on<H: Threads + Sync>(
     rt: &H,
     alloc: Global,
@@ -79,7 +80,7 @@ fn line_on<H: Threads + Sync>(
     })
 }
 
-/// The checker's answer. It is of the trace where no recording was read, whatever the certificate's text.
+/// The checker's answer: `No(Trace)` where no recording was read, whatever the certificate's text.
 fn answer_on<H: Threads + Sync>(
     rt: &H,
     alloc: Global,

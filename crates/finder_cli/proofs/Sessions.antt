@@ -1,5 +1,7 @@
 -- How a session that replays a recording ends, on the text that was read.
-use Rattle.std.proofs.Common.{◌≡◌, ℕ, List, Option, Some, None, IfSome, refl}
+use Rattle.std.proofs.Common.{◌≡◌, ◌≢◌, ℕ, List, Option, Some, None, Result, Ok, Err, IfSome, IfOk, IfErr}
+use Rattle.std.proofs.Common.{ap, refl, subst, sym}
+use Rattle.std.specs.Prelude.{IsErrOf}
 use Rattle.events.specs.History.{History}
 use Rattle.specification.specs.TraceText.{Spells}
 use Rattle.rehearsal.specs.Ends.{HasEnded, IsEndOf}
@@ -25,14 +27,38 @@ names-none (Some t) Workers h = absurd h
 names-none (Some t) Read h = absurd h
 names-none (Some t) Write h = absurd h
 
--- where the fault for that of a rehearsal is that a recorder gave up, so is that of the rehearsal
-pub stalled-rehearsed : (h : History) (why : RehearsalFault) → IsEndOf h why
-    → (why ≡ rehearsal.Stalled → HasStalled h) → fault_of_rehearsal why ≡ Stalled
-    → HasStalled h × HasEnded h rehearsal.Stalled
-stalled-rehearsed h rehearsal.Workers ended stalled e = absurd cc
-stalled-rehearsed h rehearsal.Thread ended stalled e = absurd cc
-stalled-rehearsed h rehearsal.Stalled ended stalled e = (stalled refl, ended)
-stalled-rehearsed h rehearsal.Memory ended stalled e = absurd cc
+-- what is made of a rehearsal is so where there is one
+pub made-of : {A B : Type 0} (Q : B → Type 0) (rehearsed : Result A RehearsalFault)
+    (answer : Result B RunFault)
+    → IfOk rehearsed (λ _. IfOk answer Q) → IfErr rehearsed (λ why. answer ≡ Err (fault_of_rehearsal why))
+    → IfOk answer Q
+made-of Q (Ok closed) answer made fault = made
+made-of Q (Err why) answer made fault = subst (λ a. IfOk a Q) (sym fault) tt
+
+-- how it ends where there is none, or where memory runs out behind it
+module _ (h : History) where
+  abbrev Ends : RunFault → Type 0
+  Ends fault = IsOfSession fault × (fault ≡ Stalled → HasStalled h × HasEnded h rehearsal.Stalled)
+
+  ends-by : (why : RehearsalFault) → why ≢ rehearsal.Workers → IsEndOf h why
+      → (why ≡ rehearsal.Stalled → HasStalled h) → Ends (fault_of_rehearsal why)
+  ends-by rehearsal.Workers other ended stalled = absurd (other refl)
+  ends-by rehearsal.Thread other ended stalled = (tt, λ e. absurd cc)
+  ends-by rehearsal.Stalled other ended stalled = (tt, λ _. (stalled refl, ended))
+  ends-by rehearsal.Memory other ended stalled = (tt, λ e. absurd cc)
+
+  pub ended-by : {A B : Type 0} (rehearsed : Result A RehearsalFault) (answer : Result B RunFault)
+      → ¬ IsErrOf rehearsed rehearsal.Workers → IfErr rehearsed (IsEndOf h)
+      → (IsErrOf rehearsed rehearsal.Stalled → HasStalled h)
+      → IfOk rehearsed (λ _. IfErr answer (λ fault. fault ≡ Memory))
+      → IfErr rehearsed (λ why. answer ≡ Err (fault_of_rehearsal why))
+      → IfErr answer Ends
+  ended-by (Ok closed) (Ok output) other ended stalled memory fault = tt
+  ended-by (Ok closed) (Err fault) other ended stalled memory is =
+      subst Ends (sym memory) (tt, λ e. absurd cc)
+  ended-by (Err why) answer other ended stalled memory fault =
+      subst (λ a. IfErr a Ends) (sym fault)
+      (ends-by why (λ e. other (ap Err e)) ended (λ e. stalled (ap Err e)))
 
 -- the recording that a text spells has stalled
 pub stalled-on : (before : Option (List ℕ)) (h : History) → IfSome before (λ t. Spells t h)

@@ -3,7 +3,6 @@ use Rattle.std.specs.Prelude.{◌≡◌, ◌⊎◌, ◌∷◌, [], ℕ, true, st
 use Rattle.std.specs.Prelude.{Err}
 use Rattle.std.specs.Io.KnownBytes.{Appends}
 use Rattle.byte_streams.specs.Streams.{SourceState, SinkState, AppendsFront}
-use Rattle.command_line.specs.declared.task.Form.TheVariants.{Text}
 use Rattle.command_line.specs.declared.task.Task.{Task}
 use Rattle.command_line.specs.declared.task.Task.TheVariants.{Verdict, Cert, Verify, Live}
 use Rattle.command_line.specs.declared.words.WordsFault.{WordsFault}
@@ -11,7 +10,7 @@ use Rattle.command_line.specs.declared.words.WordsFault.TheVariants as words
 use Rattle.finder_cli.specs.Deeds.{Deed, IsFresh, closed, complained, missed, opened}
 use Rattle.finder_cli.specs.Endings.{fault_of_run, number_of_fault}
 use Rattle.engines.specs.Runs.{number_of_status}
-use Rattle.finder_cli.specs.Engines.{Judges, JudgesAlone, Shows, Checks}
+use Rattle.finder_cli.specs.Engines.{JudgesAlone, JudgesLive, Shows, Checks}
 use Rattle.engines.specs.declared.status.Status.{Status}
 use Rattle.engines.specs.declared.status.Status.TheVariants.{Good}
 use Rattle.engines.specs.declared.status.RunFault.{RunFault}
@@ -58,7 +57,7 @@ DoesTask text (Verdict count form file) deeds old new answer = RunsOn
 DoesTask text (Cert file) deeds old new answer = RunsOn Shows text file deeds old new answer
 DoesTask text (Verify file cert) deeds old new answer = ChecksOn text file cert deeds old new answer
 DoesTask text (Live count file) deeds old new answer = RunsOn
-    (Judges count Text) text file deeds old new answer
+    (JudgesLive count) text file deeds old new answer
 
 -- the text of a help was written, or a prefix of it
 abbrev pub Helps : List ℕ → SinkState → SinkState → Result Status ProgramFault → Type 0

@@ -7,13 +7,13 @@ use command_line::Word;
 use thiserror::Error;
 use trace_text::LineFault;
 
-/// Why the program did not do what it was asked for: its text is what stands on standard error.
+/// Why the program did not do what it was asked for. Its text stands on standard error, behind `finder: `.
 #[derive(Debug, Drop, Error)]
 pub enum ProgramFault {
     /// The words are no command.
     #[error("usage")]
     Usage,
-    /// The file can't be opened or read. Where a certificate can't be read it is the trace's name too.
+    /// The file can't be opened or read. Where a certificate was opened and can't be read, it is the trace.
     #[error("cannot read {file}")]
     Read { file: Word },
     /// The text spells no recording.

@@ -1,7 +1,8 @@
-//! A trace in, the report out of what recorder threads made of it in one session beside a watcher.
+//! A trace in; the report out on what recorder threads made of it in one session, beside a watcher.
 
-ghost use Rattle.std.specs.Prelude.{◌≡◌, ◌≢◌, ◌↔◌, ◌≤◌, true, false, IfOk, IfErr, IfSome, OnOk, IsErrOf};
+ghost use Rattle.std.specs.Prelude.{◌≡◌, ◌≢◌, ◌↔◌, ◌≤◌, true, false, Err, IfOk, IfErr, IfSome, OnOk, IsErrOf};
 ghost use Rattle.std.specs.Io.KnownBytes.{IsAtEnd};
+ghost use Rattle.events.specs.History.{SameStreams};
 ghost use Rattle.byte_streams.specs.Streams.{IsClosed};
 ghost use Rattle.command_line.specs.declared.task.Form.TheVariants.{Text};
 ghost use Rattle.rehearsal.specs.Ends.{HasEnded};
@@ -78,7 +79,26 @@ fn rehearsed_report<H: Threads + Wait + Sync, G: Gate>(
     ensures stalled { IfErr result (λ fault. fault ≡ RunFault.Stalled
         → HasStalled recording.now × HasEnded recording.now RehearsalFault.Stalled) }
 {
-    let closed = match rehearse(rt, alloc, recording, workers, gate) {
+    let rehearsed = rehearse(rt, alloc, recording, workers, gate);
+    report_on_rehearsed(rt, alloc, recording, rehearsed, workers)
+}
+
+/// The report on the recording, by what its rehearsal has; or the fault of the rehearsal.
+fn report_on_rehearsed<H: Threads + Sync>(
+    rt: &H,
+    alloc: Global,
+    recording: &Recording,
+    rehearsed: Result<Recording, RehearsalFault>,
+    workers: u32,
+) -> Result<Output, RunFault>
+    requires workers { (1 ≤ workers) × (workers ≤ MOST_WORKERS) }
+    requires streams { IfOk rehearsed (λ closed. SameStreams recording.now closed) }
+    ensures ok { IfOk rehearsed (λ _. IfOk result
+        (λ report. IsReportOn recording.now Text report.bytes.items report.status)) }
+    ensures memory { IfOk rehearsed (λ _. IfErr result (λ fault. fault ≡ RunFault.Memory)) }
+    ensures fault { IfErr rehearsed (λ why. result ≡ Err (fault_of_rehearsal why)) }
+{
+    let closed = match rehearsed {
         Ok(closed) => closed,
         Err(why) => return Err(fault_of_rehearsal(why)),
     };

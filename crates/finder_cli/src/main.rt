@@ -6,7 +6,7 @@
 //! `machine` is the real one.
 //!
 //! - `live` is a module, since it alone stands on sessions. The other engines, the streams and the command
-//!   line are crates below, which wait for no session to be proved.
+//!   line are crates below, so they are proved without the crates of sessions.
 //! - The program runs in a `World`: a trait that opens the stream of a word, notes what was done, and writes
 //!   a fault's line. Which words are opened, which engine runs with which arguments, and the status are
 //!   clauses of the function `finder`.

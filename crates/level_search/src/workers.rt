@@ -90,7 +90,8 @@ fn gathered(
     requires first { (first.bound ≡ bound.now) × (first.is_first ≡ true) × (first.out ≡ vec_len others)
         × (first.done ≡ true) }
     requires honest { Honest (lists_of graph.now) sources.now first }
-    requires looked { AreLooksOfClaims (length graph.now.elements) (lists_of graph.now) sources.now first looked }
+    requires looked { AreLooksOfClaims (length graph.now.elements) (lists_of graph.now) sources.now first
+        looked }
     requires others { All (λ w. (w.seat.bound ≡ bound.now) × (w.seat.is_first ≡ false)
         × Honest (lists_of graph.now) sources.now w.seat
         × AreLooksOfClaims (length graph.now.elements) (lists_of graph.now) sources.now w.seat w.looked)
@@ -98,7 +99,8 @@ fn gathered(
     ensures first { (result.0.bound ≡ bound.now) × (result.0.is_first ≡ true) × (result.0.out ≡ 0)
         × (result.0.done ≡ true) }
     ensures honest { Honest (lists_of graph.now) sources.now result.0 }
-    ensures looked { AreLooksOfClaims (length graph.now.elements) (lists_of graph.now) sources.now result.0 result.1 }
+    ensures looked { AreLooksOfClaims (length graph.now.elements) (lists_of graph.now) sources.now result.0
+        result.1 }
 {
     while let Some(other) = others.pop() {
         let (seat, looks) = other.into_seat();

@@ -1,8 +1,20 @@
-use Rattle.std.proofs.Common.{Err, ap, sym, ◌∙◌}
-use Rattle.finder_cli.proofs.Sessions.{stalled-rehearsed}
+use Rattle.std.proofs.Common.{inl, inr, arith}
+use Rattle.std.proofs.lemmas.Result.{IfErr-weaker}
+use Rattle.finder_cli.proofs.Sessions.{made-of, ended-by}
 use Rattle.finder_cli.proofs.live.rehearsed_report.Goals as goal
 
-pub returns-in-Err-clause-stalled : goal.returns-in-Err-clause-stalled
-returns-in-Err-clause-stalled g c e =
-    stalled-rehearsed c.args.recording.now c.in-Err.why c.in-Err.ensures.ended
-    (λ e. c.in-Err.ensures.stalled (ap Err e)) (sym c.fault_of_rehearsal.ensures ∙ e)
+pub returns : goal.returns
+returns g c =
+    let made = c.report_on_rehearsed.ensures in
+    let ended = c.rehearse-rehearsed.ensures in
+    let how =
+    ended-by c.args.recording.now c.rehearse-rehearsed.result c.report_on_rehearsed.result
+    (λ e. elim (ended.workers.0 e) [
+      | inl low ↦ omega (arith, low, c.requires.workers.0)
+      | inr high ↦ omega (arith, high, c.requires.workers.1)
+    ]) ended.ended ended.stalled made.memory made.fault in
+    record {
+      ok = made-of _ c.rehearse-rehearsed.result c.report_on_rehearsed.result made.ok made.fault;
+      fault = IfErr-weaker c.report_on_rehearsed.result _ _ (λ fault h. h.0) how;
+      stalled = IfErr-weaker c.report_on_rehearsed.result _ _ (λ fault h. h.1) how;
+    }
