@@ -286,7 +286,7 @@ def most_threads(program: str, words: list) -> int:
 def threads(tally: Tally, program: str, folder: str) -> None:
     """As many threads search as were asked for, in one run of several near the limits on names: a search may end before all
     have begun. The check before it, which finds the covering responses too, has more than one where more than one worker was asked
-    for; in an accepted recording no other search follows."""
+    for; in an accepted recording no other search follows. A certificate is made by four."""
     path = os.path.join(folder, "ring")
     for name, family in ((path, "wide_ring"), (os.path.join(folder, "accepted"), "accepted")):
         with open(name, "wb") as out:
@@ -300,10 +300,15 @@ def threads(tally: Tally, program: str, folder: str) -> None:
             seen = most_threads(program, ["verdict", "--workers", "2", os.path.join(folder, "accepted")])
     tally.check("threads before the search", seen > 1 or processors == 1, f"saw {seen}")
     runs = 0
-    while seen < many and runs < 20:
+    while seen < many and runs < 60:
         seen = max(seen, most_threads(program, ["verdict", "--workers", str(many), path]))
         runs += 1
     tally.check(f"{many} workers in threads", seen >= many, f"saw {seen}")
+    seen = 0
+    for _ in range(20):
+        if seen < 4:
+            seen = most_threads(program, ["cert", path])
+    tally.check("four workers of a certificate", seen == 4, f"saw {seen}")
 
 
 def runs_shown(page: Path) -> list:

@@ -97,7 +97,7 @@ FILES = {
     "recorder": ("a file of an editor's language that writes traces", "recorders/domepeeler.py recorders/domepeeler.mjs "
                  "recorders/domepeeler.rs recorders/domepeeler.h recorders/domepeeler.el"),
     "engine": ("what keeps an editor's list; also `run`, `run_cert`, `run_verify`, `live`",
-               "recorders/engines crates/finder_cli/src/engine.rt"),
+               "recorders/engines crates/engines/src crates/finder_cli/src/engine.rt"),
     "recorder thread, watcher": ("of a rehearsal", "crates/rehearsal/src/recorder.rt crates/rehearsal/src/watcher.rt"),
     "wrong body, must-fail edit": ("a planted mistake that a proof must refuse",
                                    "crates/*/must-fail tests/proofs/wrong_bodies"),
