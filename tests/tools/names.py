@@ -75,6 +75,7 @@ WORDS = {
     "covering responses": ("those that are kept: each other is a subsequence of one", "element_numbers", "AreCovering Covering"),
     "core": ("the elements through which cycles may lead", "level_search", "IsCoreOf Core"),
     "source": ("an element that a search starts from", "level_search", "MeetsCycles"),
+    "search": ("for the conflict number, and the least cycle", "level_search", "conflict_number least_cycle least_conflict"),
     "look, step of a search": ("a look at an element's row of the table", "level_search", "IsCountOf HasLooked"),
     "worker, seat": ("a thread that searches, and its place at the bound that all share", "shared_bound", "Seat Bound"),
     "gate": ("what is called round a search, or a replay", "level_search", "Gate"),
@@ -89,7 +90,7 @@ WORDS = {
     "limit of reads": ("268,435,456 of a stream", "byte_streams", "READS IsClosed"),
     "out of memory": ("one name for it", "events", "Memory"),
     "line that takes memory": ("where reading may answer so", "trace_text", "TakesMemory"),
-    "exit status": ("0 to 3", "finder_cli", "ProgramFault number_of"),
+    "exit status": ("0 to 3", "finder_cli", "ProgramFault::number number_of"),
 }
 
 # By word: its meaning, and files or folders that stand for it. A star stands for what varies.

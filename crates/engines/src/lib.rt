@@ -1,10 +1,10 @@
-//! The engines that need no session, over any `Source` and `Sink`: [`run`] is the command `verdict`,
+//! The engines that need no session, over any reader and writer: [`run`] is the command `verdict`,
 //! [`run_cert`] is `cert`, and [`run_verify`] is `verify`.
 //!
 //! - They say by [`Status`] what they found, or by [`RunFault`] why they wrote no output, or not the whole of
 //!   it.
 //! - [`recording_from`], [`verdict_on`], [`status_of`], [`Output`] and [`write_output`] are parts that the
-//!   engine `live` has too. It stands in `finder_cli`, since no other engine needs sessions.
+//!   engine `live` has too. That stands in `finder_cli`, so this crate needs no sessions.
 #![tactic(auto)]
 
 mod answer_line;

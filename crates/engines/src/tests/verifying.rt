@@ -1,8 +1,13 @@
 //! A trace that is faulty long before its end: the check of a certificate reads it whole, a run does not.
 
+use super::pages::{Page, Script};
 use super::trials::{Failing, NEVER, Trial, tried};
+use crate::certified::run_cert;
 use crate::status::{RunFault, Status};
+use byte_streams::{Sink, Source};
+use std::alloc::Global;
 use std::io::ErrorKind;
+use std::thread::Threads;
 use trace_text::{Cause, LineFault};
 
 /// A trace whose third line is faulty, and whose others are right.
@@ -41,6 +46,34 @@ fn a_run_reads_no_further_than_the_fault(rt: HostRuntime) {
     let trial = tried(&rt, rt.alloc(), FAULTY, None, NEVER);
     assert!(rt; trial.answer == Err(RunFault::Trace(shape)));
     assert!(rt; trial.trace.reads == 4 && trial.page.writes == 0);
+}
+
+/// What a certificate's engine answers to the faulty trace, and its reads and writes.
+fn certified<H: Threads + Sync>(rt: &H, alloc: Global) -> (Result<Status, RunFault>, u32, u32) {
+    let mut trace = Script::new(FAULTY, 7, 0);
+    let mut page = Page::new(1, 0);
+    let answer = run_cert(
+        rt,
+        alloc,
+        &mut Source::new(&mut trace),
+        &mut Sink::new(&mut page),
+    );
+    (answer, trace.reads, page.writes)
+}
+
+#[test]
+fn a_certificate_reads_no_further_than_the_fault(rt: HostRuntime) {
+    let shape = LineFault {
+        line: 3,
+        cause: Cause::Shape,
+    };
+    // Where memory is missing, it is tried again.
+    let (answer, reads, writes) = match certified(&rt, rt.alloc()) {
+        (Err(RunFault::Memory), ..) => certified(&rt, rt.alloc()),
+        first => first,
+    };
+    assert!(rt; answer == Err(RunFault::Trace(shape)));
+    assert!(rt; reads == 4 && writes == 0);
 }
 
 #[test]
