@@ -650,6 +650,11 @@ def check_places(tally: Tally, recorder: Recorder, folder: Path) -> None:
             found = re.fullmatch(rf"\d+ {re.escape(path)}:(\d+)((?:, called from {re.escape(path)}:\d+){{0,2}})", line)
             is_call = found and f"recording.{kind}(" in source[int(found[1]) - 1]
             tally.check(f"{recorder.language}: the place of {kind}", is_call and (not found[2] or recorder.language != "rs"), line)
+    recorder.answers(["new\t3", "insert\t0\ta\t0\ta", "delivered\ta\t/\ta\t/\ta", f"save\t{trace}"])
+    lines = Path(f"{trace}.lines").read_text().splitlines()[3:]
+    places = {re.search(rf"driver\.{recorder.language}:(\d+)", line)[1] for line in lines}
+    tally.check(f"{recorder.language}: the place of delivered", len(lines) == 5 and len(places) == 1 and
+                "recording.delivered(" in source[int(*places) - 1], lines)
 
 
 # Programs of a user, in `tests/` of a folder in which they run, and what must stand beside the trace that each saves. An installed package
