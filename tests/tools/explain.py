@@ -519,16 +519,10 @@ LETTERED = [
      "A e0, B end", {f"line-{i + 3}": "A" + "\u2026" * (i > 0) for i in range(28)} | {"line-31": "A\u2026B", "line-33": "BA"}),
 ]
 
-# The recordings of the plain test of Yjs: what switches its mistake on, the status, and lines of the explanation.
+# The recordings of the plain test of Yjs: what has its network hand on the newest first, and lines of the explanation.
 YJS_TOLD = [
-    ("page.trace", "", 0, "accepted: well done, all 13 responses fit one order of the elements. Strong and weak list specification hold.|"
-     "t0-2 h0-0 i0-1 s1-0"),
-    ("page_newest_first.trace", "1", 1,
-     "contents 0.4: this response lacks one element that replica 0 had by then.|"
-     "answered: h0-0 i0-1|what replica 0 had by then, in whatever order: h0-0 i0-1 [s1-0]|Missing|"
-     "[s1-0] inserted by 1.2 (line 7), arrived at replica 2 in line 11 (2 recv 1 2), and from there arrived at replica 0 in line 16 "
-     "(0 recv 2 4)|[s1-0] no receipt at replica 0 names it by then: it counts as arrived since 2.4 (line 15) had seen it. Where each "
-     "operation travels by itself, it was missing, and the exchange is not causal|[s1-0] nothing deletes it"),
+    ("page.trace", "", "accepted: well done, all 13 responses fit one order of the elements.|t0-2 h0-0 i0-1 s1-0"),
+    ("page_newest_first.trace", "1", "accepted: well done, all 13 responses fit one order of the elements.|t0-2 h0-0 i0-1 s1-0"),
 ]
 
 # A list in which of two concurrent inserts at one place the one that arrives later comes first.
@@ -941,26 +935,34 @@ def saved(tally: Tally, program: str, folder: str) -> None:
 
 
 def from_yjs(tally: Tally, program: str, folder: str) -> None:
-    """From a plain test of Yjs to the explanation: its recordings as they are kept, and made anew where the machine has Yjs."""
+    """From a plain test of Yjs to the explanation: its recordings as they are kept, and made anew where the machine has Yjs; and its
+    recorder runs as it is copied, beside the one file that it needs."""
     variables = os.environ | {"DOMEPEELER": program, "NODE_PATH": f"/usr/share/nodejs:{os.environ.get('NODE_PATH', '')}"}
     has_yjs = shutil.which("node") and subprocess.run(["node", "-e", "require('yjs')"], env=variables, capture_output=True).returncode == 0
     if not has_yjs:
         print("Yjs is not on this machine: its recordings are judged as they were kept")
-    for kept, planted, status, wanted in YJS_TOLD:
+    for kept, planted, wanted in YJS_TOLD:
         path = Path(folder, kept)
         if has_yjs:
             done = subprocess.run(["node", "--test", "--test-reporter=tap", YJS / "page.test.mjs"], capture_output=True, text=True,
                                   env=variables | {"RECORDING": str(path), "PLANTED": planted})
-            said = f"domepeeler-explain {path} says what went wrong" in done.stdout
-            tally.check(f"Yjs: {kept}, its test", done.returncode == status and said == bool(status), done)
+            tally.check(f"Yjs: {kept}, its test", done.returncode == 0 and "# pass 1\n" in done.stdout, done)
             tally.check(f"Yjs: {kept} as it was kept", path.read_bytes() == (YJS / kept).read_bytes())
-            places = Path(f"{path}.lines").read_text().splitlines()[1:]
+            places = Path(f"{path}.lines").read_text().splitlines()[2:]
             tally.check(f"Yjs: {kept}, places of the test alone", len(places) == path.read_bytes().count(b"\n") - 2 and
                         all("page.test.mjs:" in line and "nodejs" not in line for line in places), places)
         got = explain(program, [str(YJS / kept)])
         missing = stand_in_order(got.out.decode().splitlines(), wanted.split("|"))
-        tally.check(f"Yjs: {kept} explained", missing is None and got.status == status and not warned(got) and not got.err, got)
+        tally.check(f"Yjs: {kept} explained", missing is None and got.status == 0 and not warned(got) and not got.err, got)
     if has_yjs:
+        copied = Path(folder, "copied")
+        copied.mkdir()
+        for file in YJS / "recorded_yjs.mjs", YJS / "page.test.mjs", ROOT / "recorders/domepeeler.mjs":
+            shutil.copy(file, copied)
+        done = subprocess.run(["node", "--test", "--test-reporter=tap", "page.test.mjs"], capture_output=True, text=True, cwd=copied,
+                              env=variables | {"RECORDING": "page.trace"})
+        tally.check("Yjs: as it is copied", done.returncode == 0 and
+                    Path(copied, "page.trace").read_bytes() == (YJS / "page.trace").read_bytes(), done)
         done = subprocess.run(["node", "--test", YJS / "recorded_yjs.test.mjs"], capture_output=True, text=True, env=variables)
         tally.check("Yjs: what is recorded", done.returncode == 0, done.stdout)
 
