@@ -1,84 +1,181 @@
 """What a verdict may hide: where a recording lacks what the verdict would have to be about.
 
-The program judges what was recorded. An accepted recording is right, and yet may say little: nothing was recorded, a replica
-never heard of another, a delete named what nothing inserts, or the file was cut at a line's end, which leaves a shorter trace."""
+The program judges what was recorded. An accepted recording is right, and yet may say little: nothing was recorded, a change never
+arrived at a replica, so that the lists differ in the end, a delete names what nothing inserts, or the file was cut at a line's end,
+which leaves a shorter trace. The recorders say the same of a recording that they had judged."""
 import errno
+from bisect import bisect_right
 from pathlib import Path
+from typing import NamedTuple
 
 SIDE = ".lines"  # the end of the name of a file beside the trace, in whose first line a recorder says how many lines it saved
-MOST_DELETES = 5  # that are told one by one
-MOST_BYTES = 64  # of that line that are looked at
+MOST_TOLD = 5  # deletes, or inserts, that are told one by one
+MOST_CHANGES = 3  # that are told one by one of those that a replica lacks, or has made nothing of
+MOST_BYTES = 64  # of the first line beside a trace that are looked at
 
 
-def warnings_of(verdict: str, trace: bytes, name: str = "-") -> list:
-    """What to warn of, a line each, where the program has given this verdict on the trace in the file of this name; `-` is no
-    file. A verdict other than accepted hides nothing, but for what a cut has taken away."""
-    return (hidden(trace) if verdict == "accepted" else []) + ([] if name == "-" else cut(trace, name))
+class Warnings(NamedTuple):
+    """What the verdict may hide, a line each: that the file lacks lines; how the replicas end; and all else."""
+
+    cut: list
+    ends: list
+    others: list
+
+    @property
+    def all(self) -> list:
+        return [*self.cut, *self.ends, *self.others]
+
+
+def warnings_of(verdict: str, trace: bytes, name: str = "-") -> Warnings:
+    """What to warn of where the program has given this verdict on the trace in the file of this name; `-` is no file. A verdict other
+    than accepted hides nothing, but for what a cut has taken away."""
+    ends, others = hidden(trace) if verdict == "accepted" else ([], [])
+    return Warnings([] if name == "-" else cut(trace, name), ends, others)
 
 
 class Seen:
-    """One replica as the entries are read: how many inserts and deletes and receipts it has; of which replicas an insert or a
-    delete is visible to it, as bits; and the same at each of its operations."""
+    """One replica as the entries are read: how many operations of each replica it has, now and at each operation of its own; its
+    changes, as the numbers of these operations and their lines; what came since its last operation; and the last list that it showed."""
 
-    def __init__(self):
-        self.changes = self.receipts = self.heard = 0
-        self.heard_by = []
+    def __init__(self, replicas: int):
+        self.has = (0,) * replicas
+        self.pasts = []
+        self.changes, self.lines = [], []
+        self.receipts = 0
+        self.at_last, self.since = self.has, []  # what it had at its last operation, and the receipts since: author, n and line
+        self.shown = None
+
+    def receive(self, author: int, n: int, past: tuple, line: int) -> None:
+        self.receipts += 1
+        self.has = tuple(map(max, self.has, past))
+        self.since.append((author, n, line))
+
+    def act(self, replica: int) -> int:
+        """The operation's number."""
+        n = len(self.pasts) + 1
+        self.has = self.has[:replica] + (n,) + self.has[replica + 1:]
+        self.pasts.append(self.has)
+        self.at_last, self.since = self.has, []
+        return n
 
 
-def hidden(trace: bytes) -> list:
-    """What an accepted trace may hide. Only texts that the program takes for traces come here, so nothing is checked again."""
+def hidden(trace: bytes) -> tuple:
+    """What an accepted trace may hide: of how the replicas end, and else. Only texts that the program takes for traces come here, so
+    nothing is checked again."""
     _, second, *entries = trace.split(b"\n")[:-1]
     if not entries:
-        return ["nothing was recorded: the trace has no entry, so the verdict says nothing of an editor"]
-    replicas = [Seen() for _ in range(int(second.split()[1]))]
-    inserted, deletes = set(), []
-    for number, line in enumerate(entries, 3):
-        words = line.split(b" ", 4)
-        one = replicas[int(words[0])]
-        if words[1] == b"recv":
-            one.receipts += 1
-            one.heard |= replicas[int(words[2])].heard_by[int(words[3]) - 1]
+        return [], ["nothing was recorded: the trace has no entry, so the verdict says nothing of an editor"]
+    replicas = [Seen(int(second.split()[1])) for _ in range(int(second.split()[1]))]
+    inserted, deletes, past_end = set(), [], []
+    for line, entry in enumerate(entries, 3):
+        words = entry.split(b" ", 4)
+        replica, kind = int(words[0]), words[1]
+        one = replicas[replica]
+        if kind == b"recv":
+            author, n = int(words[2]), int(words[3])
+            one.receive(author, n, replicas[author].pasts[n - 1], line)
             continue
-        if words[1] in (b"ins", b"del"):
-            one.changes += 1
-            one.heard |= 1 << int(words[0])
-        one.heard_by.append(one.heard)
-        if words[1] == b"ins":
+        n = one.act(replica)
+        if kind != b"view":
+            one.shown = entry.partition(b":")[2]
+        if kind in (b"ins", b"del"):
+            one.changes.append(n)
+            one.lines.append(line)
+        if kind == b"ins":
             inserted.add(words[2])
-        elif words[1] == b"del":
-            deletes.append((number, int(words[0]), len(one.heard_by), words[2]))
-    return [*without_operation(replicas), *of_nothing([delete for delete in deletes if delete[3] not in inserted]), *unheard(replicas)]
+            before = words[4].count(b" ") - 1  # names in the list before it
+            if int(words[3]) > before:
+                past_end.append(f"line {line}, {replica}.{n}: replica {replica} inserted {words[2].decode()} at position "
+                                f"{words[3].decode()} of a list of {before}, so at its end: is that the position that was asked for?")
+        elif kind == b"del":
+            deletes.append((words[2], f"line {line}, {replica}.{n}: replica {replica} deleted {words[2].decode()}, which no line inserts, "
+                            "so no response shows whether it was deleted: is that its name, and was its insert recorded?"))
+    of_nothing = [told for name, told in deletes if name not in inserted]
+    others = [*without_operation(replicas), *some(of_nothing, "delete", "of what no line inserts"),
+              *some(past_end, "insert", "past the end of a list")]
+    return [*different(replicas), *unheard(replicas), *unshown(replicas)], others
 
 
 def without_operation(replicas: list) -> list:
     return [f"replica {replica} has {'receipts, but no operation' if one.receipts else 'no entry'}: nothing that it showed is judged"
-            for replica, one in enumerate(replicas) if not one.heard_by]
+            for replica, one in enumerate(replicas) if not one.pasts]
 
 
-def of_nothing(deletes: list) -> list:
-    """Of deletes whose element is inserted nowhere."""
-    told = [f"line {line}, {replica}.{n}: replica {replica} deleted {element.decode()}, which no line inserts, so no response shows "
-            "whether it was deleted: is that its name, and was its insert recorded?"
-            for line, replica, n, element in deletes[:MOST_DELETES]]
-    more = len(deletes) - MOST_DELETES
-    return told + ([f"and {more} more delete{'' if more == 1 else 's'} of what no line inserts"] if more > 0 else [])
+def some(told: list, what: str, which: str) -> list:
+    more = len(told) - MOST_TOLD
+    return told[:MOST_TOLD] + ([f"and {more} more {what}{'' if more == 1 else 's'} {which}"] if more > 0 else [])
+
+
+def different(replicas: list) -> list:
+    """Whether the last lists that replicas showed differ as sets, and which changes never arrived at which replica. Of an author of
+    which a replica never hears that is said by itself."""
+    lists = {}
+    for replica, one in enumerate(replicas):
+        if one.shown is not None:
+            lists.setdefault(frozenset(one.shown.split()), []).append(replica)
+    lacking = [(replica, lacked(replicas, replica)) for replica, one in enumerate(replicas) if one.pasts]
+    never = [f"{listed(changes)} never arrived at replica {replica}" for replica, changes in lacking if changes]
+    count = sum(len(changes) for _, changes in lacking)
+    lost = "it was lost or is still held back" if count == 1 else "they were lost or are still held back"
+    if len(lists) < 2:
+        return [f"by this recording {joined(never)}. If everything was delivered, {lost}"] if never else []
+    differ = f"in the end replicas {joined(sorted(replica for same in lists.values() for replica in same))} show different lists"
+    same = [f"{joined(one)} the same one" for one in lists.values() if len(one) > 1]
+    told = differ + (f" ({joined(same)})" if same else "")
+    return [f"{told}: {joined(never)} by this recording. If everything was delivered, {lost}" if never else told]
+
+
+def lacked(replicas: list, replica: int) -> list:
+    """The changes that never arrived at the replica, in the order of the trace, as operations with their lines; none of an author
+    of which it never hears."""
+    has = replicas[replica].has
+    found = []
+    for author, other in enumerate(replicas):
+        heard = bisect_right(other.changes, has[author])
+        if heard and author != replica:
+            found += [(line, f"{author}.{n}") for n, line in zip(other.changes[heard:], other.lines[heard:])]
+    return [f"{name} (line {line})" for line, name in sorted(found)]
 
 
 def unheard(replicas: list) -> list:
     """Of replicas that did something, and never heard of a change of another."""
     told = []
     for replica, one in enumerate(replicas):
-        others = [other for other, seen in enumerate(replicas) if seen.changes and other != replica and not one.heard >> other & 1]
-        if one.heard_by and others:
-            told.append(f"replica {replica} never hears of {counted(others)}: no receipt brings it an insert or a delete from there, so "
-                        "nothing shows what it makes of these. At the end of a session let everyone receive everything, and read")
+        others = [str(author) for author, other in enumerate(replicas)
+                  if other.changes and author != replica and other.changes[0] > one.has[author]]
+        if one.pasts and others:
+            told.append(f"replica {replica} never hears of replica{'' if len(others) == 1 else 's'} {joined(others)}: no receipt brings it an "
+                        "insert or a delete from there, so nothing shows what it makes of these. At the end of a session let everyone "
+                        "receive everything, and read")
     return told
 
 
-def counted(replicas: list) -> str:
-    if len(replicas) == 1:
-        return f"replica {replicas[0]}"
-    return f"replicas {', '.join(map(str, replicas[:-1]))} and {replicas[-1]}"
+def unshown(replicas: list) -> list:
+    """Of replicas whose last receipts bring changes, and are followed by nothing that it shows."""
+    told = []
+    for replica, one in enumerate(replicas):
+        has, news = one.at_last, []
+        for author, n, line in one.since:
+            after = tuple(map(max, has, replicas[author].pasts[n - 1]))
+            if any(bisect_right(other.changes, now) > bisect_right(other.changes, before)
+                   for other, before, now in zip(replicas, has, after)):
+                news.append(f"{author}.{n} (line {line})")
+            has = after
+        if one.pasts and news:
+            told.append(f"replica {replica} received {listed(news)} last, and nothing shows what it made of "
+                        f"{'that' if len(news) == 1 else 'them'}: let each replica read at the end")
+    return told
+
+
+def listed(told: list) -> str:
+    """The first of them, and how many more there are."""
+    more = len(told) - MOST_CHANGES
+    return joined(told[:MOST_CHANGES] + ([f"{more} more"] if more > 0 else []))
+
+
+def joined(words: list) -> str:
+    words = list(map(str, words))
+    return " and ".join(filter(None, [", ".join(words[:-1]), words[-1]]))
 
 
 def cut(trace: bytes, name: str) -> list:
