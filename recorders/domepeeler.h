@@ -5,14 +5,15 @@
  *     struct domepeeler *recording = domepeeler_new(2);
  *     const char *list[] = {"a"};
  *     unsigned n = domepeeler_insert(recording, 0, "a", 0, list, 1); // replica 0 inserted a at 0; its list is now: a
- *     domepeeler_received(recording, 1, 0, n);                       // that operation was applied at replica 1
- *     domepeeler_delete(recording, 1, "a", NULL, 0);                 // replica 1 deleted a; its list is now empty
- *     domepeeler_read(recording, 0, list, 1);                        // replica 0 read its list
- *     domepeeler_view(recording, 0, list, 1);                        // replica 0 showed this part of its list
  *     const char *const *lists[] = {list, list};
  *     size_t names[] = {1, 1};
- *     domepeeler_delivered(recording, lists, names, 2);              // by now all has arrived everywhere: the lists
- *     domepeeler_save(recording, "session.trace");                   // the trace as a file, for tools/explain
+ *     unsigned is_recorded = domepeeler_received(recording, 1, 0, n) // that operation was applied at replica 1
+ *         && domepeeler_delete(recording, 1, "a", NULL, 0)           // replica 1 deleted a; its list is now empty
+ *         && domepeeler_read(recording, 0, list, 1)                  // replica 0 read its list
+ *         && domepeeler_view(recording, 0, list, 1)                  // replica 0 showed this part of its list
+ *         && domepeeler_delivered(recording, lists, names, 2)        // by now all has arrived everywhere: the lists
+ *         && domepeeler_save(recording, "session.trace");            // the trace as a file, for tools/explain
+ *     if (!is_recorded) puts(domepeeler_why(recording));
  *     char *report = domepeeler_judge(recording, NULL);              // asks the program: its report as JSON, with warnings, or NULL
  *     free(report);
  *     char *words = domepeeler_explain(recording, NULL);             // what that means, in words, or NULL
@@ -20,7 +21,8 @@
  *     domepeeler_free(recording);
  *
  * Each call that a trace can't say answers 0 and leaves the recording as it was; domepeeler_why() then says why, and
- * domepeeler_full() whether it is that a limit of traces is reached: then end this session, and begin another.
+ * domepeeler_full() whether it is that a limit of traces is reached: then end this session, and begin another. What was refused is
+ * missing in the recording, so warnings and explanations begin with it.
  *
  * Where updates have vector clocks, domepeeler_received_clock() writes the receipts, and refuses what is not causal.
  *
@@ -64,12 +66,20 @@ enum {
     DOMEPEELER_BYTES = 32, /* of a name */
     DOMEPEELER_UUID = 36,  /* bytes */
     DOMEPEELER_HEAD = 2,   /* lines of a trace, before its entries */
+    DOMEPEELER_SHORT = 1000, /* lines of a session that is judged by one thread, as more would be slower to begin */
     DOMEPEELER_NOTES = 20,
     DOMEPEELER_LETTERS = 200, /* of a note */
     DOMEPEELER_TOLD = 5,      /* deletes, or inserts, that warnings tell one by one */
     DOMEPEELER_CHANGES = 3    /* that warnings tell one by one of those that a replica lacks, or has made nothing of */
 };
 #define DOMEPEELER_POSITION 4294967295LL
+
+/* Of a call whose answer says whether it was recorded: a compiler warns where nobody looks at it. */
+#if defined __GNUC__
+#define DOMEPEELER_CHECKED __attribute__((warn_unused_result))
+#else
+#define DOMEPEELER_CHECKED
+#endif
 
 /* What one replica has recorded: its counts; which of its operations insert or delete; how many operations of each other replica
  * it has received, now and at each operation of its own. */
@@ -93,16 +103,63 @@ struct domepeeler {
     size_t slots;                     /* half of the places; a power of two, or 0 */
     char *notes[DOMEPEELER_NOTES];
     size_t noted;
+    size_t refused; /* calls, but for limits and what is not causal, after which a session may well go on */
     int full;
-    char why[256];
+    char why[512], first[512]; /* of the last call that answered 0, and of the first one that was refused so */
 };
 
+/* The code point at which the text stands, which is behind it then; -1 where there is no UTF-8. */
+static inline long domepeeler_letter(const unsigned char **at) {
+    static const long least[] = {0, 0x80, 0x800, 0x10000};
+    unsigned char first = *(*at)++;
+    int more = first < 0x80 ? 0 : first < 0xC0 ? -1 : first < 0xE0 ? 1 : first < 0xF0 ? 2 : first < 0xF8 ? 3 : -1;
+    long point = more < 1 ? first : first & (0x3F >> more);
+    for (int i = 0; i < more; i++) {
+        if ((**at & 0xC0) != 0x80) return -1;
+        point = point << 6 | (*(*at)++ & 0x3F);
+    }
+    return more < 0 || point < least[more] || (point >= 0xD800 && point < 0xE000) || point > 0x10FFFF ? -1 : point;
+}
+
+/* Whether it may be shown: neither controls, nor what breaks a line or turns the direction of writing. */
+static inline int domepeeler_is_printable(long letter) {
+    return letter >= 0x20 && (letter < 0x7F || letter > 0x9F) && (letter < 0x2028 || letter > 0x202E) &&
+           (letter < 0x2066 || letter > 0x2069);
+}
+
+/* Puts a question mark in the place of what can't be shown. */
+static inline void domepeeler_clean(char *text) {
+    const unsigned char *at = (const unsigned char *)text;
+    char *end = text;
+    while (*at) {
+        const unsigned char *from = at;
+        if (!domepeeler_is_printable(domepeeler_letter(&at))) *end++ = '?';
+        else
+            while (from < at) *end++ = (char)*from++;
+    }
+    *end = 0;
+}
+
+/* A call of the recording is refused. */
 static inline unsigned domepeeler_refuse(struct domepeeler *d, int full, const char *format, ...) {
     va_list words;
     va_start(words, format);
     vsnprintf(d->why, sizeof d->why, format, words);
     va_end(words);
     d->full = full;
+    if (full || !strncmp(d->why, "not causal: ", 12) || d->refused++) return 0;
+    memcpy(d->first, d->why, sizeof d->first);
+    domepeeler_clean(d->first);
+    return 0;
+}
+
+/* What was asked of a recording failed, which does not change it. */
+static inline unsigned domepeeler_fail(struct domepeeler *d, const char *format, ...) {
+    va_list words;
+    va_start(words, format);
+    vsnprintf(d->why, sizeof d->why, format, words);
+    va_end(words);
+    d->full = 0;
     return 0;
 }
 
@@ -218,11 +275,13 @@ static inline struct domepeeler *domepeeler_new_only(int replicas, int only) {
 /* A session of so many replicas, 1 to 16; else NULL. */
 static inline struct domepeeler *domepeeler_new(int replicas) { return domepeeler_new_only(replicas, -1); }
 
-/* Why the last refused call was refused. */
-static inline const char *domepeeler_why(const struct domepeeler *d) { return d->why; }
+/* Why the last call that answered 0 or NULL did so; of NULL, why there is no recording. */
+static inline const char *domepeeler_why(const struct domepeeler *d) {
+    return d ? d->why : "there is no recording: replicas are 1 to 16, a log is of one of them, and memory is needed";
+}
 
 /* Whether that was because a limit of traces is reached. */
-static inline int domepeeler_full(const struct domepeeler *d) { return d->full; }
+static inline int domepeeler_full(const struct domepeeler *d) { return d && d->full; }
 
 /* The trace; of one replica's log the text that merge.py takes. It stays until the next call. */
 static inline const char *domepeeler_text(const struct domepeeler *d) { return d->text; }
@@ -272,7 +331,7 @@ static inline char *domepeeler_said(struct domepeeler *d, struct domepeeler_word
     if (!words->is_short) return words->text;
     free(words->text);
     words->text = NULL;
-    domepeeler_refuse(d, 0, "no memory");
+    domepeeler_fail(d, "no memory");
     return NULL;
 }
 
@@ -330,7 +389,7 @@ struct domepeeler_fresh {
 };
 
 static inline unsigned domepeeler_cannot_write(struct domepeeler *d, const char *path) {
-    return domepeeler_refuse(d, 0, "cannot write %s: %s", path, strerror(errno));
+    return domepeeler_fail(d, "cannot write %s: %s", path, strerror(errno));
 }
 
 /* Writes such a file. Answers 1; else there is none. */
@@ -341,7 +400,7 @@ static inline unsigned domepeeler_write_fresh(struct domepeeler *d, struct domep
     fresh->becomes = domepeeler_behind_links(path);
     size_t folder = fresh->becomes ? domepeeler_folder(fresh->becomes) : 0, room = folder + 64;
     fresh->path = fresh->becomes ? (char *)malloc(room) : NULL;
-    if (!fresh->path) return domepeeler_refuse(d, 0, "no memory");
+    if (!fresh->path) return domepeeler_fail(d, "no memory");
     int file = domepeeler_new_file(fresh->path, room, fresh->becomes, folder, 0666);
     if (file < 0) return domepeeler_cannot_write(d, path);
     int is_written = (stat(path, &about) || !chmod(fresh->path, about.st_mode & 0777)) && domepeeler_put_out(file, bytes, length);
@@ -391,7 +450,7 @@ static inline unsigned domepeeler_save_into(struct domepeeler *d, const char *pa
 /* Writes the text into a file of this name; and first, into one with `.lines` behind the name, how many lines it has, so that the
  * tools notice where the end of the file is lost, and the notes. Each appears whole, or what stood there stays. A pipe or a device has
  * no such file beside it. Answers 1. */
-static inline unsigned domepeeler_save(struct domepeeler *d, const char *path) {
+DOMEPEELER_CHECKED static inline unsigned domepeeler_save(struct domepeeler *d, const char *path) {
     struct stat about;
     if (!stat(path, &about) && !S_ISREG(about.st_mode)) return domepeeler_save_into(d, path);
     struct domepeeler_words beside = {NULL, 0, 0, 0}, lines = {NULL, 0, 0, 0};
@@ -425,8 +484,8 @@ static inline int domepeeler_is_uuid(const char *id) {
     return !id[DOMEPEELER_UUID];
 }
 
-/* Puts what a short id with `@` or a comma becomes, if that is short enough, into the name: with a letter first, as `2-0` would look like an
- * operation's name. */
+/* Puts what a short id with `@` or a comma becomes, if that is short enough, into the name: with a letter first, as `2-0` would look
+ * like an operation's name. */
 static inline void domepeeler_translate(const char *id, char *name) {
     size_t first = id[0] >= '0' && id[0] <= '9', length = strlen(id);
     if (first + length > DOMEPEELER_BYTES) return;
@@ -551,7 +610,7 @@ static inline unsigned domepeeler_operation(struct domepeeler *d, int replica, c
 }
 
 /* The replica inserted the name at the position and then had this list. Answers the operation's number. */
-static inline unsigned domepeeler_insert(struct domepeeler *d, int replica, const char *name, long long position,
+DOMEPEELER_CHECKED static inline unsigned domepeeler_insert(struct domepeeler *d, int replica, const char *name, long long position,
                                          const char *const *response, size_t names) {
     char words[80];
     size_t known = d->known;
@@ -564,7 +623,7 @@ static inline unsigned domepeeler_insert(struct domepeeler *d, int replica, cons
 }
 
 /* The replica deleted the name and then had this list. Answers the operation's number. */
-static inline unsigned domepeeler_delete(struct domepeeler *d, int replica, const char *name,
+DOMEPEELER_CHECKED static inline unsigned domepeeler_delete(struct domepeeler *d, int replica, const char *name,
                                          const char *const *response, size_t names) {
     char words[80];
     size_t known = d->known;
@@ -574,13 +633,13 @@ static inline unsigned domepeeler_delete(struct domepeeler *d, int replica, cons
 }
 
 /* The replica read its list. Answers the operation's number. */
-static inline unsigned domepeeler_read(struct domepeeler *d, int replica, const char *const *response, size_t names) {
+DOMEPEELER_CHECKED static inline unsigned domepeeler_read(struct domepeeler *d, int replica, const char *const *response, size_t names) {
     if (!domepeeler_acts(d, replica)) return 0;
     return domepeeler_operation(d, replica, "read", 0, response, names, d->known);
 }
 
 /* The replica showed this part of its list, the window of an editor say. Answers the operation's number. */
-static inline unsigned domepeeler_view(struct domepeeler *d, int replica, const char *const *part, size_t names) {
+DOMEPEELER_CHECKED static inline unsigned domepeeler_view(struct domepeeler *d, int replica, const char *const *part, size_t names) {
     if (!domepeeler_acts(d, replica)) return 0;
     unsigned n = domepeeler_operation(d, replica, "view", 0, part, names, d->known);
     if (n) d->text[strlen("trace ")] = '2';
@@ -604,7 +663,7 @@ static inline unsigned domepeeler_receipt(struct domepeeler *d, int replica, int
 }
 
 /* The author's operation n, and with it all that the author had seen by then, was applied at the replica. Answers 1. */
-static inline unsigned domepeeler_received(struct domepeeler *d, int replica, int author, long long n) {
+DOMEPEELER_CHECKED static inline unsigned domepeeler_received(struct domepeeler *d, int replica, int author, long long n) {
     if (!domepeeler_acts(d, replica) || !domepeeler_known(d, author)) return 0;
     if (n < 1 || n > DOMEPEELER_POSITION)
         return domepeeler_refuse(d, 0, "operation number %lld is not a whole number from 1 to %lld", n,
@@ -630,7 +689,8 @@ static inline unsigned domepeeler_delivered_at(struct domepeeler *d, int replica
 /* By now everything has arrived everywhere, and each replica, from 0 upward, shows its list of these, which has so many names; count is
  * the number of lists. Writes for each replica the receipts that are missing, and a read. So a change that an editor has lost, or still
  * holds back, is `contents` there. Answers 1. */
-static inline unsigned domepeeler_delivered(struct domepeeler *d, const char *const *const *lists, const size_t *names, size_t count) {
+DOMEPEELER_CHECKED static inline unsigned domepeeler_delivered(struct domepeeler *d, const char *const *const *lists,
+                                                               const size_t *names, size_t count) {
     struct domepeeler_replica before[DOMEPEELER_REPLICAS];
     size_t length = d->length, known = d->known;
     if (d->only >= 0)
@@ -654,34 +714,16 @@ static inline unsigned domepeeler_delivered(struct domepeeler *d, const char *co
     return 0;
 }
 
-/* The code point at which the text stands, which is behind it then; -1 where there is no UTF-8. */
-static inline long domepeeler_letter(const unsigned char **at) {
-    static const long least[] = {0, 0x80, 0x800, 0x10000};
-    unsigned char first = *(*at)++;
-    int more = first < 0x80 ? 0 : first < 0xC0 ? -1 : first < 0xE0 ? 1 : first < 0xF0 ? 2 : first < 0xF8 ? 3 : -1;
-    long point = more < 1 ? first : first & (0x3F >> more);
-    for (int i = 0; i < more; i++) {
-        if ((**at & 0xC0) != 0x80) return -1;
-        point = point << 6 | (*(*at)++ & 0x3F);
-    }
-    return more < 0 || point < least[more] || (point >= 0xD800 && point < 0xE000) || point > 0x10FFFF ? -1 : point;
-}
-
-/* Whether a note may have it: neither controls, nor what breaks a line or turns the direction of writing. */
-static inline int domepeeler_is_printable(long letter) {
-    return letter >= 0x20 && (letter < 0x7F || letter > 0x9F) && (letter < 0x2028 || letter > 0x202E) && (letter < 0x2066 || letter > 0x2069);
-}
-
 /* Keeps a word of yours, in UTF-8, on the whole recording, such as the seed of a random session: domepeeler_save() writes it, and
  * domepeeler_explain() names it. Answers 1. */
-static inline unsigned domepeeler_note(struct domepeeler *d, const char *text) {
+DOMEPEELER_CHECKED static inline unsigned domepeeler_note(struct domepeeler *d, const char *text) {
     const unsigned char *at = (const unsigned char *)text;
     int is_right = at && *at;
     for (size_t letters = 0; is_right && *at; letters++)
         is_right = letters < DOMEPEELER_LETTERS && domepeeler_is_printable(domepeeler_letter(&at));
     if (!is_right)
-        return domepeeler_refuse(d, 0, "a note is one line of 1 to %d printable characters", DOMEPEELER_LETTERS);
-    if (d->noted == DOMEPEELER_NOTES) return domepeeler_refuse(d, 0, "a recording has %d notes, the most that it takes", DOMEPEELER_NOTES);
+        return domepeeler_fail(d, "a note is one line of 1 to %d printable characters", DOMEPEELER_LETTERS);
+    if (d->noted == DOMEPEELER_NOTES) return domepeeler_fail(d, "a recording has %d notes, the most that it takes", DOMEPEELER_NOTES);
     char *note = (char *)malloc(strlen(text) + 1);
     if (!note) return domepeeler_refuse(d, 0, "no memory");
     strcpy(note, text);
@@ -713,7 +755,7 @@ static inline unsigned domepeeler_in_one_recording(struct domepeeler *d) {
 
 /* How many inserts and deletes of each replica this one has, one count for each: the vector clock of an update that it makes now.
  * Answers 1. */
-static inline unsigned domepeeler_clock(struct domepeeler *d, int replica, unsigned *clock) {
+DOMEPEELER_CHECKED static inline unsigned domepeeler_clock(struct domepeeler *d, int replica, unsigned *clock) {
     if (!domepeeler_acts(d, replica) || !domepeeler_in_one_recording(d)) return 0;
     for (int other = 0; other < d->replicas; other++)
         clock[other] = domepeeler_up_to(&d->of[other], domepeeler_has(d, replica, other));
@@ -752,7 +794,7 @@ static inline unsigned domepeeler_check_causal(struct domepeeler *d, int replica
 /* The author's update with this vector clock was applied at the replica: it carries the last of the author's changes that the clock
  * counts, or so many of the last. The clock has for each replica how many of its inserts and deletes the author had seen, its own
  * with the carried ones among them. Writes the receipt, unless the replica has it already. Answers 1. */
-static inline unsigned domepeeler_received_clock(struct domepeeler *d, int replica, int author, const unsigned *clock,
+DOMEPEELER_CHECKED static inline unsigned domepeeler_received_clock(struct domepeeler *d, int replica, int author, const unsigned *clock,
                                                  size_t counts, unsigned changes) {
     if (!domepeeler_acts(d, replica) || !domepeeler_known(d, author)) return 0;
     if (author == replica) return domepeeler_refuse(d, 0, "replica %d receives no operation of its own", replica);
@@ -1013,7 +1055,8 @@ static inline void domepeeler_say_unshown(struct domepeeler_warned *w) {
         if (!news) continue;
         domepeeler_say(w->said, "replica %d received ", i);
         domepeeler_say_changes(w->said, entries->arrived, news);
-        domepeeler_say(w->said, " last, and nothing shows what it made of %s: let each replica read at the end\n", news == 1 ? "that" : "them");
+        domepeeler_say(w->said, " last, and nothing shows what it made of %s: let each replica read at the end\n",
+                       news == 1 ? "that" : "them");
     }
 }
 
@@ -1039,8 +1082,8 @@ static inline void domepeeler_say_of_nothing(const struct domepeeler_warned *w) 
         if (bsearch(&one->name, w->inserted, w->inserts, sizeof *w->inserted, domepeeler_compare)) continue;
         if (count++ < DOMEPEELER_TOLD)
             domepeeler_say(w->said, "line %zu, %d.%u: replica %d deleted %.*s, which no line inserts, so no response shows whether it was "
-                                    "deleted: is that its name, and was its insert recorded?\n", one->line, one->author, one->n, one->author,
-                           (int)one->name.length, one->name.at);
+                                    "deleted: is that its name, and was its insert recorded?\n", one->line, one->author, one->n,
+                           one->author, (int)one->name.length, one->name.at);
     }
     domepeeler_say_more(w->said, count, "delete", "of what no line inserts");
 }
@@ -1063,17 +1106,25 @@ static inline int domepeeler_warned_room(struct domepeeler_warned *w, size_t ent
     return 1;
 }
 
-/* What an accepted verdict on this recording may hide, a line each, for free(): a change that never arrived, a replica that shows nothing, a
- * delete of what nothing inserts. Empty where nothing is to be said; NULL where there is no answer. It asks no program, and takes time
- * linear in the text. */
-static inline char *domepeeler_warnings(struct domepeeler *d) {
+/* Says whether calls were refused. */
+static inline void domepeeler_say_refused(const struct domepeeler *d, struct domepeeler_words *said, const char *end) {
+    if (d->refused == 1) domepeeler_say(said, "a call was refused, so what it says is not recorded: %s%s", d->first, end);
+    if (d->refused > 1)
+        domepeeler_say(said, "%zu calls were refused, so what they say is not recorded; the first: %s%s", d->refused, d->first, end);
+}
+
+/* What an accepted verdict on this recording may hide, a line each, for free(): a call that was refused, but for limits and what is not
+ * causal; a change that never arrived, a replica that shows nothing, a delete of what nothing inserts. Empty where nothing is to be said;
+ * NULL where there is no answer. It asks no program, and takes time linear in the text. */
+DOMEPEELER_CHECKED static inline char *domepeeler_warnings(struct domepeeler *d) {
     struct domepeeler_words said = {NULL, 0, 0, 0};
     struct domepeeler_warned w;
     size_t entries = domepeeler_lines(d) - DOMEPEELER_HEAD;
     if (d->only >= 0) {
-        domepeeler_refuse(d, 0, "one replica's log is no recording: merge the logs first");
+        domepeeler_fail(d, "one replica's log is no recording: merge the logs first");
         return NULL;
     }
+    domepeeler_say_refused(d, &said, "\n");
     if (!entries) domepeeler_say(&said, "nothing was recorded: the trace has no entry, so the verdict says nothing of an editor\n");
     if (!entries) return domepeeler_said(d, &said);
     memset(&w, 0, sizeof w);
@@ -1142,22 +1193,39 @@ static inline int domepeeler_begin(char *const *words, const int *files, pid_t *
     return why;
 }
 
-/* Runs the words so, and puts into the status how they ended. Answers 0, or why that can't be done. */
-static inline int domepeeler_run(char *const *words, const int *files, int *status) {
+/* Begins the words so, waits for their end, and puts into the status how they ended. Answers 0, or why they can't be run, or -1 where how
+ * they ended can't be learned. */
+static inline int domepeeler_begin_and_wait(char *const *words, const int *files, int *status) {
     pid_t child;
     int why = domepeeler_begin(words, files, &child);
     if (why) return why;
     while (waitpid(child, status, 0) != child)
-        if (errno != EINTR) return errno;
+        if (errno != EINTR) return -1;
     return WIFEXITED(*status) && WEXITSTATUS(*status) == 127 ? ENOENT : 0; /* so says a system that finds out only in the child */
+}
+
+/* The same. Where your program ignores SIGCHLD, the system would forget how the words ended, and what they begin themselves: so not now. */
+static inline int domepeeler_run(char *const *words, const int *files, int *status) {
+#ifdef SA_NOCLDSTOP
+    struct sigaction kept, usual;
+    memset(&usual, 0, sizeof usual);
+    usual.sa_handler = SIG_DFL;
+    int is_ignored = !sigaction(SIGCHLD, NULL, &kept) && (kept.sa_handler == SIG_IGN || (kept.sa_flags & SA_NOCLDWAIT));
+    if (is_ignored) sigaction(SIGCHLD, &usual, NULL);
+    int why = domepeeler_begin_and_wait(words, files, status);
+    if (is_ignored) sigaction(SIGCHLD, &kept, NULL);
+    return why;
+#else
+    return domepeeler_begin_and_wait(words, files, status);
+#endif
 }
 
 /* Says how a program ended that printed nothing that is wanted. */
 static inline void domepeeler_refuse_end(struct domepeeler *d, const char *program, int status, const char *why, const char *lacking) {
-    if (WIFSIGNALED(status)) domepeeler_refuse(d, 0, "%s was ended by signal %d", program, WTERMSIG(status));
+    if (WIFSIGNALED(status)) domepeeler_fail(d, "%s was ended by signal %d", program, WTERMSIG(status));
     else if (!*why && WEXITSTATUS(status) < 2)
-        domepeeler_refuse(d, 0, "%s ended with status %d and printed no %s", program, WEXITSTATUS(status), lacking);
-    else domepeeler_refuse(d, 0, "%s ended with status %d: %.160s", program, WEXITSTATUS(status), why);
+        domepeeler_fail(d, "%s ended with status %d and printed no %s", program, WEXITSTATUS(status), lacking);
+    else domepeeler_fail(d, "%s ended with status %d: %.160s", program, WEXITSTATUS(status), why);
 }
 
 /* What the words print for this recording, with these files as the streams; NULL where that is not what is lacking then. */
@@ -1167,10 +1235,9 @@ static inline char *domepeeler_answer(struct domepeeler *d, const char *const *w
     int status = 0;
     for (size_t i = 0; words[i] && i < 7; i++) memcpy(&given[i], &words[i], sizeof *given); /* they are only read */
     int why = domepeeler_run(given, files, &status);
-    if (why) {
-        domepeeler_refuse(d, 0, "%s cannot be run (%s): name %s", words[0], strerror(why), named);
-        return NULL;
-    }
+    if (why > 0) domepeeler_fail(d, "%s cannot be run (%s): name %s", words[0], strerror(why), named);
+    if (why < 0) domepeeler_fail(d, "how %s ended was not learned: %s", words[0], strerror(errno));
+    if (why) return NULL;
     char *printed = WIFEXITED(status) && WEXITSTATUS(status) < 2 ? domepeeler_whole(files[1]) : NULL;
     if (printed && *printed && (!first || *printed == first)) return printed;
     free(printed);
@@ -1185,16 +1252,17 @@ static inline char *domepeeler_answer(struct domepeeler *d, const char *const *w
  * is one; that is what is lacking then. `named` says what to do where they can't be run. */
 static inline char *domepeeler_ask(struct domepeeler *d, const char *const *words, const char *named, const char *lacking, char first) {
     if (d->only >= 0) {
-        domepeeler_refuse(d, 0, "one replica's log is no recording: merge the logs first");
+        domepeeler_fail(d, "one replica's log is no recording: merge the logs first");
         return NULL;
     }
     int files[3];
     char *printed = NULL;
     for (int i = 0; i < 3; i++) files[i] = domepeeler_stream();
-    if (files[0] >= 0 && files[1] >= 0 && files[2] >= 0 && domepeeler_put_out(files[0], d->text, d->length) && !lseek(files[0], 0, SEEK_SET))
+    int are_open = files[0] >= 0 && files[1] >= 0 && files[2] >= 0;
+    if (are_open && domepeeler_put_out(files[0], d->text, d->length) && !lseek(files[0], 0, SEEK_SET))
         printed = domepeeler_answer(d, words, files, named, lacking, first);
     else
-        domepeeler_refuse(d, 0, "no files for the program's streams: %s", strerror(errno));
+        domepeeler_fail(d, "no files for the program's streams: %s", strerror(errno));
     for (int i = 0; i < 3; i++)
         if (files[i] >= 0) close(files[i]);
     return printed;
@@ -1205,8 +1273,11 @@ static inline char *domepeeler_with_warnings(struct domepeeler *d, char *report,
     struct domepeeler_words said = {NULL, 0, 0, 0};
     char *end = strrchr(report, '}');
     domepeeler_say(&said, "%.*s,\"warnings\":[", (int)(end - report), report);
-    for (const char *line = warnings; *line; line = strchr(line, '\n') + 1) /* of words and names alone, so nothing is escaped */
-        domepeeler_say(&said, "%s\"%.*s\"", line == warnings ? "" : ",", (int)strcspn(line, "\n"), line);
+    for (const char *at = warnings; *at; at++) {
+        if (at == warnings || at[-1] == '\n') domepeeler_say(&said, "%s\"", at == warnings ? "" : ",");
+        if (*at == '\n') domepeeler_say(&said, "\"");
+        else domepeeler_say(&said, "%s%c", *at == '"' || *at == '\\' ? "\\" : "", *at);
+    }
     domepeeler_say(&said, "]%s", end);
     free(report);
     free(warnings);
@@ -1216,13 +1287,14 @@ static inline char *domepeeler_with_warnings(struct domepeeler *d, char *report,
 /* The report, as JSON, of the program on this recording; free() it. NULL where there is none. It has one more key, `warnings`: where the
  * verdict is accepted a list of what that may hide, and else an empty one. The program is that of the environment's DOMEPEELER, or
  * domepeeler, where NULL is given. */
-static inline char *domepeeler_judge(struct domepeeler *d, const char *program) {
+DOMEPEELER_CHECKED static inline char *domepeeler_judge(struct domepeeler *d, const char *program) {
     if (!program) program = getenv("DOMEPEELER");
     if (!program || !*program) program = "domepeeler";
-    const char *words[] = {program, "verdict", "--json", "-", NULL};
-    char *report = domepeeler_ask(d, words, "the program's path in DOMEPEELER", "report", '{');
+    const char *many[] = {program, "verdict", "--json", "-", NULL}, *few[] = {program, "verdict", "--workers", "1", "--json", "-", NULL};
+    int is_short = domepeeler_lines(d) < DOMEPEELER_SHORT;
+    char *report = domepeeler_ask(d, is_short ? few : many, "the program's path in DOMEPEELER", "report", '{');
     if (report && !strrchr(report, '}')) {
-        domepeeler_refuse(d, 0, "%s printed a report without an end", program);
+        domepeeler_fail(d, "%s printed a report without an end", program);
         free(report);
         return NULL;
     }
@@ -1230,7 +1302,7 @@ static inline char *domepeeler_judge(struct domepeeler *d, const char *program) 
     char *warnings = strstr(report, "\"verdict\":\"accepted\"") ? domepeeler_warnings(d) : (char *)calloc(1, 1);
     if (warnings) return domepeeler_with_warnings(d, report, warnings);
     free(report);
-    domepeeler_refuse(d, 0, "no memory");
+    domepeeler_fail(d, "no memory");
     return NULL;
 }
 
@@ -1260,6 +1332,7 @@ static inline int domepeeler_is_told(const char *said, const struct domepeeler_i
 static inline char *domepeeler_with_ids(struct domepeeler *d, char *said) {
     struct domepeeler_words whole = {NULL, 0, 0, 0};
     const char *title = "\nIds that were too long for a name\n";
+    domepeeler_say_refused(d, &whole, "\n\n");
     domepeeler_say(&whole, "%s", said);
     for (size_t i = 0; i < d->known; i++) {
         const struct domepeeler_id *one = d->ids[i];
@@ -1272,10 +1345,10 @@ static inline char *domepeeler_with_ids(struct domepeeler *d, char *said) {
     return domepeeler_said(d, &whole);
 }
 
-/* What the report on this recording means, in words, and at the end the ids of the numbered names, and the notes; free() it. NULL where there
- * is none. The tool is that of the environment's DOMEPEELER_EXPLAIN, or domepeeler-explain, beside the program of DOMEPEELER or on the
- * PATH, where NULL is given. */
-static inline char *domepeeler_explain(struct domepeeler *d, const char *explainer) {
+/* What the report on this recording means, in words, and at the end the ids of the numbered names, and the notes; free() it. Before them
+ * stands whether calls were refused. NULL where there is no answer. The tool is that of the environment's DOMEPEELER_EXPLAIN, or
+ * domepeeler-explain, beside the program of DOMEPEELER or on the PATH, where NULL is given. */
+DOMEPEELER_CHECKED static inline char *domepeeler_explain(struct domepeeler *d, const char *explainer) {
     char path[4096];
     if (!explainer) explainer = getenv("DOMEPEELER_EXPLAIN");
     if (!explainer || !*explainer) explainer = domepeeler_beside_program(path, sizeof path);
