@@ -41,6 +41,7 @@ const MOST_BYTES: usize = 32;
 const UUID_BYTES: usize = 36;
 const HEAD_LINES: usize = 2; // of a trace, before its entries
 const LANGUAGE: &str = "rust"; // by its name for the explainer
+const WARNINGS: &str = "\nWhat this verdict may hide\n"; // a title in the explainer's words
 const ONE_LOG: &str = "one replica's log is no recording: merge the logs first";
 const MOST_NOTES: usize = 20;
 const MOST_LETTERS: usize = 200; // of a note
@@ -417,7 +418,25 @@ impl Recording {
         let long = section("Ids that were too long for a name", ids.map(|(name, id)| format!("{name}: {id}")));
         let noted = section("Noted", self.notes.iter().cloned());
         let code = section("In your code", self.places_named(&said));
-        Ok(said + &code + &long + &noted)
+        Ok(self.with_places(&said) + &code + &long + &noted)
+    }
+
+    /// The words, with the place behind each line that stands in brackets in what the verdict may hide.
+    fn with_places(&self, said: &str) -> String {
+        let here = std::env::current_dir().unwrap_or_default();
+        let from = said.find(WARNINGS).map_or(said.len(), |at| at + WARNINGS.len());
+        let to = said[from..].find("\n\n").map_or(said.len(), |at| from + at);
+        let mut told = said[..from].to_string();
+        for (count, part) in said[from..to].split("(line ").enumerate() {
+            let line = part.split_once(')').filter(|_| count > 0).and_then(|(digits, rest)| Some((digits.parse().ok()?, rest)));
+            let caller = line.and_then(|(line, rest): (usize, _)| Some((line, self.callers.get(line.checked_sub(HEAD_LINES + 1)?)?, rest)));
+            told += if count > 0 { "(line " } else { "" };
+            match caller {
+                Some((line, caller, rest)) => told += &format!("{line}, {}){rest}", place(caller, &here)),
+                None => told += part,
+            }
+        }
+        told + &said[to..]
     }
 
     /// The places of the lines of the trace that the words name, each once with all its lines.
