@@ -1,7 +1,7 @@
 // Records what the replicas of a list editor do and answer, and has Domepeeler judge it.
 //
-// Copy this file into your project, or install the package in recorders/javascript, which is made of it. It needs no module; save(),
-// judge() and explain() need Node.js. docs/recording.md says where the calls go.
+// Copy this file into your project, or install the package in recorders/javascript, which is made of it. It needs no module;
+// save(), judge(), warnings() and explain() need Node.js. docs/recording.md says where the calls go.
 //
 //     const recording = new Recording(2)
 //     const n = recording.insert(0, "a", 0, ["a"]) // replica 0 inserted a at position 0, and its list is now: a
@@ -9,12 +9,13 @@
 //     recording.delete(1, "a", [])                 // replica 1 deleted a, and its list is now empty
 //     recording.read(0, ["a"])                     // replica 0 read its list
 //     recording.view(0, ["a"])                     // replica 0 showed this part of its list
+//     recording.delivered([[], []])                // by now all has arrived everywhere, and these are the lists
 //     await recording.save("session.trace")        // the trace as a file, for tools/explain
-//     console.log((await recording.judge()).verdict) // asks the program
-//     console.log(await recording.explain())         // what that means, in words
+//     const { verdict, warnings } = await recording.judge() // asks the program
+//     if (verdict !== "accepted" || warnings.length) throw new Error(await recording.explain()) // which says it in words
 //
 // Where updates have vector clocks, or ids, `receivedClock` and `receivedChanges` write the receipts, and refuse what is not causal.
-// Where a log is read, `at` says from which of its lines the next calls come.
+// Where a log is read, `at` says from which of its lines the next calls come. `note` keeps a word for the whole recording, as "seed 17".
 //
 // Each call that a trace can't say throws Refused, or Full at a limit, and leaves the recording as it was.
 
@@ -22,15 +23,25 @@ const MOST_REPLICAS = 16, MOST_ENTRIES = 16384, MOST_INSERTS = 4096
 const MOST_NAMES = 4096, MOST_PLACES = 262144, MOST_POSITION = 4294967295
 const MOST_BYTES = 32
 const NAME = /^[A-Za-z0-9_.-]{1,32}$/
+const WITH_SIGNS = /^[A-Za-z0-9_.@,-]+$/ // an id that is translated
 const UUID = /^[0-9A-Fa-f]{8}(-[0-9A-Fa-f]{4}){3}-[0-9A-Fa-f]{12}$/
 const MOST_PRINTED = 1 << 28 // bytes: no report is as long
+const ONE_LOG = "one replica's log is no recording: merge the logs first"
 const MORE_CHANGES = "; if the update carried more than one change, say how many (`changes`)"
 const MOST_CALLERS = 3, MOST_FRAMES = 50 // of an entry: callers that are kept, and frames that are looked at for them
 const MOST_STACKS = 1000 // that are remembered
 const HEAD_LINES = 2 // of a trace, before its entries
+const MOST_NOTES = 20, MOST_LETTERS = 200 // of a recording, and of a note
+// What is no part of a printable line.
+const NO_NOTE = /[\0-\x1f\x7f-\x9f\u2028-\u202e\u2066-\u2069]|[\ud800-\udbff](?![\udc00-\udfff])|(?<![\ud800-\udbff])[\udc00-\udfff]/
+const MOST_SHOWN = 40 // letters of a wrong value in an error
+const MOST_WARNED = 5 // deletes, or inserts, that are warned of one by one
+const MOST_LACKED = 3 // changes that are warned of one by one of those that a replica lacks, or has made nothing of
 const LINE = /\bline (\d+)(?=[,):]| of the trace,| \(\d+ recv )/g // a line of the trace in the explainer's words
-const WARNINGS = "\nWhat this verdict may hide\n" // the title of what stands last there
-const STATEMENT = /^(  stop before line (\d+), .*?) In Python, where a change begins .*/gm // for a debugger
+const WARNINGS = /^What this verdict may hide\n(?:  .*\n)*/m // a section there
+const NAMED = /\(line (\d+)\)/g // a line in a warning, whose place is put behind it
+// The statement for a debugger.
+const STATEMENT = /^(  stop before line (\d+), .*?) In [A-Z][A-Za-z ]*, where a change begins to be applied, local or remote: .*/gm
 // A line of a stack, with the path or the URL of a file, and the line in it.
 const FRAME = /^ +at (?:async |.*\()?((?:[a-z]{2,}:\/\/|\/|[A-Za-z]:[\\/]).*:\d+):\d+\)?$/
 const OWN = String(import.meta.url)
@@ -58,9 +69,13 @@ export class Recording {
   #ids = new Map() // by name: the id that has this name, where another id might come to the same name
   #short = new Map() // by id: its name, where that is a shorter one
   #changes = new Map() // by the id of a change: its operations, of one author
+  #notes = []
 
   constructor(replicas, only = null) {
-    if (!whole(replicas, 1, MOST_REPLICAS)) throw new Refused(`replicas are 1 to ${MOST_REPLICAS}, not ${replicas}`)
+    if (!whole(replicas, 1, MOST_REPLICAS)) {
+      throw new Refused(Number.isInteger(replicas) ? `replicas are 1 to ${MOST_REPLICAS}, not ${replicas}`
+        : notWhole("number of replicas", replicas, 1, MOST_REPLICAS))
+    }
     this.#lines = ["trace 1", `replicas ${replicas}`]
     // changes: its operations that insert or delete; others: how many operations of each it has received; pasts: the same at each
     // operation of its own
@@ -74,8 +89,8 @@ export class Recording {
    * code. The file is a path or a URL. Without a file, from your code again. */
   at(file = null, line = 1) {
     const path = file?.href ?? file
-    if (path !== null && typeof path !== "string") throw new Refused(`a file is a path or a URL, not ${JSON.stringify(file)}`)
-    if (!whole(line, 1, MOST_POSITION)) throw new Refused(`line ${line} of a file is not a whole number from 1 to ${MOST_POSITION}`)
+    if (path !== null && typeof path !== "string") throw new Refused(`a file is a path or a URL, not ${told(file)}`)
+    if (!whole(line, 1, MOST_POSITION)) throw new Refused(notWhole("line", line, 1, MOST_POSITION, " of a file"))
     this.#logLine = path === null ? null : [`${path}:${line}`]
   }
 
@@ -108,7 +123,7 @@ export class Recording {
     this.#acts(replica)
     this.#known(author)
     if (!whole(n, 1, MOST_POSITION)) {
-      throw new Refused(`operation number ${n} is not a whole number from 1 to ${MOST_POSITION}`)
+      throw new Refused(notWhole("operation number", n, 1, MOST_POSITION))
     }
     this.#ofAnother(replica, author)
     const have = this.#replicas[author].operations
@@ -129,7 +144,9 @@ export class Recording {
     const counts = this.#counts(clock)
     if (!counts[author]) throw new Refused(`the clock counts no change of replica ${author}, whose update it is`)
     if (!whole(changes, 1, counts[author])) {
-      throw new Refused(`an update carries 1 to ${counts[author]} of the changes that its clock counts, not ${changes}`)
+      throw new Refused(Number.isInteger(changes)
+        ? `an update carries 1 to ${counts[author]} of the changes that its clock counts, not ${changes}`
+        : notWhole("number of changes", changes, 1, counts[author]))
     }
     const carried = this.#replicas[author].changes.slice(counts[author] - changes, counts[author]).map((n) => [author, n])
     this.#take(replica, carried, counts.map((count, other) => (count ? this.#replicas[other].changes[count - 1] : 0)))
@@ -152,6 +169,45 @@ export class Recording {
     this.#take(replica, carried, null)
   }
 
+  /** By now everything has arrived everywhere, and these are the lists that the replicas show: an array, or a Map or an object by replica.
+   * Writes for each replica the receipts that are missing, and a read with its list: what an editor has lost, or still holds back, is
+   * then missing there. */
+  delivered(lists) {
+    if (this.#only !== null) {
+      throw new Refused("one replica's log can't say that everything has arrived: the others are recorded elsewhere")
+    }
+    const shown = this.#shown(lists), before = this.#mark()
+    try {
+      shown.forEach((names, replica) => {
+        this.#replicas.forEach(({ changes }, author) => {
+          const last = changes.at(-1) ?? 0
+          if (author === replica || last <= this.#replicas[replica].others[author]) return
+          this.#room(replica)
+          this.#receipt(replica, author, last)
+        })
+        this.#said(replica, "read", names, null, null, null)
+      })
+    } catch (why) {
+      this.#backTo(before)
+      throw why
+    }
+  }
+
+  /** Keeps a word of yours for the whole recording, as "seed 17": one line of 1 to 200 printable characters. `save` writes it beside the
+   * trace, and `explain` ends with it. A recording takes 20. */
+  note(text) {
+    if (typeof text !== "string" || !text || NO_NOTE.test(text) || [...text.slice(0, 2 * MOST_LETTERS + 1)].length > MOST_LETTERS) {
+      throw new Refused(`a note is one line of 1 to ${MOST_LETTERS} printable characters`)
+    }
+    if (this.#notes.length === MOST_NOTES) throw new Refused(`a recording has ${MOST_NOTES} notes, the most that it takes`)
+    this.#notes.push(text)
+  }
+
+  /** How many lines the text has so far: 2 before the first entry. */
+  lines() {
+    return this.#lines.length
+  }
+
   /** How many inserts and deletes of each replica this one has: the vector clock of an update that it makes now. */
   clock(replica) {
     this.#acts(replica)
@@ -159,7 +215,7 @@ export class Recording {
     return this.#has(replica).map((have, other) => upTo(this.#replicas[other].changes, have))
   }
 
-  /** By name in the trace the id of which it is short, for each id of more than 32 bytes; a Map. */
+  /** By name in the trace the id that has this name, for each id that is no name itself; a Map. */
   ids() {
     return new Map([...this.#short].map(([given, name]) => [name, given]))
   }
@@ -175,13 +231,13 @@ export class Recording {
   async save(path) {
     const { appendFile, open, writeFile } = await import("node:fs/promises")
     const { fileURLToPath } = await import("node:url")
-    const text = this.text(), lines = this.#lines.length
+    const text = this.text(), lines = this.#lines.length, notes = this.#notes.map((note) => `note ${note}\n`).join("")
     const places = (await this.#places()).map(([line, told]) => `${line} ${told}\n`).join("")
     const file = await open(path, "w")
     let beside = null
     try {
       if ((await file.stat()).isFile()) beside = `${path.href ? fileURLToPath(path) : path}.lines`
-      if (beside !== null) await writeFile(beside, `${lines}\n`)
+      if (beside !== null) await writeFile(beside, `${lines}\nlanguage javascript\n${notes}`)
       await file.writeFile(text)
     } finally {
       await file.close()
@@ -189,29 +245,48 @@ export class Recording {
     if (beside !== null) await appendFile(beside, (this.#hasLog ? "log\n" : "") + places)
   }
 
-  /** A promise of the program's report on this recording. The program is the words that are given, that of $DOMEPEELER, or
-   * `domepeeler`. */
+  /** What an accepted verdict on this recording may hide: that replicas end differently, say, or that nothing was recorded. A promise of
+   * a list. */
+  async warnings() {
+    if (this.#only !== null) throw new Refused(ONE_LOG)
+    const found = hidden(this.#lines), withNearest = await this.#nearest()
+    return found.map(withNearest)
+  }
+
+  /** A promise of the program's report on this recording, and as `warnings` what it may hide where it says `accepted`. The program is the
+   * words that are given, that of $DOMEPEELER, or `domepeeler`. */
   async judge(program = null) {
     const { name, done } = await this.#ask(program, "DOMEPEELER", "domepeeler", "the program's", ["verdict", "--json", "-"])
-    if ((done.status !== 0 && done.status !== 1) || !done.stdout.startsWith("{")) throw ended(name, done)
-    return JSON.parse(done.stdout)
+    if ((done.status !== 0 && done.status !== 1) || !done.stdout.startsWith("{")) throw ended(name, done, "report")
+    const report = JSON.parse(done.stdout)
+    return { ...report, warnings: report.verdict === "accepted" ? await this.warnings() : [] }
   }
 
-  /** A promise of what the report means, in words, with the lines of your code or log, and at the end the ids of the numbered names. The
-   * tool is the words that are given, that of $DOMEPEELER_EXPLAIN, or `domepeeler-explain`, beside the program of $DOMEPEELER or on the
-   * PATH. */
+  /** A promise of what the report means, in words, and behind them the lines of your code or log, the ids of the numbered names, and your
+   * notes. The tool is the words that are given, that of $DOMEPEELER_EXPLAIN, or `domepeeler-explain`, beside the program of $DOMEPEELER
+   * or on the PATH. */
   async explain(explainer = null) {
     const command = await besideProgram("domepeeler-explain")
-    const { name, done } = await this.#ask(explainer, "DOMEPEELER_EXPLAIN", command, "the tool's", ["-"])
-    if ((done.status !== 0 && done.status !== 1) || !done.stdout) throw ended(name, done)
+    const { name, done } = await this.#ask(explainer, "DOMEPEELER_EXPLAIN", command, "the tool's", ["--language", "javascript", "-"])
+    if ((done.status !== 0 && done.status !== 1) || !done.stdout) throw ended(name, done, "words")
     const words = new Set(done.stdout.match(/[A-Za-z0-9]+/g))
-    const told = [...this.ids()].filter(([short]) => words.has(short) && short.startsWith("long"))
-    const lines = told.map(([short, given]) => `  ${short}: ${given}\n`)
-    return await this.#withPlaces(done.stdout) + (lines.length ? `\nIds that were too long for a name\n${lines.join("")}` : "")
+    const named = [...this.ids()].filter(([short]) => words.has(short) && short.startsWith("long"))
+    const told = named.map(([short, given]) => `${short}: ${given}`)
+    return await this.#withPlaces(done.stdout) + section("Ids that were too long for a name", told) + section("Noted", this.#notes)
   }
 
-  // The words, and behind those on the verdict the places of the lines of the trace that they name.
+  // What puts behind each line of the trace that a warning names in brackets its nearest place in your code or log.
+  async #nearest() {
+    const callers = [...this.#callers], place = await placing()
+    return (warning) => warning.replace(NAMED, (all, line) => {
+      const [nearest] = callers[line - HEAD_LINES - 1]
+      return nearest ? `(line ${line}, ${place(nearest)})` : all
+    })
+  }
+
+  // The words, and behind them the places of the lines of the trace that they name.
   async #withPlaces(said) {
+    said = said.replace(WARNINGS, await this.#nearest())
     const named = new Set([...said.matchAll(LINE)].map(([, line]) => Number(line)))
     const found = (await this.#places()).filter(([line]) => named.has(line))
     if (!found.length) return said
@@ -219,33 +294,30 @@ export class Recording {
       const places = new Map(found), at = (line) => places.get(Number(line))
       said = said.replace(STATEMENT, (all, stop, line) => stop + (at(line) ? ` The editor then writes ${at(line)}.` : ""))
     }
-    const told = found.map(([line, places]) => `  line ${line}: ${places}\n`).join("")
-    const end = said.includes(WARNINGS) ? said.indexOf(WARNINGS) : said.length
-    return `${said.slice(0, end)}\nIn your ${this.#hasLog ? "log" : "code"}\n${told}${said.slice(end)}`
+    const lines = new Map()
+    for (const [, places] of found) lines.set(places, [])
+    for (const [line, places] of found) lines.get(places).push(line)
+    const told = [...lines].map(([places, at]) => `${places}: line${at.length === 1 ? "" : "s"} ${joined(at)}`)
+    return said + section(`In your ${this.#hasLog ? "log" : "code"}`, told)
   }
 
   // By line of the trace the places in your code, where there are some.
   async #places() {
-    const { fileURLToPath } = await import("node:url")
-    const { sep } = await import("node:path")
-    const here = folderHere()
-    const place = (caller) => {
-      const path = pathOf(caller, fileURLToPath)
-      return (here && path.startsWith(here + sep) ? path.slice(here.length + 1) : path).replace(/[\p{C}\p{Zl}\p{Zp}]/gu, "?")
-    }
-    const told = new Map()
+    const place = await placing(), told = new Map()
     for (const callers of this.#callers) if (!told.has(callers)) told.set(callers, callers.map(place).join(", called from "))
     return this.#callers.map((callers, at) => [at + HEAD_LINES + 1, told.get(callers)]).filter(([, places]) => places)
   }
 
   // How a program ended that had the text on its standard input, and its name.
   async #ask(given, variable, command, whose, more) {
-    if (this.#only !== null) throw new Refused("one replica's log is no recording: merge the logs first")
+    if (this.#only !== null) throw new Refused(ONE_LOG)
     const asked = given || process.env[variable] || command
     const [name, ...words] = Array.isArray(asked) ? asked : [asked]
     const { spawnSync } = await import("node:child_process")
     const done = spawnSync(name, [...words, ...more], { input: this.text(), maxBuffer: MOST_PRINTED, encoding: "utf8" })
-    if (done.error && done.status === null) {
+    const { constants } = await import("node:os")
+    done.signalNumber = constants.signals[done.signal]
+    if (done.error && done.status === null && done.signal === null) {
       throw new Error(`${name} cannot be run (${done.error.code}): name ${whose} path in ${variable}`)
     }
     return { name, done }
@@ -253,7 +325,8 @@ export class Recording {
 
   #known(replica) {
     const last = this.#replicas.length - 1
-    if (!whole(replica, 0, last)) throw new Refused(`no replica ${replica} among 0 to ${last}`)
+    if (whole(replica, 0, last)) return
+    throw new Refused(Number.isInteger(replica) ? `no replica ${replica} among 0 to ${last}` : notWhole("replica", replica, 0, last))
   }
 
   #acts(replica) {
@@ -286,12 +359,60 @@ export class Recording {
     try {
       return this.#said(replica, kind, response, name, position, changeId)
     } catch (why) {
-      for (const [short, given] of [...this.#ids].slice(before)) {
-        this.#ids.delete(short)
-        this.#short.delete(given)
-      }
+      this.#forget(before)
       throw why
     }
+  }
+
+  // Remembers no more than so many names, the first ones.
+  #forget(names) {
+    for (const [short, given] of [...this.#ids].slice(names)) {
+      this.#ids.delete(short)
+      this.#short.delete(given)
+    }
+  }
+
+  // What says how far everything has been recorded by now.
+  #mark() {
+    const replicas = this.#replicas.map((one) => ({ ...one, changes: one.changes.length, pasts: one.pasts.length }))
+    return { lines: this.#lines.length, names: this.#ids.size, hasLog: this.#hasLog, replicas }
+  }
+
+  // Makes undone what was recorded since the mark; no id of a change may be among it.
+  #backTo({ lines, names, hasLog, replicas }) {
+    this.#lines.length = lines
+    this.#callers.length = lines - HEAD_LINES
+    this.#hasLog = hasLog
+    this.#forget(names)
+    this.#replicas.forEach((one, replica) => {
+      const { changes, pasts, ...numbers } = replicas[replica]
+      Object.assign(one, numbers)
+      one.changes.length = changes
+      one.pasts.length = pasts
+    })
+  }
+
+  // What `delivered` is given, as a list by replica.
+  #shown(lists) {
+    const wanted = `delivered wants the list of each of the ${this.#replicas.length} replicas, not `
+    if (Array.isArray(lists)) {
+      if (lists.length !== this.#replicas.length) throw new Refused(`${wanted}of ${lists.length}`)
+      return Array.from(lists)
+    }
+    if (lists === null || typeof lists !== "object") throw new Refused(wanted + told(lists))
+    const given = this.#byReplica(lists)
+    if (given.size !== this.#replicas.length) throw new Refused(`${wanted}of ${given.size}`)
+    return this.#replicas.map((_, replica) => given.get(replica))
+  }
+
+  // What stands in a Map or an object, as a Map by replica.
+  #byReplica(given) {
+    const pairs = given instanceof Map ? [...given] : Object.entries(given)
+    return new Map(pairs.map(([key, value]) => {
+      const replica = typeof key === "string" && /^[0-9]+$/.test(key) ? Number(key) : key
+      this.#known(replica)
+      return [replica, value]
+    }))
   }
 
   #said(replica, kind, response, name, position, changeId) {
@@ -301,12 +422,12 @@ export class Recording {
     if (isChange) words.push(this.#name(name))
     if (isInsert) {
       if (!whole(position, 0, MOST_POSITION)) {
-        throw new Refused(`position ${position} is not a whole number from 0 to ${MOST_POSITION}`)
+        throw new Refused(notWhole("position", position, 0, MOST_POSITION))
       }
       words.push(position)
     }
     if (!Array.isArray(response)) throw new Refused("a response is a list of names")
-    const names = response.map((one) => this.#name(one))
+    const names = Array.from(response, (one) => this.#name(one)) // holes too
     if (changeId !== null) this.#checkChange(replica, changeId)
     this.#fits(replica, isInsert ? 1 : 0, names.length)
     const own = this.#replicas[replica]
@@ -339,24 +460,24 @@ export class Recording {
     }
   }
 
-  // The name in the trace: what is given, or if that has more than 32 bytes, a short name that no other id has.
+  // The name in the trace: what is given, or of an id that is no name, a name that no other one has.
   #name(given) {
-    if (typeof given !== "string") throw new Refused(`a name is a string, not ${given}`)
+    if (typeof given !== "string") throw new Refused(`a name is a string, not ${told(given)}`)
     if (this.#short.has(given)) return this.#short.get(given)
     if (NAME.test(given)) {
-      if (given.length === MOST_BYTES || given.startsWith("long")) { // others are never short for an id
+      if (given.length === MOST_BYTES || given.startsWith("long") || given.includes("-")) { // others never stand for an id
         const had = this.#ids.get(given) ?? given
         if (had !== given) throw new Refused(`name "${given}" is short for the id "${had}" already`)
         this.#ids.set(given, given)
       }
       return given
     }
-    if (new TextEncoder().encode(given).length <= MOST_BYTES) {
-      const advice = /[@,]/.test(given) ? "; write - for @ and for a comma, and a letter before it, as e1-a" : ""
-      throw new Refused(`name "${given}" is not 1 to 32 of A-Z a-z 0-9 _ - .${advice}`)
-    }
     let name = UUID.test(given) ? given.replaceAll("-", "") : ""
-    if (!name || this.#ids.has(name)) name = this.#numbered(given)
+    if (new TextEncoder().encode(given).length <= MOST_BYTES) {
+      if (!WITH_SIGNS.test(given)) throw new Refused(`name "${given}" is not 1 to 32 of A-Z a-z 0-9 _ - .`)
+      name = (/^[0-9]/.test(given) ? "e" : "") + given.replace(/[@,]/g, "-")
+    }
+    if (!name || name.length > MOST_BYTES || this.#ids.has(name)) name = this.#numbered(given)
     this.#ids.set(name, given)
     this.#short.set(given, name)
     return name
@@ -388,17 +509,12 @@ export class Recording {
     this.#inOneRecording()
     let counts = clock
     if (!Array.isArray(clock)) {
-      const pairs = clock instanceof Map ? [...clock] : clock && typeof clock === "object" ? Object.entries(clock) : []
-      counts = pairs.length ? this.#replicas.map(() => 0) : []
-      for (const [key, count] of pairs) {
-        const replica = typeof key === "string" && /^[0-9]+$/.test(key) ? Number(key) : key
-        this.#known(replica)
-        counts[replica] = count
-      }
+      const given = clock && typeof clock === "object" ? this.#byReplica(clock) : new Map()
+      counts = given.size ? this.#replicas.map((_, replica) => (given.has(replica) ? given.get(replica) : 0)) : []
     }
     if (counts.length !== this.#replicas.length) throw new Refused(`a clock has a count for each of ${this.#replicas.length} replicas`)
-    counts.forEach((count, replica) => {
-      if (!whole(count, 0, MOST_POSITION)) throw new Refused(`count ${count} of a clock is not a whole number from 0 to ${MOST_POSITION}`)
+    Array.from(counts).forEach((count, replica) => { // holes too
+      if (!whole(count, 0, MOST_POSITION)) throw new Refused(notWhole("count", count, 0, MOST_POSITION, " of a clock"))
       const have = this.#replicas[replica].changes.length
       if (count > have) throw new Refused(`the clock counts ${count} changes of replica ${replica}, which has recorded ${have}`)
     })
@@ -417,7 +533,8 @@ export class Recording {
         const lacking = changes.slice(upTo(changes, has[other]), upTo(changes, last)).find((one) => !isCarried.has(`${other}.${one}`))
         if (lacking === undefined) return
         throw new NotCausal(`not causal: ${author}.${n} was applied at replica ${replica} before ${other}.${lacking}, ` +
-          `which replica ${author} had seen; ${other}.${lacking} has to arrive first, or in the same update` +
+          `which replica ${author} had seen; ${other}.${lacking} has to arrive first, or in the same update, ` +
+          "or the call for its update is missing" +
           (seen && other === author ? MORE_CHANGES : ""))
       })
     }
@@ -490,6 +607,17 @@ function pathOf(caller, fileURLToPath) {
   }
 }
 
+// What says a place from the current folder.
+async function placing() {
+  const { fileURLToPath } = await import("node:url")
+  const { sep } = await import("node:path")
+  const here = folderHere()
+  return (caller) => {
+    const path = pathOf(caller, fileURLToPath)
+    return (here && path.startsWith(here + sep) ? path.slice(here.length + 1) : path).replace(/[\p{C}\p{Zl}\p{Zp}]/gu, "?")
+  }
+}
+
 // The current folder; "" where it is gone.
 function folderHere() {
   try {
@@ -510,13 +638,158 @@ function upTo(numbers, most) {
   return low
 }
 
+// What an accepted trace with these lines may hide; tools/explaining/warnings.py says the same of a file.
+function hidden(lines) {
+  if (lines.length === HEAD_LINES) return ["nothing was recorded: the trace has no entry, so the verdict says nothing of an editor"]
+  const count = Number(lines[1].split(" ")[1])
+  // Of each replica: how many operations of each one it has, now and at each operation of its own; its changes, as the numbers of these
+  // operations and their lines; what it had at its last operation, and the receipts since; and the last list that it showed.
+  const end = () => ({ has: Array(count).fill(0), pasts: [], changes: [], lines: [], receipts: 0, atLast: [], since: [], shown: null })
+  const ends = Array.from({ length: count }, end), inserted = new Set(), deletes = [], pastEnd = []
+  ends.forEach((one) => { one.atLast = one.has })
+  lines.slice(HEAD_LINES).forEach((entry, at) => {
+    const line = at + HEAD_LINES + 1, [head, response] = entry.split(":"), words = head.split(" ")
+    const replica = Number(words[0]), kind = words[1], one = ends[replica]
+    if (kind === "recv") {
+      const author = Number(words[2]), n = Number(words[3])
+      one.receipts += 1
+      one.has = most(one.has, ends[author].pasts[n - 1])
+      one.since.push({ author, n, line })
+      return
+    }
+    const n = one.pasts.length + 1
+    one.has = one.has.map((have, other) => (other === replica ? n : have))
+    one.atLast = one.has
+    one.pasts.push(one.has)
+    one.since = []
+    const names = response.split(" ").slice(1)
+    if (kind !== "view") one.shown = names
+    if (kind === "ins" || kind === "del") {
+      one.changes.push(n)
+      one.lines.push(line)
+    }
+    if (kind === "ins") {
+      inserted.add(words[2])
+      if (Number(words[3]) > names.length - 1) {
+        pastEnd.push(`line ${line}, ${replica}.${n}: replica ${replica} inserted ${words[2]} at position ${words[3]} of a list of ` +
+          `${names.length - 1}, so at its end: is that the position that was asked for?`)
+      }
+    } else if (kind === "del") {
+      deletes.push([words[2], `line ${line}, ${replica}.${n}: replica ${replica} deleted ${words[2]}, which no line inserts, so no ` +
+        "response shows whether it was deleted: is that its name, and was its insert recorded?"])
+    }
+  })
+  const ofNothing = deletes.filter(([name]) => !inserted.has(name)).map(([, said]) => said)
+  const silent = ends.flatMap(({ pasts, receipts }, replica) => (pasts.length ? [] :
+    [`replica ${replica} has ${receipts ? "receipts, but no operation" : "no entry"}: nothing that it showed is judged`]))
+  return [...different(ends), ...unheard(ends), ...unshown(ends), ...silent, ...some(ofNothing, "delete", "of what no line inserts"),
+    ...some(pastEnd, "insert", "past the end of a list")]
+}
+
+function most(one, two) {
+  return one.map((count, at) => Math.max(count, two[at]))
+}
+
+function some(said, what, which) {
+  const more = said.length - MOST_WARNED
+  return more > 0 ? [...said.slice(0, MOST_WARNED), `and ${more} more ${what}${more === 1 ? "" : "s"} ${which}`] : said
+}
+
+// Whether the last lists that replicas showed differ as sets, and which changes never arrived at which replica. Of an author of which a
+// replica never hears that is said by itself.
+function different(ends) {
+  const lists = new Map()
+  ends.forEach(({ shown }, replica) => {
+    if (shown === null) return
+    const set = [...new Set(shown)].sort().join(" ")
+    lists.set(set, [...(lists.get(set) ?? []), replica])
+  })
+  const lacking = ends.map(({ pasts }, replica) => (pasts.length ? lacked(ends, replica) : []))
+  const never = lacking.flatMap((changes, replica) => (changes.length ? [`${listing(changes)} never arrived at replica ${replica}`] : []))
+  const lost = lacking.flat().length === 1 ? "it was lost or is still held back" : "they were lost or are still held back"
+  if (lists.size < 2) return never.length ? [`by this recording ${joined(never)}. If everything was delivered, ${lost}`] : []
+  const replicas = [...lists.values()].flat().sort((a, b) => a - b)
+  const same = [...lists.values()].filter((one) => one.length > 1).map((one) => `${joined(one)} the same one`)
+  const said = `in the end replicas ${joined(replicas)} show different lists${same.length ? ` (${joined(same)})` : ""}`
+  return [never.length ? `${said}: ${joined(never)} by this recording. If everything was delivered, ${lost}` : said]
+}
+
+// The changes that never arrived at the replica, in the order of the trace; none of an author of which it never hears.
+function lacked(ends, replica) {
+  const found = ends.flatMap(({ changes, lines }, author) => {
+    const heard = upTo(changes, ends[replica].has[author])
+    if (!heard || author === replica) return []
+    return changes.slice(heard).map((n, at) => [lines[heard + at], `${author}.${n}`])
+  })
+  return found.sort(([a], [b]) => a - b).map(([line, name]) => `${name} (line ${line})`)
+}
+
+// Of replicas that did something, and never heard of a change of another.
+function unheard(ends) {
+  return ends.flatMap(({ pasts, has }, replica) => {
+    const isUnheard = ({ changes }, author) => changes.length && author !== replica && changes[0] > has[author]
+    const others = ends.flatMap((other, author) => (isUnheard(other, author) ? [author] : []))
+    if (!pasts.length || !others.length) return []
+    return [`replica ${replica} never hears of replica${others.length === 1 ? "" : "s"} ${joined(others)}: no receipt brings it an ` +
+      "insert or a delete from there, so nothing shows what it makes of these. At the end of a session let everyone receive everything, " +
+      "and read"]
+  })
+}
+
+// Of replicas whose last receipts bring changes, and are followed by nothing that it shows.
+function unshown(ends) {
+  return ends.flatMap(({ pasts, atLast, since }, replica) => {
+    let has = atLast
+    const news = since.filter(({ author, n }) => {
+      const before = has
+      has = most(has, ends[author].pasts[n - 1])
+      return ends.some(({ changes }, other) => upTo(changes, has[other]) > upTo(changes, before[other]))
+    }).map(({ author, n, line }) => `${author}.${n} (line ${line})`)
+    if (!pasts.length || !news.length) return []
+    return [`replica ${replica} received ${listing(news)} last, and nothing shows what it made of ` +
+      `${news.length === 1 ? "that" : "them"}: let each replica read at the end`]
+  })
+}
+
+// The first of them, and how many more there are.
+function listing(said) {
+  const more = said.length - MOST_LACKED
+  return joined(more > 0 ? [...said.slice(0, MOST_LACKED), `${more} more`] : said)
+}
+
+function joined(words) {
+  return words.length > 1 ? `${words.slice(0, -1).join(", ")} and ${words.at(-1)}` : String(words[0])
+}
+
+// A section of an explanation; nothing where it would be empty.
+function section(title, lines) {
+  return lines.length ? `\n${title}\n${lines.map((line) => `  ${line}\n`).join("")}` : ""
+}
+
 function whole(number, least, most) {
   return Number.isInteger(number) && least <= number && number <= most
 }
 
+// Says that a value is not such a number: a whole number itself, or else its type.
+function notWhole(what, number, least, most, of = "") {
+  const wanted = `is not a whole number from ${least} to ${most}`
+  return Number.isInteger(number) ? `${what} ${number}${of} ${wanted}` : `${what}${of} ${wanted} but ${told(number)}`
+}
+
+// A wrong value, with its type.
+function told(value) {
+  if (value === null || value === undefined) return String(value)
+  if (typeof value === "string") return `the string "${value.slice(0, MOST_SHOWN)}"${value.length > MOST_SHOWN ? ".." : ""}`
+  if (typeof value === "bigint") return `the BigInt ${String(value).slice(0, MOST_SHOWN)}`
+  if (typeof value === "number" || typeof value === "boolean") return `the ${typeof value} ${value}`
+  if (typeof value === "symbol") return "a Symbol"
+  if (typeof value === "function") return "a function"
+  return Array.isArray(value) ? "an array" : "an object"
+}
+
 function checkId(changeId) {
   if (typeof changeId !== "string" && typeof changeId !== "number") {
-    throw new Refused(`an id of a change is a string or a number, not ${JSON.stringify(changeId) ?? changeId}`)
+    throw new Refused(`an id of a change is a string or a number, not ${told(changeId)}`)
   }
 }
 
@@ -535,6 +808,9 @@ async function besideProgram(command) {
   }
 }
 
-function ended(name, done) {
-  return new Error(`${name} ended with status ${done.status}: ${done.stderr.trim()}`)
+// Says how a program ended of whose words there are none, or not the right ones.
+function ended(name, done, lacking) {
+  if (done.signal) return new Error(`${name} was ended by signal ${done.signalNumber}`)
+  const why = done.stderr.trim()
+  return new Error(`${name} ended with status ${done.status}${why ? `: ${why}` : ` and printed no ${lacking}`}`)
 }

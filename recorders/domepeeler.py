@@ -9,12 +9,14 @@ else. docs/recording.md says where the calls go.
     recording.delete(1, "a", [])             # replica 1 deleted a, and its list is now empty
     recording.read(0, ["a"])                 # replica 0 read its list
     recording.view(0, ["a"])                 # replica 0 showed this part of its list
+    recording.delivered([[], []])            # by now all has arrived everywhere, and these are the lists
     recording.save("session.trace")          # the trace as a file, for tools/explain
-    print(recording.judge()["verdict"])      # asks the program
-    print(recording.explain())               # what that means, in words
+    report = recording.judge()               # asks the program
+    assert report["verdict"] == "accepted" and not report["warnings"], recording.explain()  # which says it in words
 
 Where updates have vector clocks, or ids, `received_clock` and `received_changes` write the receipts, and refuse what is not causal.
-Where a log is read, `at` says from which of its lines the next calls come.
+Where a log is read, `at` says from which of its lines the next calls come. `note` keeps a word for the whole recording, as "seed 17".
+Threads may share a recording: each call is whole before the next one begins.
 
 Each call that a trace can't say raises `Refused`, or `Full` at a limit, and leaves the recording as it was."""
 from __future__ import annotations
@@ -31,18 +33,27 @@ from typing import Any, Dict, Hashable, Iterable, List, Mapping, NoReturn, Optio
 MOST_REPLICAS, MOST_ENTRIES, MOST_INSERTS = 16, 16384, 4096
 MOST_NAMES, MOST_PLACES, MOST_POSITION, MOST_BYTES = 4096, 262144, 4294967295, 32
 NAME = re.compile(r"[A-Za-z0-9_.-]{1,32}", re.ASCII)
+WITH_SIGNS = re.compile(r"[A-Za-z0-9_.@,-]+", re.ASCII)  # an id that is translated
 UUID = re.compile(r"[0-9A-Fa-f]{8}(-[0-9A-Fa-f]{4}){3}-[0-9A-Fa-f]{12}", re.ASCII)
 __tracebackhide__ = True  # pytest shows a refused call where the test makes it
 ONE_LOG = "one replica's log is no recording: merge the logs first"
+MOST_NOTES, MOST_LETTERS = 20, 200  # of a recording, and of a note
+NO_NOTE = re.compile("[\0-\x1f\x7f-\x9f\u2028-\u202e\u2066-\u2069\ud800-\udfff]")  # what is no part of a printable line
+MOST_SHOWN = 40  # letters of a wrong value in an error
 MORE_CHANGES = "; if the update carried more than one change, say how many (`changes`)"
 MOST_CALLERS, MOST_FRAMES = 3, 100  # of an entry: callers that are kept, and frames that are looked at for them
 HEAD_LINES = 2  # of a trace, before its entries
 LINE = re.compile(r"\bline (\d+)(?=[,):]| of the trace,| \(\d+ recv )")  # a line of the trace in the explainer's words
-WARNINGS = "\nWhat this verdict may hide\n"  # the title of what stands last there
-STATEMENT = re.compile(r"^(  stop before line (\d+), .*?) In Python, where a change begins .*", re.MULTILINE)  # for a debugger
+WARNINGS = re.compile(r"^What this verdict may hide\n(?:  .*\n)*", re.MULTILINE)  # a section there
+NAMED = re.compile(r"\(line (\d+)\)")  # a line in a warning, whose place is put behind it
+STATEMENT = re.compile(r"^(  stop before line (\d+), .*?) In [A-Z][A-Za-z ]*, where a change begins to be applied, local or remote: .*",
+                       re.MULTILINE)  # for a debugger
+MOST_WARNED = 5  # deletes, or inserts, that are warned of one by one
+MOST_CHANGES = 3  # that are warned of one by one of those that a replica lacks, or has made nothing of
 
 Clock = Union[Sequence[int], Mapping[int, int]]
 Words = Union[str, Sequence[str]]
+Lists = Union[Sequence[Iterable[str]], Mapping[int, Iterable[str]]]
 Callers = Tuple[Tuple[str, int], ...]
 
 
@@ -74,7 +85,8 @@ class Recording:
 
     def __init__(self, replicas: int, only: Optional[int] = None) -> None:
         if not _whole(replicas, 1, MOST_REPLICAS):
-            raise Refused(f"replicas are 1 to {MOST_REPLICAS}, not {replicas}")
+            raise Refused(f"replicas are 1 to {MOST_REPLICAS}, not {replicas}" if _is_int(replicas) else
+                          _not_whole("number of replicas", replicas, 1, MOST_REPLICAS))
         self._lines = ["trace 1", f"replicas {replicas}"]
         self._callers: List[Callers] = []  # of each entry: the lines of code from which it was recorded, or the log's line
         self._log_line: Callers = ()  # the log's line whose entries are recorded now, if any
@@ -84,6 +96,7 @@ class Recording:
         self._ids: Dict[str, str] = {}  # by name: the id that has this name, where another id might come to the same name
         self._short: Dict[str, str] = {}  # by id: its name, where that is a shorter one
         self._changes: Dict[Hashable, List[Tuple[int, int]]] = {}  # by the id of a change: its operations
+        self._notes: List[str] = []
         if only is not None:
             self._known(only)
             self._only = only
@@ -92,9 +105,9 @@ class Recording:
         """What is recorded from now on comes from this line of this file, a log's: `save` and `explain` name it, and not the lines of your
         code. Without a file, from your code again."""
         if file is not None and not isinstance(file, (str, os.PathLike)):
-            raise Refused(f"a file is a path, not {file!r}")
+            raise Refused(f"a file is a path, not {_told(file)}")
         if not _whole(line, 1, MOST_POSITION):
-            raise Refused(f"line {line} of a file is not a whole number from 1 to {MOST_POSITION}")
+            raise Refused(_not_whole("line", line, 1, MOST_POSITION, " of a file"))
         self._log_line = () if file is None else ((os.fsdecode(file), line),)
 
     def insert(self, replica: int, name: str, position: int, response: Iterable[str], change_id: Optional[Hashable] = None) -> int:
@@ -122,7 +135,7 @@ class Recording:
         self._acts(replica)
         self._known(author)
         if not _whole(n, 1, MOST_POSITION):
-            raise Refused(f"operation number {n} is not a whole number from 1 to {MOST_POSITION}")
+            raise Refused(_not_whole("operation number", n, 1, MOST_POSITION))
         self._of_another(replica, author)
         have = self._replicas[author].operations
         if n > have and self._only is None:
@@ -141,7 +154,8 @@ class Recording:
         if not counts[author]:
             raise Refused(f"the clock counts no change of replica {author}, whose update it is")
         if not _whole(changes, 1, counts[author]):
-            raise Refused(f"an update carries 1 to {counts[author]} of the changes that its clock counts, not {changes}")
+            raise Refused(f"an update carries 1 to {counts[author]} of the changes that its clock counts, not {changes}"
+                          if _is_int(changes) else _not_whole("number of changes", changes, 1, counts[author]))
         own = self._replicas[author].changes
         carried = {(author, n) for n in own[counts[author] - changes:counts[author]]}
         self._take(replica, carried, [of.changes[count - 1] if count else 0 for of, count in zip(self._replicas, counts)])
@@ -161,6 +175,39 @@ class Recording:
             carried.update(self._changes[change_id])
         self._take(replica, carried, [])
 
+    def delivered(self, lists: Lists) -> None:
+        """By now everything has arrived everywhere, and these are the lists that the replicas show: one for each, in their order or by
+        replica. Writes for each replica the receipts that are missing, and a read with its list: what an editor has lost, or still
+        holds back, is then missing there."""
+        if self._only is not None:
+            raise Refused("one replica's log can't say that everything has arrived: the others are recorded elsewhere")
+        shown = self._shown(lists)
+        before = self._mark()
+        try:
+            for replica, names in enumerate(shown):
+                for author, of in enumerate(self._replicas):
+                    last = of.changes[-1] if of.changes else 0
+                    if author != replica and last > self._replicas[replica].others[author]:
+                        self._room(replica)
+                        self._receipt(replica, author, last)
+                self._said(replica, "read", names, None, None, None)
+        except BaseException:
+            self._back_to(before)
+            raise
+
+    def note(self, text: str) -> None:
+        """Keeps a word of yours for the whole recording, as "seed 17": one line of 1 to 200 printable characters. `save` writes it beside
+        the trace, and `explain` ends with it. A recording takes 20."""
+        if not isinstance(text, str) or not 1 <= len(text) <= MOST_LETTERS or NO_NOTE.search(text):
+            raise Refused(f"a note is one line of 1 to {MOST_LETTERS} printable characters")
+        if len(self._notes) == MOST_NOTES:
+            raise Refused(f"a recording has {MOST_NOTES} notes, the most that it takes")
+        self._notes.append(text)
+
+    def lines(self) -> int:
+        """How many lines the text has so far: 2 before the first entry."""
+        return len(self._lines)
+
     def clock(self, replica: int) -> List[int]:
         """How many inserts and deletes of each replica this one has: the vector clock of an update that it makes now."""
         self._acts(replica)
@@ -168,7 +215,7 @@ class Recording:
         return [bisect_right(of.changes, have) for of, have in zip(self._replicas, self._has(replica))]
 
     def ids(self) -> Dict[str, str]:
-        """By name in the trace the id of which it is short, for each id of more than 32 bytes."""
+        """By name in the trace the id that has this name, for each id that is no name itself."""
         return {name: given for given, name in self._short.items()}
 
     def text(self) -> str:
@@ -184,49 +231,70 @@ class Recording:
             beside = f"{os.fsdecode(path)}.lines" if os.path.isfile(path) else None
             if beside is not None:
                 with open(beside, "wb") as lines:
-                    lines.write(b"%d\n" % text.count(b"\n"))
+                    lines.write(b"%d\nlanguage python\n" % text.count(b"\n"))
+                    lines.write("".join(f"note {note}\n" for note in self._notes).encode())
             file.write(text)
         if beside is not None:
             with open(beside, "ab") as lines:
                 lines.write(b"log\n" if self._has_log else b"")
                 lines.write("".join(f"{line} {places}\n" for line, places in self._places()).encode(errors="replace"))
 
+    def warnings(self) -> List[str]:
+        """What an accepted verdict on this recording may hide: that replicas end differently, say, or that nothing was recorded."""
+        if self._only is not None:
+            raise Refused(ONE_LOG)
+        return [self._with_nearest(told) for told in _hidden(self._lines)]
+
     def judge(self, program: Optional[Words] = None) -> Dict[str, Any]:
-        """The program's report on this recording. The program is the words that are given, that of $DOMEPEELER, or `domepeeler`."""
+        """The program's report on this recording, and as `warnings` what it may hide where it says `accepted`. The program is the words
+        that are given, that of $DOMEPEELER, or `domepeeler`."""
         name, done = self._ask(program, "DOMEPEELER", "domepeeler", "the program's", ["verdict", "--json", "-"])
         if done.returncode not in (0, 1) or not done.stdout.startswith(b"{"):
-            _ended(name, done)
+            _ended(name, done, "report")
         report: Dict[str, Any] = json.loads(done.stdout)
+        report["warnings"] = self.warnings() if report.get("verdict") == "accepted" else []
         return report
 
     def explain(self, explainer: Optional[Words] = None) -> str:
-        """What the report means, in words, with the lines of your code or log, and at the end the ids of the numbered names. The tool is
-        the words that are given, that of $DOMEPEELER_EXPLAIN, or `domepeeler-explain`, beside the program of $DOMEPEELER or on the PATH."""
-        name, done = self._ask(explainer, "DOMEPEELER_EXPLAIN", _beside_program("domepeeler-explain"), "the tool's", ["-"])
+        """What the report means, in words, and behind them the lines of your code or log, the ids of the numbered names, and your notes.
+        The tool is the words that are given, that of $DOMEPEELER_EXPLAIN, or `domepeeler-explain`, beside the program of $DOMEPEELER or on
+        the PATH."""
+        name, done = self._ask(explainer, "DOMEPEELER_EXPLAIN", _beside_program("domepeeler-explain"), "the tool's",
+                               ["--language", "python", "-"])
         if done.returncode not in (0, 1) or not done.stdout:
-            _ended(name, done)
+            _ended(name, done, "words")
         said = done.stdout.decode(errors="replace")
         words = set(re.findall("[A-Za-z0-9]+", said))
-        told = [f"  {name}: {given}\n" for name, given in self.ids().items() if name in words and name.startswith("long")]
-        return self._with_places(said) + ("\nIds that were too long for a name\n" + "".join(told) if told else "")
+        told = [f"{name}: {given}" for name, given in self.ids().items() if name in words and name.startswith("long")]
+        return self._with_places(said) + _section("Ids that were too long for a name", told) + _section("Noted", self._notes)
+
+    def _with_nearest(self, warnings: str) -> str:
+        """The warnings, with the nearest place in your code or log of each line of the trace that they name in brackets."""
+        here = _folder_here()
+
+        def placed(said: re.Match[str]) -> str:
+            callers = self._callers[int(said[1]) - HEAD_LINES - 1]
+            return f"(line {said[1]}, {_place(*callers[0], here)})" if callers else said[0]
+
+        return NAMED.sub(placed, warnings)
 
     def _with_places(self, said: str) -> str:
-        """The words, and behind those on the verdict the places of the lines of the trace that they name."""
+        """The words, and behind them the places of the lines of the trace that they name."""
+        said = WARNINGS.sub(lambda section: self._with_nearest(section[0]), said)
         named = {int(line) for line in LINE.findall(said)}
         found = {line: places for line, places in self._places() if line in named}
         if self._has_log and found:  # then the editor is not this program, which a debugger might stop
             then = {line: f" The editor then writes {places}." for line, places in found.items()}
             said = STATEMENT.sub(lambda stop: stop[1] + then.get(int(stop[2]), ""), said)
-        told = [f"  line {line}: {places}\n" for line, places in found.items()]
-        front, warnings, rest = said.partition(WARNINGS)
-        return front + (f"\nIn your {'log' if self._has_log else 'code'}\n" + "".join(told) if told else "") + warnings + rest
+        lines: Dict[str, List[str]] = {}
+        for line, places in found.items():
+            lines.setdefault(places, []).append(str(line))
+        told = [f"{places}: line{'' if len(at) == 1 else 's'} {_joined(at)}" for places, at in lines.items()]
+        return said + _section(f"In your {'log' if self._has_log else 'code'}", told)
 
     def _places(self) -> List[Tuple[int, str]]:
         """By line of the trace the places in your code, where there are some."""
-        try:
-            here = os.path.join(os.getcwd(), "")
-        except OSError:  # the folder is gone
-            here = ""
+        here = _folder_here()
         return [(line, ", called from ".join(_place(file, at, here) for file, at in callers))
                 for line, callers in enumerate(self._callers, HEAD_LINES + 1) if callers]
 
@@ -244,7 +312,8 @@ class Recording:
 
     def _known(self, replica: int) -> None:
         if not _whole(replica, 0, len(self._replicas) - 1):
-            raise Refused(f"no replica {replica} among 0 to {len(self._replicas) - 1}")
+            raise Refused(f"no replica {replica} among 0 to {len(self._replicas) - 1}" if _is_int(replica) else
+                          _not_whole("replica", replica, 0, len(self._replicas) - 1))
 
     def _acts(self, replica: int) -> None:
         self._known(replica)
@@ -270,10 +339,43 @@ class Recording:
         before = len(self._ids)
         try:
             return self._said(replica, kind, response, name, position, change_id)
-        except Refused:
-            while len(self._ids) > before:
-                self._short.pop(self._ids.popitem()[1], None)
+        except BaseException:
+            self._forget(before)
             raise
+
+    def _forget(self, names: int) -> None:
+        """Remembers no more than so many names, the first ones."""
+        while len(self._ids) > names:
+            self._short.pop(self._ids.popitem()[1], None)
+
+    def _mark(self) -> Tuple[int, int, bool, List[Tuple[int, int, int, int, int, Tuple[int, ...]]]]:
+        """What says how far everything has been recorded by now."""
+        return len(self._lines), len(self._ids), self._has_log, [
+            (one.entries, one.operations, one.inserts, one.places, len(one.changes), one.others) for one in self._replicas]
+
+    def _back_to(self, mark: Tuple[int, int, bool, List[Tuple[int, int, int, int, int, Tuple[int, ...]]]]) -> None:
+        """Makes undone what was recorded since the mark; no id of a change may be among it."""
+        lines, names, self._has_log, replicas = mark
+        del self._lines[lines:], self._callers[lines - HEAD_LINES:]
+        self._forget(names)
+        for one, (entries, operations, inserts, places, changes, others) in zip(self._replicas, replicas):
+            one.entries, one.operations, one.inserts, one.places, one.others = entries, operations, inserts, places, others
+            del one.changes[changes:], one.pasts[operations:]
+
+    def _shown(self, lists: Lists) -> List[Any]:
+        """What `delivered` is given, as a list by replica."""
+        wanted = f"delivered wants the list of each of the {len(self._replicas)} replicas, not "
+        if isinstance(lists, (str, bytes, set, frozenset)) or not isinstance(lists, Iterable):
+            raise Refused(wanted + _told(lists))
+        if isinstance(lists, Mapping):
+            for replica in lists:
+                self._known(replica)
+        if isinstance(lists, Mapping) and len(lists) == len(self._replicas):
+            return [lists[replica] for replica in range(len(self._replicas))]
+        shown = list(lists)
+        if isinstance(lists, Mapping) or len(shown) != len(self._replicas):
+            raise Refused(f"{wanted}of {len(shown)}")
+        return shown
 
     def _said(self, replica: int, kind: str, response: Iterable[str], name: Optional[str], position: Optional[int],
               change_id: Optional[Hashable]) -> int:
@@ -283,7 +385,7 @@ class Recording:
             words.append(self._name(name))
         if kind == "ins":
             if not _whole(position, 0, MOST_POSITION):
-                raise Refused(f"position {position} is not a whole number from 0 to {MOST_POSITION}")
+                raise Refused(_not_whole("position", position, 0, MOST_POSITION))
             words.append(str(position))
         names = [self._name(one) for one in _listed(response)]
         if change_id is not None:
@@ -315,21 +417,22 @@ class Recording:
                        f"the most that a trace takes is {MOST_PLACES}")
 
     def _name(self, given: Any) -> str:
-        """The name in the trace: what is given, or if that has more than 32 bytes, a short name that no other id has."""
+        """The name in the trace: what is given, or of an id that is no name, a name that no other one has."""
         if not isinstance(given, str):
-            raise Refused(f"a name is a string, not {given!r}")
+            raise Refused(f"a name is a string, not {_told(given)}")
         if given in self._short:
             return self._short[given]
         if NAME.fullmatch(given):
-            if len(given) == MOST_BYTES or given.startswith("long"):  # others are never short for an id
+            if len(given) == MOST_BYTES or given.startswith("long") or "-" in given:  # others never stand for an id
                 if self._ids.setdefault(given, given) != given:
                     raise Refused(f'name "{given}" is short for the id "{self._ids[given]}" already')
             return given
-        if len(given.encode(errors="surrogatepass")) <= MOST_BYTES:
-            raise Refused(f'name "{given}" is not 1 to 32 of A-Z a-z 0-9 _ - .'
-                          + ("; write - for @ and for a comma, and a letter before it, as e1-a" if set(given) & set("@,") else ""))
         name = given.replace("-", "") if UUID.fullmatch(given) else ""
-        if not name or name in self._ids:
+        if len(given.encode(errors="surrogatepass")) <= MOST_BYTES:
+            if not WITH_SIGNS.fullmatch(given):
+                raise Refused(f'name "{given}" is not 1 to 32 of A-Z a-z 0-9 _ - .')
+            name = ("e" if given[0].isdigit() else "") + given.replace("@", "-").replace(",", "-")
+        if not name or len(name) > MOST_BYTES or name in self._ids:
             name = self._numbered(given)
         self._ids[name] = given
         self._short[given] = name
@@ -369,7 +472,7 @@ class Recording:
             raise Refused(f"a clock has a count for each of {len(self._replicas)} replicas")
         for replica, count in enumerate(counts):
             if not _whole(count, 0, MOST_POSITION):
-                raise Refused(f"count {count} of a clock is not a whole number from 0 to {MOST_POSITION}")
+                raise Refused(_not_whole("count", count, 0, MOST_POSITION, " of a clock"))
             have = len(self._replicas[replica].changes)
             if count > have:
                 raise Refused(f"the clock counts {count} changes of replica {replica}, which has recorded {have}")
@@ -398,8 +501,8 @@ class Recording:
             if (other, n) not in carried:
                 author, number = change
                 raise NotCausal(f"not causal: {author}.{number} was applied at replica {replica} before {other}.{n}, "
-                                f"which replica {author} had seen; {other}.{n} has to arrive first, or in the same update"
-                                + (MORE_CHANGES if by_clock and other == author else ""))
+                                f"which replica {author} had seen; {other}.{n} has to arrive first, or in the same update, "
+                                "or the call for its update is missing" + (MORE_CHANGES if by_clock and other == author else ""))
 
     def _receipt(self, replica: int, author: int, n: int) -> None:
         """Writes a receipt that may be written."""
@@ -448,8 +551,176 @@ def _place(file: str, line: int, here: str) -> str:
     return "".join(letter if letter.isprintable() else "?" for letter in path) + f":{line}"
 
 
+def _folder_here() -> str:
+    try:
+        return os.path.join(os.getcwd(), "")
+    except OSError:  # the folder is gone
+        return ""
+
+
+def _section(title: str, told: List[str]) -> str:
+    """A section of an explanation; nothing where it would be empty."""
+    return f"\n{title}\n" + "".join(f"  {line}\n" for line in told) if told else ""
+
+
+class _End:
+    """How a replica ends, as the entries of a trace are read: how many operations of each replica it has, now and at each operation of
+    its own; its changes, as the numbers of these operations and their lines; what came since its last operation; and the last list that
+    it showed."""
+
+    def __init__(self, replicas: int) -> None:
+        self.has: Tuple[int, ...] = (0,) * replicas
+        self.pasts: List[Tuple[int, ...]] = []
+        self.changes: List[int] = []
+        self.lines: List[int] = []
+        self.receipts = 0
+        self.at_last = self.has
+        self.since: List[Tuple[int, int, int]] = []  # the receipts since its last operation: author, n and line
+        self.shown: Optional[str] = None
+
+
+def _hidden(lines: List[str]) -> List[str]:
+    """What an accepted trace with these lines may hide; tools/explaining/warnings.py says the same of a file."""
+    if len(lines) == HEAD_LINES:
+        return ["nothing was recorded: the trace has no entry, so the verdict says nothing of an editor"]
+    ends = [_End(int(lines[1].split(" ")[1])) for _ in range(int(lines[1].split(" ")[1]))]
+    inserted: Set[str] = set()
+    deletes: List[Tuple[str, str]] = []
+    past_end: List[str] = []
+    for line, entry in enumerate(lines[HEAD_LINES:], HEAD_LINES + 1):
+        words = entry.split(" ", 4)
+        replica, kind = int(words[0]), words[1]
+        one = ends[replica]
+        if kind == "recv":
+            author, n = int(words[2]), int(words[3])
+            one.receipts += 1
+            one.has = tuple(map(max, one.has, ends[author].pasts[n - 1]))
+            one.since.append((author, n, line))
+            continue
+        n = len(one.pasts) + 1
+        one.has = one.at_last = one.has[:replica] + (n,) + one.has[replica + 1:]
+        one.pasts.append(one.has)
+        one.since = []
+        if kind != "view":
+            one.shown = entry.partition(":")[2]
+        if kind in ("ins", "del"):
+            one.changes.append(n)
+            one.lines.append(line)
+        if kind == "ins":
+            inserted.add(words[2])
+            before = words[4].count(" ") - 1  # names in the list before it
+            if int(words[3]) > before:
+                past_end.append(f"line {line}, {replica}.{n}: replica {replica} inserted {words[2]} at position {words[3]} of a list of "
+                                f"{before}, so at its end: is that the position that was asked for?")
+        elif kind == "del":
+            deletes.append((words[2], f"line {line}, {replica}.{n}: replica {replica} deleted {words[2]}, which no line inserts, so no "
+                                      "response shows whether it was deleted: is that its name, and was its insert recorded?"))
+    of_nothing = [told for name, told in deletes if name not in inserted]
+    silent = [f"replica {replica} has {'receipts, but no operation' if one.receipts else 'no entry'}: nothing that it showed is judged"
+              for replica, one in enumerate(ends) if not one.pasts]
+    return [*_different(ends), *_unheard(ends), *_unshown(ends), *silent, *_some(of_nothing, "delete", "of what no line inserts"),
+            *_some(past_end, "insert", "past the end of a list")]
+
+
+def _some(told: List[str], what: str, which: str) -> List[str]:
+    more = len(told) - MOST_WARNED
+    return told[:MOST_WARNED] + ([f"and {more} more {what}{'' if more == 1 else 's'} {which}"] if more > 0 else [])
+
+
+def _different(ends: List[_End]) -> List[str]:
+    """Whether the last lists that replicas showed differ as sets, and which changes never arrived at which replica. Of an author of which
+    a replica never hears that is said by itself."""
+    lists: Dict[frozenset[str], List[int]] = {}
+    for replica, one in enumerate(ends):
+        if one.shown is not None:
+            lists.setdefault(frozenset(one.shown.split()), []).append(replica)
+    lacking = [(replica, _lacked(ends, replica)) for replica, one in enumerate(ends) if one.pasts]
+    never = [f"{_listing(changes)} never arrived at replica {replica}" for replica, changes in lacking if changes]
+    lost = "it was lost or is still held back" if sum(len(changes) for _, changes in lacking) == 1 else \
+        "they were lost or are still held back"
+    if len(lists) < 2:
+        return [f"by this recording {_joined(never)}. If everything was delivered, {lost}"] if never else []
+    differ = f"in the end replicas {_joined(map(str, sorted(sum(lists.values(), []))))} show different lists"
+    same = [f"{_joined(map(str, one))} the same one" for one in lists.values() if len(one) > 1]
+    told = differ + (f" ({_joined(same)})" if same else "")
+    return [f"{told}: {_joined(never)} by this recording. If everything was delivered, {lost}" if never else told]
+
+
+def _lacked(ends: List[_End], replica: int) -> List[str]:
+    """The changes that never arrived at the replica, in the order of the trace; none of an author of which it never hears."""
+    has = ends[replica].has
+    found: List[Tuple[int, str]] = []
+    for author, other in enumerate(ends):
+        heard = bisect_right(other.changes, has[author])
+        if heard and author != replica:
+            found += [(line, f"{author}.{n}") for n, line in zip(other.changes[heard:], other.lines[heard:])]
+    return [f"{name} (line {line})" for line, name in sorted(found)]
+
+
+def _unheard(ends: List[_End]) -> List[str]:
+    """Of replicas that did something, and never heard of a change of another."""
+    told = []
+    for replica, one in enumerate(ends):
+        others = [str(author) for author, other in enumerate(ends)
+                  if other.changes and author != replica and other.changes[0] > one.has[author]]
+        if one.pasts and others:
+            which = f"replica{'' if len(others) == 1 else 's'} {_joined(others)}"
+            told.append(f"replica {replica} never hears of {which}: no receipt brings it an insert or a delete from there, so nothing "
+                        "shows what it makes of these. At the end of a session let everyone receive everything, and read")
+    return told
+
+
+def _unshown(ends: List[_End]) -> List[str]:
+    """Of replicas whose last receipts bring changes, and are followed by nothing that it shows."""
+    told = []
+    for replica, one in enumerate(ends):
+        has, news = one.at_last, []
+        for author, n, line in one.since:
+            after = tuple(map(max, has, ends[author].pasts[n - 1]))
+            if any(bisect_right(other.changes, now) > bisect_right(other.changes, before)
+                   for other, before, now in zip(ends, has, after)):
+                news.append(f"{author}.{n} (line {line})")
+            has = after
+        if one.pasts and news:
+            told.append(f"replica {replica} received {_listing(news)} last, and nothing shows what it made of "
+                        f"{'that' if len(news) == 1 else 'them'}: let each replica read at the end")
+    return told
+
+
+def _listing(told: List[str]) -> str:
+    """The first of them, and how many more there are."""
+    more = len(told) - MOST_CHANGES
+    return _joined(told[:MOST_CHANGES] + ([f"{more} more"] if more > 0 else []))
+
+
+def _joined(words: Iterable[str]) -> str:
+    *front, last = words
+    return f"{', '.join(front)} and {last}" if front else last
+
+
+def _is_int(number: Any) -> bool:
+    return isinstance(number, int) and not isinstance(number, bool)
+
+
 def _whole(number: Any, least: int, most: int) -> bool:
-    return isinstance(number, int) and not isinstance(number, bool) and least <= number <= most
+    return _is_int(number) and least <= number <= most
+
+
+def _not_whole(what: str, number: Any, least: int, most: int, of: str = "") -> str:
+    """Says that a value is not such a number: a whole number itself, or else its type."""
+    wanted = f"is not a whole number from {least} to {most}"
+    return f"{what} {number}{of} {wanted}" if _is_int(number) else f"{what}{of} {wanted} but {_told(number)}"
+
+
+def _told(value: Any) -> str:
+    """A wrong value, with its type."""
+    if value is None:
+        return "None"
+    if isinstance(value, str):
+        return f'the string "{value[:MOST_SHOWN]}"' + (".." if len(value) > MOST_SHOWN else "")
+    if isinstance(value, (bool, float)):
+        return f"the {type(value).__name__} {value}"
+    return f"the number {value}" if isinstance(value, int) and abs(value) <= MOST_POSITION else f"a value of type {type(value).__name__}"
 
 
 def _listed(response: Any) -> List[Any]:
@@ -466,7 +737,7 @@ def _check_id(change_id: Any) -> None:
     try:
         hash(change_id)
     except TypeError:
-        raise Refused(f"an id of a change is a string, a number or a tuple of these, not {change_id!r}") from None
+        raise Refused(f"an id of a change is a string, a number or a tuple of these, not {_told(change_id)}") from None
 
 
 def _quoted(change_id: Hashable) -> str:
@@ -480,5 +751,9 @@ def _beside_program(command: str) -> str:
     return path if folder and os.path.isfile(path) and os.access(path, os.X_OK) else command
 
 
-def _ended(name: str, done: subprocess.CompletedProcess[bytes]) -> NoReturn:
-    raise RuntimeError(f"{name} ended with status {done.returncode}: {done.stderr.decode(errors='replace').strip()}")
+def _ended(name: str, done: subprocess.CompletedProcess[bytes], lacking: str) -> NoReturn:
+    """Says how a program ended of whose words there are none, or not the right ones."""
+    if done.returncode < 0:
+        raise RuntimeError(f"{name} was ended by signal {-done.returncode}")
+    why = done.stderr.decode(errors="replace").strip()
+    raise RuntimeError(f"{name} ended with status {done.returncode}" + (f": {why}" if why else f" and printed no {lacking}"))

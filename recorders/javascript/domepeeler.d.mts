@@ -15,11 +15,16 @@ export interface Report {
   inserts: number
   strong?: boolean
   weak?: boolean
+  /** What the verdict may hide where it is accepted; else empty. */
+  warnings: string[]
   [field: string]: unknown
 }
 
 /** For each replica how many of its inserts and deletes an author had seen. */
 export type Clock = readonly number[] | ReadonlyMap<number, number> | Readonly<Record<number, number>>
+
+/** For each replica the list that it shows. */
+export type Lists = readonly (readonly string[])[] | ReadonlyMap<number, readonly string[]> | Readonly<Record<number, readonly string[]>>
 
 /** A session of so many replicas; with `only`, the log that this one replica keeps on its own machine. */
 export class Recording {
@@ -44,16 +49,28 @@ export class Recording {
   /** The author's operation n, and with it all that the author had seen by then, was applied at the replica. */
   received(replica: number, author: number, n: number): void
 
-  /** The author's update with this vector clock, which carries so many of the author's changes, 1 by default, was applied at the replica. */
+  /** The author's update with this vector clock, which carries so many of the author's changes, 1 by default, was applied at the
+   * replica. */
   receivedClock(replica: number, author: number, clock: Clock, changes?: number): void
 
   /** An update that carries the changes with these ids, and no others, was applied at the replica. */
   receivedChanges(replica: number, changeIds: Iterable<string | number>): void
 
+  /** By now everything has arrived everywhere, and these are the lists that the replicas show: an array, or a Map or an object by replica.
+   * Writes for each replica the receipts that are missing, and a read with its list. */
+  delivered(lists: Lists): void
+
+  /** Keeps a word of yours for the whole recording, as "seed 17": one line of 1 to 200 printable characters. `save` writes it beside the
+   * trace, and `explain` ends with it. A recording takes 20. */
+  note(text: string): void
+
+  /** How many lines the text has so far: 2 before the first entry. */
+  lines(): number
+
   /** How many inserts and deletes of each replica this one has: the vector clock of an update that it makes now. */
   clock(replica: number): number[]
 
-  /** By name in the trace the id of which it is short, for each id of more than 32 bytes. */
+  /** By name in the trace the id that has this name, for each id that is no name itself. */
   ids(): Map<string, string>
 
   /** The trace; of one replica's log the text that merge.py takes. */
@@ -64,10 +81,14 @@ export class Recording {
    * pipe or a device has no such file beside it. */
   save(path: string | URL): Promise<void>
 
-  /** The program's report on this recording. The program is the words that are given, that of $DOMEPEELER, or `domepeeler`. */
+  /** What an accepted verdict on this recording may hide: that replicas end differently, say, or that nothing was recorded. */
+  warnings(): Promise<string[]>
+
+  /** The program's report on this recording, and as `warnings` what it may hide where it says `accepted`. The program is the words that
+   * are given, that of $DOMEPEELER, or `domepeeler`. */
   judge(program?: string | readonly string[] | null): Promise<Report>
 
-  /** What the report means, in words, with the lines of your code or log. The tool is the words that are given, that of $DOMEPEELER_EXPLAIN, or
-   * `domepeeler-explain`, beside the program of $DOMEPEELER or on the PATH. */
+  /** What the report means, in words, with the lines of your code or log, and your notes. The tool is the words that are given, that of
+   * $DOMEPEELER_EXPLAIN, or `domepeeler-explain`, beside the program of $DOMEPEELER or on the PATH. */
   explain(explainer?: string | readonly string[] | null): Promise<string>
 }

@@ -267,8 +267,9 @@ fn main() {{
 }}
 ''',
 }
-USED = ["contents contents\ncontents 0.23: ", f"Ids that were too long for a name\n  long12: {LONG_ID}/12\n\n", "accepted: ",
-        "no_explainer ended with status 2: not today", "nowhere cannot be run (", "in DOMEPEELER_EXPLAIN", "false ended with status 1: "]
+USED = ["contents contents\ncontents 0.23: ", f"Ids that were too long for a name\n  long12: {LONG_ID}/12\n\n", "accepted",
+        "no_explainer ended with status 2: not today", "nowhere cannot be run (", "in DOMEPEELER_EXPLAIN",
+        "false ended with status 1 and printed no words"]
 
 
 class Place:
@@ -340,7 +341,7 @@ def check_beside(tally: Tally, place: Place, name: str, words: list, folder: str
     paths = os.pathsep.join(part for part in place.path.split(os.pathsep) if part != str(place.folder / "prefix/bin"))
     program = str(place.folder / "prefix/bin/domepeeler")
     done = place.run(words, folder, PATH=paths, DOMEPEELER=program)
-    tally.check(f"{name}: explains by the tool beside the program", done.returncode == 0 and done.stdout.startswith("accepted: "),
+    tally.check(f"{name}: explains by the tool beside the program", done.returncode == 0 and done.stdout.startswith("accepted"),
                 done.stdout)
     done = place.run(words, folder, PATH=paths, DOMEPEELER=program, DOMEPEELER_EXPLAIN="nowhere")
     tally.check(f"{name}: the tool that is named comes first", done.returncode != 0 and "nowhere cannot be run" in done.stdout, done.stdout)
@@ -388,7 +389,7 @@ def check_places(tally: Tally, name: str, said: str, file: str, text: str, calle
     lines = text.splitlines()
     calls = [next(number for number, line in enumerate(lines, 1) if f"recording.{call}(" in line) for call in ("insert", "received", "read")]
     end = f", called from {file}:{next(number for number, line in enumerate(lines, 1) if caller in line)}" if caller else ""
-    wanted = "".join(f"  line {line}: {file}:{call}{end}\n" for line, call in enumerate(calls, 3))
+    wanted = "".join(f"  {file}:{call}{end}: line {line}\n" for line, call in enumerate(calls, 3))
     tally.check(f"{name}: the lines of the test", f"\nIn your code\n{wanted}\nThe trace is saved: " in said, (wanted, said))
 
 
@@ -468,7 +469,7 @@ def check_python(tally: Tally, place: Place) -> None:
     again = [f"test_again.py--test_{test}.trace" for test in ("mended", "mended_twice-1", "mended_twice-2", "lost", "fails_by_itself_now")]
     said = check_again(tally, place, "pytest", [*command[:-1], "test_again.py"], "python", {one: "mended" not in one for one in again})
     tally.check("pytest: warns where nothing was recorded, and nowhere else", "2 failed, 3 passed, 1 warning" in said and
-                "test_nothing" in said and all(words in said for words in warnings_of("accepted", b"trace 1\nreplicas 2\n")), said)
+                "test_nothing" in said and all(words in said for words in warnings_of("accepted", b"trace 1\nreplicas 2\n").all), said)
     check_beside(tally, place, "Python", [python, "-c", EXPLAINING["python"]], "python")
     script = place.make("python/use.py", USES["python"])
     check_used(tally, "Python", place.run([python, script, place.make("no_explainer", NO_EXPLAINER, 0o755)], "python"))

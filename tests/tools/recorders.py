@@ -17,14 +17,15 @@ from random import Random
 from urllib.parse import unquote
 
 ROOT = Path(__file__).resolve().parents[2]
-sys.path.insert(0, str(ROOT / "tests"))
+sys.path[:0] = [str(ROOT / "tests"), str(ROOT / "tools")]
+from explaining.warnings import hidden  # noqa: E402
 from shared.program import Tally, program_of, run  # noqa: E402
 
 DRIVERS = ROOT / "tests" / "tools" / "recorder_drivers"
 EXAMPLES = ROOT / "examples"
 EXPLAIN = str(ROOT / "tools" / "explain")
 DEBIAN_PYTHON = "/usr/bin/python3"
-LANGUAGES = ["py", "mjs", "rs", "c", "el"]
+LANGUAGES = {"py": "python", "mjs": "javascript", "rs": "rust", "c": "c", "el": "emacs-lisp"}
 TYPED = ["rs", "c"]  # languages in which some wrong calls can't be written
 sys.path.insert(0, str(ROOT / "recorders"))
 
@@ -40,14 +41,12 @@ received 0 2 1 -> ok
 read 0 b a -> ok 3
 """
 CYCLE_REPORT = {
-    "inserts": 3, "k": 3, "operations": 5, "replicas": 3, "strong": False, "verdict": "refused", "weak": True,
+    "inserts": 3, "k": 3, "operations": 5, "replicas": 3, "strong": False, "verdict": "refused", "weak": True, "warnings": [],
     "steps": [{"from": "x", "response": ["x", "b"], "shown": "2.1", "to": "b"},
               {"from": "b", "response": ["b", "a"], "shown": "0.3", "to": "a"},
               {"from": "a", "response": ["a", "x"], "shown": "1.1", "to": "x"}]}
 
 NAME = "is not 1 to 32 of A-Z a-z 0-9 _ - ."
-ADVICE = "; write - for @ and for a comma, and a letter before it, as e1-a"
-ADVISING = ["py", "mjs"]  # languages in which a name with one of the two is refused with this advice
 LETTERS32 = "abcdefghijklmnopqrstuvwxyz_-.019"
 UUID, UUID_DIGITS = "123e4567-e89b-12d3-a456-426614174000", "123e4567e89b12d3a456426614174000"
 ALMOST_UUIDS = ["123e4567-e89b-12d3-a456-42661417400g", "123e4567e-89b-12d3-a456-426614174000", "123e4567_e89b_12d3_a456_426614174000"]
@@ -93,18 +92,78 @@ SAID = [
     ("numbers that names have", f"new 1 -> ok\ninsert 0 long1 0 -> ok 1\nread 0 {LETTERS32}x -> ok 2\n"
      f"read 0 long2 -> refused name \"long2\" is short for the id \"{LETTERS32}x\" already\nread 0 longer -> ok 3\n",
      ["0 ins long1 0 :", "0 read : long2", "0 read : longer"]),
-    ("a refused call keeps no number", f"new 1 -> ok\nread 0 {LETTERS32}x a,b -> refused name \"a,b\" {NAME}\nid_of long1 -> none\n"
-     f"read 0 long1 {LETTERS32}y a,b -> refused name \"a,b\" {NAME}\nread 0 {LETTERS32}z {UUID} -> ok 1\n"
+    ("a refused call keeps no number", f"new 1 -> ok\nread 0 {LETTERS32}x a:b -> refused name \"a:b\" {NAME}\nid_of long1 -> none\n"
+     f"read 0 long1 {LETTERS32}y a:b -> refused name \"a:b\" {NAME}\nread 0 {LETTERS32}z {UUID} -> ok 1\n"
      f"id_of long1 -> ok {LETTERS32}z\n", [f"0 read : long1 {UUID_DIGITS}"]),
     ("one replica's log numbers no ids", f"new 3 1 -> ok\nread 1 {UUID} -> ok 1\n"
      f"read 1 {LETTERS32}x -> refused {ONE_NUMBER.format(LETTERS32 + 'x')}\nread 1 {UUID.upper()} -> ok 2\n",
      [f"1 read : {UUID_DIGITS}", f"1 read : {UUID_DIGITS.upper()}"]),
+    ("an id with a sign that no name has", "new 2 -> ok\ninsert 0 2@alice 0 2@alice -> ok 1\ninsert 1 b,0@c.d 0 2@alice b,0@c.d -> ok 1\n"
+     "delete 1 2@alice b,0@c.d -> ok 2\nview 0 @ -> ok 2\nid_of e2-alice -> ok 2@alice\nid_of b-0-c.d -> ok b,0@c.d\nid_of - -> ok @\n"
+     "id_of 2@alice -> none\n",
+     ["0 ins e2-alice 0 : e2-alice", "1 ins b-0-c.d 0 : e2-alice b-0-c.d", "1 del e2-alice : b-0-c.d", "0 view : -"]),
+    ("two ids that come to one name", "new 1 -> ok\nread 0 a@b a,b -> ok 1\nread 0 a,b a@b -> ok 2\nid_of long2 -> ok a,b\n",
+     ["0 read : a-b long2", "0 read : long2 a-b"]),
+    ("an id whose translation is another's name", "new 1 -> ok\ninsert 0 e2-alice 0 -> ok 1\nread 0 2@alice e2-alice -> ok 2\n"
+     "id_of long1 -> ok 2@alice\nid_of e2-alice -> none\n", ["0 ins e2-alice 0 :", "0 read : long1 e2-alice"]),
+    ("a name that a translated id has", "new 1 -> ok\ninsert 0 2@alice 0 2@alice -> ok 1\n"
+     'read 0 e2-alice -> refused name "e2-alice" is short for the id "2@alice" already\nread 0 2@alice -> ok 2\n',
+     ["0 ins e2-alice 0 : e2-alice", "0 read : e2-alice"]),
+    ("an id that is too long when it is translated", f"new 1 -> ok\ninsert 0 1{LETTERS32[:30]}@ 0 {LETTERS32[:31]}@ -> ok 1\n"
+     f"id_of long1 -> ok 1{LETTERS32[:30]}@\n", [f"0 ins long1 0 : {LETTERS32[:31]}-"]),
+    ("long ids behind a translated one", f"new 1 -> ok\nread 0 a@b {LETTERS32}x -> ok 1\n", ["0 read : a-b long2"]),
+    ("a refused call keeps no translation", f"new 1 -> ok\nread 0 a@b a:b -> refused name \"a:b\" {NAME}\nid_of a-b -> none\n"
+     f"read 0 c-d a:b -> refused name \"a:b\" {NAME}\nread 0 a-b c@d -> ok 1\nid_of c-d -> ok c@d\n", ["0 read : a-b c-d"]),
+    ("one replica's log translates, and numbers nothing", "new 3 1 -> ok\nread 1 2@alice -> ok 1\n"
+     f"read 1 2,alice -> refused {ONE_NUMBER.format('2,alice')}\nread 1 2@bob -> ok 2\n", ["1 read : e2-alice", "1 read : e2-bob"]),
+]
+
+# By now everything has arrived everywhere. Between two replicas' lists stands a `/`.
+NOT_DELIVERED = "refused delivered wants the list of each of the {} replicas, not of {}"
+DELIVERED = [
+    ("what is missing", "new 3 -> ok\ninsert 0 a 0 a -> ok 1\ninsert 1 b 0 b -> ok 1\nreceived 0 1 1 -> ok\n"
+     "delivered b a / b a / b a -> ok\nlines -> ok 11\nread 2 b a -> ok 2\n",
+     ["0 ins a 0 : a", "1 ins b 0 : b", "0 recv 1 1", "0 read : b a", "1 recv 0 1", "1 read : b a", "2 recv 0 1", "2 recv 1 1",
+      "2 read : b a", "2 read : b a"]),
+    ("what came by another", "new 3 -> ok\ninsert 2 a 0 a -> ok 1\nreceived 1 2 1 -> ok\ninsert 1 b 1 a b -> ok 1\n"
+     "delivered a b / a b / a b -> ok\n",
+     ["2 ins a 0 : a", "1 recv 2 1", "1 ins b 1 : a b", "0 recv 1 1", "0 read : a b", "1 read : a b", "2 recv 1 1", "2 read : a b"]),
+    ("the last change of each, deletes too", "new 2 -> ok\ninsert 0 a 0 a -> ok 1\nreceived 1 0 1 -> ok\ndelete 0 a -> ok 2\n"
+     "insert 0 b 0 b -> ok 3\ndelete 1 a -> ok 1\ndelivered b / b -> ok\n",
+     ["0 ins a 0 : a", "1 recv 0 1", "0 del a :", "0 ins b 0 : b", "1 del a :", "0 recv 1 1", "0 read : b", "1 recv 0 3", "1 read : b"]),
+    ("reads and views need not arrive", "new 2 -> ok\ninsert 0 a 0 a -> ok 1\nreceived 1 0 1 -> ok\nread 0 a -> ok 2\nview 0 a -> ok 3\n"
+     "delivered a / a -> ok\n", ["0 ins a 0 : a", "1 recv 0 1", "0 read : a", "0 view : a", "0 read : a", "1 read : a"]),
+    ("nothing was changed", "new 2 -> ok\nread 1 -> ok 1\ndelivered / -> ok\ndelivered / -> ok\n",
+     ["1 read :", "0 read :", "1 read :", "0 read :", "1 read :"]),
+    ("one replica", "new 1 -> ok\ninsert 0 a 0 a -> ok 1\ndelivered a -> ok\n", ["0 ins a 0 : a", "0 read : a"]),
+    ("wrong lists are for the judge", "new 2 -> ok\ninsert 0 a 0 a -> ok 1\ndelivered a / -> ok\nclock 1 -> ok 1 0\n",
+     ["0 ins a 0 : a", "0 read : a", "1 recv 0 1", "1 read :"]),
+    ("too few lists, and too many", "new 3 -> ok\ninsert 0 a 0 a -> ok 1\n"
+     f"delivered a -> {NOT_DELIVERED.format(3, 1)}\ndelivered a / a -> {NOT_DELIVERED.format(3, 2)}\n"
+     f"delivered a / a / a / a -> {NOT_DELIVERED.format(3, 4)}\nlines -> ok 3\n", ["0 ins a 0 : a"]),
+    ("a list with what is no name", "new 2 -> ok\ninsert 0 a 0 a -> ok 1\n"
+     f"delivered {LETTERS32}x c@d / a:b -> refused name \"a:b\" {NAME}\nlines -> ok 3\nid_of long1 -> none\nid_of c-d -> none\nclock 1 -> ok 0 0\nread 0 {LETTERS32}y c-d -> ok 2\n"
+     f"id_of long1 -> ok {LETTERS32}y\nreceived 1 0 3 -> refused 0.3 cannot have arrived: replica 0 has 2 operations so far\n"
+     "delivered / -> ok\n", ["0 ins a 0 : a", "0 read : long1 c-d", "0 read :", "1 recv 0 1", "1 read :"]),
+    ("one replica's log", "new 2 1 -> ok\ninsert 1 a 0 a -> ok 1\n"
+     "delivered a / a -> refused one replica's log can't say that everything has arrived: the others are recorded elsewhere\nlines -> ok 3\n", ["1 ins a 0 : a"]),
+]
+
+NO_NOTE = "refused a note is one line of 1 to 200 printable characters"
+NOTES = [
+    ("notes", f"new 1 -> ok\nnote seed%2017 -> ok\nnote %20 -> ok\nnote {'%C3%A4' * 200} -> ok\nnote %F0%9F%98%80 -> ok\n"
+     "read 0 -> ok 1\nlines -> ok 3\n", ["0 read :"]),
+    ("no notes", f"new 1 -> ok\nlines -> ok 2\nnote (empty) -> {NO_NOTE}\nnote {'%C3%A4' * 201} -> {NO_NOTE}\n" + "".join(
+        f"note seed{letter} -> {NO_NOTE}\n" for letter in ["%01", "%0D", "%1B", "%7F", "%C2%85", "%E2%80%A8", "%E2%80%AE", "%E2%81%A6"]), []),
+    ("one note more than there may be", "new 1 -> ok\n" + "note again -> ok\n" * 20 + "note again -> refused a recording has 20 notes, "
+     "the most that it takes\nnote (empty) -> " + NO_NOTE + "\n", []),
+    ("a note in one replica's log", "new 2 0 -> ok\nnote seed%2017 -> ok\n", []),
 ]
 
 # Receipts by vector clocks, which count the inserts and deletes of each replica. Behind the author stands how many changes are carried.
 CLOCKED = ["py", "mjs", "rs", "c", "el"]
 UNCAUSAL = ("uncausal not causal: {0} was applied at replica {1} before {2}, which replica {3} had seen; "
-            "{2} has to arrive first, or in the same update")
+            "{2} has to arrive first, or in the same update, or the call for its update is missing")
 MORE_CHANGES = "; if the update carried more than one change, say how many (`changes`)"
 CLOCKS = [
     ("a right session", "new 3 -> ok\nclock 0 -> ok 0 0 0\nread 2 -> ok 1\ninsert 2 a 0 a -> ok 2\nclock 2 -> ok 0 0 1\n"
@@ -173,7 +232,7 @@ CHANGES = [
     ("a paste, whose inserts have one id", "new 2 -> ok\nas p insert 0 a 0 a -> ok 1\nas p insert 0 b 1 a b -> ok 2\n"
      'as p insert 1 c 0 c -> refused the id "p" is that of 0.1 already\nreceived_changes 1 p -> ok\n',
      ["0 ins a 0 : a", "0 ins b 1 : a b", "1 recv 0 2"]),
-    ("a refused call gives no id", 'new 2 -> ok\nas x insert 0 a 0 a,b -> refused name "a,b" ' + NAME + "\n"
+    ("a refused call gives no id", 'new 2 -> ok\nas x insert 0 a 0 a:b -> refused name "a:b" ' + NAME + "\n"
      'received_changes 1 x -> refused no change with the id "x" has been recorded\nas x insert 1 a 0 a -> ok 1\n', ["1 ins a 0 : a"]),
     ("one replica's log", "new 2 1 -> ok\nas x insert 1 a 0 a -> ok 1\nreceived_changes 1 x -> refused "
      "one replica's log does not know the changes of the others: send each operation's number, and call received\n", ["1 ins a 0 : a"]),
@@ -195,7 +254,7 @@ REFUSED = [
     ("an own operation that is not there", "new 2 -> ok\n"
      "received 0 0 5 -> refused replica 0 receives no operation of its own\n"),
     ("a view at replica 2 of 2, a name that is none in one, and then none",
-     f"new 2 -> ok\nview 2 -> refused no replica 2 among 0 to 1\nview 0 a,b -> refused name \"a,b\" {NAME}\n"),
+     f"new 2 -> ok\nview 2 -> refused no replica 2 among 0 to 1\nview 0 a:b -> refused name \"a:b\" {NAME}\n"),
     ("a view in another's log", "new 3 1 -> ok\nview 0 -> refused this log is of replica 1 alone, not of 0\n"),
     ("another replica in one's log",
      "new 3 1 -> ok\nread 0 -> refused this log is of replica 1 alone, not of 0\n"
@@ -205,8 +264,8 @@ REFUSED = [
 ] + [
     (f"the name {word!r}", f'new 1 -> ok\ninsert 0 {word} 0 b -> refused name "{unquote(shown)}" {NAME}\n'
      f'delete 0 {word} -> refused name "{unquote(shown)}" {NAME}\nread 0 b {word} -> refused name "{unquote(shown)}" {NAME}\n')
-    for word, shown in [("(empty)", ""), ("a,b", "a,b"), ("a@1", "a@1"), ("a%20b", "a b"), ("a:1", "a:1"), ("%C3%A4", "ä"),
-                        ("a%0D", "a\r"), (LETTERS32[:31] + "@", LETTERS32[:31] + "@")]
+    for word, shown in [("(empty)", ""), ("a%20b", "a b"), ("a:1", "a:1"), ("%C3%A4", "ä"), ("a%0D", "a\r"), ("a,%20@", "a, @"),
+                        ("2@%C3%A4", "2@ä"), ("2@alice%0D", "2@alice\r")]
 ]
 
 # The same, where a typed language can't say the call.
@@ -221,11 +280,37 @@ REFUSED_UNTYPED = [
 WRONG_COUNTS = [("0", "replicas are 1 to 16, not 0"), ("17", "replicas are 1 to 16, not 17"),
                 ("2\t2", "no replica 2 among 0 to 1")]
 
-# Calls with values of other types, numbered in the drivers: what the answers begin with.
-OTHER_TYPES = ["replicas are 1 to 16, not ", "replicas are 1 to 16, not ", "no replica ", "no replica ", "position 0.5 is not",
-               "position 0 is not", "a name is a string, not 7", "a name is a string, not 7", *["a response is a list of names"] * 3]
-OTHER_UPDATES = [*["a clock has a count for each of 2 replicas"] * 2, "count 1 of a clock is not a whole number",
-                 *["an update carries a list or a set of ids"] * 2, *["an id of a change is a string"] * 2]
+# Calls with values of other types, numbered in the drivers: what is answered, with a language's own words for the values.
+REPLICAS, REPLICA, POSITION = ("{} is not a whole number from {} but ".format(*what) for what in (
+    ("number of replicas", "1 to 16"), ("replica", "0 to 1"), ("position", "0 to 4294967295")))
+OTHER_TYPES = [REPLICAS + 'the string "2"', REPLICAS + "{true}", REPLICA + "{float}", REPLICA + "{none}", POSITION + "{half}",
+               POSITION + 'the string "0"', *["a name is a string, not the number 7"] * 2, *["a response is a list of names"] * 3]
+OTHER_UPDATES = [*["a clock has a count for each of 2 replicas"] * 2,
+                 'count of a clock is not a whole number from 0 to 4294967295 but the string "1"',
+                 *["an update carries a list or a set of ids"] * 2, "an id of a change is {id}, not {list}",
+                 "an id of a change is {id}, not {object}"]
+VALUES = {
+    "py": {"true": "the bool True", "float": "the float 1.0", "none": "None", "half": "the float 0.5",
+           "id": "a string, a number or a tuple of these", "list": "a value of type list", "object": "a value of type dict"},
+    "mjs": {"true": "the boolean true", "float": "the number 0.5", "none": "undefined", "half": "the number 0.5",
+            "id": "a string or a number", "list": "an array", "object": "an object"},
+    "el": {"true": "the symbol t", "float": "the float 1.0", "none": "nil", "half": "the float 0.5"}}
+OWN_TYPES = {
+    "py": [POSITION + "the float nan", POSITION + "a value of type list", "a name is a string, not a value of type bytes",
+           'operation number is not a whole number from 1 to 4294967295 but the string "1"',
+           "number of changes is not a whole number from 1 to 1 but None", "delivered wants the list of each of the 2 replicas, not None",
+           'delivered wants the list of each of the 2 replicas, not the string "ab"', "no replica 2 among 0 to 1",
+           "delivered wants the list of each of the 2 replicas, not of 1", "a response is a list of names", NO_NOTE.partition(" ")[2],
+           REPLICA + 'the string "' + "1" * 40 + '"..'],
+    "mjs": [REPLICA + "a Symbol", POSITION + "the BigInt 2", "a name is a string, not a Symbol", "a name is a string, not the BigInt 3",
+            "a name is a string, not undefined", "a name is a string, not undefined", POSITION + "null", POSITION + "the number NaN",
+            POSITION + "an array", POSITION + "an object", POSITION + "a function",
+            'operation number is not a whole number from 1 to 4294967295 but the string "1"',
+            "number of changes is not a whole number from 1 to 1 but null", "delivered wants the list of each of the 2 replicas, not null",
+            'delivered wants the list of each of the 2 replicas, not the string "ab"', "no replica 2 among 0 to 1",
+            "delivered wants the list of each of the 2 replicas, not of 1", "a response is a list of names", NO_NOTE.partition(" ")[2],
+            REPLICA + 'the string "' + "1" * 40 + '"..', "an id of a change is a string or a number, not a Symbol",
+            'name "a b" ' + NAME, "count of a clock is not a whole number from 0 to 4294967295 but undefined"]}
 
 ELEMENTS = [f"e{i}" for i in range(4097)]
 FULL = "the most that a trace takes"
@@ -299,12 +384,13 @@ def check_table(tally: Tally, recorder: Recorder) -> None:
     cases = [(name, script, lines) for name, script, lines in SAID]
     cases += [(f"clocks, {name}", *rest) for name, *rest in CLOCKS if recorder.language in CLOCKED]
     cases += [(f"ids of changes, {name}", *rest) for name, *rest in CHANGES if recorder.language in WITH_IDS]
+    cases += [(f"delivered, {name}", *rest) for name, *rest in DELIVERED] + [(f"notes, {name}", *rest) for name, *rest in NOTES]
     cases += [(name, script, None) for name, script in REFUSED]
     if recorder.language not in TYPED:
         cases += [(name, script, None) for name, script in REFUSED_UNTYPED]
     calls, wanted = [], {}
     for name, script, lines in cases:
-        pairs = [advised(recorder.language, line).split(" -> ") for line in script.split("\n")[:-1]]
+        pairs = [line.split(" -> ") for line in script.split("\n")[:-1]]
         if lines is None:
             lines = [said for call, reply in pairs for said in line_of(call, reply)]
         replicas = script.split("\n")[0].split(" ")[1]
@@ -340,11 +426,6 @@ def check_ids(tally: Tally, recorder: Recorder) -> str:
     return "".join(line[2:] + "\n" for line in got if line.startswith("| "))
 
 
-def advised(language: str, line: str) -> str:
-    """A line of a table with the advice behind a refused name, in the languages that give it."""
-    return line + ADVICE if language in ADVISING and line.endswith(NAME) and re.search('refused name "[^"]*[@,]', line) else line
-
-
 def line_of(call: str, reply: str) -> list:
     """The line of a call before a refused one: in those tables these are empty reads and receipts."""
     words = call.split(" ")
@@ -356,10 +437,11 @@ def line_of(call: str, reply: str) -> list:
 def check_other_types(tally: Tally, recorder: Recorder) -> None:
     """Calls that can't be written in a typed language."""
     wanted = OTHER_TYPES + (OTHER_UPDATES if recorder.language in WITH_IDS else [])
+    wanted = [said.format(**VALUES[recorder.language]) for said in wanted] + OWN_TYPES.get(recorder.language, [])
     got = recorder.answers([f"untyped\t{number}" for number in range(len(wanted))])
     tally.check(f"{recorder.language}: calls with other types", len(got) == len(wanted), got)
-    for answer, begin in zip(got, wanted):
-        tally.check(f"{recorder.language}: {begin}", answer.startswith(f"refused {begin}"), answer)
+    for number, (answer, said) in enumerate(zip(got, wanted)):
+        tally.check(f"{recorder.language}: untyped {number}, {said}", answer == f"refused {said}", answer)
 
 
 def check_counts(tally: Tally, recorder: Recorder) -> None:
@@ -402,6 +484,19 @@ def check_full_updates(tally: Tally, recorder: Recorder) -> None:
                 got[-3:] == ["| 1 ins a 0 :", "| 2 ins b 0 :", "ok"], got[16384:16387] + got[-3:])
 
 
+def check_full_delivery(tally: Tally, recorder: Recorder) -> None:
+    """Where there is room for the receipts, but not for a read, nothing is written."""
+    calls = ["new 2", "read 0", *["read 1"] * 16383, "insert 0 a 0 a", "delivered a / a", "lines", "received 1 0 2", "delivered a / a",
+             "lines"]
+    got = recorder.answers([fields(call) for call in calls])
+    full = f"full replica 1 has 16384 entries, {FULL}"
+    tally.check(f"{recorder.language}: delivered at the limit", got[16386:] == [full, "ok 16387", "ok", full, "ok 16388"], got[16386:])
+    long = f"full a response of 4097 names, {FULL} is 4096"
+    calls = ["new 2", f"delivered / {' '.join(ELEMENTS)}", "lines", "read 0"]
+    got = recorder.answers([fields(call) for call in calls])
+    tally.check(f"{recorder.language}: delivered, a long list", got[1:] == [long, "ok 2", "ok 1"], got)
+
+
 def check_limits_are_the_programs(tally: Tally, program: str, texts: dict) -> None:
     """The program reads each text at a limit, and refuses the line that the recorder refused."""
     for name, _, _, _, _, line, why in LIMITS:
@@ -434,7 +529,7 @@ def check_lines(tally: Tally, recorder: Recorder, folder: Path) -> None:
     """Beside what is saved stands how many lines it has, also where another recorder saved before, so that the tool warns of what was
     cut, and of nothing else. It is written first. A pipe or a device has no such file, and where there can't be one save fails."""
     from domepeeler import Recording
-    place = folder / f"lines of {recorder.language}"
+    place, own = folder / f"lines of {recorder.language}", LANGUAGES[recorder.language]
     place.mkdir()
     trace = place / "cycle.trace"
     calls = [fields(line.split(" -> ")[0]) for line in CYCLE.split("\n")[:-1]]
@@ -443,25 +538,25 @@ def check_lines(tally: Tally, recorder: Recorder, folder: Path) -> None:
         return by.answers([*calls, f"save\t{named}"])[-1]
 
     def beside(path: Path) -> str:
-        """The first line of the file beside it; in a language whose recorder knows no places there is no other."""
+        """The first line of the file beside it, and the language that the second one names; what else is there is not looked at."""
         side = Path(f"{path}.lines")
-        text = side.read_text() if side.is_file() else "none"
-        return text.split("\n")[0] + "\n" if recorder.language in PLACING and "\n" in text else text
+        lines = side.read_text().split("\n") if side.is_file() else ["none"]
+        return " ".join(lines[:1] + [line.removeprefix("language ") for line in lines[1:2]])
 
     def warned() -> list:
         said = subprocess.run([EXPLAIN, trace], capture_output=True, text=True, env=recorder.surroundings).stdout
         return [line.strip() for line in said.partition("\nWhat this verdict may hide\n")[2].splitlines()] if said else ["nothing is said"]
 
     Recording(1).save(trace)
-    tally.check(f"{recorder.language}: another recorder's number of lines", beside(trace) == "2\n", beside(trace))
-    tally.check(f"{recorder.language}: the number of lines", saved(trace) == "ok" and beside(trace) == "11\n", beside(trace))
+    tally.check(f"{recorder.language}: another recorder's number of lines", beside(trace) == "2 python", beside(trace))
+    tally.check(f"{recorder.language}: the number of lines", saved(trace) == "ok" and beside(trace) == f"11 {own}", beside(trace))
     tally.check(f"{recorder.language}: no warning of a whole trace", warned() == [], warned())
     trace.write_bytes(b"".join(trace.read_bytes().splitlines(True)[:-1]))
     wanted = f"the trace may have been cut at a line's end: it has 10 lines, and by {trace}.lines it was saved with 11"
     tally.check(f"{recorder.language}: a warning of one that was cut", wanted in warned(), warned())
     spaced = place / "two words.trace"
     got = saved(spaced.as_uri() if recorder.language == "mjs" else spaced)  # JavaScript takes URLs too
-    tally.check(f"{recorder.language}: a path with a space", got == "ok" and beside(spaced) == "11\n", (got, beside(spaced)))
+    tally.check(f"{recorder.language}: a path with a space", got == "ok" and beside(spaced) == f"11 {own}", (got, beside(spaced)))
     pipe, device = place / "pipe", place / "device"
     os.mkfifo(pipe)
     reading = os.open(pipe, os.O_RDONLY | os.O_NONBLOCK)
@@ -481,11 +576,11 @@ def check_lines(tally: Tally, recorder: Recorder, folder: Path) -> None:
     got = saved(full, Recorder(recorder.language, [*NO_ROOM, *recorder.words], recorder.surroundings["DOMEPEELER"]),
                 ["new\t1", *["read\t0"] * 100])
     tally.check(f"{recorder.language}: the number comes first", got.startswith(("failed ", "ended with -")) and full.is_file()
-                and full.stat().st_size == 512 and beside(full) == "102\n", (got, beside(full)))
+                and full.stat().st_size == 512 and beside(full) == f"102 {own}", (got, beside(full)))
     if recorder.language in PLACING:
         got = saved(full, Recorder(recorder.language, [*NO_ROOM, *recorder.words], recorder.surroundings["DOMEPEELER"]),
                     ["new\t1", *["read\t0"] * 40])
-        tally.check(f"{recorder.language}: the places come last", got.startswith("failed ") and beside(full) == "42\n"
+        tally.check(f"{recorder.language}: the places come last", got.startswith("failed ") and beside(full) == f"42 {own}"
                     and full.read_bytes() == b"trace 1\nreplicas 1\n" + b"0 read :\n" * 40, (got, beside(full)))
 
 
@@ -506,8 +601,9 @@ def check_places(tally: Tally, recorder: Recorder, folder: Path) -> None:
     for place, path in (ROOT, str(driver.relative_to(ROOT))), (folder, str(driver)):
         given = "".join(call + "\n" for call in [*calls, f"save\t{trace}"]).encode()
         subprocess.run(recorder.words, input=given, cwd=place, env=recorder.surroundings, stdout=subprocess.DEVNULL, check=True)
-        head, *lines = Path(f"{trace}.lines").read_text().splitlines()
-        tally.check(f"{recorder.language}: a place for each line", head == str(len(kinds) + 2) and len(lines) == len(kinds) and
+        head, language, *lines = Path(f"{trace}.lines").read_text().splitlines()
+        tally.check(f"{recorder.language}: a place for each line", head == str(len(kinds) + 2) and
+                    language == f"language {LANGUAGES[recorder.language]}" and len(lines) == len(kinds) and
                     [line.split(" ")[0] for line in lines] == [str(number) for number in range(3, len(kinds) + 3)], lines)
         for kind, line in zip(kinds, lines):
             found = re.fullmatch(rf"\d+ {re.escape(path)}:(\d+)((?:, called from {re.escape(path)}:\d+){{0,2}})", line)
@@ -630,7 +726,10 @@ recording.at()
 recording.read(0, ["a", "b"])  # in no log
 recording.save("session.trace")
 print(recording.explain(), end="")
-''', ["line 0 of a file", "line 1.5 of a file", "line True of a file", "a file is a path, not 5", "a file is a path, not b'other.log'"],
+''', ["line 0 of a file is not a whole number from 1 to 4294967295",
+         "line of a file is not a whole number from 1 to 4294967295 but the float 1.5",
+         "line of a file is not a whole number from 1 to 4294967295 but the bool True",
+         "a file is a path, not the number 5", "a file is a path, not a value of type bytes"],
                   sys.executable),
     "reader.mjs": (f'''import {{ pathToFileURL }} from "node:url"
 import {{ Recording, Refused }} from "{(ROOT / 'recorders').as_uri()}/domepeeler.mjs"
@@ -657,8 +756,10 @@ recording.at()
 recording.read(0, ["a", "b"]) // in no log
 await recording.save("session.trace")
 process.stdout.write(await recording.explain())
-''', ["line 0 of a file", "line 1.5 of a file", "line true of a file", "a file is a path or a URL, not 5",
-         "a file is a path or a URL, not {}"], "node"),
+''', ["line 0 of a file is not a whole number from 1 to 4294967295",
+         "line of a file is not a whole number from 1 to 4294967295 but the number 1.5",
+         "line of a file is not a whole number from 1 to 4294967295 but the boolean true",
+         "a file is a path or a URL, not the number 5", "a file is a path or a URL, not an object"], "node"),
 }
 # Programs with a long id, `long1`, that the explanation does not name; and how each is run.
 LONG_NAMES = {
@@ -696,6 +797,43 @@ fn main() {{
 }}
 ''', ["./long1"]),
 }
+# Programs that record several entries in one line, of which all are named; and how each is run.
+GROUPED = {
+    "grouped.py": (f'''import sys
+sys.path.insert(0, "{ROOT / 'recorders'}")
+from domepeeler import Recording
+recording = Recording(2)
+for at, name in enumerate(["a", "b", "c"]):
+    recording.insert(0, name, at, ["a", "b", "c"][:at + 1])
+recording.received(1, 0, 3)
+recording.read(1, [])
+recording.note("seed 17")
+print(recording.explain(), end="")
+''', [sys.executable, "grouped.py"], "grouped.py:6", "grouped.py:7", "grouped.py:8"),
+    "grouped.mjs": (f'''import {{ Recording }} from "{(ROOT / 'recorders').as_uri()}/domepeeler.mjs"
+const recording = new Recording(2)
+for (const [at, name] of ["a", "b", "c"].entries()) {{
+  recording.insert(0, name, at, ["a", "b", "c"].slice(0, at + 1))
+}}
+recording.received(1, 0, 3)
+recording.read(1, [])
+recording.note("seed 17")
+process.stdout.write(await recording.explain())
+''', ["node", "grouped.mjs"], "grouped.mjs:4", "grouped.mjs:6", "grouped.mjs:7"),
+    "grouped.rs": (f'''#[path = "{ROOT / 'recorders'}/domepeeler.rs"]
+mod domepeeler;
+fn main() {{
+    let mut recording = domepeeler::Recording::new(2).unwrap();
+    for (at, name) in ["a", "b", "c"].iter().enumerate() {{
+        recording.insert(0, name, at as u32, &["a", "b", "c"][..=at]).unwrap();
+    }}
+    recording.received(1, 0, 3).unwrap();
+    recording.read(1, &[] as &[&str]).unwrap();
+    recording.note("seed 17").unwrap();
+    print!("{{}}", recording.explain().unwrap());
+}}
+''', ["./grouped"], "grouped.rs:6", "grouped.rs:8", "grouped.rs:9"),
+}
 HANDING_ON = {"lib/site-packages/other.py": "from another import hand\n\n\ndef call(act, *words):\n    return act(*words)\n",
               "lib/dist-packages/another.py": "def hand(act, *words):\n    return act(*words)\n",
               "node_modules/other/package.json": '{"name": "other", "type": "module", "main": "index.mjs"}\n',
@@ -715,21 +853,111 @@ def check_users(tally: Tally, program: str, folder: Path) -> None:
                     "LC_ALL": "C.UTF-8"}
     for name in "long1.py", "long1.mjs", "long1.rs":
         done = subprocess.run(LONG_NAMES[name][1], cwd=place, capture_output=True, text=True, env=surroundings)
-        tally.check(f"{name}: a place is no name of an id", "In your code\n" in done.stdout and f": {name}:" in done.stdout and
+        tally.check(f"{name}: a place is no name of an id", "In your code\n" in done.stdout and f"\n  {name}:" in done.stdout and
                     "too long" not in done.stdout, done)
     for name, words in ("editor.py", [sys.executable]), ("editor.mjs", ["node"]), ("editor.rs", []):
         done = subprocess.run([*words, f"tests/{name}"] if words else ["./editor"], cwd=place, capture_output=True, text=True,
                               env=surroundings)
         for saved, path in ("session.trace.lines", ""), ("whole.trace.lines", f"{place}/"):
-            wanted = "".join(line + "\n" for line in ["5", *(line.format(place=path) for line in USERS[name][1])])
+            language = f"language {LANGUAGES[name.split('.')[1]]}"
+            wanted = "".join(line + "\n" for line in ["5", language, *(line.format(place=path) for line in USERS[name][1])])
             got = Path(place, saved).read_text() if Path(place, saved).is_file() else done
             tally.check(f"{name}: places in {saved}", got == wanted, got)
         told = subprocess.run([EXPLAIN, "session.trace"], cwd=place, capture_output=True, text=True, env=surroundings)
         tally.check(f"{name}: explains as the tool explains the file", done.stdout == told.stdout and
                     told.stdout.endswith("\n\nIn your code\n" + "".join(
-                        f"  line {line.format(place='')}\n".replace(" tests", ": tests", 1) for line in USERS[name][1])), (done, told))
+                        "  {1}: line {0}\n".format(*line.format(place="").split(" ", 1)) for line in USERS[name][1])), (done, told))
         for left in place.glob("*.trace*"):
             left.unlink()
+
+
+def check_grouped(tally: Tally, program: str, folder: Path) -> None:
+    """Lines that were recorded at one place are told there together; the notes come last."""
+    place = folder / "grouped"
+    place.mkdir()
+    surroundings = {**os.environ, "DOMEPEELER": program, "DOMEPEELER_EXPLAIN": EXPLAIN, "LC_ALL": "C.UTF-8"}
+    for name, (text, words, *places) in GROUPED.items():
+        Path(place, name).write_text(text)
+        if name.endswith(".rs"):
+            subprocess.run(["rustc", "--edition", "2021", "-o", "grouped", name], cwd=place, check=True)
+        done = subprocess.run(words, cwd=place, capture_output=True, text=True, env=surroundings)
+        told = [f"  {one}: {lines}\n" for one, lines in zip(places, ["lines 3, 4 and 5", "line 6", "line 7"])]
+        tally.check(f"{name}: one place for several lines", done.stdout.startswith("contents 1.1: ") and
+                    done.stdout.endswith(f"\n\nIn your code\n{''.join(told)}\nNoted\n  seed 17\n"), done)
+
+
+# Programs that stop before the entry in line 6, each by the statement of its language as the tool writes it; what is printed there; and
+# how each is compiled and run.
+STOPPING = {
+    "stopping.py": (f'''import sys
+sys.path.insert(0, "{ROOT / 'recorders'}")
+from domepeeler import Recording
+recording = Recording(1)
+for at in range(6):
+    if recording.lines() == 5: breakpoint()
+    print(recording.read(0, []))
+''', "", [], [sys.executable, "stopping.py"]),
+    "stopping.mjs": (f'''import {{ Session }} from "node:inspector"
+import {{ Recording }} from "{(ROOT / 'recorders').as_uri()}/domepeeler.mjs"
+const session = new Session()
+session.connect()
+session.on("Debugger.paused", () => console.log("here"))
+session.post("Debugger.enable")
+const recording = new Recording(1)
+for (let at = 0; at < 6; at++) {{
+  if (recording.lines() === 5) debugger
+  console.log(recording.read(0, []))
+}}
+''', "here", [], ["node", "stopping.mjs"]),
+    "stopping.rs": (f'''#[path = "{ROOT / 'recorders'}/domepeeler.rs"]
+mod domepeeler;
+fn main() {{
+    let mut recording = domepeeler::Recording::new(1).unwrap();
+    for _ in 0..6 {{
+        if recording.lines() == 5 {{ eprintln!("here") }}
+        println!("{{}}", recording.read(0, &[] as &[&str]).unwrap());
+    }}
+}}
+''', "here", ["rustc", "--edition", "2021", "-o", "stopping_rs", "stopping.rs"], ["./stopping_rs"]),
+    "stopping.c": (f'''#include "{ROOT / 'recorders'}/domepeeler.h"
+#include <signal.h>
+#include <unistd.h>
+static void stopped(int number) {{
+    (void)number;
+    if (write(1, "here\\n", 5) < 0) _exit(1);
+}}
+int main(void) {{
+    struct domepeeler *recording = domepeeler_new(1);
+    signal(SIGTRAP, stopped);
+    for (int at = 0; at < 6; at++) {{
+        if (domepeeler_lines(recording) == 5) raise(SIGTRAP);
+        printf("%u\\n", (unsigned)domepeeler_read(recording, 0, NULL, 0));
+        fflush(stdout);
+    }}
+    domepeeler_free(recording);
+}}
+''', "here", ["gcc", "-o", "stopping_c", "stopping.c"], ["./stopping_c"]),
+    "stopping.el": (f'''(load "{ROOT / 'recorders'}/domepeeler.el" nil t)
+(fset 'debug (lambda (&rest _) (princ "here\\n")))
+(let ((recording (domepeeler-new 1)))
+  (dotimes (_ 6)
+    (when (= (domepeeler-lines recording) 5) (debug))
+    (princ (format "%d\\n" (domepeeler-read recording 0 nil)))))
+''', "here", [], ["emacs", "-Q", "--batch", "-l", "stopping.el"]),
+}
+
+
+def check_stopping(tally: Tally, folder: Path) -> None:
+    """The statement for a debugger stops once, before the entry of its line is recorded."""
+    place = folder / "stopping"
+    place.mkdir()
+    for name, (text, stop, compiling, words) in STOPPING.items():
+        Path(place, name).write_text(text)
+        if compiling:
+            subprocess.run(compiling, cwd=place, check=True)
+        done = subprocess.run(words, cwd=place, stdout=subprocess.PIPE, stderr=subprocess.STDOUT, text=True,
+                              env={**os.environ, "PYTHONBREAKPOINT": "builtins.print"})
+        tally.check(f"{name}: stops before line 6", done.stdout == f"1\n2\n3\n{stop}\n4\n5\n6\n", done)
 
 
 def check_log_readers(tally: Tally, program: str, folder: Path) -> None:
@@ -741,15 +969,16 @@ def check_log_readers(tally: Tally, program: str, folder: Path) -> None:
         Path(place, name).write_text(text)
         done = subprocess.run([by, name], cwd=place, capture_output=True, text=True, env=surroundings)
         *told, said = done.stdout.split("\n", len(refused))
-        wanted = [words + " is not a whole number from 1 to 4294967295" if words.startswith("line ") else words for words in refused]
-        tally.check(f"{name}: what is refused", told == wanted, done)
+        tally.check(f"{name}: what is refused", told == refused, done)
         saved = Path(place, "session.trace.lines").read_text()
         entries = [f"{line} deep/journal:{at}" for line, at in enumerate([7, 9, 11, 11, 12, 13], 3)]
         by_code = 1 + text[:text.index("in no log")].count("\n")
-        tally.check(f"{name}: the lines of the log", saved == "\n".join(["9", "log", *entries, f"9 {name}:{by_code}", ""]), saved)
+        language = f"language {LANGUAGES[name.split('.')[1]]}"
+        tally.check(f"{name}: the lines of the log", saved == "\n".join(["9", language, "log", *entries, f"9 {name}:{by_code}", ""]), saved)
         told = subprocess.run([EXPLAIN, "session.trace"], cwd=place, capture_output=True, text=True, env=surroundings)
         tally.check(f"{name}: explains as the tool explains the file", said == told.stdout, (done, told))
-        section = "".join(f"  line {entry.replace(' ', ': ')}\n" for entry in entries)
+        section = "".join(f"  deep/journal:{at}: {lines}\n" for at, lines in (
+            (7, "line 3"), (9, "line 4"), (11, "lines 5 and 6"), (12, "line 7"), (13, "line 8")))
         tally.check(f"{name}: names the lines of the log", said.endswith(f"\n\nIn your log\n{section}"), said)
         tally.check(f"{name}: no debugger of this program", "\n  stop before line 7, where replica 1 applies 0.1; " in said and
                     " The editor then writes deep/journal:12.\n" in said and "breakpoint" not in said, said)
@@ -788,10 +1017,10 @@ def check_frames(tally: Tally, folder: Path) -> None:
     Path(folder, "own_modules.mjs").write_text(OWN_MODULES)
     subprocess.run(["node", "--no-warnings", "--experimental-vm-modules", "own_modules.mjs"], cwd=folder, check=True)
     beside = Path(folder, "own_modules.trace.lines").read_text()
-    tally.check("mjs: modules that a test runner loads", beside == "3\n3 own_modules.mjs:13\n", beside)
+    tally.check("mjs: modules that a test runner loads", beside == "3\nlanguage javascript\n3 own_modules.mjs:13\n", beside)
     Path(folder, "many.mjs").write_text(MANY_STACKS)
     subprocess.run(["node", "many.mjs"], cwd=folder, check=True)
-    wanted = "2502\n" + "".join(f"{line} many.mjs:3, called from many.mjs:4\n" for line in range(3, 2503))
+    wanted = "2502\nlanguage javascript\n" + "".join(f"{line} many.mjs:3, called from many.mjs:4\n" for line in range(3, 2503))
     tally.check("mjs: many calls", Path(folder, "many.trace.lines").read_text() == wanted)
 
     class Thing:
@@ -806,6 +1035,104 @@ def check_frames(tally: Tally, folder: Path) -> None:
     tally.check("py: keeps no frame of its callers", act()() is None)
 
 
+NOTHING = "nothing was recorded: the trace has no entry, so the verdict says nothing of an editor"
+NEVER_HEARS = ("replica {} never hears of {}: no receipt brings it an insert or a delete from there, so nothing shows what it makes of these. "
+               "At the end of a session let everyone receive everything, and read")
+LOST_ONE = "If everything was delivered, it was lost or is still held back"
+LOST_SOME = "If everything was delivered, they were lost or are still held back"
+OF_NOTHING = ("line {0}, 0.{1}: replica 0 deleted {2}, which no line inserts, so no response shows whether it was deleted: is that its "
+              "name, and was its insert recorded?")
+PAST_END = "line {0}, 0.{1}: replica 0 inserted {2} at position {3} of a list of {4}, so at its end: is that the position that was asked for?"
+
+# Calls of accepted recordings, and what the verdict on each may hide.
+WARNED = [
+    ("nothing", ["new 2"], [NOTHING]),
+    ("a whole session", ["new 2", "insert 0 a 0 a", "insert 1 b 0 b", "received 0 1 1", "received 1 0 1", "read 0 b a", "read 1 b a"],
+     []),
+    ("everything delivered", ["new 3", "insert 0 a 0 a", "insert 1 b 0 b", "delivered b a / b a / b a"], []),
+    ("a change that is held back", ["new 2", "insert 0 a 0 a", "received 1 0 1", "insert 0 b 1 a b", "read 1 a"],
+     [f"in the end replicas 0 and 1 show different lists: 0.2 (line 5) never arrived at replica 1 by this recording. {LOST_ONE}"]),
+    ("more of them than are told", ["new 2", "insert 0 a 0 a", "received 1 0 1", "insert 0 b 0 b a", "insert 0 c 0 c b a",
+                                    "delete 0 c b a", "delete 0 b a", "read 1 a"],
+     [f"by this recording 0.2 (line 5), 0.3 (line 6), 0.4 (line 7) and 1 more never arrived at replica 1. {LOST_SOME}"]),
+    ("three replicas, two alike", ["new 3", "insert 1 a 0 a", "received 0 1 1", "received 2 1 1", "read 0 a", "insert 1 b 1 a b",
+                                   "read 2 a"],
+     ["in the end replicas 0, 1 and 2 show different lists (0 and 2 the same one): 1.2 (line 7) never arrived at replica 0 and 1.2 (line 7) "
+      f"never arrived at replica 2 by this recording. {LOST_SOME}"]),
+    ("one that both deleted", ["new 2", "insert 0 a 0 a", "received 1 0 1", "delete 0 a", "delete 1 a", "received 0 1 1", "read 0",
+                               "read 1"],
+     [f"by this recording 0.2 (line 5) never arrived at replica 1. {LOST_ONE}"]),
+    ("a replica that hears of none", ["new 2", "insert 0 a 0 a", "received 1 0 1", "insert 1 b 1 a b", "read 0 a"],
+     ["in the end replicas 0 and 1 show different lists", NEVER_HEARS.format(0, "replica 1")]),
+    ("replicas that it never hears of", ["new 3", "insert 0 a 0 a", "insert 1 b 0 b", "read 2", "received 0 1 1", "received 1 0 1",
+                                         "read 0 b a", "read 1 b a"],
+     ["in the end replicas 0, 1 and 2 show different lists (0 and 1 the same one)", NEVER_HEARS.format(2, "replicas 0 and 1")]),
+    ("no list at the end", ["new 2", "insert 0 a 0 a", "insert 1 b 0 b", "received 0 1 1", "read 0 b a", "received 1 0 1", "view 1 a"],
+     ["in the end replicas 0 and 1 show different lists"]),
+    ("nothing shown of what came last", ["new 2", "insert 0 a 0 a", "read 1", "received 1 0 1", "received 1 0 1"],
+     ["in the end replicas 0 and 1 show different lists",
+      "replica 1 received 0.1 (line 5) last, and nothing shows what it made of that: let each replica read at the end"]),
+    ("nothing shown of several", ["new 2", "insert 0 a 0 a", "insert 0 b 0 b a", "insert 0 c 0 c b a", "insert 0 d 0 d c b a",
+                                  "insert 0 e 0 e d c b a", "view 1", *(f"received 1 0 {n}" for n in range(1, 6))],
+     ["replica 1 received 0.1 (line 9), 0.2 (line 10), 0.3 (line 11) and 2 more last, and nothing shows what it made of them: let each "
+      "replica read at the end"]),
+    ("receipts alone, and no entry", ["new 3", "insert 0 a 0 a", "received 1 0 1"],
+     ["replica 1 has receipts, but no operation: nothing that it showed is judged",
+      "replica 2 has no entry: nothing that it showed is judged"]),
+    ("deletes of what nothing inserts", ["new 1", *(f"delete 0 {one}" for one in "uvwxyz")],
+     [*(OF_NOTHING.format(n + 2, n, one) for n, one in enumerate("uvwxy", 1)), "and 1 more delete of what no line inserts"]),
+    ("positions past the end", ["new 1", "insert 0 a 5 a", "insert 0 b 1 a b", *(f"insert 0 {one} 9 {'a b c d e f g'[:2 * at + 5]}"
+                                                                             for at, one in enumerate("cdefg"))],
+     [PAST_END.format(3, 1, "a", 5, 0), *(PAST_END.format(n + 2, n, one, 9, n - 1) for n, one in enumerate("cdef", 3)),
+      "and 1 more insert past the end of a list"]),
+]
+
+
+def check_warnings(tally: Tally, recorder: Recorder) -> None:
+    """What an accepted verdict may hide: the same words in all languages, and the tools' words of the same text. In languages that know
+    places in code, the nearest one stands behind each line in brackets. The report has these warnings, but where it accepts nothing."""
+    source = (DRIVERS / f"driver.{recorder.language}").read_text().splitlines()
+    for name, script, wanted in WARNED:
+        got = recorder.answers([*map(fields, script), "text", "warnings", "judge"])
+        end = got.index("ok", len(script))
+        text = "".join(line[2:] + "\n" for line in got[len(script):end])
+        told = [line[2:] for line in got[end + 1:-2]]
+        report = json.loads(got[-1][7:]) if got[-1].startswith("report {") else {}
+        tally.check(f"{recorder.language}: judge warns, {name}", report.get("verdict") == "accepted" and report.get("warnings") == told, got)
+        placed = [place for line in told for place in re.findall(r"\(line \d+([^()]*)\)", line)]
+        if recorder.language in PLACING:
+            found = [re.fullmatch(rf", [^,()]*driver\.{recorder.language}:(\d+)", place) for place in placed]
+            tally.check(f"{recorder.language}: warnings have places, {name}", all(
+                one and "recording." in source[int(one[1]) - 1] for one in found), told)
+            told = [re.sub(rf", [^,()]*driver\.{recorder.language}:\d+\)", ")", line) for line in told]
+        tally.check(f"{recorder.language}: warnings, {name}", told == wanted and got[-2] == "ok", (told, wanted))
+        ends, others = hidden(text.encode())
+        tally.check(f"{recorder.language}: the tools' warnings, {name}", told == ends + others, (told, text))
+    got = recorder.answers(["new\t1", "insert\t0\ta\t0", "insert\t0\ta\t0", "judge"])[-1]
+    report = json.loads(got[7:]) if got.startswith("report {") else {"verdict": got}
+    tally.check(f"{recorder.language}: no warnings of what is not accepted", report["verdict"] == "doubled" and report.get("warnings") == [],
+                got)
+    got = recorder.answers(["new\t3\t1", "warnings"])[-1]
+    tally.check(f"{recorder.language}: warnings of one log", got == f"refused {ONE_LOG}", got)
+
+
+def check_notes(tally: Tally, recorder: Recorder, folder: Path) -> None:
+    """The language and the notes stand beside the trace, in their order; the tool is told the language; and the words end with the notes."""
+    trace, notes = folder / f"noted.{recorder.language}.trace", ["seed 17", "two ä words", "language x", "seed 17"]
+    calls = ["new 2", "note seed%2017", "insert 0 a 0 a", "note two%20%C3%A4%20words", "note language%20x", "note seed%2017", f"save {trace}"]
+    teller = folder / "teller"
+    teller.write_text("#!/bin/sh\ncat > /dev/null\necho \"asked: $*\"\n")
+    teller.chmod(0o755)
+    got = recorder.answers([*map(fields, calls), "explain", "new\t1", "explain"], DOMEPEELER_EXPLAIN=str(teller))
+    beside = Path(f"{trace}.lines").read_text().splitlines()
+    head = ["3", f"language {LANGUAGES[recorder.language]}", *(f"note {note}" for note in notes)]
+    tally.check(f"{recorder.language}: notes beside the trace", beside[:6] == head and
+                len(beside) == 6 + (recorder.language in PLACING), beside)
+    asked = f"| asked: --language {LANGUAGES[recorder.language]} -"
+    tally.check(f"{recorder.language}: explain ends with the notes, and names the language", got[len(calls):] == [
+        asked, "| ", "| Noted", *(f"|   {note}" for note in notes), "ok", "ok", asked, "ok"], got)
+
+
 def check_judge(tally: Tally, recorder: Recorder, folder: Path) -> None:
     """The report of the cycle, and what is said where there is no report."""
     calls = [fields(line.split(" -> ")[0]) for line in CYCLE.split("\n")[:-1]]
@@ -813,7 +1140,8 @@ def check_judge(tally: Tally, recorder: Recorder, folder: Path) -> None:
     report = json.loads(got[len("report "):]) if got.startswith("report {") else got
     tally.check(f"{recorder.language}: judge", report == CYCLE_REPORT, got)
     got = recorder.answers(["new\t1", "judge"])[-1]
-    wanted = {"inserts": 0, "operations": 0, "order": [], "replicas": 1, "strong": True, "verdict": "accepted", "weak": True}
+    wanted = {"inserts": 0, "operations": 0, "order": [], "replicas": 1, "strong": True, "verdict": "accepted", "weak": True,
+              "warnings": [NOTHING]}
     tally.check(f"{recorder.language}: judge of nothing", got[:8] == "report {" and json.loads(got[7:]) == wanted, got)
     got = recorder.answers(["new\t3\t1", "judge"])[-1]
     tally.check(f"{recorder.language}: judge of one log", got.split(" ", 1)[1:] == [ONE_LOG], got)
@@ -823,7 +1151,7 @@ def check_judge(tally: Tally, recorder: Recorder, folder: Path) -> None:
     got = recorder.answers(["new\t1", "judge"], DOMEPEELER=str(faulty))
     wanted = f"failed {faulty} ended with status 2: finder: line 3: shape"
     tally.check(f"{recorder.language}: judge by a program that fails", got == ["ok", wanted], got)
-    for absent, why in [(str(folder / "nowhere"), "cannot be run"), ("/bin/false", "ended with status 1: ")]:
+    for absent, why in [(str(folder / "nowhere"), "cannot be run"), ("/bin/false", "ended with status 1 and printed no report")]:
         got = recorder.answers(["new\t1", "judge"], DOMEPEELER=absent)
         tally.check(f"{recorder.language}: judge by {absent}", got[1:] and got[1].startswith(f"failed {absent} {why}"), got)
     got = recorder.answers(["new\t1", "judge"], DOMEPEELER="", PATH=f"{folder / 'path'}:{os.environ['PATH']}")
@@ -841,12 +1169,13 @@ def check_explain(tally: Tally, recorder: Recorder, folder: Path) -> None:
         got = recorder.answers([*made, "text", "explain"], DOMEPEELER_EXPLAIN=EXPLAIN)
         at = next(at for at, line in enumerate(got) if line == "ok" and got[at - 1].startswith("| "))
         text = "".join(line[2:] + "\n" for line in got[:at] if line.startswith("| "))
-        told = subprocess.run([EXPLAIN, "-"], input=text, capture_output=True, text=True, env=recorder.surroundings).stdout
+        told = subprocess.run([EXPLAIN, "--language", LANGUAGES[recorder.language], "-"], input=text, capture_output=True, text=True,
+                              env=recorder.surroundings).stdout
         said = "".join(line[2:] + "\n" for line in got[at + 1:-1])
         tally.check(f"{recorder.language}: explain {name}", told and said == told + more and got[-1] == "ok", got)
     got = recorder.answers(["new\t3\t1", "explain"], DOMEPEELER_EXPLAIN=EXPLAIN)[-1]
     tally.check(f"{recorder.language}: explain one log", got.split(" ", 1)[1:] == [ONE_LOG], got)
-    for absent, why in (str(folder / "nowhere"), "cannot be run"), ("/bin/false", "ended with status 1: "):
+    for absent, why in (str(folder / "nowhere"), "cannot be run"), ("/bin/false", "ended with status 1 and printed no words"):
         got = recorder.answers(["new\t1", "explain"], DOMEPEELER_EXPLAIN=absent)[-1]
         is_named = why.startswith("ended") or got.endswith(": name the tool's path in DOMEPEELER_EXPLAIN")
         tally.check(f"{recorder.language}: explain by {absent}", got.startswith(f"failed {absent} {why}") and is_named, got)
@@ -1042,8 +1371,8 @@ def check_merged_elsewhere(tally: Tally, program: str, folder: Path) -> None:
     got = Path(f"{trace}.lines").read_text()
     tally.check("merge.py: other folders, and a log of many lines", (done.returncode, done.stderr) == (0, "") and got == wanted, (done, got))
     said = subprocess.run([sys.executable, ROOT / "tools/explain", trace, "--program", program], capture_output=True, text=True).stdout
-    tally.check("merge.py: explain names the lines of the code, and no debugger's statement", "  line 5: code1.py:3\n" in said and
-                "In a debugger\n" in said and "splitlines" not in said, said)
+    tally.check("merge.py: explain names the lines of the code, and no debugger's statement", "  code1.py:3: line 5\n" in said and
+                "In a debugger\n" in said and "breakpoint" not in said, said)
     (machines[1] / "a.log").write_text("".join((machines[1] / "a.log").read_text().splitlines(True)[:-1]))
     done = subprocess.run(tool, capture_output=True, text=True)
     warned = CUT.format(machines[1] / "a.log", 3, 4)
@@ -1121,7 +1450,7 @@ def check_guide(tally: Tally, program: str, folder: Path) -> None:
     for trace, wanted in judged:
         got = run(program, ["verdict", "-"], trace.encode() + b"\n")
         tally.check(f"guide: {trace}", got.out.decode().split("\n")[1:2] == [wanted.rstrip("\n")], got)
-    stops = re.findall(r"^  stop before line (\d+), where .*: (if len\(recording\..*)$", explained.stdout, re.MULTILINE) or [("0", "")]
+    stops = re.findall(r"^  stop before line (\d+), where .*: (if recording\.lines\(.*)$", explained.stdout, re.MULTILINE) or [("0", "")]
     surroundings["PYTHONBREAKPOINT"] = "builtins.print"
     reads = [line for number in range(3, 9) for line in [stops[0][1], f"print({number}, recording.read(0, []))"]]
     stopped = ended("stopped.py", "\n".join(["from domepeeler import Recording", "recording = Recording(1)", *reads]))
@@ -1199,6 +1528,9 @@ def main() -> None:
                 check_other_types(tally, recorder)
             ids[language] = check_ids(tally, recorder)
             tally.check(f"{language}: names of ids", ids[language] == ids["py"], ids)
+            check_warnings(tally, recorder)
+            check_notes(tally, recorder, folder)
+            check_full_delivery(tally, recorder)
             texts[language] = check_limits(tally, recorder)
             tally.check(f"{language}: texts at the limits", texts[language] == texts["py"])
             if language in CLOCKED:
@@ -1211,6 +1543,8 @@ def main() -> None:
             if language in EXPLAINING:
                 check_explain(tally, recorder, folder)
         check_users(tally, program, folder)
+        check_grouped(tally, program, folder)
+        check_stopping(tally, folder)
         check_log_readers(tally, program, folder)
         check_frames(tally, folder)
         check_limits_are_the_programs(tally, program, texts["py"])

@@ -22,7 +22,36 @@ const UNTYPED = [
   () => new Recording(2).receivedChanges(0, 7),
   () => new Recording(2).receivedChanges(0, [["ab"]]),
   () => new Recording(2).delete(0, "a", [], {}),
+  () => new Recording(2).read(Symbol("0"), []),
+  () => new Recording(2).insert(0, "a", 2n, []),
+  () => new Recording(2).insert(0, Symbol("a"), 0, []),
+  () => new Recording(2).read(0, [3n]),
+  () => new Recording(2).read(0, ["a", , "b"]),
+  () => new Recording(2).read(0, Array(3)),
+  () => new Recording(2).insert(0, "a", null, []),
+  () => new Recording(2).insert(0, "a", NaN, []),
+  () => new Recording(2).insert(0, "a", [0], []),
+  () => new Recording(2).insert(0, "a", {}, []),
+  () => new Recording(2).insert(0, "a", () => 0, []),
+  () => new Recording(2).received(0, 1, "1"),
+  () => changed().receivedClock(0, 1, [0, 1], null),
+  () => new Recording(2).delivered(null),
+  () => new Recording(2).delivered("ab"),
+  () => new Recording(2).delivered({ 0: [], 2: [] }),
+  () => new Recording(2).delivered(new Map([[1, []]])),
+  () => new Recording(2).delivered([[], 7]),
+  () => new Recording(2).note(7),
+  () => new Recording(2).read("1".repeat(41), []),
+  () => new Recording(2).delete(0, "a", [], Symbol("x")),
+  () => new Recording(2).read(0, ["a b"]),
+  () => changed().receivedClock(0, 1, [, 1]),
 ]
+
+function changed() {
+  const recording = new Recording(2)
+  recording.insert(1, "a", 0, ["a"])
+  return recording
+}
 
 let recording
 
@@ -53,6 +82,18 @@ async function call(words, changeId = null) {
       return "ok"
     case "clock":
       return `ok ${recording.clock(number).join(" ")}`
+    case "delivered":
+      recording.delivered(listsOf(words.slice(1)))
+      return "ok"
+    case "lines":
+      return `ok ${recording.lines()}`
+    case "note":
+      recording.note(words[1])
+      return "ok"
+    case "warnings":
+      return shown(await recording.warnings())
+    case "explain":
+      return shown((await recording.explain()).split("\n").slice(0, -1))
     case "id_of":
       return recording.ids().has(words[1]) ? `ok ${recording.ids().get(words[1])}` : "none"
     case "save":
@@ -63,8 +104,20 @@ async function call(words, changeId = null) {
     case "untyped":
       return UNTYPED[number]()
     default:
-      return recording.text().replace(/.+\n/g, "| $&") + "ok"
+      return shown(recording.text().split("\n").slice(0, -1))
   }
+}
+
+const shown = (lines) => lines.map((line) => `| ${line}\n`).join("") + "ok"
+
+// Lists of names, between which stands a word `/`.
+function listsOf(words) {
+  const lists = [[]]
+  for (const word of words) {
+    if (word === "/") lists.push([])
+    else lists.at(-1).push(word)
+  }
+  return lists
 }
 
 for (const line of readFileSync(0, "utf8").split("\n").slice(0, -1)) {

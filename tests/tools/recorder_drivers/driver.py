@@ -26,13 +26,31 @@ UNTYPED = [
     lambda: Recording(2).received_changes(0, 7),
     lambda: Recording(2).received_changes(0, [["ab"]]),
     lambda: Recording(2).delete(0, "a", [], {}),
+    lambda: Recording(2).insert(0, "a", float("nan"), []),
+    lambda: Recording(2).insert(0, "a", [1], []),
+    lambda: Recording(2).read(0, [b"a"]),
+    lambda: Recording(2).received(0, 1, "1"),
+    lambda: changed().received_clock(0, 1, [0, 1], None),
+    lambda: Recording(2).delivered(None),
+    lambda: Recording(2).delivered("ab"),
+    lambda: Recording(2).delivered({0: [], 2: []}),
+    lambda: Recording(2).delivered({1: []}),
+    lambda: Recording(2).delivered([[], 7]),
+    lambda: Recording(2).note(7),
+    lambda: Recording(2).read("1" * 41, []),
 ]
+
+
+def changed() -> Recording:
+    recording = Recording(2)
+    recording.insert(1, "a", 0, ["a"])
+    return recording
 
 
 def call(recording: Recording, words: list, change_id: str = None) -> str:
     if words[0] == "as":
         return call(recording, words[2:], words[1])
-    kind, number = words[0], int(words[1]) if words[1:] and words[0] not in ("save", "id_of") else 0
+    kind, number = words[0], int(words[1]) if words[1:] and words[0] not in ("save", "id_of", "note", "delivered") else 0
     if kind == "insert":
         return f"ok {recording.insert(number, words[2], int(words[3]), words[4:], change_id)}"
     if kind == "delete":
@@ -52,6 +70,18 @@ def call(recording: Recording, words: list, change_id: str = None) -> str:
         return "ok"
     if kind == "clock":
         return "ok " + " ".join(map(str, recording.clock(number)))
+    if kind == "delivered":
+        recording.delivered(lists_of(words[1:]))
+        return "ok"
+    if kind == "lines":
+        return f"ok {recording.lines()}"
+    if kind == "note":
+        recording.note(words[1])
+        return "ok"
+    if kind == "warnings":
+        return shown(recording.warnings())
+    if kind == "explain":
+        return shown(recording.explain().split("\n")[:-1])
     if kind == "id_of":
         return f"ok {recording.ids()[words[1]]}" if words[1] in recording.ids() else "none"
     if kind == "save":
@@ -59,7 +89,22 @@ def call(recording: Recording, words: list, change_id: str = None) -> str:
         return "ok"
     if kind == "judge":
         return "report " + json.dumps(recording.judge())
-    return "".join(f"| {line}\n" for line in recording.text().splitlines()) + "ok"
+    return shown(recording.text().splitlines())
+
+
+def shown(lines: list) -> str:
+    return "".join(f"| {line}\n" for line in lines) + "ok"
+
+
+def lists_of(words: list) -> list:
+    """Lists of names, between which stands a word `/`."""
+    lists = [[]]
+    for word in words:
+        if word == "/":
+            lists.append([])
+        else:
+            lists[-1].append(word)
+    return lists
 
 
 def answer(act) -> str:
