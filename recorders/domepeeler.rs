@@ -1,6 +1,7 @@
 //! Records what the replicas of a list editor do and answer, and has Domepeeler judge it.
 //!
-//! Copy this file into your project and write `mod domepeeler;`, or depend on the crate in recorders/rust, which is made of it.
+//! Copy this file into your project and write `mod domepeeler;`, or depend on the crate in recorders/rust, which is made of it. For an
+//! integration test copy it to tests/domepeeler/mod.rs: as tests/domepeeler.rs it would be a test of its own, without tests.
 //! It needs the standard library alone. docs/recording.md says where the calls go.
 //!
 //! ```ignore
@@ -11,14 +12,19 @@
 //! recording.read(0, &["a"])?;                   // replica 0 read its list
 //! recording.view(0, &["a"])?;                   // replica 0 showed this part of its list
 //! recording.delivered(&[["a"], ["a"]])?;        // by now all has arrived everywhere, and these are the lists
+//! recording.assert_accepted();                  // in a test: asks the program, and panics with an explanation; or
 //! recording.save("session.trace")?;             // the trace as a file, for tools/explain
-//! println!("{}", recording.judge().unwrap());   // asks the program: its report as JSON, with warnings
+//! println!("{}", recording.verdict().unwrap()); // asks the program: what it says, as an enum
+//! println!("{}", recording.judge().unwrap());   // its report as JSON, with warnings
 //! println!("{}", recording.explain().unwrap()); // what that means, in words
 //! ```
 //!
 //! Where updates have vector clocks, `received_clock` writes the receipts, and refuses what is not causal.
 //!
 //! Each call that a trace can't say is `Refused`, and leaves the recording as it was.
+//!
+//! An explanation names the line of code that made each call. Where a function of yours makes the calls for others, put
+//! `#[track_caller]` before it, and it names theirs.
 #![allow(dead_code)]
 
 use std::collections::{BTreeSet, HashMap, HashSet};
@@ -30,7 +36,7 @@ use std::panic::Location;
 use std::path::{Path, PathBuf};
 use std::process::{Command, Output, Stdio};
 use std::sync::atomic::{AtomicUsize, Ordering};
-use std::sync::Arc;
+use std::sync::{Arc, Mutex};
 
 const MOST_REPLICAS: usize = 16;
 const MOST_ENTRIES: usize = 16384;
@@ -43,6 +49,7 @@ const HEAD_LINES: usize = 2; // of a trace, before its entries
 const LANGUAGE: &str = "rust"; // by its name for the explainer
 const WARNINGS: &str = "\nWhat this verdict may hide\n"; // a title in the explainer's words
 const ONE_LOG: &str = "one replica's log is no recording: merge the logs first";
+const FAILED_TRACES: &str = "failed_traces"; // the folder of traces that were not accepted in tests
 const MOST_NOTES: usize = 20;
 const MOST_LETTERS: usize = 200; // of a note
 const MOST_TOLD: usize = 5; // deletes, or inserts, that warnings tell one by one
@@ -151,6 +158,84 @@ impl Display for Refused {
 }
 
 impl std::error::Error for Refused {}
+
+/// An operation's name: its replica, and its number there, from 1.
+pub type Operation = (usize, u32);
+
+/// What the program says of a recording. Its words are those of the report, as `contents 2.1`.
+#[derive(Clone, Debug, PartialEq, Eq)]
+pub enum Verdict {
+    /// One order of all elements follows every response. Here is the first such order, and what that may hide.
+    Accepted { order: Vec<String>, warnings: Vec<String> },
+    /// As many responses as there are steps can't be right together, and any fewer can. With two, the weak list specification fails
+    /// as well as the strong one; with more, it holds.
+    Refused { steps: Vec<Step>, weak: bool },
+    /// The response is not what was visible to the operation.
+    Contents { at: Operation },
+    /// The element does not stand where it was asked for.
+    Position { at: Operation },
+    /// Two operations insert the same name; nothing else is judged.
+    Doubled { first: Operation, again: Operation },
+}
+
+/// An operation whose response shows one element before another. The steps of a refusal lead round a cycle.
+#[derive(Clone, Debug, PartialEq, Eq)]
+pub struct Step {
+    pub from: String,
+    pub to: String,
+    pub shown: Operation,
+    pub response: Vec<String>,
+}
+
+impl Verdict {
+    pub fn is_accepted(&self) -> bool {
+        matches!(self, Verdict::Accepted { .. })
+    }
+
+    /// The verdict of the report as text; of an accepted one without warnings.
+    fn read(report: &str) -> Option<Verdict> {
+        let lines: Vec<&str> = report.lines().collect();
+        let words: Vec<&str> = lines.get(1)?.split(' ').collect();
+        let after = |begin: &str| lines.iter().find_map(|line| line.strip_prefix(begin));
+        let list = |names: &str| names.split_ascii_whitespace().map(str::to_string).collect();
+        match words[..] {
+            ["accepted"] => Some(Verdict::Accepted { order: list(after("order :")?), warnings: vec![] }),
+            ["refused", count] => {
+                let steps = lines.iter().filter_map(|line| line.strip_prefix("step "));
+                let steps: Option<Vec<Step>> = steps.map(Step::read).collect();
+                let steps = steps.filter(|steps| steps.len().to_string() == count)?;
+                Some(Verdict::Refused { steps, weak: after("weak ")? == "yes" })
+            }
+            ["contents", at] => Some(Verdict::Contents { at: operation(at)? }),
+            ["position", at] => Some(Verdict::Position { at: operation(at)? }),
+            ["doubled", first, again] => Some(Verdict::Doubled { first: operation(first)?, again: operation(again)? }),
+            _ => None,
+        }
+    }
+}
+
+impl Step {
+    fn read(line: &str) -> Option<Step> {
+        let (head, names) = line.split_once(" :")?;
+        let response = names.split_ascii_whitespace().map(str::to_string).collect();
+        match head.split(' ').collect::<Vec<&str>>()[..] {
+            [from, to, shown] => Some(Step { from: from.into(), to: to.into(), shown: operation(shown)?, response }),
+            _ => None,
+        }
+    }
+}
+
+impl Display for Verdict {
+    fn fmt(&self, f: &mut fmt::Formatter) -> fmt::Result {
+        match self {
+            Verdict::Accepted { .. } => f.write_str("accepted"),
+            Verdict::Refused { steps, .. } => write!(f, "refused {}", steps.len()),
+            Verdict::Contents { at } => write!(f, "contents {}.{}", at.0, at.1),
+            Verdict::Position { at } => write!(f, "position {}.{}", at.0, at.1),
+            Verdict::Doubled { first, again } => write!(f, "doubled {}.{} {}.{}", first.0, first.1, again.0, again.1),
+        }
+    }
+}
 
 #[derive(Clone)]
 struct Replica {
@@ -398,6 +483,56 @@ impl Recording {
         let told: Vec<String> = warnings.iter().map(|warning| quoted(warning)).collect();
         report.insert_str(end, &format!(",\"warnings\":[{}]", told.join(",")));
         Ok(report)
+    }
+
+    /// The program's verdict on this recording. The program is that of $DOMEPEELER, or `domepeeler`.
+    pub fn verdict(&self) -> Result<Verdict, String> {
+        self.verdict_by(&named("DOMEPEELER", "domepeeler"))
+    }
+
+    /// The verdict of the program at this path.
+    pub fn verdict_by(&self, program: &str) -> Result<Verdict, String> {
+        let done = self.ask(program, &["verdict", "-"], "the program's path in DOMEPEELER")?;
+        let read = Verdict::read(&String::from_utf8_lossy(&done.stdout));
+        let mut verdict = read.ok_or_else(|| ended(program, &done, "no report"))?;
+        if let Verdict::Accepted { warnings, .. } = &mut verdict {
+            *warnings = self.warnings()?;
+        }
+        Ok(verdict)
+    }
+
+    /// For a test: panics unless the program accepts the recording, with the words of `explain`. The trace is then saved below the folder
+    /// `failed_traces`, by the name of the test, and where no tool explains it, the verdict stands in the place of the words. What an
+    /// accepted verdict may hide goes to standard error; but a recording of nothing panics.
+    #[track_caller]
+    pub fn assert_accepted(&self) {
+        let path = failed_trace(Location::caller());
+        match self.verdict() {
+            Err(why) => panic!("{why}"),
+            Ok(Verdict::Accepted { warnings, .. }) if self.callers.is_empty() => panic!("{}", warnings.join("\n")),
+            Ok(Verdict::Accepted { warnings, .. }) => {
+                for warning in warnings {
+                    eprintln!("domepeeler: {warning}");
+                }
+            }
+            Ok(verdict) => {
+                let said = self.explain().unwrap_or_else(|why| format!("{verdict}\n{why}\n"));
+                match self.save_failed(&path) {
+                    Ok(()) => panic!("{said}\nThe trace is saved: {}", path.display()),
+                    Err(why) => panic!("{said}\nThe trace can't be saved: {}: {why}", path.display()),
+                }
+            }
+        }
+    }
+
+    /// Saves the trace in a folder that git does not look into.
+    fn save_failed(&self, path: &Path) -> io::Result<()> {
+        fs::create_dir_all(FAILED_TRACES)?;
+        let ignored = Path::new(FAILED_TRACES).join(".gitignore");
+        if !ignored.exists() {
+            fs::write(ignored, "*\n")?;
+        }
+        self.save(path)
     }
 
     /// What the report means, in words, with the lines of your code, and at the end the ids of the numbered names and the notes. The
@@ -997,6 +1132,38 @@ impl Names {
             }
         }
     }
+}
+
+/// Where a test saves its trace: by the name of the program that runs it and its own, or by the line that asks if it has none. What an
+/// earlier run of the test saved there is removed when it first asks; later in the run it stays, as a property's smallest case may fail
+/// before others pass.
+fn failed_trace(caller: &Location) -> PathBuf {
+    static ASKED: Mutex<Vec<PathBuf>> = Mutex::new(Vec::new());
+    let program = std::env::current_exe().unwrap_or_default();
+    let program = program.file_stem().unwrap_or_default().to_string_lossy();
+    let (name, hash) = program.rsplit_once('-').unwrap_or((&program, ""));
+    let is_hash = hash.len() == 16 && hash.bytes().all(|byte| byte.is_ascii_hexdigit()); // as cargo puts it there
+    let program = if is_hash { name } else { &program };
+    let thread = std::thread::current();
+    let test = thread.name().filter(|name| *name != "main").map(str::to_string);
+    let test = test.unwrap_or_else(|| format!("line {}", caller.line()));
+    let plain = |letter: char| if letter.is_ascii_alphanumeric() || "_-.".contains(letter) { letter } else { '-' };
+    let name: String = format!("{program}-{}", test.replace("::", "-")).chars().map(plain).take(MOST_LETTERS).collect();
+    let path = Path::new(FAILED_TRACES).join(name + ".trace");
+    let mut asked = ASKED.lock().unwrap_or_else(|poisoned| poisoned.into_inner());
+    if !asked.contains(&path) {
+        for old in [path.clone(), path.with_extension("trace.lines")] {
+            let _ = fs::remove_file(old); // most often there is none
+        }
+        asked.push(path.clone());
+    }
+    path
+}
+
+/// The operation of this name, as `2.1`.
+fn operation(name: &str) -> Option<Operation> {
+    let (replica, n) = name.split_once('.')?;
+    Some((replica.parse().ok()?, n.parse().ok()?))
 }
 
 /// A line of code, with the file's path from this folder if it lies below that.
