@@ -5,8 +5,8 @@
 //     export DOMEPEELER=../../crates/finder_cli/out/finder_cli NODE_PATH=/usr/share/nodejs
 //     node --test page.test.mjs
 //
-// With PLANTED=1 the network hands on the newest update first. Yjs keeps back what it can't apply yet, so the pages are alike in
-// the end, and only the recording shows what a writer saw meanwhile. It is saved in page.trace, or in the file of RECORDING.
+// With PLANTED=1 the network hands on the newest update first. Yjs holds back what it can't apply yet, and the recording says that an
+// update has arrived when Yjs has taken it in, so both recordings are accepted. It is saved in page.trace, or in the file of RECORDING.
 import assert from "node:assert"
 import { createRequire } from "node:module"
 import { test } from "node:test"
@@ -38,6 +38,7 @@ test("three writers of one page", async () => {
   pages[1].insert(2, "s") // which makes it: his
   pages[0].insert(0, "t") // at the same time
   arrive(2)
+  arrive(0)
   pages[2].delete(0, 1)
   docs.forEach((_, to) => arrive(to))
 

@@ -1,7 +1,6 @@
 // Records the replicas of a Y.Text or Y.Array while a test uses them as it did before.
 //
-// Copy this file and recorders/domepeeler.mjs into one folder of your project, and write "./domepeeler.mjs" in the import below.
-// It was tried with Yjs 13.5.43; page.test.mjs is a test with it.
+// Copy this file and recorders/domepeeler.mjs into one folder of your project. It was tried with Yjs 13.5.43; page.test.mjs is a test with it.
 //
 //     const recorded = new RecordedDocs(Y, docs, (doc) => doc.getText("page")) // right after the docs are made
 //     recorded.applyUpdate(docs[1], update)        // in the place of Y.applyUpdate
@@ -11,9 +10,10 @@
 //
 // What the user changes at a doc is recorded by itself: each element that is gone as a delete, and then each new one as an
 // insert, from the left. An insert's position is where the element stands afterwards, so no fault of positions is found.
-// It is not for docs whose observers make changes of their own: such a change is recorded before it is sent.
+// It is not for docs whose observers make changes of their own: such a change is recorded before it is sent. An update that Yjs holds back,
+// since what it builds on has not arrived, counts as received when Yjs has put it into the doc.
 // An element's name is its letter (`item` where it is none), its doc's number, `-` and its clock: h0-3.
-import { Recording } from "../../recorders/domepeeler.mjs"
+import { Recording } from "./domepeeler.mjs"
 
 export class RecordedDocs {
   #Y
@@ -21,8 +21,12 @@ export class RecordedDocs {
   #shared
   #replicas // the replica of each client's id
   #shown // what each doc held after its last transaction
-  #sent = new WeakMap() // of an update: who sent it, and the number of the last operation in it, 0 where it has none
+  // Of an update: who sent it; the number of the last operation in it, 0 where it has none; and which clock of each client a doc has that
+  // has taken it in.
+  #sent = new WeakMap()
   #sentBytes = new Map() // the same by the update's bytes, for updates that are copied; null where two have the same ones
+  #isApplying = false
+  #heldBack // of each doc: what was sent of the updates that it got, and has not taken in yet
 
   constructor(Y, docs, shared) {
     this.recording = new Recording(docs.length)
@@ -31,14 +35,17 @@ export class RecordedDocs {
     this.#shared = shared
     this.#replicas = new Map(docs.map((doc, replica) => [doc.clientID, replica]))
     this.#shown = docs.map(() => [])
+    this.#heldBack = docs.map(() => [])
     docs.forEach((doc, replica) => {
       let n = 0
       doc.on("afterTransaction", (transaction) => {
-        n = transaction.local ? this.#changed(replica) : 0
+        const isUsers = transaction.local && !this.#isApplying // Yjs tidies up behind an update, which counts as local
+        if (isUsers) this.#receive(replica)
+        n = isUsers ? this.#changed(replica) : 0
         this.#shown[replica] = this.#names(replica)
       })
       doc.on("update", (update, origin, _, transaction) => {
-        if (transaction.local) this.#send(update, { author: replica, n })
+        if (transaction.local) this.#send(update, { author: replica, n, clocks: clocksOf(transaction, doc.clientID) })
       })
       if (this.#names(replica).length) throw new Error("a doc is not empty: make RecordedDocs right after the docs")
     })
@@ -46,16 +53,22 @@ export class RecordedDocs {
 
   /** Applies an update of one of the docs to another one, and records that its operations have arrived. */
   applyUpdate(doc, update, origin) {
-    const replica = this.#replica(doc), { author, n } = this.#sender(update)
-    this.#Y.applyUpdate(doc, update, origin)
-    if (n && author !== replica) this.recording.received(replica, author, n) // after the remote change was applied
+    const replica = this.#replica(doc), sent = this.#sender(update)
+    this.#isApplying = true
+    try {
+      this.#Y.applyUpdate(doc, update, origin)
+    } finally {
+      this.#isApplying = false
+    }
+    if (sent.n && sent.author !== replica) this.#heldBack[replica].push(sent)
+    this.#receive(replica)
   }
 
   /** The doc's state, or what is new in it. The read that is recorded stands for all that the doc has. */
   encodeStateAsUpdate(doc, vector) {
     const replica = this.#replica(doc), n = this.read(doc)
     const update = this.#Y.encodeStateAsUpdate(doc, vector)
-    this.#send(update, { author: replica, n })
+    this.#send(update, { author: replica, n, clocks: this.#clocks(doc) })
     return update
   }
 
@@ -63,6 +76,22 @@ export class RecordedDocs {
   read(doc) {
     const replica = this.#replica(doc)
     return this.recording.read(replica, this.#names(replica))
+  }
+
+  // Writes the receipts of the updates that the doc has taken in by now: of each author of these the last one's.
+  #receive(replica) {
+    const has = this.#clocks(this.#docs[replica]), last = new Map()
+    this.#heldBack[replica] = this.#heldBack[replica].filter(({ author, n, clocks }) => {
+      const isThere = [...clocks].every(([client, clock]) => (has.get(client) ?? 0) >= clock)
+      if (isThere) last.set(author, Math.max(n, last.get(author) ?? 0))
+      return !isThere
+    })
+    for (const [author, n] of last) this.recording.received(replica, author, n)
+  }
+
+  // How many elements of each client the doc has taken in.
+  #clocks(doc) {
+    return this.#Y.decodeStateVector(this.#Y.encodeStateVector(doc))
   }
 
   #replica(doc) {
@@ -116,4 +145,15 @@ export class RecordedDocs {
     if (sent === null) throw new Error("two docs sent the same bytes: hand on the very Uint8Array that the doc gave")
     return sent
   }
+}
+
+// Which clock of each client a doc has that has taken in what this transaction of a client inserted and deleted.
+function clocksOf(transaction, clientID) {
+  const clocks = new Map()
+  const had = transaction.beforeState.get(clientID) ?? 0, has = transaction.afterState.get(clientID) ?? 0
+  if (has > had) clocks.set(clientID, has)
+  for (const [client, deleted] of transaction.deleteSet.clients) {
+    clocks.set(client, Math.max(clocks.get(client) ?? 0, ...deleted.map(({ clock, len }) => clock + len)))
+  }
+  return clocks
 }

@@ -52,6 +52,33 @@ test("updates that are copied, and one's own", () => {
   assert.throws(() => recorded.applyUpdate(docs[2], Uint8Array.from(updates[1].at(-1))), /two docs sent the same bytes/)
 })
 
+test("what Yjs holds back is received when it has taken it in", () => {
+  const { docs, updates, recorded, lists, lines } = group(2, (doc) => doc.getText("t"))
+  lists[0].insert(0, "a")
+  lists[0].insert(1, "b")
+  lists[0].delete(0, 1)
+  const [first, second, third] = updates[0]
+  recorded.applyUpdate(docs[1], third)
+  recorded.read(docs[1])
+  recorded.applyUpdate(docs[1], second)
+  recorded.read(docs[1])
+  lists[1].insert(0, "z")
+  recorded.applyUpdate(docs[1], first)
+  recorded.read(docs[1])
+  assert.deepEqual(lines(), ["0 ins a0-0 0 : a0-0", "0 ins b0-1 1 : a0-0 b0-1", "0 del a0-0 : b0-1", "1 read :", "1 read :",
+    "1 ins z1-0 0 : z1-0", "1 recv 0 3", "1 read : b0-1 z1-0"])
+})
+
+test("an update that is taken in by another way is received before the next change", () => {
+  const { docs, updates, recorded, lists, lines } = group(2, (doc) => doc.getText("t"))
+  lists[0].insert(0, "a")
+  lists[0].insert(1, "b")
+  recorded.applyUpdate(docs[1], updates[0][1])
+  Y.applyUpdate(docs[1], updates[0][0])
+  lists[1].insert(2, "c")
+  assert.deepEqual(lines(), ["0 ins a0-0 0 : a0-0", "0 ins b0-1 1 : a0-0 b0-1", "1 recv 0 2", "1 ins c1-0 2 : a0-0 b0-1 c1-0"])
+})
+
 test("what can't be recorded is told", () => {
   const { docs, recorded, lists } = group(2, (doc) => doc.getText("t"))
   const other = new Y.Doc()

@@ -13,6 +13,8 @@ class Group {
     this.causal = causal
     this.docs = Array.from({ length: replicas }, () => new Y.Doc())
     this.updates = new Map() // of each operation, by its name; a read has none
+    this.clocks = new Map() // by operation: which clock of each client a doc has that has taken it in
+    this.heldBack = this.docs.map(() => []) // of each replica: operations that came, and that its doc has not taken in yet
     this.docs.forEach((doc, replica) => { doc.clientID = replica + 1 }) // the same order in each run
   }
 
@@ -26,13 +28,17 @@ class Group {
 
   // One change by the user: Yjs answers an update, which goes out under the operation's name.
   change(replica, edit, record) {
-    let update
-    const keep = (bytes) => { update = bytes }
+    let update, clocks
+    const keep = (bytes, origin, doc, transaction) => {
+      update = bytes
+      clocks = clocksOf(transaction, doc.clientID)
+    }
     this.docs[replica].on("update", keep)
     edit(this.list(replica))
     this.docs[replica].off("update", keep)
     const n = record(this.names(replica)) // after the local change
     this.updates.set(`${replica}.${n}`, update)
+    this.clocks.set(`${replica}.${n}`, clocks)
   }
 
   insert(replica, name, position) {
@@ -46,7 +52,8 @@ class Group {
   }
 
   read(replica) {
-    this.recording.read(replica, this.names(replica))
+    const n = this.recording.read(replica, this.names(replica))
+    this.clocks.set(`${replica}.${n}`, clocksIn(this.docs[replica])) // all that the reader had
   }
 
   // Operations of others: one by its update, several by a state sync, which brings all that the other one has.
@@ -56,15 +63,40 @@ class Group {
       const vector = Y.encodeStateVector(this.docs[replica])
       Y.applyUpdate(this.docs[replica], Y.encodeStateAsUpdate(this.docs[other], vector))
     }
-    const last = new Map() // one receipt for the last operation of each author
     for (const operation of operations) {
       const update = this.updates.get(operation)
       if (update && !sync) Y.applyUpdate(this.docs[replica], update)
+      this.heldBack[replica].push(operation)
+    }
+    this.receive(replica)
+  }
+
+  // The receipts of what the doc has taken in by now, one for the last operation of each author: Yjs holds back an update until what it
+  // builds on is there.
+  receive(replica) {
+    const has = clocksIn(this.docs[replica]), last = new Map()
+    this.heldBack[replica] = this.heldBack[replica].filter((operation) => {
+      if ([...this.clocks.get(operation)].some(([client, clock]) => (has.get(client) ?? 0) < clock)) return true
       const [author, n] = operation.split(".").map(Number)
       last.set(author, Math.max(n, last.get(author) ?? 0))
-    }
+      return false
+    })
     for (const [author, n] of last) this.recording.received(replica, author, n) // after the remote change was applied
   }
+}
+
+// How many elements of each client a doc has taken in.
+const clocksIn = (doc) => Y.decodeStateVector(Y.encodeStateVector(doc))
+
+// Which clock of each client a doc has that has taken in what this transaction of a client inserted and deleted.
+function clocksOf(transaction, clientID) {
+  const clocks = new Map()
+  const had = transaction.beforeState.get(clientID) ?? 0, has = transaction.afterState.get(clientID) ?? 0
+  if (has > had) clocks.set(clientID, has)
+  for (const [client, deleted] of transaction.deleteSet.clients) {
+    clocks.set(client, Math.max(clocks.get(client) ?? 0, ...deleted.map(({ clock, len }) => clock + len)))
+  }
+  return clocks
 }
 
 // One line of a plan. What the list must have and has not turns an operation into a read, which shows it.

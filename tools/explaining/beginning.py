@@ -1,28 +1,31 @@
 """The shortest beginning of a trace that is not accepted: with its last line the session went wrong.
 
 Where a beginning is not accepted, no longer one is. So halves are tried, and the program judges each. A refused trace has no other
-fault, and nor has a beginning of it."""
+fault, and nor has a beginning of it. Of a trace with a fault the program names the least operation by replica, which may be one of
+what followed from another; so the beginning is what is explained."""
+from __future__ import annotations
+
 from collections.abc import Callable
 
+from .debuggers import USUAL
 from .evidence import Evidence
-from .recordings import FIRST_ENTRY, Recording
-from .words import explanation, went_wrong_sooner
-
-MOST_HALVED = 4096  # lines of a trace with a fault whose beginnings are judged too
+from .recordings import FIRST_ENTRY
+from .words import explanation
 
 
-def explained(evidence: Evidence, judge: Callable) -> tuple:
-    """The explanation, and what bears on the shortest refused beginning of a refused trace, if there is one. Of a trace with a fault the
-    program names the least operation by replica: where the trace went wrong before, that is said first."""
-    beginning = refused_beginning(evidence, judge)
-    told = explanation(evidence, beginning)
-    lines, last = evidence.recording.lines, max((operation.line for operation in evidence.operations), default=0)
-    if evidence.report["verdict"] in ("contents", "position", "doubled") and len(lines) <= MOST_HALVED:
-        count, report = failing_beginning(evidence, judge) or (last, evidence.report)
-        if count < last:
-            first = went_wrong_sooner(Recording(text_of(lines[:count])).entries[-1], report)
-            told = told._replace(sections=[first, *told.sections])
-    return told, beginning
+def explained(evidence: Evidence, judge: Callable, language: str = USUAL) -> tuple:
+    """The explanation, and what bears on the shortest beginning that is not accepted; that is the evidence itself where all of the trace is
+    needed, or the program has no verdict on some beginning."""
+    told = of_beginning(evidence, judge)
+    return explanation(evidence, told, language), told
+
+
+def of_beginning(evidence: Evidence, judge: Callable) -> Evidence:
+    if evidence.report["verdict"] == "accepted":
+        return evidence
+    count, report = failing_beginning(evidence, judge) or (len(evidence.recording.lines), evidence.report)
+    is_whole = count == len(evidence.recording.lines) or evidence.report["verdict"] == "refused" != report["verdict"]
+    return evidence if is_whole else Evidence(evidence.recording, report, count)
 
 
 def failing_beginning(whole: Evidence, judge: Callable) -> tuple | None:
@@ -42,17 +45,6 @@ def failing_beginning(whole: Evidence, judge: Callable) -> tuple | None:
             failing, report = tried, told
         tried = (accepted + failing) // 2
     return failing, report
-
-
-def refused_beginning(whole: Evidence, judge: Callable) -> Evidence | None:
-    """What bears on the verdict on that beginning; none where the trace is not refused, or all of it is needed, or the program has
-    another verdict on a beginning."""
-    if whole.report["verdict"] != "refused":
-        return None
-    count, report = failing_beginning(whole, judge) or (0, {"verdict": ""})
-    if report["verdict"] != "refused" or count == len(whole.recording.lines):
-        return None
-    return Evidence(Recording(text_of(whole.recording.lines[:count])), report)
 
 
 def text_of(lines: list) -> str:

@@ -1,12 +1,23 @@
-"""What the commands have in common: their version, and how they end where nobody reads on, or nothing can be written."""
+"""What the commands have in common: their version, and how they end where nobody reads on, nothing can be written, something is wrong
+that they don't know, or a user stops them."""
+from __future__ import annotations
+
 import codecs
 import os
 import signal
 import sys
+import traceback
 from argparse import ArgumentParser
-from collections.abc import Callable
+from importlib import import_module
+from typing import NoReturn
 
 VERSION = "0.2.0"  # the program's own
+STATUS, OUT_OF_MEMORY = 2, 3
+STOPS = [signal.SIGTERM, signal.SIGHUP]  # that would leave running what was begun, where they are not caught
+
+
+class Stopped(BaseException):
+    """A signal that stops the command."""
 
 
 def add_version(parser: ArgumentParser, command: str) -> None:
@@ -22,35 +33,63 @@ def name_as_it_can_be(error: UnicodeError) -> tuple:
         return "?" * (error.end - error.start), error.end
 
 
-def run_command(name: str, main: Callable) -> None:
-    """Runs the command of this name. File names on standard output may be any bytes or letters. A reader that has enough is no error to
-    tell of, and nor is a user who stops it."""
+def run_command(name: str, module: str) -> None:
+    """Runs the command of this name, which is the `main` of a module here. A reader that has enough is no error to tell of, and nor is a
+    user who stops it. What nobody has thought of is told, with where it was, and is no verdict."""
     for closed in [name for name in ("stdin", "stderr") if getattr(sys, name) is None]:
         setattr(sys, closed, open(os.devnull, "r" if closed == "stdin" else "w"))
     if sys.stdout is None:
         fail_to_write(name, "standard output is closed")
     codecs.register_error("domepeeler.names", name_as_it_can_be)
-    sys.stdout.reconfigure(errors="domepeeler.names")
+    for stream in sys.stdout, sys.stderr:
+        stream.reconfigure(errors="domepeeler.names")
+    for stop in STOPS:
+        if signal.getsignal(stop) == signal.SIG_DFL:
+            signal.signal(stop, be_stopped)
     try:
         try:
-            main()
+            import_module(f".{module}", __package__).main()
         finally:  # it may end by itself
             sys.stdout.flush()
     except KeyboardInterrupt:  # and so ends the loop of a shell that runs it
-        signal.signal(signal.SIGINT, signal.SIG_DFL)
-        os.kill(os.getpid(), signal.SIGINT)
+        end_by(signal.SIGINT)
+    except Stopped as stopped:
+        end_by(stopped.args[0])
+    except MemoryError:
+        end(name, "out of memory", OUT_OF_MEMORY)
     except OSError as error:
-        if error.filename is not None:
-            raise  # this is nothing that is written
+        if error.filename is not None or isinstance(error, ChildProcessError):
+            unknown(name)  # this is nothing that is written
         os.dup2(os.open(os.devnull, os.O_WRONLY), sys.stdout.fileno())
         fail_to_write(name, "" if isinstance(error, BrokenPipeError) else str(error.strerror))
+    except Exception:
+        unknown(name)
 
 
-def fail_to_write(name: str, why: str) -> None:
-    """Ends the command; says why, if that is to be said and can be."""
+def be_stopped(stop: int, _: object) -> NoReturn:
+    raise Stopped(stop)
+
+
+def end_by(stop: int) -> None:
+    signal.signal(stop, signal.SIG_DFL)
+    os.kill(os.getpid(), stop)
+
+
+def unknown(name: str) -> NoReturn:
+    """Ends the command at an exception that it does not know."""
+    end(name, f"a fault of this tool, so nothing is said of a trace. Please report it with what follows:\n{traceback.format_exc().rstrip()}", STATUS)
+
+
+def end(name: str, why: str, status: int) -> NoReturn:
     try:
-        if why:
-            print(f"{name}: cannot write: {why}", file=sys.stderr)
+        print(f"{name}: {why}", file=sys.stderr)
     except OSError:
         os.dup2(os.open(os.devnull, os.O_WRONLY), sys.stderr.fileno())
-    sys.exit(2)
+    sys.exit(status)
+
+
+def fail_to_write(name: str, why: str) -> NoReturn:
+    """Ends the command; says why, if that is to be said and can be."""
+    if not why:
+        sys.exit(STATUS)
+    end(name, f"cannot write: {why}", STATUS)

@@ -1,9 +1,14 @@
 """What in a recording bears on its verdict: the operations, the elements, and the lines that make them visible.
 
 The verdict is the program's. What is computed here must agree with it; where it doesn't, Unexplained says so."""
-from collections import Counter
+from __future__ import annotations
 
-from .recordings import Operation, Recording, place_asked
+from collections import Counter
+from functools import cached_property
+from typing import NamedTuple
+
+from .recordings import Operation, Receipt, Recording, place_asked
+from .telling import FIRST_STEPS, LAST_STEPS, MOST_STEPS
 
 MOST_ARRIVED = 6  # receipts that are told one by one
 MOST_ELEMENTS = 4  # of a fault of contents, on each side, that are followed through the trace
@@ -13,12 +18,27 @@ class Unexplained(Exception):
     """The program's verdict is not what this reading of the trace finds."""
 
 
+class Arrival(NamedTuple):
+    """An insert of another replica, and the receipt that brings it to the one that shows it."""
+
+    receipt: Receipt
+    insert: Operation
+
+
+class Overtaking(NamedTuple):
+    """A receipt that brings a change along with a later operation, and the one that names the change itself, if there is one."""
+
+    brought: Receipt
+    own: Receipt | None
+
+
 class Evidence:
     """The operations that the verdict names, the elements that it is about, the names to mark in each response, and the
-    numbers of the lines that matter."""
+    numbers of the lines that matter. The report may be that on a beginning of the recording, of so many lines."""
 
-    def __init__(self, recording: Recording, report: dict):
+    def __init__(self, recording: Recording, report: dict, lines: int = 0):
         self.recording, self.report = recording, report
+        self.last_line = lines or len(recording.lines)
         self.operations, self.elements, self.marks, self.lines = [], [], {}, set()
         self.missing, self.surplus, self.repeated = [], [], []
         gather = {"accepted": self._accepted, "refused": self._refused, "doubled": self._doubled,
@@ -26,10 +46,15 @@ class Evidence:
         if report["verdict"] not in gather:
             raise Unexplained(f"it knows no verdict `{report['verdict']}`")
         gather[report["verdict"]]()
-        for operation in self.operations:
+        for operation, elements in self._followed():
             self.lines.add(operation.line)
-            for element in self.elements:
+            for element in elements:
                 self._follow(element, operation)
+        if report["verdict"] in ("refused", "contents"):
+            for arrival, deletes in self.lost_neighbours:
+                brought = [self.recording.arrival(delete, arrival.receipt.replica) for delete in deletes
+                           if delete.replica != arrival.receipt.replica]
+                self.lines.update(entry.line for entry in [arrival.receipt, *deletes, *brought])
 
     def _accepted(self) -> None:
         """The last response of each replica is enough to notice the report of another trace."""
@@ -45,9 +70,6 @@ class Evidence:
                 raise Unexplained(f"{operation.name} does not show {step['from']} before {step['to']}")
             self._name(operation, [step["from"], step["to"]])
             self.elements.append(step["from"])
-        for receipt, _, deletes in self.lost_neighbours():
-            brought = [self.recording.arrival(delete, receipt.replica) for delete in deletes if delete.replica != receipt.replica]
-            self.lines.update(entry.line for entry in deletes + brought)
 
     def _doubled(self) -> None:
         first, again = (self.recording.operation(self.report[key]) for key in ("first", "again"))
@@ -87,6 +109,23 @@ class Evidence:
         self.operations.append(operation)
         self.marks.setdefault(operation.name, []).extend(marks)
 
+    @cached_property
+    def steps(self) -> list:
+        """The steps of a refusal that are told, each with its operation: of a long cycle the first and the last ones."""
+        steps = list(zip(self.report["steps"], self.operations))
+        return steps if len(steps) <= MOST_STEPS else steps[:FIRST_STEPS] + steps[-LAST_STEPS:]
+
+    @property
+    def steps_between(self) -> int:
+        """How many steps of a long cycle are not told."""
+        return self.report["k"] - len(self.steps)
+
+    def _followed(self) -> list:
+        """The operations that are told, each with the elements that are followed to it: of a long cycle those of its step alone."""
+        if self.report["verdict"] == "refused" and self.steps_between:
+            return [(operation, [step["from"], step["to"]]) for step, operation in self.steps]
+        return [(operation, self.elements) for operation in self.operations]
+
     def _follow(self, element: str, operation: Operation) -> None:
         """Notes the lines that insert and delete the element, and those that make this visible to the operation; of wrong
         contents also where that arrived by itself, or too late."""
@@ -98,24 +137,29 @@ class Evidence:
             for receipt in filter(None, receipts):
                 self.lines.update((receipt.line, receipt.seen.line))
 
+    @cached_property
     def arrivals(self) -> list:
-        """Of a refusal the receipts, each with the insert that it brings: of each step's two elements those that others inserted,
-        when they came to the replica that shows them so. Each stands once, in the order of the trace."""
+        """Of the elements that the verdict is about those that others inserted, when they came to the replica that shows them, or ought
+        to: of a refusal of each step's two. Each stands once, in the order of the trace."""
+        if self.report["verdict"] == "refused":
+            shown = [(name, operation) for step, operation in self.steps for name in (step["from"], step["to"])]
+        else:
+            shown = [(name, operation) for operation in self.operations for name in self.elements]
         found = {}
-        for step, operation in zip(self.report["steps"], self.operations):
-            for name in step["from"], step["to"]:
-                insert = next(filter(operation.has_seen, self.recording.inserts.get(name, [])), None)
-                if insert is not None and insert.replica != operation.replica:
-                    found[name, operation.replica] = self.recording.arrival(insert, operation.replica), insert
-        return sorted(found.values(), key=lambda arrival: arrival[0].line)
+        for name, operation in shown:
+            insert = next(filter(operation.has_seen, self.recording.inserts.get(name, [])), None)
+            if insert is not None and insert.replica != operation.replica:
+                found[name, operation.replica] = Arrival(self.recording.arrival(insert, operation.replica), insert)
+        return sorted(found.values(), key=lambda arrival: arrival.receipt.line)
 
+    @cached_property
     def hidden_neighbours(self) -> list:
         """Where no arrival of a refusal found a neighbour deleted: those elements that were put beside others which are deleted for the
         response that shows them: the insert, the names of these others, and the operation that shows it. Each insert stands once."""
-        if self.lost_neighbours():
+        if self.lost_neighbours:
             return []
         found = {}
-        for step, operation in zip(self.report["steps"], self.operations):
+        for step, operation in self.steps:
             for name in step["from"], step["to"]:
                 insert = next(filter(operation.has_seen, self.recording.inserts.get(name, [])), None)
                 gone = [other for other in self.beside(insert) if other not in self.elements
@@ -125,22 +169,80 @@ class Evidence:
         return list(found.values())
 
     def beside(self, insert: Operation) -> list:
-        """The elements beside which its author put the new one."""
+        """The elements beside which its author put the new one; none where its response does not show it, which is a fault of its own."""
         shown = insert.response
         if insert.element not in shown:
-            raise Unexplained(f"the response of {insert.name} lacks what it inserts")
+            if self.report["verdict"] == "refused":
+                raise Unexplained(f"the response of {insert.name} lacks what it inserts")
+            return []
         place = shown.index(insert.element)
         return shown[max(place - 1, 0):place] + shown[place + 1:place + 2]
 
+    @cached_property
     def lost_neighbours(self) -> list:
-        """Of a refusal those arrivals that found a neighbour of the insert deleted: the receipt, the insert, and the deletes of the
-        elements beside which its author put the new one."""
+        """Those arrivals that found a neighbour of the insert deleted, each with the deletes of the elements beside which its author put
+        the new one."""
         found = []
-        for receipt, insert in self.arrivals():
-            gone = [self.recording.change_at(self.recording.deletes.get(name, []), receipt) for name in self.beside(insert)]
+        for arrival in self.arrivals:
+            gone = [self.recording.change_at(self.recording.deletes.get(name, []), arrival.receipt) for name in self.beside(arrival.insert)]
             if any(gone):
-                found.append((receipt, insert, list(filter(None, gone))))
+                found.append((arrival, list(filter(None, gone))))
         return found
+
+    def unknown_deletes(self, arrival: Arrival) -> list:
+        """The deletes that the replica had when the insert arrived, and that the insert's author had not seen."""
+        clock = self.recording.clock_before(arrival.receipt)
+        return [delete for deletes in self.recording.deletes.values() for delete in deletes
+                if clock[delete.replica] >= delete.n and not arrival.insert.has_seen(delete)]
+
+    @cached_property
+    def second_deletes(self) -> list:
+        """Of wrong contents that lack something: each delete that is new to the response since the one before, and whose element had been
+        deleted for its replica already, with the delete that did."""
+        if self.report["verdict"] != "contents" or not self.missing:
+            return []
+        operation = self.operations[0]
+        before = self.before(operation)[0]
+        had = before[0].has_seen if before else lambda change: False
+        found = []
+        for deletes in self.recording.deletes.values():
+            seen = sorted(filter(operation.has_seen, deletes), key=lambda delete: self.line_at(delete, operation.replica)) if deletes[1:] else []
+            found += [(again, seen[0]) for again in seen[1:] if not had(again)]
+        return sorted(found, key=lambda pair: self.line_at(pair[0], operation.replica))
+
+    def overtaking(self, change: Operation, operation: Operation) -> Overtaking | None:
+        """Whether a later operation brought a change to a response before the change came by itself: the exchange may not be causal, which is
+        what a new recorder meets first. That one receipt stands for several changes of an author is no sign of it, where none names the
+        change and the author's others have not each their own."""
+        way = self.recording.way(change, operation) if operation.has_seen(change) else []
+        if not way or way[-1].seen is change:
+            return None
+        brought, replica = way[-1], operation.replica
+        if change.replica != brought.seen.replica:
+            own = self.recording.receipt_of(change, replica)
+            return Overtaking(brought, own) if own is None or own.line > brought.line else None
+        own = self.recording.own_receipt(change, replica)
+        is_overtaken = own.line > brought.line if own else self.are_others_received(change, replica)
+        return Overtaking(brought, own) if is_overtaken else None
+
+    def are_others_received(self, but: Operation, replica: int) -> bool:
+        """Whether each change of an author but this one that the replica has came there by a receipt of its own; and there are several."""
+        receipts = self.recording.receipts[replica]
+        has = max((receipt.seen.clock[but.replica] for receipt in receipts), default=0)
+        others = [change for change in self.recording.streams[but.replica][:has] if change.element and change is not but]
+        return len(others) > 1 and {receipt.seen for receipt in receipts}.issuperset(others)
+
+    @cached_property
+    def overtakings(self) -> list:
+        """Of wrong contents, the changes of its elements that were overtaken on their way to the response."""
+        if self.report["verdict"] != "contents":
+            return []
+        changes = [change for element in self.elements for change in self.changes(element, self.operations[0])]
+        return [(change, found) for change in changes if (found := self.overtaking(change, self.operations[0]))]
+
+    def line_at(self, change: Operation, replica: int) -> int:
+        """The line with which a change that the replica has came there."""
+        return change.line if change.replica == replica else self.recording.arrival(change, replica).line
 
     def before(self, operation: Operation) -> tuple:
         """The replica's operation before, if there is one, and what the replica received since then."""

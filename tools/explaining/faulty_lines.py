@@ -1,7 +1,10 @@
 """What is wrong with a line that the program refuses, and what would be right."""
+from __future__ import annotations
+
 import re
 import shlex
-from pathlib import Path
+
+from .files import Unread, read_file, shown as shown_name
 
 CAUSE = re.compile(r"line (\d+): ([a-z ]+)(?:, have (\d+))?$")  # in the program's line on standard error
 MOST_SHOWN = 120  # bytes of a faulty line or word
@@ -48,8 +51,8 @@ def about_fault(error: str, trace: bytes, name: str) -> list:
 def about_file(error: str, path: str) -> list:
     """The same of a file that was judged before; nothing where it is no longer what was judged."""
     try:
-        return about_fault(error, Path(path).read_bytes(), path)
-    except (OSError, ValueError, LookupError):
+        return about_fault(error, read_file(path), path)
+    except (Unread, ValueError, LookupError):
         return []
 
 

@@ -1,36 +1,47 @@
 """The verdicts of many traces in JUnit's XML form, which CI systems read: each trace is a test case."""
+from __future__ import annotations
+
 import os
 import re
 import xml.etree.ElementTree as xml
-from pathlib import Path
 
 from .beginning import explained
+from .debuggers import USUAL
 from .evidence import Evidence, Unexplained
 from .faulty_lines import about_file
-from .places import with_places
+from .files import Unread, read_file, shown
+from .places import beside, placed_warnings, with_places
 from .programs import NoProgram, report_of
 from .recordings import Recording
-from .words import joined, text_of
+from .rows import NO_VERDICTS, Row
+from .telling import MOST_STEPS, listed
+from .warnings import warnings_of
+from .words import text_of, with_warnings
 
 NOT_IN_XML = re.compile("[^\t\n\r\x20-\ud7ff\ue000-\ufffd\U00010000-\U0010ffff]")  # XML 1.0 has no way to write these
 
 
-def junit_of(rows: list, program: str) -> bytes:
-    """A test suite of the rows of `judge_many`: a verdict other than accepted is a failure, and a missing verdict an error."""
+def junit_of(rows: list, program: str, unequal: bool) -> bytes:
+    """A test suite of the rows of `judge_many`: a verdict other than accepted is a failure, and so are ends that are unequal, where these
+    count; a missing verdict is an error. Warnings of an accepted trace stand in its output."""
     suite = xml.Element("testsuite", name="domepeeler")
     for row in rows:
         folder, name = os.path.split(row.file)
-        case = xml.SubElement(suite, "testcase", classname=written(folder or "."), name=written(name), file=written(row.file),
+        case = xml.SubElement(suite, "testcase", classname=written(shown(folder) or "."), name=written(shown(name)), file=written(shown(row.file)),
                               time=f"{row.seconds:.3f}")
-        if row.report is None:
-            add_fault(case, "error", row.verdict, "\n  ".join([row.error, *about_file(row.error, row.file)]))
+        if row.verdict in NO_VERDICTS:
+            add_fault(case, "error", row.verdict, "\n  ".join([shown(row.error), *about_file(row.error, row.file)]))
         elif row.verdict != "accepted":
             add_fault(case, "failure", row.verdict, *explanation_of(row, program))
+        elif row.unequal and unequal:
+            add_fault(case, "failure", "unequal", "\n".join([f"accepted, but unequal in the end: {row.warnings[0]}", *row.warnings[1:]]))
+        elif row.warnings:
+            xml.SubElement(case, "system-out").text = written("".join(f"warning: {warning}\n" for warning in row.warnings))
     counts = {"tests": len(rows), "failures": len(suite.findall("testcase/failure")), "errors": len(suite.findall("testcase/error")),
               "skipped": 0}
     whole = xml.Element("testsuites")
     for element in whole, suite:
-        element.attrib |= {key: str(count) for key, count in counts.items()}
+        element.attrib.update({key: str(count) for key, count in counts.items()})
         element.set("time", f"{sum(row.seconds for row in rows):.3f}")
     whole.append(suite)
     xml.indent(whole)
@@ -44,18 +55,19 @@ def add_fault(case: xml.Element, kind: str, verdict: str, told: str, about: str 
     xml.SubElement(case, kind, type=verdict, message=f"{first} It is about {about}." if about else first).text = told
 
 
-def explanation_of(row: object, program: str) -> tuple:
+def explanation_of(row: Row, program: str) -> tuple:
     """What `explain` says of the trace, and the elements of a refusal; or its verdict alone, where the file is no longer what was judged."""
     try:
-        trace = Path(row.file).read_bytes()
-        evidence = Evidence(Recording(trace.decode()), row.report)
-        told, beginning = explained(evidence, report_of(program))
-        return text_of(with_places(told, [], trace, row.file)), joined((beginning or evidence).elements) if row.verdict == "refused" else ""
-    except (Unexplained, NoProgram, OSError, ValueError, LookupError):
+        trace = read_file(row.file)
+        known = beside(trace, row.file)
+        words, told = explained(Evidence(Recording(trace.decode()), row.report), report_of(program), known.language or USUAL)
+        warnings = placed_warnings(warnings_of(row.verdict, trace, row.file).all, known)
+        about = listed(told.elements, MOST_STEPS) if told.report["verdict"] == "refused" else ""
+        return text_of(with_places(with_warnings(words, warnings), known)), about
+    except (Unexplained, NoProgram, Unread, ValueError, LookupError):
         return row.verdict, ""
 
 
 def written(text: str) -> str:
-    """The text, with the replacement character in place of what XML can't hold: some control characters, and bytes of a file's
-    name that are no UTF-8."""
+    """The text, with the replacement character in place of what XML can't hold."""
     return NOT_IN_XML.sub("\ufffd", text)

@@ -1,4 +1,6 @@
 """A letter for each element of a page, so that a response is read at a glance where names are long."""
+from __future__ import annotations
+
 import string
 
 from .evidence import Evidence

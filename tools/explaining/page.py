@@ -1,4 +1,6 @@
 """One page for one trace: the verdict in words, the cycle, and the session drawn. It needs no other file, and no script."""
+from __future__ import annotations
+
 import re
 from html import escape
 
@@ -6,11 +8,12 @@ from .cycle_picture import picture
 from .evidence import Evidence
 from .letters import letters_of
 from .session_picture import Rows
-from .words import CODE, LINE, LOG, Explanation, Section
+from .words import CODE, HIDDEN, LINE, LOG, NOTED, Explanation, Section
 
 MOST_ROWS = 40  # entries that are shown at once
 MOST_FOLDED = 2000  # entries that are on the page at all
 MARKED = re.compile(r"\[([A-Za-z0-9_.-]+)\]")
+NUMBER = re.compile(r"\d+")
 WIDTH = re.compile(r'width="(\d+)"')
 SMALLEST = 0.7  # how far a picture shrinks on a narrow screen before it is scrolled
 
@@ -25,7 +28,7 @@ body { margin: 0 auto; padding: 1rem; max-width: 90rem; background: var(--ground
   font: 16px/1.5 system-ui, sans-serif }
 h1 { font-size: 1.3rem; line-height: 1.35; margin: 0 0 .25rem; overflow-wrap: anywhere }
 h2 { font-size: 1rem; margin: 1.25rem 0 .25rem }
-.kind { color: var(--alarm) } .accepted .kind { color: var(--good) }
+.kind { color: var(--alarm) } .accepted .kind { color: var(--good) } .unsure .kind { color: var(--alarm) }
 .file { color: var(--dim); margin: 0; overflow-wrap: anywhere }
 code, pre, .line, .said b, .words li { font-family: ui-monospace, Menlo, Consolas, monospace; font-size: .875rem }
 .words ul { margin: 0; padding: 0; list-style: none } .words li { margin: .25rem 0; overflow-wrap: anywhere }
@@ -71,7 +74,7 @@ path.receipt.matters { stroke: var(--way); stroke-width: 2; opacity: 1 }
 .heads { position: absolute; width: 0; height: 0 }
 .cycle { overflow-x: auto } .cycle svg { display: block; max-width: 100%; height: auto; min-width: var(--least) }
 .cycle text { font: 14px ui-monospace, Menlo, Consolas, monospace; fill: var(--dim) }
-.cycle .element { fill: var(--ground); stroke: var(--ink); stroke-width: 1.5 }
+.cycle .element { fill: var(--ground); stroke: var(--ink); stroke-width: 1.5 } .cycle .between { stroke-dasharray: 4 3 }
 .cycle .name { fill: var(--ink); text-anchor: middle } .cycle .number { font-family: system-ui, sans-serif; text-anchor: middle }
 .cycle .operation { fill: var(--ink); font-weight: bold } .cycle .shown { fill: var(--alarm); font-weight: bold }
 .cycle .step { fill: none; stroke: var(--alarm); stroke-width: 2 }
@@ -89,10 +92,13 @@ def head(name: str) -> str:
             ' markerUnits="userSpaceOnUse"><path d="M 0 0 L 10 5 L 0 10 z"/></marker>')
 
 
-def page_of(evidence: Evidence, beginning: Evidence | None, told: Explanation, trace: str, report: str) -> str:
-    kind, _, rest = told.headline.partition(":")
-    session, letters = session_of(evidence), letters_of(evidence)
-    words = "".join(section_of(section, session, letters) for section in told.sections)
+def page_of(evidence: Evidence, told: Evidence, words: Explanation, trace: str, report: str) -> str:
+    """The page of a trace with the evidence of its verdict, and of the beginning by which it is told: what is drawn and marked is what the
+    words begin with."""
+    kind, _, rest = words.headline.partition(":")
+    told.lines.update(operation.line for operation in evidence.operations)
+    session, letters = session_of(told), letters_of(told)
+    sections = "".join(section_of(section, session, letters) for section in words.sections)
     return f"""<!DOCTYPE html>
 <html lang="en">
 <head>
@@ -102,13 +108,13 @@ def page_of(evidence: Evidence, beginning: Evidence | None, told: Explanation, t
 <style>
 {STYLE}</style>
 </head>
-<body class="{escape(evidence.report["verdict"])}">
+<body class="{escape(evidence.report["verdict"])}{" unsure" if words.sections[0].title == HIDDEN else ""}">
 <svg class="heads" aria-hidden="true">{head("head")}{head("receipt-head")}{head("matters-head")}</svg>
 <h1><span class="kind">{escape(kind)}</span>:{escape(rest)}</h1>
 <p class="file">{escape(trace)}</p>
 <main>
 <div class="words">
-{words}{cycle_of(evidence, beginning)}</div>
+{sections}{cycle_of(told)}</div>
 <div>
 {session}
 <h2>The program's report</h2>
@@ -122,7 +128,7 @@ def page_of(evidence: Evidence, beginning: Evidence | None, told: Explanation, t
 
 def section_of(section: Section, session: str, letters: dict) -> str:
     """A section of the words: marks for brackets, with the element's letter, and a link to each line that the session shows. In places
-    of code brackets are no marks, and a line of the trace stands first alone."""
+    of code brackets are no marks, and the numbers of lines stand behind the last colon."""
     def marked(found: re.Match) -> str:
         letter = letters.get(found[1], found[1])
         return (f'<sup class="letter">{letter}</sup>' if letter != found[1] else "") + f"<mark>{found[1]}</mark>"
@@ -130,8 +136,13 @@ def section_of(section: Section, session: str, letters: dict) -> str:
     def link(found: re.Match) -> str:
         return f'<a href="#line-{found[1]}">{found[0]}</a>' if f'id="line-{found[1]}"' in session else found[0]
 
-    if section.title in (CODE, LOG):
-        lines = [LINE.sub(link, escape(line), count=1) for line in section.lines]
+    def number_link(found: re.Match) -> str:
+        return f'<a href="#line-{found[0]}">{found[0]}</a>' if f'id="line-{found[0]}"' in session else found[0]
+
+    if section.title in (CODE, LOG):  # behind the place stand the lines
+        lines = [escape(place) + ": " + NUMBER.sub(number_link, lines) for place, _, lines in (line.rpartition(": ") for line in section.lines)]
+    elif section.title == NOTED:
+        lines = [escape(line) for line in section.lines]
     else:
         lines = [LINE.sub(link, MARKED.sub(marked, escape(line))) for line in section.lines]
     prose = ' class="prose"' if section.title.startswith("Where to look") else ""
@@ -139,13 +150,13 @@ def section_of(section: Section, session: str, letters: dict) -> str:
     return f"<h2>{escape(section.title)}</h2>\n<ul{prose}>\n{items}\n</ul>\n"
 
 
-def cycle_of(evidence: Evidence, beginning: Evidence | None) -> str:
+def cycle_of(told: Evidence) -> str:
     """The picture of the cycle; of a session that went wrong before its end, of what was shown by then."""
-    if evidence.report["verdict"] != "refused":
+    if told.report["verdict"] != "refused":
         return ""
-    drawn = picture((beginning or evidence).report)
+    drawn = picture(told.report)
     least = int(WIDTH.search(drawn)[1]) * SMALLEST
-    title = f"The cycle of the lines up to {len(beginning.recording.lines)}" if beginning else "The cycle"
+    title = f"The cycle of the lines up to {told.last_line}" if told.last_line < len(told.recording.lines) else "The cycle"
     return f'<h2>{title}</h2>\n<div class="cycle" style="--least: {least:.0f}px">\n{drawn}</div>\n'
 
 

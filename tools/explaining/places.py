@@ -1,66 +1,114 @@
-"""From where in the user's code the lines of a trace were recorded, as some recorders say in the file beside the trace.
+"""What a recorder says of a trace in the file beside it: from where in the user's code each line was recorded, in which language, and
+the user's own notes.
 
 Its first line is how many lines the trace has. Behind it stands for each line of which that is known its number, a blank and the
-places. A line `log` says that they are lines of a log, whatever its name, and a line `merged` that merge.py wrote the trace. What is
-written otherwise is passed over, and so is the file of another trace."""
-import re
-from pathlib import Path
+places. A line `language` and a word names the recorder's, and `note` and words are the user's. A line `log` says that the places are
+lines of a log, whatever its name, and a line `merged` that merge.py wrote the trace. What is written otherwise is passed over, and so is
+the file of another trace."""
+from __future__ import annotations
 
+import re
+from typing import NamedTuple
+
+from . import debuggers
+from .files import Unread, read_file
 from .recordings import FIRST_ENTRY
-from .warnings import SIDE
-from .words import CODE, DEBUGGER, LINE, LOG, PYTHON, Explanation, Section
+from .telling import joined
+from .warnings import MOST_BESIDE, SIDE
+from .words import CODE, LINE, LOG, NOTED, Explanation, Section
 
 PLACES = re.compile(rb"([1-9][0-9]{0,6}) (.{1,4000})")
+LANGUAGE = re.compile(rb"language ([a-z-]{1,20})")
+NOTE = re.compile(rb"note (.{1,800})")
 OF_LOG = re.compile(r"[^,]*\.(log|txt|out|(nd)?jsonl?|[ct]sv|xml)(\.[0-9]+)?(:[0-9]+)?")  # one that was rotated too
-LOG_MARK = b"log"
-MERGED_MARK = b"merged"
-MOST_BYTES = 1 << 27  # of such a file that are read
+LOG_MARK, MERGED_MARK = b"log", b"merged"
+MOST_NOTES = 20
+CALLED = ", called from "  # between two places of one line
+SHOWN_LINE = re.compile(r"\(line (\d+)\)")  # in a warning
 
 
-def with_places(told: Explanation, warnings: list, trace: bytes, name: str) -> Explanation:
-    """The explanation, and after it the places of the lines that it or a warning names, of the trace in the file of this name; `-` is
-    no file. Where they are lines of a log, no debugger's statement fits: the recording is not the editor's. Nor does one where the
-    trace was merged: each machine's recording has other lines."""
-    lines = [line for section in told.sections for line in section.lines] + warnings
-    named = {int(number) for line in lines for number in LINE.findall(line)}
-    beside = lines_beside(trace, name) if named and name != "-" else []
-    found = places_of(named, trace, name) if beside else {}
-    is_log = found and (LOG_MARK in beside or all(OF_LOG.fullmatch(places) for places in found.values()))
-    if is_log or MERGED_MARK in beside:
-        told = told._replace(sections=[without_statement(section, found if is_log else {}) for section in told.sections])
-    if not found:
-        return told
-    return told._replace(sections=[*told.sections, Section(LOG if is_log else CODE, [f"line {line}: {found[line]}" for line in sorted(found)])])
+class Beside(NamedTuple):
+    """What is known of a trace by the file beside it; the places by line."""
+
+    places: dict
+    language: str = ""
+    notes: tuple = ()
+    has_log: bool = False
+    is_merged: bool = False
+
+    def marks(self) -> list:
+        """What the file beside a part of the trace says too, a line each."""
+        return [*([f"language {self.language}"] if self.language else []), *(f"note {note}" for note in self.notes),
+                *(["merged"] if self.is_merged else []), *(["log"] if self.has_log else [])]
 
 
-def without_statement(section: Section, places: dict) -> Section:
-    """The section; that on a debugger with the log's line, if there is one, in the place of a statement."""
-    if section.title != DEBUGGER:
-        return section
-    (told,) = section.lines
-    stop = int(LINE.search(told)[1])
-    return Section(DEBUGGER, [told.partition(PYTHON)[0] + (f" The editor then writes {places[stop]}." if stop in places else "")])
-
-
-def places_of(named: set, trace: bytes, name: str) -> dict:
-    """The places of these lines, as far as the file beside the trace says them."""
-    found, count = {}, trace.count(b"\n")
-    for line in lines_beside(trace, name):
+def beside(trace: bytes, name: str) -> Beside:
+    """What is known of the trace in the file of this name; `-` is no file."""
+    places, language, notes, count = {}, "", [], trace.count(b"\n")
+    lines = lines_beside(trace, name) if name != "-" else []
+    for line in lines:
         said = PLACES.fullmatch(line)
-        number = int(said[1]) if said else 0
-        if number in named and FIRST_ENTRY <= number <= count:
-            places = said[2].decode(errors="replace")
-            if places.isprintable():
-                found.setdefault(number, places)
-    return found
+        if said and FIRST_ENTRY <= int(said[1]) <= count:
+            if (told := printable(said[2])):
+                places.setdefault(int(said[1]), told)
+        elif (said := LANGUAGE.fullmatch(line)) and said[1].decode() in debuggers.LANGUAGES:
+            language = language or said[1].decode()
+        elif (said := NOTE.fullmatch(line)) and len(notes) < MOST_NOTES and (told := printable(said[1])):
+            notes.append(told)
+    return Beside(places, language, tuple(notes), LOG_MARK in lines, MERGED_MARK in lines)
+
+
+def printable(text: bytes) -> str:
+    told = text.decode(errors="replace")
+    return told if told.isprintable() else ""
 
 
 def lines_beside(trace: bytes, name: str) -> list:
     """The lines of the file beside the trace, behind its first; none of another trace's. The last one may have been cut, if it has no
     end."""
     try:
-        with Path(name + SIDE).open("rb") as file:
-            *lines, _ = file.read(MOST_BYTES).split(b"\n")
-    except (OSError, ValueError):
+        *lines, _ = read_file(name + SIDE, MOST_BESIDE).split(b"\n")
+    except (Unread, ValueError):
         return []
     return lines[1:] if lines and lines[0].strip() == b"%d" % trace.count(b"\n") else []
+
+
+def with_places(told: Explanation, known: Beside) -> Explanation:
+    """The explanation, and after it the places of the lines that it names, and the user's notes. Where the places are lines of a log, no
+    debugger's statement fits: the recording is not the editor's. Nor does one where the trace was merged: each machine's recording has
+    other lines."""
+    named = {int(number) for section in told.sections for line in section.lines for number in LINE.findall(line)}
+    found = {line: known.places[line] for line in sorted(named) if line in known.places}
+    is_log = bool(found) and (known.has_log or all(OF_LOG.fullmatch(places) for places in found.values()))
+    sections = told.sections
+    if is_log or known.is_merged:
+        sections = [without_statement(section, found if is_log else {}) for section in sections]
+    if found:
+        sections = [*sections, Section(LOG if is_log else CODE, by_place(found))]
+    return told._replace(sections=sections + ([Section(NOTED, list(known.notes))] if known.notes else []))
+
+
+def by_place(found: dict) -> list:
+    """For each place the lines that were recorded there."""
+    lines = {}
+    for line, place in found.items():
+        lines.setdefault(place, []).append(str(line))
+    return [f"{place}: line{'' if len(same) == 1 else 's'} {joined(same)}" for place, same in lines.items()]
+
+
+def without_statement(section: Section, places: dict) -> Section:
+    """The section; that on a debugger with the log's line, if there is one, in the place of a statement."""
+    if section.title != debuggers.TITLE:
+        return section
+    (told,) = section.lines
+    stop = int(LINE.search(told)[1])
+    return Section(section.title, [told.rpartition(" In ")[0] + (f" The editor then writes {places[stop]}." if stop in places else "")])
+
+
+def placed_warnings(warnings: list, known: Beside) -> list:
+    """The warnings, each with the nearest place of the lines that it names in brackets."""
+    def place(found: re.Match) -> str:
+        places = known.places.get(int(found[1]))
+        return f"(line {found[1]}, {places.partition(CALLED)[0]})" if places else found[0]
+
+    return [SHOWN_LINE.sub(place, warning) for warning in warnings]

@@ -1,13 +1,19 @@
 """Finds the proved program and runs it. It is the only judge: all verdicts here are its own."""
+from __future__ import annotations
+
 import json
 import os
 import shutil
+import signal
 import subprocess
 from collections.abc import Callable
 from pathlib import Path
 from typing import NamedTuple
 
+from .files import shown
+
 VARIABLE = "DOMEPEELER"
+VERDICTS = {"accepted": 0, "refused": 1, "doubled": 1, "contents": 1, "position": 1}  # with the status by which the program ends
 COMMAND = "domepeeler"
 TOOLS = Path(__file__).resolve().parent.parent
 REPOSITORY, PREFIX = TOOLS.parent, TOOLS.parent.parent.parent  # of these tools as they lie in the repository, or as tools/install puts them
@@ -38,7 +44,7 @@ def find_program(asked: str | None) -> str:
         if named:
             found = shutil.which(named)
             if found is None:
-                raise NoProgram(f"{named} of {way} can't be run")
+                raise NoProgram(f"{shown(named)} of {way} can't be run")
             return os.path.abspath(found)
     found = shutil.which(COMMAND)
     if found is not None:
@@ -53,17 +59,26 @@ def run(program: str, words: list, trace: bytes) -> subprocess.CompletedProcess:
     try:
         return subprocess.run([program, *words], input=trace, capture_output=True)
     except OSError as error:
-        raise NoProgram(f"{program} can't be run: {error.strerror}") from error
+        raise NoProgram(f"{shown(program)} can't be run: {error.strerror}") from error
 
 
 def judge(program: str, trace: bytes) -> Judged:
-    """What the program says of a trace; NoProgram where that is nothing that domepeeler says."""
+    """What the program says of a trace; NoProgram where that is nothing that domepeeler says, or it was ended."""
     done = run(program, ["verdict", "--json", "-"], trace)
     error = done.stderr.decode(errors="replace").rstrip("\n")
     report = report_in(done.returncode, done.stdout)
     if report is None and is_another(done.returncode, error):
         raise NoProgram(no_report(program, done.returncode, error))
     return Judged(done.returncode, report, error)
+
+
+def check_is_domepeeler(program: str) -> None:
+    """NoProgram where the program, asked for its version, does not answer as domepeeler does: then its verdicts count for nothing."""
+    done = run(program, ["--version"], b"")
+    if done.returncode != 0 or not done.stdout.startswith(f"{COMMAND} ".encode()):
+        said = next(filter(None, (done.stdout + done.stderr).decode(errors="replace").splitlines()), "")
+        ended = f"it was {by_signal(-done.returncode)}" if done.returncode < 0 else f"it ended with status {done.returncode}"
+        raise NoProgram(f"{shown(program)} is not {COMMAND}: asked for its version {ended}" + (f": {shown(said)}" if said else ""))
 
 
 def report_of(program: str) -> Callable:
@@ -77,18 +92,29 @@ def report_in(status: int, printed: bytes) -> dict | None:
         report = json.loads(printed) if status in (0, 1) else None
     except ValueError:
         return None
-    return report if isinstance(report, dict) and isinstance(report.get("verdict"), str) else None
+    verdict = report.get("verdict") if isinstance(report, dict) else None
+    return report if isinstance(verdict, str) and VERDICTS.get(verdict, status) == status else None
 
 
 def is_another(status: int, error: str) -> bool:
-    """Whether a program that printed no report is not domepeeler: it ended by itself, and without a line of domepeeler's."""
-    return 0 <= status < 128 and not any(line.startswith("finder: ") for line in error.splitlines())
+    """Whether a program that printed no report is not domepeeler, or was ended: it ended without a line of domepeeler's."""
+    return not any(line.startswith("finder: ") for line in error.splitlines())
 
 
 def no_report(program: str, status: int, error: str) -> str:
-    """What is said of such a program."""
+    """What is said of such a program. A shell, or GNU parallel, tells of a signal by a status over 128."""
+    if status < 0 or status > 128:
+        return f"{shown(program)} was {by_signal(-status if status < 0 else status - 128)}"
     said = next(filter(None, error.splitlines()), "")
-    return f"{program} printed no report: is it domepeeler? It ended with status {status}" + (f": {said}" if said else "")
+    return f"{shown(program)} printed no report that agrees with its status: is it domepeeler? It ended with status {status}" + (
+        f": {shown(said)}" if said else "")
+
+
+def by_signal(number: int) -> str:
+    try:
+        return f"ended by signal {number} ({signal.Signals(number).name})"
+    except ValueError:
+        return f"ended by signal {number}"
 
 
 def report_text(program: str, trace: bytes) -> str:

@@ -1,6 +1,8 @@
 """A recording that the program has read, with the line of each entry, and what is visible to which operation.
 
 Only texts that the program takes for traces come here, so nothing is checked again."""
+from __future__ import annotations
+
 from collections import defaultdict
 from typing import NamedTuple
 
@@ -105,6 +107,19 @@ class Recording:
         """The first receipt in a replica's log that names the operation, or a later one of the same author, if one does."""
         return next((receipt for receipt in self.receipts[replica]
                      if receipt.seen.replica == operation.replica and receipt.seen.n >= operation.n), None)
+
+    def clock_before(self, receipt: Receipt) -> list:
+        """How many operations of each replica the receipt's replica had directly before it."""
+        stream = self.streams[receipt.replica]
+        clock = stream[receipt.before - 1].clock if receipt.before else [0] * self.replicas
+        for other in self.receipts[receipt.replica]:
+            if other.before == receipt.before and other.line < receipt.line:
+                clock = [max(pair) for pair in zip(clock, other.seen.clock)]
+        return clock
+
+    def own_receipt(self, operation: Operation, replica: int) -> Receipt | None:
+        """The first receipt in a replica's log that names just this operation, if one does."""
+        return next((receipt for receipt in self.receipts[replica] if receipt.seen is operation), None)
 
     def change_at(self, changes: list, receipt: Receipt) -> Operation | None:
         """Of these operations the one that was first made at the receipt's replica, or arrived there, if that was before the receipt."""

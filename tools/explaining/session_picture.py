@@ -2,6 +2,8 @@
 
 The lanes with operations and receipts are one picture; the text beside them is a list, so that it can be read, found and
 reached by the keyboard. A row is as high as the picture says."""
+from __future__ import annotations
+
 from html import escape
 
 from .cycle_picture import shortened

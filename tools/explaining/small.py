@@ -1,10 +1,13 @@
-"""The small trace that is left of a fault or a refusal: of all elements those that it is about, of a refusal also those beside which
-one arrived that were deleted already; and of all operations those that bear on it.
+"""The small trace that is left of a fault or a refusal: of all elements those that it is about, and those beside which one arrived that
+were deleted already; and of all operations those that bear on it, or on its cause: a delete of what is deleted already, and what
+overtook a change, with the receipt that came too late.
 
 What is visible to which operation stays as it was, so what was right stays right: of the elements that are kept, all inserts
 and all deletes that anything kept has seen are kept too. Receipts are made anew, since one may have named an operation that
 is gone. Replicas keep their numbers; operations are counted anew, and one that changed another element is a read. The text is
 that of version 2 of the trace exactly where a view is kept, as the program's own writer has it."""
+from __future__ import annotations
+
 from collections.abc import Callable
 from typing import NamedTuple
 
@@ -24,8 +27,9 @@ class Small(NamedTuple):
 class Projection:
     """A recording with some of its elements and operations."""
 
-    def __init__(self, recording: Recording, elements: set, kept: list, misplaced: Operation | None = None):
+    def __init__(self, recording: Recording, elements: set, kept: list, misplaced: Operation | None = None, late: tuple = ()):
         self.recording, self.elements, self.misplaced = recording, elements, misplaced
+        self.late = [receipt for receipt in sorted(late, key=lambda receipt: receipt.line) if receipt.seen in kept]
         self.kept = sorted(kept, key=lambda operation: operation.line)
         self.counts = [[0] * (len(stream) + 1) for stream in recording.streams]
         for operation in self.kept:
@@ -40,12 +44,15 @@ class Projection:
         clocks = [[0] * self.recording.replicas for _ in range(self.recording.replicas)]
         named, origins = [], []
         for operation in self.kept:
-            receipts = self.receipts(operation, clocks[operation.replica])
+            receipts = sorted(self.receipts(operation, clocks[operation.replica]) + self.late_ones(operation.line))
             lines += [text for _, text in receipts]
             origins += [*(line for line, _ in receipts), operation.line]
             clocks[operation.replica] = self.clock(operation)
             lines.append(self.entry(operation))
             named.append((f"{operation.replica}.{self.number(operation)}", operation))
+        for line, text in self.late_ones(len(self.recording.lines)):
+            lines.append(text)
+            origins.append(line)
         return Small("".join(line + "\n" for line in lines), named, origins)
 
     def number(self, operation: Operation) -> int:
@@ -61,8 +68,14 @@ class Projection:
         clock = self.clock(operation)
         news = [self.nth(replica, n) for replica, n in enumerate(clock) if replica != operation.replica and n > before[replica]]
         needed = [new for new in news if not any(other.has_seen(new) for other in news if other is not new)]
-        return sorted((self.recording.arrival(new, operation.replica).line, f"{operation.replica} recv {new.replica} {self.number(new)}")
-                      for new in needed)
+        return [(self.recording.arrival(new, operation.replica).line, f"{operation.replica} recv {new.replica} {self.number(new)}")
+                for new in needed]
+
+    def late_ones(self, line: int) -> list:
+        """The receipts up to this line that came too late, and were not written yet, each behind its line; each is written once."""
+        ready = [receipt for receipt in self.late if receipt.line <= line]
+        self.late = self.late[len(ready):]
+        return [(receipt.line, f"{receipt.replica} recv {receipt.seen.replica} {self.number(receipt.seen)}") for receipt in ready]
 
     def nth(self, replica: int, n: int) -> Operation:
         """The n-th kept operation of a replica."""
@@ -97,27 +110,31 @@ def with_changes(recording: Recording, elements: set, kept: list) -> list:
                for change in recording.inserts.get(element, []) + recording.deletes.get(element, [])]
     is_growing = True
     while is_growing:
-        seen = [change for change in changes if change not in kept and any(operation.has_seen(change) for operation in kept)]
+        seen_by_any = [max(counts) for counts in zip(*(operation.clock for operation in kept))]
+        seen = [change for change in changes if change not in kept and seen_by_any[change.replica] >= change.n]
         kept.update(dict.fromkeys(seen))
         is_growing = bool(seen)
     return list(kept)
 
 
 def candidates(evidence: Evidence) -> list:
-    """Projections that should have the verdict of the whole, the smallest first; the last one is the whole."""
+    """Projections that should have the verdict of the beginning that the evidence is on, the smallest first; the last one is all of it."""
     recording, elements = evidence.recording, set(evidence.elements)
-    gone = [delete for _, _, deletes in evidence.lost_neighbours() for delete in deletes] if evidence.report["verdict"] == "refused" else []
+    gone = [delete for _, deletes in evidence.lost_neighbours for delete in deletes] if evidence.report["verdict"] in ("refused", "contents") else []
+    gone += [delete for pair in evidence.second_deletes[:1] for delete in pair]
     elements.update(delete.element for delete in gone)
+    overtakings = [found for _, found in evidence.overtakings]
+    late = tuple({found.own for found in overtakings if found.own})
     misplaced = evidence.operations[0] if evidence.report["verdict"] == "position" else None
-    told = list(evidence.operations)
+    told = [*evidence.operations, *(receipt.seen for found in overtakings for receipt in filter(None, found))]
     if evidence.report["verdict"] == "contents":  # what has not arrived there may be what should have
-        told += [change for element in evidence.elements for change in evidence.changes(element, told[0])]
+        told += [change for element in evidence.elements for change in evidence.changes(element, evidence.operations[0])]
     if evidence.report["verdict"] != "doubled":
         told = with_changes(recording, elements, told)
-    every = [operation for stream in recording.streams for operation in stream]
+    every = [operation for stream in recording.streams for operation in stream if operation.line <= evidence.last_line]
     names = elements.union(recording.inserts, recording.deletes, *(operation.response for operation in evidence.operations))
-    return [Projection(recording, elements, fewer(told, evidence.operations + gone), misplaced),
-            Projection(recording, elements, told, misplaced),
+    return [Projection(recording, elements, fewer(told, evidence.operations + gone), misplaced, late),
+            Projection(recording, elements, told, misplaced, late),
             Projection(recording, names, every, misplaced)]
 
 
@@ -132,7 +149,7 @@ def fewer(kept: list, named: list) -> list:
 
 
 def smallest(evidence: Evidence, judge: Callable) -> Small | None:
-    """The smallest of these traces whose report, by `judge`, has the verdict and the number of the whole one. It should be the
+    """The smallest of these traces whose report, by `judge`, has the verdict and the number of the one that the evidence is on. It should be the
     first of them; but the program has the last word, and where it says otherwise more is kept."""
     wanted = [evidence.report.get(key) for key in ("verdict", "k")]
     for projection in candidates(evidence):

@@ -3,15 +3,22 @@
 The program judges what was recorded. An accepted recording is right, and yet may say little: nothing was recorded, a change never
 arrived at a replica, so that the lists differ in the end, a delete names what nothing inserts, or the file was cut at a line's end,
 which leaves a shorter trace. The recorders say the same of a recording that they had judged."""
+from __future__ import annotations
+
 import errno
+import os
 from bisect import bisect_right
-from pathlib import Path
 from typing import NamedTuple
+
+from .files import Unread, opened, shown
 
 SIDE = ".lines"  # the end of the name of a file beside the trace, in whose first line a recorder says how many lines it saved
 MOST_TOLD = 5  # deletes, or inserts, that are told one by one
 MOST_CHANGES = 3  # that are told one by one of those that a replica lacks, or has made nothing of
 MOST_BYTES = 64  # of the first line beside a trace that are looked at
+MOST_BESIDE = 1 << 27  # bytes of such a file
+CUT = "the trace may have been cut at a line's end"
+ABSENT = [os.strerror(number) for number in (errno.ENOENT, errno.ENAMETOOLONG)]
 
 
 class Warnings(NamedTuple):
@@ -20,6 +27,11 @@ class Warnings(NamedTuple):
     cut: list
     ends: list
     others: list
+
+    @property
+    def is_cut(self) -> bool:
+        """Whether lines are known to be lost."""
+        return any(told.startswith(CUT) for told in self.cut)
 
     @property
     def all(self) -> list:
@@ -180,19 +192,20 @@ def joined(words: list) -> str:
 
 def cut(trace: bytes, name: str) -> list:
     """Whether the file beside the trace, where there is one, says in its first line another number of lines than the trace has."""
-    side = Path(name + SIDE)
+    side = name + SIDE
     try:
-        with side.open("rb") as file:
-            said = file.readline(MOST_BYTES).strip()
-    except OSError as error:
-        if error.errno in (errno.ENOENT, errno.ENAMETOOLONG):
+        descriptor = opened(side, MOST_BESIDE)
+    except Unread as error:
+        if str(error) in ABSENT:
             return []
-        return [f"{side} can't be read ({error.strerror}), so nothing says whether the trace is whole"]
+        return [f"{shown(side)} can't be read ({error}), so nothing says whether the trace is whole"]
+    with open(descriptor, "rb") as file:
+        said = file.readline(MOST_BYTES).strip()
     lines = trace.count(b"\n")
     if not said.isdigit():
-        return [f"{side} holds no number of lines, so nothing says whether the trace is whole"]
+        return [f"{shown(side)} holds no number of lines, so nothing says whether the trace is whole"]
     if int(said) > lines:
-        return [f"the trace may have been cut at a line's end: it has {lines} lines, and by {side} it was saved with {int(said)}"]
+        return [f"{CUT}: it has {lines} lines, and by {shown(side)} it was saved with {int(said)}"]
     if int(said) < lines:
-        return [f"the trace has {lines} lines, and by {side} it was saved with {int(said)}: is that file of another trace?"]
+        return [f"the trace has {lines} lines, and by {shown(side)} it was saved with {int(said)}: is that file of another trace?"]
     return []

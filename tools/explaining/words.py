@@ -1,43 +1,22 @@
 """What a verdict means for its trace, in words: a headline, and sections of lines.
 
 A name in brackets is one of the names that the verdict is about; names themselves have no brackets."""
+from __future__ import annotations
+
 import re
 from typing import NamedTuple
 
+from . import debuggers
+from .causes import Cause, causes_of
 from .evidence import MOST_ARRIVED, Evidence
-from .programs import GUIDE
-from .recordings import Operation, Receipt, Recording, place_asked
+from .recordings import Operation, Recording, place_asked
+from .telling import FIRST_STEPS, at, counted, did, joined
 
-CODE, LOG = "In your code", "In your log"  # titles of the section with places of the user's code, or of a log
+CODE, LOG, NOTED = "In your code", "In your log", "Noted"  # titles of the last sections: places of the user's code, or of a log; words of the user's
+HIDDEN = "What this verdict may hide"  # the title of the section of warnings, the first one
 MOST_NAMES = 24  # of a list that is shown whole
 AROUND = "each element before the next, and round again"
-DEBUGGER = "In a debugger"  # the title of the section that says where to stop one
-PYTHON = " In Python, where a change begins to be applied, local or remote: "
-STOP = "if len(recording.text().splitlines()) == {}: breakpoint()"
 LINE = re.compile(r"\bline (\d+)(?=[,):]| of the trace,| \(\d+ recv )")  # of the trace, in words; and not two names, `line` and a number
-NUMBERS = "zero one two three four five six seven eight nine ten eleven twelve thirteen fourteen fifteen sixteen".split()
-
-LOOK = {
-    "contents": "At how operations reach a replica and are applied. Most often the recorder or the transport is at fault: a "
-                "receipt that is written before the change was applied, or is missing; operations that arrive before what their "
-                "author had seen; and then an editor that loses an operation, applies it twice, or applies it to another element. "
-                f"{GUIDE} says where receipts go.",
-    "position": "At the mapping between the positions that a user sees and the places of the editor's own list, where deleted "
-                "elements may still stand; and at whether the recorder writes the position that was asked for.",
-    "doubled": "At the recorder, most often: each inserted element needs a name of its own, for ever. Equal letters are "
-               "different elements, each element of a paste is a new one, and so is an undone delete where the editor makes one anew.",
-    "concurrent": "At the order of concurrent inserts: no author of {first} and {then} had seen the other one, and two replicas, or "
-                  "one at two times, have put them in different orders.",
-    "seen": "At where a replica puts an insert that arrives: {later} inserted {new} when it had seen {old}, so these are no "
-            "concurrent inserts, and yet the two are put in different orders. Often the number that orders inserts does not grow with what "
-            "arrives, or a neighbour is not found.",
-    "beside": "At inserts beside deleted elements, if replicas throw these away: above stands which element arrived where its neighbour "
-              "was deleted already, and without the neighbour nothing tells the place.",
-    "deleted": "At positions beside deleted elements: no two of {named} disagree openly, and an insert beside an element that another "
-               "replica has deleted may have lost its place there. Above stands which elements are deleted for which of them.",
-    "apart": "At how a replica orders elements of which it shows only some: no two of {named} disagree openly, and none of the elements "
-             "is deleted for any of them, so each replica has yet to hear of some.",
-}
 
 
 class Section(NamedTuple):
@@ -48,44 +27,79 @@ class Section(NamedTuple):
 class Explanation(NamedTuple):
     headline: str
     sections: list
+    causes: tuple = ()  # names of the causes that it tells
 
 
-def explanation(evidence: Evidence, beginning: Evidence | None = None) -> Explanation:
-    """The words; of a refused recording also what its shortest refused beginning shows, where that is not all of it."""
-    if evidence.report["verdict"] == "refused":
-        told = refused(evidence, beginning)
-    else:
-        tell = {"accepted": accepted, "doubled": doubled, "contents": contents, "position": position}
-        told = tell[evidence.report["verdict"]](evidence)
-    sections = without_receipts(evidence) + told.sections + in_a_debugger(beginning or evidence)
-    return told._replace(sections=sections + (whole_trace(evidence, beginning) if beginning else []))
+def explanation(evidence: Evidence, told: Evidence, language: str = debuggers.USUAL) -> Explanation:
+    """The words on a verdict, told by the shortest beginning of the trace that has a fault or is refused, or by all of it."""
+    tell = {"accepted": accepted, "refused": refused, "doubled": doubled, "contents": contents, "position": position}
+    headline, sections = tell[told.report["verdict"]](told)
+    causes = causes_of(told)
+    where = [Section("Where to look in the editor", [cause.told for cause in of_whole(evidence, told) + causes])] if causes else []
+    whole = whole_trace(evidence, told)
+    headline += f" The whole trace is {verdict_of(evidence.report)}." if whole else ""
+    return Explanation(headline, [*when_it_went_wrong(evidence, told), *without_receipts(told), *sections, *where,
+                                  *in_a_debugger(told, language), *whole, specifications(evidence.report)],
+                       tuple(cause.name for cause in causes))
 
 
-def in_a_debugger(evidence: Evidence) -> list:
-    """Where to stop one when the session's steps are done again: of a refusal where its elements arrived, the last one first, else at its
-    last response; of wrong contents at what was received first since the replica's operation before, if anything was; else at the
-    operation that is named."""
-    if evidence.report["verdict"] not in ("refused", "contents", "position"):
+def of_whole(evidence: Evidence, told: Evidence) -> list:
+    """Where a beginning is refused for more than two responses, and the whole trace for two, also where to look at these: an open
+    contradiction shows more."""
+    if not evidence.report.get("k") == 2 < told.report.get("k", 0):
         return []
-    named, others = evidence.operations[0], []
-    if evidence.report["verdict"] == "refused":
-        arrived = {receipt.line: receipt for receipt, _ in evidence.arrivals()}
-        *others, entry = list(arrived.values()) or [max(evidence.operations, key=lambda operation: operation.line)]
+    return [Cause(cause.name, f"Of the whole trace: {cause.told}") for cause in causes_of(evidence)]
+
+
+def specifications(report: dict) -> Section:
+    """What the verdict says by definition, which a user need not know to mend the editor."""
+    holds = {True: "holds", False: "fails"}
+    if "strong" not in report:
+        told = "neither the strong nor the weak one was judged: both know an element by its name"
+    elif report["strong"] == report["weak"]:
+        told = f"strong and weak {'hold' if report['strong'] else 'fail'}"
     else:
-        received = evidence.before(named)[1] if evidence.report["verdict"] == "contents" else []
-        entry = [*received, named][0]
-    before = ", ".join(f"line {other.line}" for other in others[::-1])
-    then = f"; if that goes right, where {'another' if len(others) == 1 else 'others'} arrived ({before})" if others else ""
-    stop = f"stop before line {entry.line}, where {doing(entry)}{then}."
-    return [Section(DEBUGGER, [stop + PYTHON + STOP.format(entry.line - 1)])]
+        told = f"strong {holds[report['strong']]}, weak {holds[report['weak']]}"
+    return Section("The list specifications", [told])
 
 
-def doing(entry: Operation | Receipt) -> str:
-    """What the replica is about to do."""
-    if isinstance(entry, Receipt):
-        return f"replica {entry.replica} applies {entry.seen.name}"
-    what = {"ins": f"inserts {entry.element}", "del": f"deletes {entry.element}", "read": "reads the list", "view": "shows a part of the list"}
-    return f"replica {entry.replica} {what[entry.kind]}"
+def verdict_of(report: dict) -> str:
+    """The verdict as the program's report has it: with its number, or the operations that it names."""
+    about = [str(report[key]) for key in ("k", "at", "first", "again") if key in report]
+    return f"`{' '.join([report['verdict'], *about])}`"
+
+
+def when_it_went_wrong(evidence: Evidence, told: Evidence) -> list:
+    """With which line the session went wrong, where that is not the last one that the verdict on the whole trace names, or is followed by
+    others."""
+    last = told.last_line
+    named = len(evidence.recording.lines) if told.report["verdict"] == "refused" else max((one.line for one in evidence.operations), default=0)
+    if told.report["verdict"] == "accepted" or last >= named:
+        return []
+    entry = evidence.recording.entries[last - evidence.recording.entries[0].line]
+    lines = [f"{did(entry, is_first=True)}: up to line {last - 1} the session is accepted, and with line {last} it is {verdict_of(told.report)}"]
+    if told.report["verdict"] == "refused":
+        lines += [since(told, entry, "still fits"), *in_the_end(evidence.recording)]
+    else:
+        lines.append(f"`head -{last}` of the trace has no more than that")
+    return [Section("When it went wrong", lines)]
+
+
+def whole_trace(evidence: Evidence, told: Evidence) -> list:
+    """What the program's report on the whole trace is about, where that is something else."""
+    if evidence is told or evidence.report == told.report or evidence.report.get("steps", 0) == told.report.get("steps", 1):
+        return []
+    if evidence.report["verdict"] == "refused":
+        return [Section(f"What the whole trace shows, {AROUND}", shown_by(evidence, False))]
+    if all(evidence.report.get(key) == told.report.get(key) for key in ("verdict", "at", "first", "again")):
+        return []
+    return [Section("What the program names of the whole trace", [f"{did(operation)}, answered {answer(evidence, operation)}"
+                                                                  for operation in evidence.operations])]
+
+
+def in_a_debugger(told: Evidence, language: str) -> list:
+    entry, others = debuggers.stop_of(told)
+    return [Section(debuggers.TITLE, [debuggers.told(entry, others) + debuggers.statement(entry.line, language)])] if entry else []
 
 
 def without_receipts(evidence: Evidence) -> list:
@@ -97,8 +111,12 @@ def without_receipts(evidence: Evidence) -> list:
 
 
 def with_warnings(told: Explanation, warnings: list) -> Explanation:
-    """The explanation, and after it what the verdict may hide, where there is something."""
-    return told._replace(sections=[*told.sections, Section("What this verdict may hide", warnings)]) if warnings else told
+    """The explanation, and before all else what the verdict may hide, where there is something: then nothing is well done."""
+    if not warnings:
+        return told
+    count = "a warning" if len(warnings) == 1 else f"{counted(len(warnings))} warnings"
+    headline = told.headline.replace("accepted: well done, ", f"accepted, with {count}: ", 1)
+    return told._replace(headline=headline, sections=[Section(HIDDEN, warnings), *told.sections])
 
 
 def text_of(told: Explanation) -> str:
@@ -109,91 +127,41 @@ def text_of(told: Explanation) -> str:
     return "".join(line + "\n" for line in lines)
 
 
-def accepted(evidence: Evidence) -> Explanation:
+def accepted(evidence: Evidence) -> tuple:
     report = evidence.report
     order = " ".join(report["order"]) or "(there are no elements)"
-    one = report["operations"] == 1
-    said = "its one response fits" if one else f"all {report['operations']} responses fit"
-    return Explanation(f"accepted: well done, {said} one order of the elements. Strong and weak list specification hold.",
-                       [Section("The first order that they follow, deleted elements too", [order])])
+    said = "its one response fits" if report["operations"] == 1 else f"all {report['operations']} responses fit"
+    return (f"accepted: well done, {said} one order of the elements.",
+            [Section("The first order that they follow, deleted elements too", [order])])
 
 
-def refused(evidence: Evidence, beginning: Evidence | None) -> Explanation:
-    steps, k = evidence.report["steps"], evidence.report["k"]
-    weak = "Strong and weak list specification fail." if k == 2 else "The strong list specification fails, the weak one holds."
+def refused(evidence: Evidence) -> tuple:
+    k = evidence.report["k"]
     fewer = "" if k == 2 else f" Any {counted(k - 1)} of them can."
-    headline = f"refused {k}: {counted(k)} responses can't be right together.{fewer} {weak}"
-    told, shows = beginning or evidence, "they show"
-    if shows_other(evidence, told):
-        shows = f"the lines up to {len(told.recording.lines)} show"
-    return Explanation(headline, [*([went_wrong(evidence, told)] if beginning else []),
-                                  Section(f"What {shows}, {AROUND}", shown_by(told, beginning is None)),
-                                  Section("The elements", elements(told)),
-                                  where_to_look(evidence, told)])
-
-
-def shows_other(evidence: Evidence, beginning: Evidence) -> bool:
-    """Whether the beginning has another cycle than the whole trace."""
-    return beginning.report["steps"] != evidence.report["steps"]
-
-
-def whole_trace(evidence: Evidence, beginning: Evidence) -> list:
-    """What the program's report on the whole trace is about, where that is something else."""
-    return [Section(f"What the whole trace shows, {AROUND}", shown_by(evidence, False))] if shows_other(evidence, beginning) else []
+    return (f"refused {k}: {counted(k)} responses can't be right together.{fewer}",
+            [Section(f"What they show, {AROUND}", shown_by(evidence, evidence.last_line == len(evidence.recording.lines))),
+             Section("The elements", elements(evidence))])
 
 
 def shown_by(evidence: Evidence, is_first: bool) -> list:
     """What each response of a refusal shows; what is told first says that its line is of the trace."""
     shown = []
-    for place, (step, operation) in enumerate(zip(evidence.report["steps"], evidence.operations)):
+    for place, (step, operation) in enumerate(evidence.steps):
         said = did(operation, is_first=is_first and place == 0)
         shown.append(f"[{step['from']}] before [{step['to']}]: {said}, answered {answer(evidence, operation)}")
-    return shown
+    return with_gap(shown, evidence, "steps")
+
+
+def with_gap(lines: list, evidence: Evidence, what: str) -> list:
+    """The lines of the steps that are told; of a long cycle, how many are left out stands where they are."""
+    between = evidence.steps_between
+    return lines[:FIRST_STEPS] + [f".. {between} {what} more .."] + lines[FIRST_STEPS:] if between else lines
 
 
 def elements(evidence: Evidence) -> list:
-    """What became of a refusal's elements."""
-    lives = [life(evidence.recording, name) for name in evidence.elements]
-    return lives + gone_before(evidence) + beside_deleted(evidence) + beside_hidden(evidence) + where_arrived(evidence)
-
-
-def where_to_look(evidence: Evidence, beginning: Evidence) -> Section:
-    """Of what the beginning shows; and where that is more than two responses, and the whole trace has two, of these first: an open
-    contradiction shows more."""
-    if evidence.report["k"] == 2 < beginning.report["k"]:
-        looks = [f"Of the whole trace: {look}" for look in looks_at(evidence)]
-        looks += [f"Of the lines up to {len(beginning.recording.lines)}: {look}" for look in looks_at(beginning)]
-    else:
-        looks = looks_at(beginning)
-    return Section("Where to look in the editor", looks)
-
-
-def looks_at(evidence: Evidence) -> list:
-    """Concurrent inserts first; then inserts beside deleted elements, then two elements of which one's author had seen the other."""
-    lost = beside_deleted(evidence)
-    if evidence.report["k"] > 2:
-        named = joined([operation.name for operation in evidence.operations])
-        return [LOOK["deleted" if gone_before(evidence) or lost else "apart"].format(named=named)]
-    concurrent, told = look_at_two(evidence)
-    beside = [LOOK["beside"]] if lost else []
-    return [told, *beside] if concurrent else [*beside, told]
-
-
-def went_wrong(evidence: Evidence, beginning: Evidence) -> Section:
-    """The line with which the session went wrong."""
-    last, k = beginning.recording.entries[-1], evidence.report["k"]
-    later = "" if beginning.report["k"] == k else f", and with what follows refused {k}"
-    lines = [f"{did(last, is_first=True)}; the lines before it are accepted, with it they are refused {beginning.report['k']}{later}",
-             since(beginning, last, "still fits")]
-    return Section("When it went wrong", lines + in_the_end(evidence.recording))
-
-
-def went_wrong_sooner(last: Operation, report: dict) -> Section:
-    """The line with which a trace went wrong before what is told of it, and the report on it and the lines before it."""
-    about = [str(report[key]) for key in ("k", "at", "first", "again") if key in report]
-    return Section("When it went wrong", [
-        f"{did(last, is_first=True)}; the lines before it are accepted, with it they are {' '.join([report['verdict'], *about])}",
-        f"look at that first: `head -{last.line}` of the trace has it alone"])
+    """Of a refusal, where its elements come from, and what is known of their neighbours."""
+    lines = with_gap([life(evidence.recording, step["from"]) for step, _ in evidence.steps], evidence, "elements")
+    return [*lines, *gone_before(evidence), *beside_deleted(evidence), *beside_hidden(evidence), *where_arrived(evidence)]
 
 
 def in_the_end(recording: Recording) -> list:
@@ -205,12 +173,7 @@ def in_the_end(recording: Recording) -> list:
         return []
     told = joined([str(operation.replica) for operation in whole])
     is_one = len({tuple(operation.response) for operation in whole}) == 1
-    shown = "one list" if is_one else "different lists, perhaps as one text"
-    return [f"in the end replicas {told} have all changes, and show {shown}"]
-
-
-def joined(words: list) -> str:
-    return " and ".join(filter(None, [", ".join(words[:-1]), words[-1]]))
+    return [f"in the end replicas {told} have every change, and show {'the same list' if is_one else 'different lists, perhaps as one text'}"]
 
 
 def life(recording: Recording, name: str) -> str:
@@ -223,9 +186,10 @@ def life(recording: Recording, name: str) -> str:
 
 def gone_before(evidence: Evidence) -> list:
     """Which of the elements had been deleted for the responses, so that they leave them out."""
+    names = dict.fromkeys(step["from"] for step, _ in evidence.steps)
     lines = []
-    for operation in evidence.operations:
-        for name in evidence.elements:
+    for _, operation in evidence.steps:
+        for name in names:
             inserted = any(map(operation.has_seen, evidence.recording.inserts[name]))
             delete = next(filter(operation.has_seen, evidence.recording.deletes.get(name, [])), None)
             if inserted and delete is not None:
@@ -237,13 +201,13 @@ def beside_deleted(evidence: Evidence) -> list:
     """Which elements arrived where one beside which they had been put was deleted already."""
     return [f"{insert.element} was put {beside(insert, [delete.element for delete in deletes])}. When it arrived at replica {receipt.replica} "
             f"in line {receipt.line}, {joined([f'{delete.element} was deleted there by {at(delete)}' for delete in deletes])}"
-            for receipt, insert, deletes in evidence.lost_neighbours()]
+            for (receipt, insert), deletes in evidence.lost_neighbours]
 
 
 def beside_hidden(evidence: Evidence) -> list:
     """Which elements had been put beside ones that are deleted for the response that shows them."""
     return [f"{insert.element} was put {beside(insert, names)}, deleted for {at(operation)}"
-            for insert, names, operation in evidence.hidden_neighbours()]
+            for insert, names, operation in evidence.hidden_neighbours]
 
 
 def beside(insert: Operation, names: list) -> str:
@@ -256,28 +220,17 @@ def beside(insert: Operation, names: list) -> str:
 def where_arrived(evidence: Evidence) -> list:
     """The moments at which the order may have gone wrong, which a response shows only later: where elements of others arrived."""
     told = [f"{insert.element}{' arrived' * (place == 0)} at replica {receipt.replica} in line {receipt.line}"
-            for place, (receipt, insert) in enumerate(evidence.arrivals())]
+            for place, (receipt, insert) in enumerate(evidence.arrivals)]
     return [", ".join(told)] if told else []
 
 
-def look_at_two(evidence: Evidence) -> tuple:
-    """Whether no author of two elements in opposite orders had seen the other's, and where to look at them."""
-    first, then = (evidence.recording.inserts[name][0] for name in evidence.elements)
-    if not first.has_seen(then) and not then.has_seen(first):
-        return True, LOOK["concurrent"].format(first=first.element, then=then.element)
-    later, old = (first, then) if first.has_seen(then) else (then, first)
-    return False, LOOK["seen"].format(later=at(later), new=later.element, old=old.element)
-
-
-def doubled(evidence: Evidence) -> Explanation:
+def doubled(evidence: Evidence) -> tuple:
     first, again = evidence.operations
-    return Explanation(f"doubled: {first.name} and {again.name} insert the same name, {first.element}. "
-                       "The specifications know an element by its name, so nothing else was judged.",
-                       [Section("The two inserts", [did(first, is_first=True), did(again)]),
-                        Section("Where to look", [LOOK["doubled"]])])
+    return (f"doubled: {first.name} and {again.name} insert the same name, {first.element}. An element is known by its name, so nothing else was "
+            "judged.", [Section("The two inserts", [did(first, is_first=True), did(again)])])
 
 
-def contents(evidence: Evidence) -> Explanation:
+def contents(evidence: Evidence) -> tuple:
     operation = evidence.operations[0]
     sections = [Section("The response", [
         did(operation, is_first=True),
@@ -285,38 +238,38 @@ def contents(evidence: Evidence) -> Explanation:
         expected(evidence, operation),
         since(evidence, operation),
     ])]
-    for title, names in ("Missing", evidence.missing), ("Too many", evidence.surplus), ("Named more than once", evidence.repeated):
+    for title, names in ("Missing", evidence.missing), ("Extra", evidence.surplus), ("Named more than once", evidence.repeated):
         if names:
             lines = [line for name in names if name in evidence.elements for line in facts(evidence, name, operation)]
             left = sum(name not in evidence.elements for name in names)
             sections.append(Section(title, lines + ([f"and {left} more"] if left else [])))
-    sections.append(Section("Where to look", [*wrong_delete(evidence, operation), LOOK["contents"]]))
-    said = "this view does not hold a part of" if operation.kind == "view" else "this response does not hold exactly"
-    return Explanation(f"contents {operation.name}: {said} what is visible to it. Strong and weak list specification fail.", sections)
+    return f"contents {operation.name}: {what_is_wrong(evidence, operation)}.", sections
 
 
-def wrong_delete(evidence: Evidence, operation: Operation) -> list:
-    """Of a response that lacks one element, which nothing deletes, and has one that was deleted for it since its replica's response
-    before, which was right; but views, which may leave out any."""
-    if evidence.repeated or len(evidence.missing) != 1 or len(evidence.surplus) != 1:
-        return []
-    (missing,), (surplus,) = evidence.missing, evidence.surplus
-    inserts, deletes = evidence.recording.inserts.get(surplus, []), evidence.recording.deletes.get(surplus, [])
-    before = [one for one in evidence.recording.streams[operation.replica][:operation.n - 1] if one.kind != "view"][-1:]
-    news = [delete for delete in deletes if operation.has_seen(delete) and not any(one.has_seen(delete) for one in before)]
-    if missing in evidence.recording.deletes or not news or not any(map(operation.has_seen, inserts)):
-        return []
-    return [f"{at(news[0])} looks applied to {missing} in the place of {surplus}: look at how a delete finds its element where it is "
-            "applied, and at whether the recorder names the element that was deleted. If it was not so:"]
+def what_is_wrong(evidence: Evidence, operation: Operation) -> str:
+    """What the response lacks of what its replica had, and has beside that."""
+    replica, told = operation.replica, []
+    if evidence.missing:
+        told.append(f"lacks {elements_of(len(evidence.missing))} that replica {replica} had by then")
+    if evidence.surplus:
+        told.append(f"has {elements_of(len(evidence.surplus))} that replica {replica} did not have by then")
+    if evidence.repeated:
+        told.append(f"names {elements_of(len(evidence.repeated))} more than once")
+    return f"this {'view' if operation.kind == 'view' else 'response'} {joined(told)}"
+
+
+def elements_of(count: int) -> str:
+    return f"{counted(count)} element{'' if count == 1 else 's'}"
 
 
 def expected(evidence: Evidence, operation: Operation) -> str:
     """What the response must hold, or of a view what it may hold."""
     if operation.kind == "view":
         visible = evidence.recording.expected(operation)
-        return f"visible, of which a view may leave out some: {marked([a for a in evidence.recording.inserts if a in visible], set())}"
+        names = marked([a for a in evidence.recording.inserts if a in visible], set())
+        return f"what replica {operation.replica} had by then, of which a view may leave out some: {names}"
     wanted = [name for name in dict.fromkeys(operation.response) if name not in evidence.surplus] + evidence.missing
-    return f"expected, in whatever order: {marked(wanted, set(evidence.missing))}"
+    return f"what replica {operation.replica} had by then, in whatever order: {marked(wanted, set(evidence.missing))}"
 
 
 def since(evidence: Evidence, operation: Operation, still: str = "is still right") -> str:
@@ -331,7 +284,7 @@ def since(evidence: Evidence, operation: Operation, still: str = "is still right
 
 
 def facts(evidence: Evidence, name: str, operation: Operation) -> list:
-    """Where an element was inserted and deleted, and whether the operation has seen that."""
+    """Where an element was inserted and deleted, beside what it was put, and whether its replica had that by then."""
     recording = evidence.recording
     lines = []
     if name not in recording.inserts:
@@ -339,39 +292,56 @@ def facts(evidence: Evidence, name: str, operation: Operation) -> list:
     for change in evidence.changes(name, operation):
         verb = "inserted" if change.kind == "ins" else "deleted"
         lines.append(f"{verb} by {at(change)}, {arrived(recording, change, operation)}")
-        lines += by_others(recording, change, operation)
+        lines += overtaken(evidence, change, operation)
+        lines += neighbours(evidence, change) if change.kind == "ins" and name not in evidence.repeated else []
     if name in recording.inserts and name not in recording.deletes:
         lines.append("nothing deletes it")
     return [f"[{name}] {line}" for line in lines]
 
 
+def overtaken(evidence: Evidence, change: Operation, operation: Operation) -> list:
+    """Whether a later operation brought a change along before the change came by itself."""
+    found = evidence.overtaking(change, operation)
+    if found is None:
+        return []
+    (brought, own), replica = found, operation.replica
+    if own is not None:
+        of_author = f"{change.name}'s own receipt comes only in" if own.seen is change else "It is named only in"
+        had = "" if own.seen.replica == brought.seen.replica else ", whose author had it,"
+        return [f"{of_author} line {own.line} ({own.text}); {brought.seen.name}{had} overtook it in line {brought.line}, so the exchange is not causal"]
+    if change.replica == brought.seen.replica:
+        return [f"no receipt at replica {replica} names {change.name} itself, as one does each other change of replica {change.replica}: "
+                f"{brought.seen.name} overtook it in line {brought.line}, or it was lost"]
+    return [f"no receipt at replica {replica} names it: it counts as arrived with {at(brought.seen)}, whose author had it. Where each "
+            "operation travels by itself, it was missing, and the exchange is not causal"]
+
+
+def neighbours(evidence: Evidence, insert: Operation) -> list:
+    """Beside what an element was put that arrived, and whether that was deleted there by then."""
+    arrival = next((arrival for arrival in evidence.arrivals if arrival.insert is insert), None)
+    names = evidence.beside(insert)
+    if arrival is None or not names:
+        return []
+    receipt = arrival.receipt
+    gone = next((deletes for other, deletes in evidence.lost_neighbours if other is arrival), [])
+    if gone:
+        told = joined([f"{delete.element} was deleted there by {at(delete)}" for delete in gone])
+    else:
+        told = "that was not deleted there" if len(names) == 1 else "neither was deleted there"
+    return [f"was put {beside(insert, names)}. When it arrived at replica {receipt.replica} in line {receipt.line}, {told}"]
+
+
 def arrived(recording: Recording, seen: Operation, operation: Operation) -> str:
-    """How an operation came to be visible to another, or that it is not."""
+    """How an operation came to a replica before another one of it, or that it did not."""
     if seen is operation:
         return "this operation itself"
     if not operation.has_seen(seen):
-        return f"not visible to {operation.name}: {not_arrived(recording, seen, operation)}"
+        return f"replica {operation.replica} did not have that by then: {not_arrived(recording, seen, operation)}"
     way = recording.way(seen, operation)
     if not way:
         return f"an earlier operation of replica {operation.replica}"
     hops = [f"arrived at replica {receipt.replica} in line {receipt.line} ({receipt.text})" for receipt in way]
     return ", and from there ".join(hops)
-
-
-def by_others(recording: Recording, seen: Operation, operation: Operation) -> list:
-    """Of an operation that others brought along: whether it had arrived by itself too. Where it had not, the exchange may not be
-    causal, which is what a new recorder meets first."""
-    way = recording.way(seen, operation) if operation.has_seen(seen) else []
-    if len(way) < 2:
-        return []
-    brought, named = way[-1], recording.receipt_of(seen, operation.replica)
-    if named is None or named.before >= operation.n:
-        return [f"no receipt at replica {operation.replica} names it by then: it counts as arrived since {at(brought.seen)} had seen "
-                "it. Where each operation travels by itself, it was missing, and the exchange is not causal"]
-    if named.line > brought.line:
-        return [f"line {named.line} ({named.text}) names it, after line {brought.line} ({brought.text}) which brings it: an operation "
-                "arrived before what its author had seen, and the exchange is not causal"]
-    return []
 
 
 def not_arrived(recording: Recording, seen: Operation, operation: Operation) -> str:
@@ -383,7 +353,7 @@ def not_arrived(recording: Recording, seen: Operation, operation: Operation) -> 
     return f"the first receipt that brings it is line {late.line} ({late.text}), after this response"
 
 
-def position(evidence: Evidence) -> Explanation:
+def position(evidence: Evidence) -> tuple:
     operation = evidence.operations[0]
     response = operation.response
     asked = place_asked(operation, response)
@@ -398,25 +368,8 @@ def position(evidence: Evidence) -> Explanation:
     else:
         gone = next(change for change in evidence.recording.deletes[operation.element] if operation.has_seen(change))
         lines.append(f"found at: no position, since {at(gone)} deletes it, {arrived(evidence.recording, gone, operation)}")
-    return Explanation(f"position {operation.name}: {operation.element} does not stand where it was asked for. Strong and weak "
-                       "list specification fail.",
-                       [Section("The response, positions counted from 0", lines),
-                        Section("Where to look in the editor", [LOOK["position"]])])
-
-
-def counted(k: int) -> str:
-    return NUMBERS[k] if k < len(NUMBERS) else str(k)
-
-
-def at(operation: Operation) -> str:
-    return f"{operation.name} (line {operation.line})"
-
-
-def did(operation: Operation, is_first: bool = False) -> str:
-    """Who did what, in which line; what is told first says of what, since among a test's words it looks like a line of the test."""
-    what = {"ins": f"inserted {operation.element} at position {operation.at}", "del": f"deleted {operation.element}",
-            "read": "read the list", "view": "showed a part of the list"}[operation.kind]
-    return f"line {operation.line}{' of the trace' * is_first}, {operation.name}: replica {operation.replica} {what}"
+    return (f"position {operation.name}: {operation.element} does not stand where it was asked for.",
+            [Section("The response, positions counted from 0", lines)])
 
 
 def answer(evidence: Evidence, operation: Operation) -> str:

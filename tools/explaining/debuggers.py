@@ -1,0 +1,57 @@
+"""Where to stop a debugger when a session's steps are done again, and the statement that does it in the recorder's language."""
+from __future__ import annotations
+
+from .evidence import Evidence
+from .recordings import Operation, Receipt
+
+TITLE = "In a debugger"
+MOST_OTHERS = 8  # lines where others arrived that are told
+# By the name that recorders write beside a trace: the language, and the statement for a count of lines.
+LANGUAGES = {
+    "python": ("Python", "if recording.lines() == {}: breakpoint()"),
+    "javascript": ("JavaScript", "if (recording.lines() === {}) debugger"),
+    "rust": ("Rust", 'if recording.lines() == {} {{ eprintln!("here") }}, with a breakpoint on it'),
+    "c": ("C", "if (domepeeler_lines(recording) == {}) raise(SIGTRAP);"),
+    "emacs-lisp": ("Emacs Lisp", "(when (= (domepeeler-lines recording) {}) (debug))"),
+}
+USUAL = "python"  # of a trace of which nothing says who recorded it
+BEHIND = ", where a change begins to be applied, local or remote: "
+
+
+def stop_of(evidence: Evidence) -> tuple:
+    """The entry before which to stop, and the others to try if that one goes right: of a refusal where its elements arrived, the last one
+    first, else at its last response; of wrong contents where a second delete or what overtook a change arrived, or at what was received
+    first since the replica's operation before, if anything was; else at the operation that is named. None of another verdict."""
+    if evidence.report["verdict"] not in ("refused", "contents", "position"):
+        return None, []
+    if evidence.report["verdict"] == "refused":
+        arrived = {arrival.receipt.line: arrival.receipt for arrival in evidence.arrivals}
+        *others, entry = list(arrived.values()) or [max(evidence.operations, key=lambda operation: operation.line)]
+        return entry, others[::-1]
+    named = evidence.operations[0]
+    if evidence.report["verdict"] == "contents":
+        second = [evidence.recording.arrival(again, named.replica) for again, _ in evidence.second_deletes if again.replica != named.replica]
+        overtaking = [found.brought for _, found in evidence.overtakings]
+        return [*second, *overtaking, *evidence.before(named)[1], named][0], []
+    return named, []
+
+
+def told(entry: Operation | Receipt, others: list) -> str:
+    """Where to stop, in words."""
+    before = ", ".join(f"line {other.line}" for other in others[:MOST_OTHERS]) + (" and more" if others[MOST_OTHERS:] else "")
+    then = f"; if that goes right, where {'another' if len(others) == 1 else 'others'} arrived ({before})" if others else ""
+    return f"stop before line {entry.line}, where {doing(entry)}{then}."
+
+
+def statement(line: int, language: str) -> str:
+    """How to stop before this line, in the recorder's language."""
+    name, words = LANGUAGES.get(language) or LANGUAGES[USUAL]
+    return f" In {name}{BEHIND}{words.format(line - 1)}"
+
+
+def doing(entry: Operation | Receipt) -> str:
+    """What the replica is about to do."""
+    if isinstance(entry, Receipt):
+        return f"replica {entry.replica} applies {entry.seen.name}"
+    what = {"ins": f"inserts {entry.element}", "del": f"deletes {entry.element}", "read": "reads the list", "view": "shows a part of the list"}
+    return f"replica {entry.replica} {what[entry.kind]}"

@@ -1,0 +1,82 @@
+"""Judges many traces on other machines, by GNU parallel."""
+from __future__ import annotations
+
+import os
+import subprocess
+import sys
+import tempfile
+from pathlib import Path
+
+from .files import Unread, read_file, shown
+from .judges import WORDS
+from .rows import Row, failed, row_of, unread
+
+
+class NoParallel(Exception):
+    """GNU parallel is not there, or could not run."""
+
+
+def needs_parallel() -> None:
+    """There is another program of that name, which can't do this."""
+    try:
+        told = subprocess.run(["parallel", "--version"], capture_output=True, text=True).stdout
+    except OSError:
+        told = ""
+    if not told.startswith("GNU parallel"):
+        raise NoParallel("--sshlogin needs GNU parallel: on Debian, apt-get update and apt-get install parallel")
+
+
+def judged_there(machines: str, jobs: str | None, program: str, files: list) -> list:
+    """A row for each trace, judged on other machines."""
+    traces, rows = {}, {}
+    for file in files:
+        try:
+            traces[file] = read_file(file)
+        except Unread as error:
+            rows[file] = unread(shown(file), str(error))._replace(file=file)
+    with tempfile.TemporaryDirectory() as folder:
+        there = list(traces)
+        if there:
+            run_all(machines, jobs, program, there, folder)
+            rows |= dict(zip(there, rows_of(program, traces, folder)))
+    return [rows[file] for file in files]
+
+
+def run_all(machines: str, jobs: str | None, program: str, files: list, folder: str) -> None:
+    """Has each trace judged: parallel leaves a log, and what each job printed, in the folder.
+
+    It runs at the root of the file system with relative names, so that a trace which is copied to another machine lands below
+    a folder of parallel's own there, and is removed from there alone. On this machine, which parallel calls `:`, it is not copied, and
+    its name is right as it is."""
+    given = "\0".join(os.path.abspath(file).lstrip("/") for file in files)
+    words = ["parallel", "--null", "--joblog", f"{folder}/log", "--results", f"{folder}/" + "{#}"]
+    copied = [] if set(machine.rpartition("/")[2].strip() for machine in machines.split(",")) == {":"} else [
+        "--transferfile", "{}", "--workdir", "...", "--cleanup"]
+    words += ["--sshlogin", machines, *copied, *(["--jobs", jobs] if jobs else [])]
+    words += ["--bar"] if sys.stderr.isatty() else []
+    words += ["--quote", program, *WORDS, "{}"]
+    errors = None if sys.stderr.isatty() else subprocess.PIPE
+    done = subprocess.run(words, input=os.fsencode(given), cwd="/", stdout=subprocess.DEVNULL, stderr=errors)
+    if not os.path.exists(f"{folder}/log") or done.returncode == 255:
+        raise NoParallel("parallel could not run: " + (done.stderr or b"").decode(errors="replace").strip())
+
+
+def rows_of(program: str, traces: dict, folder: str) -> list:
+    """What the log and the jobs' output say of each trace."""
+    files, ended = list(traces), {}
+    for line in Path(folder, "log").read_bytes().split(b"\n")[1:]:
+        cells = line.decode(errors="replace").split("\t")
+        if len(cells) < 9 or not cells[0].isdigit():
+            continue  # the rest of a file's name that has a line feed
+        number, _, _, seconds, _, _, status, signal = cells[:8]
+        ended[int(number)] = float(seconds), int(status) if signal == "0" else 128 + int(signal)
+    return [row_in(program, file, traces[file], Path(folder, str(at)), *ended.get(at, (0.0, 255))) for at, file in enumerate(files, 1)]
+
+
+def row_in(program: str, file: str, trace: bytes, printed: Path, seconds: float, status: int) -> Row:
+    """The row of a job of parallel, which left what it printed."""
+    errors = printed.with_name(printed.name + ".err")
+    error = errors.read_text(errors="replace").strip() if errors.exists() else ""
+    if not printed.exists() and not error:
+        return failed(file, seconds, status, "no answer", trace.count(b"\n"))
+    return row_of(program, file, trace, seconds, status, printed.read_bytes() if printed.exists() else b"", error)

@@ -1,0 +1,145 @@
+"""The command that says in words what the program's verdict on a trace means: who did what in which line, and where to look."""
+from __future__ import annotations
+
+import argparse
+import os
+import sys
+from typing import NoReturn
+
+from .beginning import explained
+from .commands import add_version
+from .cycle_picture import drawing
+from .debuggers import LANGUAGES, USUAL
+from .evidence import Evidence, Unexplained
+from .faulty_lines import about_fault
+from .files import MOST_BYTES, Unread, read_file, shown, write_file, written_over
+from .page import page_of
+from .places import Beside, beside, placed_warnings, with_places
+from .programs import WAYS, Judged, NoProgram, find_program, judge, report_of, report_text
+from .recordings import FIRST_ENTRY, Recording
+from .small import smallest
+from .warnings import SIDE, warnings_of
+from .words import text_of, verdict_of, with_warnings
+
+NAME = "domepeeler-explain"
+ABOUT = "Says in words what the program's verdict on a trace means: who did what in which line, and where to look."
+MOST_TOLD = 40  # operations of a small trace that are told one by one
+STATUSES = "It ends with the program's status: 0 accepted, 1 any other verdict, 2 a trace that does not read, 3 out of memory."
+
+
+def words_asked() -> argparse.Namespace:
+    parser = argparse.ArgumentParser(prog=NAME, description=ABOUT, epilog=f"{WAYS} {STATUSES}")
+    parser.add_argument("trace", metavar="TRACE", help="the trace; - is standard input")
+    parser.add_argument("--program", metavar="PATH", help="the program that judges")
+    parser.add_argument("--html", metavar="FILE", help="write a page with the session drawn and the words beside it")
+    parser.add_argument("--small", metavar="FILE", help="write the small trace that shows the same")
+    parser.add_argument("--svg", metavar="FILE", help="write the picture of the cycle of a refused recording")
+    parser.add_argument("--language", choices=list(LANGUAGES), help="the language of the recorder, in which to say where to stop a debugger; by "
+                        f"default what stands beside the trace, else {USUAL}")
+    add_version(parser, NAME)
+    return parser.parse_args()
+
+
+def fail(words: str) -> NoReturn:
+    print(f"{NAME}: {words}", file=sys.stderr)
+    sys.exit(2)
+
+
+def check_outputs(asked: argparse.Namespace) -> None:
+    """Nothing is written over what is read, or twice into one file."""
+    small = [asked.small, asked.small + SIDE] if asked.small else []
+    why = written_over([*filter(None, [asked.html, asked.svg]), *small], [] if asked.trace == "-" else [asked.trace, asked.trace + SIDE])
+    if why:
+        fail(why)
+
+
+def read(path: str) -> bytes:
+    if path != "-":
+        try:
+            return read_file(path)
+        except Unread as error:
+            fail(f"cannot read {shown(path)}: {error}")
+    try:
+        trace = sys.stdin.buffer.read(MOST_BYTES + 1)
+    except OSError as error:
+        fail(f"cannot read standard input: {error.strerror}")
+    if len(trace) > MOST_BYTES:
+        fail(f"standard input has more than {MOST_BYTES:,} bytes, the most that a trace has")
+    return trace
+
+
+def write(path: str, text: str) -> None:
+    try:
+        write_file(path, text.encode("utf-8", errors="replace"))
+    except OSError as error:
+        fail(f"cannot write {shown(path)}: {error.strerror}")
+
+
+def say_fault(judged: Judged, trace: bytes, name: str) -> None:
+    """The program's own line, and what it means."""
+    print("\n  ".join([judged.error, *about_fault(judged.error, trace, name)]), file=sys.stderr)
+
+
+def write_small(path: str, evidence: Evidence, told: Evidence, program: str, known: Beside) -> None:
+    """Of a trace that went wrong before its end, that beginning made small: what follows may hide how it came about."""
+    if evidence.report["verdict"] == "accepted":
+        print(f"\n{shown(path)} is not written: an accepted trace has no fault to make small")
+        return
+    small = smallest(told, report_of(program))
+    if small is None:
+        fail("no smaller trace has the same verdict, nor has the whole one as it is written here")
+    write(path, small.text)
+    lines = small.text.splitlines()
+    placed = [f"{number} {known.places[line]}" for number, line in enumerate(small.lines, FIRST_ENTRY) if line in known.places]
+    if known.marks() + placed or os.path.isfile(path + SIDE):  # of a trace that was in this file before
+        write(path + SIDE, "".join(f"{line}\n" for line in [len(lines), *known.marks(), *placed]))
+    print(f"\n{shown(path)} {same_as(evidence, told)} in {len(lines)} lines of {len(evidence.recording.lines)}; the editor need not answer so "
+          "again. Its operations in the whole trace:")
+    named = [f"{name} = {operation.name} (line {operation.line})" for name, operation in small.operations]
+    print("  " + ", ".join(named[:MOST_TOLD]) + (f", and {len(named) - MOST_TOLD} more" if len(named) > MOST_TOLD else ""))
+
+
+def same_as(evidence: Evidence, told: Evidence) -> str:
+    """In what the small trace is the same."""
+    if told.last_line == len(evidence.recording.lines) or told.report == evidence.report:
+        return "has the same verdict"
+    if told.report["verdict"] == "refused":
+        return f"is {verdict_of(told.report)} as the first {told.last_line} lines are,"
+    return f"has the verdict `{told.report['verdict']}` as the first {told.last_line} lines have,"
+
+
+def explain(asked: argparse.Namespace, program: str, trace: bytes, judged: Judged) -> None:
+    evidence = Evidence(Recording(trace.decode()), judged.report)
+    known = beside(trace, asked.trace)
+    words, told = explained(evidence, report_of(program), asked.language or known.language or USUAL)
+    warnings = placed_warnings(warnings_of(judged.report["verdict"], trace, asked.trace).all, known)
+    words = with_places(with_warnings(words, warnings), known)
+    print(text_of(words), end="")
+    if asked.html:
+        write(asked.html, page_of(evidence, told, words, shown(asked.trace), report_text(program, trace)))
+    if asked.svg and judged.report["verdict"] == "refused":
+        write(asked.svg, drawing(told.report))
+    elif asked.svg:
+        print(f"\n{shown(asked.svg)} is not written: only a refused recording has a cycle to draw")
+    if asked.small:
+        write_small(asked.small, evidence, told, program, known)
+
+
+def main() -> None:
+    asked = words_asked()
+    check_outputs(asked)
+    trace = read(asked.trace)
+    try:
+        program = find_program(asked.program)
+        judged = judge(program, trace)
+    except NoProgram as error:
+        fail(str(error))
+    if judged.report is None:
+        say_fault(judged, trace, asked.trace)
+    else:
+        try:
+            explain(asked, program, trace, judged)
+        except Unexplained as error:
+            told = f"can't explain this verdict: {error}. The program's word counts; its report:"
+            print(f"{NAME}: {told}\n{report_text(program, trace)}", end="", file=sys.stderr)
+    sys.exit(judged.status)

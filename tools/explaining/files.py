@@ -1,0 +1,110 @@
+"""Files that tools read and write, and how their names are shown. A name may be any bytes, a file may be no file at all, and what is
+written appears whole or not at all."""
+from __future__ import annotations
+
+import contextlib
+import os
+import stat
+
+MOST_BYTES = 152_305_684  # of a trace that reaches every limit
+
+
+class Unread(Exception):
+    """A file that can't be read, or is none; the words say why."""
+
+
+def shown(text: str) -> str:
+    """A name or a log's text for a message, a table or a page: what can't be printed stands as `\\x1b` and the like."""
+    return "".join(letter if letter.isprintable() else escaped(letter) for letter in text)
+
+
+def escaped(letter: str) -> str:
+    is_byte = "\udc80" <= letter <= "\udcff"  # of a name that is no text
+    return f"\\x{ord(letter) - 0xdc00:02x}" if is_byte else ascii(letter)[1:-1]
+
+
+def opened(path: str, most: int = MOST_BYTES) -> int:
+    """A descriptor of a regular file of at most so many bytes. A pipe or a device would never end."""
+    try:
+        descriptor = os.open(path, os.O_RDONLY | os.O_NONBLOCK | os.O_CLOEXEC)
+    except OSError as error:
+        raise Unread(error.strerror) from None
+    about = os.fstat(descriptor)
+    why = ""
+    if stat.S_ISDIR(about.st_mode):
+        why = "Is a directory"
+    elif not stat.S_ISREG(about.st_mode):
+        why = "it is no regular file"
+    elif about.st_size > most:
+        why = f"it has {about.st_size:,} bytes, and a trace has at most {most:,}" if most == MOST_BYTES else f"it has more than {most:,} bytes"
+    if why:
+        os.close(descriptor)
+        raise Unread(why)
+    return descriptor
+
+
+def content(descriptor: int) -> bytes:
+    """All bytes of an open file, wherever it was read up to."""
+    parts, at = [], 0
+    try:
+        while (part := os.pread(descriptor, 1 << 24, at)):
+            parts.append(part)
+            at += len(part)
+            if at > MOST_BYTES:
+                raise Unread(f"it grows, and a trace has at most {MOST_BYTES:,} bytes")
+    except OSError as error:
+        raise Unread(error.strerror) from None
+    return b"".join(parts)
+
+
+def read_file(path: str, most: int = MOST_BYTES) -> bytes:
+    descriptor = opened(path, most)
+    try:
+        return content(descriptor)
+    finally:
+        os.close(descriptor)
+
+
+def write_file(path: str, data: bytes) -> None:
+    """Writes a file that appears whole or not at all; what is no regular file, as a pipe, is written to. OSError where it can't be."""
+    try:
+        mode = os.stat(path).st_mode
+    except FileNotFoundError:
+        mode = None
+    if mode is not None and not stat.S_ISREG(mode):
+        with open(path, "wb") as file:
+            file.write(data)
+        return
+    path = os.path.realpath(path)
+    if mode is not None and not os.access(path, os.W_OK):
+        raise PermissionError(13, "Permission denied", path)
+    beside = os.path.join(os.path.dirname(path), f".domepeeler-{os.getpid()}-{abs(hash(path)) % 10**8}")
+    descriptor = os.open(beside, os.O_WRONLY | os.O_CREAT | os.O_EXCL | os.O_CLOEXEC, 0o666)
+    try:
+        with open(descriptor, "wb") as file:
+            file.write(data)
+        if mode is not None:
+            os.chmod(beside, stat.S_IMODE(mode))
+        os.replace(beside, path)
+    except BaseException:
+        with contextlib.suppress(OSError):
+            os.remove(beside)
+        raise
+
+
+def same_file(path: str, other: str) -> bool:
+    """Whether two names are of one file, or would be."""
+    try:
+        return os.path.samefile(path, other)
+    except OSError:
+        return os.path.realpath(path) == os.path.realpath(other)
+
+
+def written_over(outputs: list, inputs: list) -> str:
+    """Why these can't be written, if they can't: an output is an input, or another output."""
+    for place, output in enumerate(outputs):
+        if any(same_file(output, read) for read in inputs):
+            return f"{shown(output)} is read, so it is not written to"
+        if any(same_file(output, other) for other in outputs[:place]):
+            return f"{shown(output)} is to be written twice"
+    return ""

@@ -1,0 +1,104 @@
+"""Judges many traces on this machine: so many threads, each with a process of the program. What is told of a big trace beside its verdict
+is found by processes of Python, since threads of one take turns."""
+from __future__ import annotations
+
+import multiprocessing
+import os
+import subprocess
+import sys
+import threading
+import time
+from collections.abc import Iterator
+from concurrent.futures import ProcessPoolExecutor, ThreadPoolExecutor, as_completed
+
+from .files import Unread, content, opened, shown
+from .rows import Row, failed, row_of, unread
+
+WORDS = ["verdict", "--json", "--workers", "1"]  # for the program, before a trace
+BIG = 1 << 20  # bytes of a trace for whose row it pays to ask another process
+
+
+class TooMany(Exception):
+    """So many can't be judged at a time."""
+
+
+def judged_here(program: str, files: list, jobs: int) -> list:
+    """A row for each trace, in the order of the files; so many are judged at a time. A user who stops it stops those too."""
+    judges = Judges(program, jobs)
+    with ThreadPoolExecutor(jobs) as pool:
+        try:
+            waiting = [pool.submit(judges.judged, file) for file in files]
+            for _ in with_progress(as_completed(waiting), len(files)):
+                pass
+            return [row.result() for row in waiting]
+        except BaseException as error:
+            pool.shutdown(wait=False, cancel_futures=True)
+            judges.stop()
+            if isinstance(error, RuntimeError) and "thread" in str(error):
+                raise TooMany(f"cannot judge {jobs} at a time ({error}): ask for fewer --jobs") from None
+            raise
+        finally:
+            judges.close()
+
+
+class Judges:
+    """The processes that judge, each begun by a thread of its own, and those that look at big traces."""
+
+    def __init__(self, program: str, jobs: int) -> None:
+        self.program, self.jobs = program, jobs
+        self.running: set = set()
+        self.is_stopped = False
+        self.lock, self.lookers = threading.Lock(), None
+
+    def judged(self, file: str) -> Row:
+        begin = time.monotonic()
+        try:
+            return self._judged(file, begin)
+        except Unread as error:
+            return unread(shown(file), str(error))._replace(file=file)
+        except MemoryError:
+            return failed(file, time.monotonic() - begin, 3, "out of memory")
+
+    def _judged(self, file: str, begin: float) -> Row:
+        descriptor = opened(file)
+        try:
+            try:
+                process = subprocess.Popen([self.program, *WORDS, "-"], stdin=descriptor, stdout=subprocess.PIPE, stderr=subprocess.PIPE)
+            except OSError as error:
+                return failed(file, 0.0, 126, f"{shown(self.program)} can't be run: {error.strerror}")
+            self.running.add(process)
+            if self.is_stopped:  # meanwhile: nobody else ends this one
+                process.kill()
+            printed, errors = process.communicate()
+            self.running.discard(process)
+            trace = content(descriptor)
+        finally:
+            os.close(descriptor)
+        status = process.returncode if process.returncode >= 0 else 128 - process.returncode
+        answer = self.program, file, trace, time.monotonic() - begin, status, printed, errors.decode(errors="replace").strip()
+        return row_of(*answer) if len(trace) < BIG or self.jobs == 1 else self._looker().submit(row_of, *answer).result()
+
+    def _looker(self) -> ProcessPoolExecutor:
+        with self.lock:
+            if self.lookers is None:
+                self.lookers = ProcessPoolExecutor(self.jobs, multiprocessing.get_context("spawn"))
+            return self.lookers
+
+    def stop(self) -> None:
+        self.is_stopped = True
+        for process in list(self.running):
+            process.kill()
+        for looker in multiprocessing.active_children():
+            looker.kill()
+
+    def close(self) -> None:
+        if self.lookers is not None:
+            self.lookers.shutdown(wait=False, cancel_futures=True)
+
+
+def with_progress(rows: Iterator, count: int) -> Iterator:
+    """The rows; where standard error is a terminal, how many there are stands on it meanwhile."""
+    for number, row in enumerate(rows, 1):
+        if sys.stderr.isatty():
+            print(f"\r{number} of {count}", end="\n" if number == count else "", file=sys.stderr, flush=True)
+        yield row

@@ -1,0 +1,234 @@
+"""The command that judges all traces below some folders, several at a time, and lists them: first the one that fails in the fewest
+lines."""
+from __future__ import annotations
+
+import argparse
+import json
+import os
+import stat
+import sys
+from collections import Counter
+from pathlib import Path
+from typing import NoReturn
+
+from .commands import add_version
+from .elsewhere import NoParallel, judged_there, needs_parallel
+from .faulty_lines import ENTRIES, about_file
+from .files import shown, write_file, written_over
+from .judges import TooMany, judged_here
+from .junit import junit_of
+from .programs import WAYS, NoProgram, check_is_domepeeler, find_program
+from .rows import KINDS, NO_VERDICTS, Row
+from .warnings import SIDE
+
+NAME = "domepeeler-judge-many"
+ABOUT = "Judges all traces below some folders, several at a time, and lists them: first the one that fails in the fewest lines."
+STATUSES = ("It ends with status 0 where all are accepted, 1 where all can be read and some are not accepted, and 2 where one can't "
+            "be read, or is known to be cut, or something else fails.")
+MOST_WARNED = 20  # warnings that are printed on standard error
+TRACE = ".trace"  # in any case
+
+
+def words_asked() -> argparse.Namespace:
+    parser = argparse.ArgumentParser(prog=NAME, description=ABOUT, epilog=f"{WAYS} {STATUSES}")
+    parser.add_argument("folders", metavar="DIR", nargs="+", help="a folder with *.trace files at any depth, or one trace")
+    parser.add_argument("--program", metavar="PATH", help="the program that judges")
+    parser.add_argument("--jobs", metavar="N", help="how many at a time, by default one a processor; with --sshlogin as GNU "
+                        "parallel takes it")
+    parser.add_argument("--sshlogin", metavar="HOSTS", help="the machines to judge on, as GNU parallel takes them, which copies "
+                        "each trace there; the program must have the same path on each of them")
+    parser.add_argument("--json", action="store_true", help="a line for each trace, a JSON object, in place of the table")
+    parser.add_argument("--failing", action="store_true", help="list only the traces that are not accepted; the counts are of all")
+    parser.add_argument("--unequal", action="store_true", help="let accepted traces fail whose replicas end with different lists, or without "
+                        "some insert or delete")
+    parser.add_argument("--junit", metavar="FILE", help="write the verdicts of all traces in JUnit's XML form, with explanations")
+    add_version(parser, NAME)
+    return parser.parse_args()
+
+
+def fail(words: str) -> NoReturn:
+    print(f"{NAME}: {words}", file=sys.stderr)
+    sys.exit(2)
+
+
+def traces_below(folders: list) -> list:
+    """The traces, each once. A folder without one may be another than was meant."""
+    files, empty = [], []
+    for folder in folders:
+        if os.path.isdir(folder):
+            below = sorted(traces_in(folder, set()), key=Path)
+            files += below
+            empty += [] if below else [folder]
+        else:
+            try:
+                os.stat(folder)
+            except FileNotFoundError:
+                fail(f"cannot read {shown(folder)}: there is no such file or folder")
+            except OSError as error:
+                unread(error)
+            files.append(str(Path(folder)))
+    if empty:
+        fail(f"there is no *{TRACE} file below {' '.join(map(shown, empty))}")
+    return list(dict.fromkeys(files))
+
+
+def traces_in(folder: str, been: set) -> list:
+    """The traces at any depth; behind links too, but in no folder twice."""
+    try:
+        about = os.stat(folder)
+        if (about.st_dev, about.st_ino) in been:
+            return []
+        been.add((about.st_dev, about.st_ino))
+        with os.scandir(folder) as entries:
+            names = sorted(entry.name for entry in entries)
+    except OSError as error:
+        unread(error)
+    found = []
+    for name in names:
+        path = str(Path(folder, name))
+        if is_folder(path):
+            found += traces_in(path, been)
+        elif name.lower().endswith(TRACE):
+            found.append(path)
+    return found
+
+
+def is_folder(path: str) -> bool:
+    try:
+        return stat.S_ISDIR(os.stat(path).st_mode)
+    except OSError:  # a link to nothing
+        return False
+
+
+def unread(error: OSError) -> NoReturn:
+    """A folder that can't be read may have traces."""
+    fail(f"cannot read {shown(error.filename)}: {error.strerror}")
+
+
+def jobs_of(asked: argparse.Namespace) -> int:
+    """How many traces are judged at a time here. On other machines GNU parallel says that, and must be there."""
+    if asked.sshlogin is not None:
+        needs_parallel()
+        return 0
+    if asked.jobs is None:
+        return len(os.sched_getaffinity(0))
+    if not asked.jobs.isdecimal() or int(asked.jobs) == 0:
+        fail(f"--jobs {shown(asked.jobs)} is no number from 1 on")
+    return int(asked.jobs)
+
+
+def judged(asked: argparse.Namespace, program: str, files: list, jobs: int) -> list:
+    try:
+        return judged_here(program, files, jobs) if asked.sshlogin is None else judged_there(asked.sshlogin, asked.jobs, program, files)
+    except (TooMany, NoParallel) as error:
+        fail(str(error))
+
+
+def is_failing(row: Row, asked: argparse.Namespace) -> bool:
+    return row.verdict != "accepted" or asked.unequal and bool(row.unequal)
+
+
+def in_order(rows: list) -> list:
+    """First the one that fails in the fewest first lines, and of equals the smaller one; then those that are accepted, by name, unequal ones
+    first."""
+    def place(row: Row) -> tuple:
+        if row.verdict == "accepted":
+            return True, not row.unequal, 0, row.file
+        return False, row.fails_at or row.lines, row.lines, row.file
+
+    return sorted(rows, key=place)
+
+
+def together(rows: list) -> list:
+    """The rows without those that are like one before, each with how many these are."""
+    found = {}
+    for number, row in enumerate(rows):
+        found.setdefault(row.alike or number, []).append(row)
+    return [(same[0], len(same) - 1) for same in found.values()]
+
+
+def print_table(rows: list, listed: list) -> None:
+    """Those listed, if any, below a head, of such as look alike the first, and the counts of all."""
+    rows_told = together(listed)
+    columns = [("file", [shown(row.file) for row, _ in rows_told]), ("verdict", [told_verdict(row) for row, _ in rows_told]),
+               ("k", [str(row.k or "-") for row, _ in rows_told]), ("fails at", [str(row.fails_at or "-") for row, _ in rows_told]),
+               ("lines", [str(row.lines) for row, _ in rows_told]), ("seconds", [f"{row.seconds:.3f}" for row, _ in rows_told])]
+    for head, told in (("alike", [more for _, more in rows_told]), ("warnings", [len(row.warnings or []) for row, _ in rows_told])):
+        columns += [(head, list(map(str, told)))] if any(told) else []
+    if any(row.notes for row, _ in rows_told):
+        columns.append(("noted", ["; ".join(row.notes or ["-"]) for row, _ in rows_told]))
+    cells = [[head, *told] for head, told in columns] if rows_told else []
+    widths = [max(map(len, column)) for column in cells]
+    for line in zip(*cells):
+        told = [cell.ljust(width) if place < 2 or place > 5 and cells[place][0] == "noted" else cell.rjust(width)
+                for place, (cell, width) in enumerate(zip(line, widths))]
+        print("  ".join(told).rstrip() if cells[-1][0] == "noted" else "  ".join(told))
+    counts = Counter(row.verdict for row in rows)
+    told = ", ".join(f"{counts[kind]} {kind}" for kind in KINDS if counts[kind])
+    print(f"{len(rows)} trace{'' if len(rows) == 1 else 's'}: {told}")
+
+
+def told_verdict(row: Row) -> str:
+    return "accepted, unequal" if row.unequal else row.verdict
+
+
+def print_unequal(rows: list, asked: argparse.Namespace) -> None:
+    count = sum(bool(row.unequal) for row in rows)
+    if count:
+        told = "and so failing" if asked.unequal else "--unequal lets these fail"
+        print(f"{count} of those accepted {'is' if count == 1 else 'are'} unequal: in the end replicas show different lists, or lack an insert or "
+              f"a delete ({told})")
+
+
+def print_errors(rows: list) -> None:
+    """Of a trace that does not read also what is wrong with its line, without the list of all that a line may be."""
+    for row in rows:
+        if row.error:
+            told = [line for line in about_file(row.error, row.file) if line not in ENTRIES]
+            print("\n  ".join([f"{NAME}: {shown(row.file)}: {shown(row.error)}", *told]), file=sys.stderr)
+
+
+def print_warnings(rows: list) -> None:
+    """Where traces end unequal first; a trace that is known to be cut is an error before."""
+    warned = sorted((row for row in rows if row.warnings and not row.error), key=lambda row: not row.unequal)
+    told = [f"{NAME}: {shown(row.file)}: warning: {warning}" for row in warned for warning in row.warnings]
+    more = len(told) - MOST_WARNED
+    told[MOST_WARNED:] = [f"{NAME}: and {more} more warning{'' if more == 1 else 's'}, which --json shows"] if more > 0 else []
+    for line in told:
+        print(line, file=sys.stderr)
+
+
+def write_junit(path: str, rows: list, program: str, unequal: bool) -> str:
+    """What went wrong, if anything did: the verdicts are printed all the same."""
+    try:
+        write_file(path, junit_of(rows, program, unequal))
+    except OSError as error:
+        return f"cannot write {shown(path)}: {error.strerror}"
+    return ""
+
+
+def main() -> None:
+    asked = words_asked()
+    try:
+        program = find_program(asked.program)
+        check_is_domepeeler(program)
+        jobs = jobs_of(asked)
+    except (NoProgram, NoParallel) as error:
+        fail(str(error))
+    files = traces_below(asked.folders)
+    why = written_over([asked.junit], [name for file in files for name in (file, file + SIDE)]) if asked.junit else ""
+    if why:
+        fail(why)
+    rows = in_order(judged(asked, program, files, jobs))
+    unwritten = write_junit(asked.junit, rows, program, asked.unequal) if asked.junit else ""
+    listed = [row for row in rows if is_failing(row, asked) or not asked.failing]
+    for row in listed if asked.json else []:
+        print(json.dumps({key: value for key, value in row._asdict().items() if value not in (None, "")}))
+    print_errors(rows)
+    if not asked.json:
+        print_table(rows, listed)
+        print_unequal(rows, asked)
+    print_warnings(rows)
+    if unwritten:
+        fail(unwritten)
+    sys.exit(2 if any(row.verdict in NO_VERDICTS for row in rows) else 1 if any(is_failing(row, asked) for row in rows) else 0)
