@@ -305,11 +305,11 @@ linear in the text."
 It has one more key, `warnings': where the verdict is accepted a list of
 what that may hide, and else nil.
 PROGRAM is by default that of the environment's DOMEPEELER, or \"domepeeler\"."
-  (let* ((said (domepeeler--ask recording (list program (getenv "DOMEPEELER") "domepeeler")
-                                "the program's path in DOMEPEELER" "{" "report" "verdict" "--json" "-"))
-         (report (condition-case why
-                     (json-read-from-string said)
-                   (error (error "the program printed no report: %s" (error-message-string why))))))
+  (let* ((programs (list program (getenv "DOMEPEELER") "domepeeler"))
+         (said (domepeeler--ask recording programs "the program's path in DOMEPEELER" "{" "report" "verdict" "--json" "-"))
+         (report (ignore-errors (json-read-from-string said))))
+    (unless (alist-get 'verdict report)
+      (error "%s printed a report without a verdict" (domepeeler--first programs)))
     (append report (list (cons 'warnings (and (equal (alist-get 'verdict report) "accepted") (domepeeler-warnings recording)))))))
 
 (defun domepeeler-explain (recording &optional explainer)
@@ -341,13 +341,17 @@ Else COMMAND."
          (path (and folder (expand-file-name command folder))))
     (if (and path (file-regular-p path) (file-executable-p path)) path command)))
 
+(defun domepeeler--first (programs)
+  "The first of PROGRAMS that there is."
+  (seq-find (lambda (named) (and named (not (string-empty-p named)))) programs))
+
 (defun domepeeler--ask (recording programs named begin lacking &rest words)
   "What the first of PROGRAMS that there is prints for the text of RECORDING.
 Its arguments are WORDS; BEGIN matches where an answer begins, which is
 else LACKING, and NAMED says what another program is named by."
   (when (domepeeler-recording-only recording)
     (domepeeler--refuse domepeeler--one-log))
-  (let ((program (seq-find (lambda (named) (and named (not (string-empty-p named)))) programs))
+  (let ((program (domepeeler--first programs))
         (coding-system-for-read 'utf-8-unix)
         (errors (make-temp-file "domepeeler")))
     (unwind-protect

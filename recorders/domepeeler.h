@@ -1268,7 +1268,7 @@ static inline char *domepeeler_ask(struct domepeeler *d, const char *const *word
     return printed;
 }
 
-/* The report, with what an accepted verdict may hide as its last key; both are freed. NULL without memory, or where there is no end. */
+/* The report, with what an accepted verdict may hide as its last key; both are freed. NULL without memory. */
 static inline char *domepeeler_with_warnings(struct domepeeler *d, char *report, char *warnings) {
     struct domepeeler_words said = {NULL, 0, 0, 0};
     char *end = strrchr(report, '}');
@@ -1293,12 +1293,12 @@ DOMEPEELER_CHECKED static inline char *domepeeler_judge(struct domepeeler *d, co
     const char *many[] = {program, "verdict", "--json", "-", NULL}, *few[] = {program, "verdict", "--workers", "1", "--json", "-", NULL};
     int is_short = domepeeler_lines(d) < DOMEPEELER_SHORT;
     char *report = domepeeler_ask(d, is_short ? few : many, "the program's path in DOMEPEELER", "report", '{');
-    if (report && !strrchr(report, '}')) {
-        domepeeler_fail(d, "%s printed a report without an end", program);
+    if (!report) return NULL;
+    if (!strrchr(report, '}') || !strstr(report, "\"verdict\":\"")) {
+        domepeeler_fail(d, "%s printed a report without a verdict", program);
         free(report);
         return NULL;
     }
-    if (!report) return NULL;
     char *warnings = strstr(report, "\"verdict\":\"accepted\"") ? domepeeler_warnings(d) : (char *)calloc(1, 1);
     if (warnings) return domepeeler_with_warnings(d, report, warnings);
     free(report);

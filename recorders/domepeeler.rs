@@ -50,6 +50,7 @@ const LANGUAGE: &str = "rust"; // by its name for the explainer
 const WARNINGS: &str = "\nWhat this verdict may hide\n"; // a title in the explainer's words
 const ONE_LOG: &str = "one replica's log is no recording: merge the logs first";
 const FAILED_TRACES: &str = "failed_traces"; // the folder of traces that were not accepted in tests
+const MOST_LINKS: usize = 40; // that are followed, one behind the other
 const MOST_NOTES: usize = 20;
 const MOST_LETTERS: usize = 200; // of a note
 const MOST_TOLD: usize = 5; // deletes, or inserts, that warnings tell one by one
@@ -475,9 +476,12 @@ impl Recording {
     /// The report of the program at this path.
     pub fn judge_by(&self, program: &str) -> Result<String, String> {
         let done = self.ask(program, &["verdict", "--json", "-"], "the program's path in DOMEPEELER")?;
-        let end = done.stdout.iter().rposition(|&byte| byte == b'}').filter(|_| done.stdout.starts_with(b"{"));
-        let end = end.ok_or_else(|| ended(program, &done, "no report"))?;
+        if !done.stdout.starts_with(b"{") {
+            return Err(ended(program, &done, "no report"));
+        }
         let mut report = printed(program, done)?;
+        let end = report.rfind('}').filter(|_| report.contains("\"verdict\":\""));
+        let end = end.ok_or_else(|| format!("{program} printed a report without a verdict"))?;
         let is_accepted = report.contains("\"verdict\":\"accepted\"");
         let warnings = if is_accepted { self.warnings()? } else { vec![] };
         let told: Vec<String> = warnings.iter().map(|warning| quoted(warning)).collect();
@@ -1037,7 +1041,7 @@ struct Fresh {
 impl Fresh {
     fn written(path: &Path, text: &str) -> io::Result<Fresh> {
         static COUNT: AtomicUsize = AtomicUsize::new(0);
-        let becomes = fs::canonicalize(path).unwrap_or_else(|_| path.to_path_buf()); // a link stays one
+        let becomes = behind_links(path);
         let (path, mut file) = loop {
             let number = COUNT.fetch_add(1, Ordering::Relaxed);
             let name = OsString::from(format!(".domepeeler-{}-{number}", std::process::id()));
@@ -1132,6 +1136,18 @@ impl Names {
             }
         }
     }
+}
+
+/// What a path leads to by links, which stay links when that is written.
+fn behind_links(path: &Path) -> PathBuf {
+    let mut at = path.to_path_buf();
+    for _ in 0..MOST_LINKS {
+        match fs::read_link(&at) {
+            Ok(target) => at = at.parent().unwrap_or_else(|| Path::new("")).join(target),
+            Err(_) => break, // it is none
+        }
+    }
+    at
 }
 
 /// Where a test saves its trace: by the name of the program that runs it and its own, or by the line that asks if it has none. What an

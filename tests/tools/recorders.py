@@ -1516,6 +1516,17 @@ def check_hypothesis(tally: Tally, program: str, folder: Path) -> None:
     tally.check("Hypothesis: another run tries other sessions", set(tried[0]) != set(tried[1]))
 
 
+def check_no_verdict(tally: Tally, recorder: Recorder, folder: Path) -> None:
+    """A program that prints what begins as a report does, and has no verdict, is no judge."""
+    other = folder / "another program"
+    for printed in "{}", "{", '{"verdict":"acc', '{"at":"1.1"}':
+        other.write_text(f"#!/bin/sh\ncat > /dev/null\necho '{printed}'\n")
+        other.chmod(0o755)
+        got = recorder.answers(["new\t1", "judge"], DOMEPEELER=str(other))
+        tally.check(f"{recorder.language}: judge by a program that prints {printed}", got == [
+            "ok", f"failed {other} printed a report without a verdict"], got)
+
+
 # A user's tests in Rust: of one the list is lost where the variable says so.
 RUST_TESTS = f"""#[path = "{ROOT / 'recorders'}/domepeeler.rs"]
 mod domepeeler;
@@ -1814,6 +1825,8 @@ def main() -> None:
         check_guide(tally, program, folder)
         check_readme(tally, program, folder)
         check_hypothesis(tally, program, folder)
+        for language in "rs", "c", "el":
+            check_no_verdict(tally, Recorder(language, drivers[language], program), folder)
         check_rust_tests(tally, program, folder)
         check_compilers(tally, folder)
         check_hostile_c(tally, Recorder("c", drivers["c"], program), folder)
