@@ -12,7 +12,7 @@
 ;;     (domepeeler-delete recording 1 "a" nil)                ; replica 1 deleted a; its list is now empty
 ;;     (domepeeler-read recording 0 '("a"))                   ; replica 0 read its list
 ;;     (domepeeler-view recording 0 '("a"))                   ; replica 0 showed this part of its list
-;;     (domepeeler-delivered recording '(("a") ("a")))        ; by now all has arrived everywhere, and these are the lists
+;;     (domepeeler-delivered recording '(nil nil))            ; by now all has arrived everywhere, and both lists are empty
 ;;     (domepeeler-save recording "session.trace")            ; the trace as a file, for tools/explain
 ;;     (alist-get 'verdict (domepeeler-judge recording))      ; asks the program; `warnings' are in its report too
 ;;     (princ (domepeeler-explain recording)))                ; what that means, in words

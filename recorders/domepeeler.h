@@ -5,13 +5,13 @@
  *     struct domepeeler *recording = domepeeler_new(2);
  *     const char *list[] = {"a"};
  *     unsigned n = domepeeler_insert(recording, 0, "a", 0, list, 1); // replica 0 inserted a at 0; its list is now: a
- *     const char *const *lists[] = {list, list};
- *     size_t names[] = {1, 1};
+ *     const char *const *lists[] = {NULL, NULL};
+ *     size_t names[] = {0, 0};
  *     unsigned is_recorded = domepeeler_received(recording, 1, 0, n) // that operation was applied at replica 1
  *         && domepeeler_delete(recording, 1, "a", NULL, 0)           // replica 1 deleted a; its list is now empty
  *         && domepeeler_read(recording, 0, list, 1)                  // replica 0 read its list
  *         && domepeeler_view(recording, 0, list, 1)                  // replica 0 showed this part of its list
- *         && domepeeler_delivered(recording, lists, names, 2)        // by now all has arrived everywhere: the lists
+ *         && domepeeler_delivered(recording, lists, names, 2)        // by now all has arrived everywhere; both are empty
  *         && domepeeler_save(recording, "session.trace");            // the trace as a file, for tools/explain
  *     if (!is_recorded) puts(domepeeler_why(recording));
  *     char *report = domepeeler_judge(recording, NULL);              // asks the program: its report as JSON, with warnings, or NULL

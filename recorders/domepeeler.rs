@@ -5,13 +5,14 @@
 //! It needs the standard library alone. docs/recording.md says where the calls go.
 //!
 //! ```ignore
+//! let none: &[&str] = &[];
 //! let mut recording = Recording::new(2)?;
 //! let n = recording.insert(0, "a", 0, &["a"])?; // replica 0 inserted a at position 0, and its list is now: a
 //! recording.received(1, 0, n)?;                 // that operation was applied at replica 1
-//! recording.delete(1, "a", &[] as &[&str])?;    // replica 1 deleted a, and its list is now empty
+//! recording.delete(1, "a", none)?;              // replica 1 deleted a, and its list is now empty
 //! recording.read(0, &["a"])?;                   // replica 0 read its list
 //! recording.view(0, &["a"])?;                   // replica 0 showed this part of its list
-//! recording.delivered(&[["a"], ["a"]])?;        // by now all has arrived everywhere, and these are the lists
+//! recording.delivered(&[none, none])?;          // by now all has arrived everywhere, and both lists are empty
 //! recording.assert_accepted();                  // in a test: asks the program, and panics with an explanation; or
 //! recording.save("session.trace")?;             // the trace as a file, for tools/explain
 //! println!("{}", recording.verdict().unwrap()); // asks the program: what it says, as an enum

@@ -1527,6 +1527,40 @@ def check_no_verdict(tally: Tally, recorder: Recorder, folder: Path) -> None:
             "ok", f"failed {other} printed a report without a verdict"], got)
 
 
+# The first line of the example in a recorder's head, its last, what begins its lines, what stands around it, and how it is run.
+HEADS = {
+    "domepeeler.rs": ("let none", "println!(\"{}\", recording.explain()", "//! ",
+                      "#[path = \"{recorder}\"]\nmod domepeeler;\nuse domepeeler::Recording;\n"
+                      "fn main() -> Result<(), Box<dyn std::error::Error>> {{\n{example}Ok(())\n}}\n",
+                      "rustc --edition 2021 -D warnings -o head {source} && ./head"),
+    "domepeeler.h": ("    struct domepeeler *", "    domepeeler_free", " * ",
+                     "#include \"{recorder}\"\nint main(void) {{\n{example}return 0;\n}}\n",
+                     "gcc -std=c99 -Wall -Wextra -Werror -o head {source} && ./head"),
+    "domepeeler.el": ("  (let* ((recording", "    (princ (domepeeler-explain", ";; ", "(load \"{recorder}\" nil t)\n{example}",
+                      "emacs -Q --batch -l {source}")}
+
+
+def check_heads(tally: Tally, program: str, folder: Path) -> None:
+    """The example in the head of a recorder runs as it stands there, and is accepted without warnings."""
+    place = folder / "heads"
+    place.mkdir()
+    for name, (first, last, mark, around, command) in HEADS.items():
+        recorder = ROOT / "recorders" / name
+        lines = [line[len(mark):] for line in recorder.read_text().splitlines() if line.startswith(mark)]
+        begin = next(at for at, line in enumerate(lines) if line.startswith(first))
+        end = next(at for at, line in enumerate(lines) if line.startswith(last))
+        example = "".join(line + "\n" for line in lines[begin:end + 1])
+        example = example.replace("free(report)", "puts(report), free(report)").replace("free(words)", "puts(words), free(words)")
+        source = place / f"head{recorder.suffix.replace('.h', '.c')}"
+        source.write_text(around.format(recorder=recorder, example=example))
+        done = subprocess.run(["sh", "-c", command.format(source=source.name)], cwd=place, capture_output=True, text=True,
+                              env={**os.environ, "DOMEPEELER": program, "DOMEPEELER_EXPLAIN": EXPLAIN, "LC_ALL": "C.UTF-8"})
+        trace = place / "session.trace"
+        tally.check(f"{name}: the example of its head", done.returncode == 0 and "accepted: " in done.stdout and
+                    "may hide" not in done.stdout and trace.is_file() and trace.read_text().endswith("0 read :\n1 read :\n"), done)
+        trace.unlink(missing_ok=True)
+
+
 # A user's tests in Rust: of one the list is lost where the variable says so.
 RUST_TESTS = f"""#[path = "{ROOT / 'recorders'}/domepeeler.rs"]
 mod domepeeler;
@@ -1827,6 +1861,7 @@ def main() -> None:
         check_hypothesis(tally, program, folder)
         for language in "rs", "c", "el":
             check_no_verdict(tally, Recorder(language, drivers[language], program), folder)
+        check_heads(tally, program, folder)
         check_rust_tests(tally, program, folder)
         check_compilers(tally, folder)
         check_hostile_c(tally, Recorder("c", drivers["c"], program), folder)
