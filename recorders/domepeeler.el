@@ -374,7 +374,7 @@ STATUS is a number, or the words for a signal."
    ((stringp status)
     (let ((number (seq-position domepeeler--signals (replace-regexp-in-string "\\( (core dumped)\\|: [0-9]+\\)\\'" "" status))))
       (error "%s was ended by signal %s" program (if number (1+ number) status))))
-   ((and (string-empty-p why) (memq status '(0 1)))
+   ((string-empty-p why)
     (error "%s ended with status %d and printed no %s" program status lacking))
    (t (error "%s ended with status %s: %s" program status why))))
 

@@ -1223,7 +1223,7 @@ static inline int domepeeler_run(char *const *words, const int *files, int *stat
 /* Says how a program ended that printed nothing that is wanted. */
 static inline void domepeeler_refuse_end(struct domepeeler *d, const char *program, int status, const char *why, const char *lacking) {
     if (WIFSIGNALED(status)) domepeeler_fail(d, "%s was ended by signal %d", program, WTERMSIG(status));
-    else if (!*why && WEXITSTATUS(status) < 2)
+    else if (!*why)
         domepeeler_fail(d, "%s ended with status %d and printed no %s", program, WEXITSTATUS(status), lacking);
     else domepeeler_fail(d, "%s ended with status %d: %.160s", program, WEXITSTATUS(status), why);
 }

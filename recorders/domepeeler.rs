@@ -476,7 +476,7 @@ impl Recording {
 
     /// The report of the program at this path.
     pub fn judge_by(&self, program: &str) -> Result<String, String> {
-        let done = self.ask(program, &["verdict", "--json", "-"], "the program's path in DOMEPEELER")?;
+        let done = self.ask(program, &["verdict", "--json", "-"], "the program's path in DOMEPEELER", "no report")?;
         if !done.stdout.starts_with(b"{") {
             return Err(ended(program, &done, "no report"));
         }
@@ -497,7 +497,7 @@ impl Recording {
 
     /// The verdict of the program at this path.
     pub fn verdict_by(&self, program: &str) -> Result<Verdict, String> {
-        let done = self.ask(program, &["verdict", "-"], "the program's path in DOMEPEELER")?;
+        let done = self.ask(program, &["verdict", "-"], "the program's path in DOMEPEELER", "no report")?;
         let read = Verdict::read(&String::from_utf8_lossy(&done.stdout));
         let mut verdict = read.ok_or_else(|| ended(program, &done, "no report"))?;
         if let Verdict::Accepted { warnings, .. } = &mut verdict {
@@ -548,7 +548,8 @@ impl Recording {
 
     /// The words of the tool at this path.
     pub fn explain_by(&self, explainer: &str) -> Result<String, String> {
-        let done = self.ask(explainer, &["--language", LANGUAGE, "-"], "the tool's path in DOMEPEELER_EXPLAIN")?;
+        let words = ["--language", LANGUAGE, "-"];
+        let done = self.ask(explainer, &words, "the tool's path in DOMEPEELER_EXPLAIN", "no words")?;
         if done.stdout.is_empty() {
             return Err(ended(explainer, &done, "no words"));
         }
@@ -608,8 +609,8 @@ impl Recording {
         format!("{}\nlanguage {LANGUAGE}\n{notes}{places}", self.lines())
     }
 
-    /// How a program ended, by itself and with a status that says that it has answered.
-    fn ask(&self, program: &str, words: &[&str], named: &str) -> Result<Output, String> {
+    /// How a program ended, by itself and with a status that says that it has answered, which is else lacking.
+    fn ask(&self, program: &str, words: &[&str], named: &str, lacking: &str) -> Result<Output, String> {
         if self.only.is_some() {
             return Err(ONE_LOG.to_string());
         }
@@ -632,7 +633,7 @@ impl Recording {
             (Some(0 | 1), Ok(Some(Ok(())))) => Ok(done),
             (Some(0 | 1), _) if done.stdout.is_empty() => Ok(done),
             (Some(status @ (0 | 1)), _) => Err(format!("{program} ended with status {status} before it had read the recording")),
-            _ => Err(ended(program, &done, "nothing")),
+            _ => Err(ended(program, &done, lacking)),
         }
     }
 
@@ -1306,7 +1307,7 @@ fn ended(program: &str, done: &Output, lacking: &str) -> String {
     let why = said.trim();
     match done.status.code() {
         None => format!("{program} was ended by {}", signal(done)),
-        Some(status) if why.is_empty() && status < 2 => format!("{program} ended with status {status} and printed {lacking}"),
+        Some(status) if why.is_empty() => format!("{program} ended with status {status} and printed {lacking}"),
         Some(status) => format!("{program} ended with status {status}: {why}"),
     }
 }

@@ -1802,6 +1802,12 @@ def check_hostile_c(tally: Tally, recorder: Recorder, folder: Path) -> None:
         told, "interrupted: yes", told, "still ignored: yes", told] and said[5].startswith("contents 0.2: "), done)
     tally.check("C: why there is no recording", said[-1:] == [
         "there is no recording: replicas are 1 to 16, a log is of one of them, and memory is needed"], done)
+    asked = folder / "asked"
+    asked.write_text("#!/bin/sh\ncat > /dev/null\necho \"$*\" >&2\nexit 2\n")
+    asked.chmod(0o755)
+    for reads, words in (997, "--workers 1 --json -"), (998, "--json -"):
+        got = recorder.answers(["new\t1", *["read\t0"] * reads, "judge"], DOMEPEELER=str(asked))[-1]
+        tally.check(f"C: {reads} reads are judged by {words}", got == f"failed {asked} ended with status 2: verdict {words}", got)
     teller = folder / "teller"
     teller.write_text("#!/bin/sh\ncat > /dev/null\necho told\n")
     teller.chmod(0o755)
