@@ -30,6 +30,7 @@ const ONE_LOG = "one replica's log is no recording: merge the logs first"
 const MORE_CHANGES = "; if the update carried more than one change, say how many (`changes`)"
 const MOST_CALLERS = 3, MOST_FRAMES = 50 // of an entry: callers that are kept, and frames that are looked at for them
 const MOST_STACKS = 1000 // that are remembered
+const MOST_LINKS = 40 // that lead on from one to the next
 const HEAD_LINES = 2 // of a trace, before its entries
 const MOST_NOTES = 20, MOST_LETTERS = 200 // of a recording, and of a note
 // What is no part of a printable line.
@@ -164,7 +165,7 @@ export class Recording {
     for (const changeId of changeIds) {
       checkId(changeId)
       if (!this.#changes.has(changeId)) throw new Refused(`no change with the id ${JSON.stringify(changeId)} has been recorded`)
-      carried.push(...this.#changes.get(changeId))
+      for (const change of this.#changes.get(changeId)) carried.push(change)
     }
     this.#take(replica, carried, null)
   }
@@ -226,23 +227,20 @@ export class Recording {
   }
 
   /** Writes the text into a file of this name; and first, into one with `.lines` behind the name, how many lines it has, so that the
-   * tools notice where the end of the file is lost. In the end it writes there from where in your code or log each line was recorded. A
-   * pipe or a device has no such file beside it. A promise of nothing. */
+   * tools notice where the end of the file is lost, your notes, and from where in your code or log each line was recorded. Each file
+   * appears whole, or not at all. A pipe or a device has none beside it. A promise of nothing. */
   async save(path) {
-    const { appendFile, open, writeFile } = await import("node:fs/promises")
+    const { stat, writeFile } = await import("node:fs/promises")
     const { fileURLToPath } = await import("node:url")
-    const text = this.text(), lines = this.#lines.length, notes = this.#notes.map((note) => `note ${note}\n`).join("")
-    const places = (await this.#places()).map(([line, told]) => `${line} ${told}\n`).join("")
-    const file = await open(path, "w")
-    let beside = null
-    try {
-      if ((await file.stat()).isFile()) beside = `${path.href ? fileURLToPath(path) : path}.lines`
-      if (beside !== null) await writeFile(beside, `${lines}\nlanguage javascript\n${notes}`)
-      await file.writeFile(text)
-    } finally {
-      await file.close()
-    }
-    if (beside !== null) await appendFile(beside, (this.#hasLog ? "log\n" : "") + places)
+    const name = path.href ? fileURLToPath(path) : path
+    const text = this.text(), places = await this.#places()
+    const notes = this.#notes.map((note) => `note ${note}`)
+    const beside = [this.#lines.length, "language javascript", ...notes, ...(this.#hasLog ? ["log"] : []), ...places.map(([line, told]) => `${line} ${told}`)]
+    const there = await stat(name).catch(() => null)
+    if (there !== null && !there.isFile()) return await writeFile(name, text)
+    const target = await linkedTo(name) // first of all, so that an error names the file that was asked for
+    await put(`${name}.lines`, beside.map((line) => `${line}\n`).join(""))
+    await put(name, text, target)
   }
 
   /** What an accepted verdict on this recording may hide: that replicas end differently, say, or that nothing was recorded. A promise of
@@ -258,7 +256,7 @@ export class Recording {
   async judge(program = null) {
     const { name, done } = await this.#ask(program, "DOMEPEELER", "domepeeler", "the program's", ["verdict", "--json", "-"])
     if ((done.status !== 0 && done.status !== 1) || !done.stdout.startsWith("{")) throw ended(name, done, "report")
-    const report = JSON.parse(done.stdout)
+    const report = reportIn(name, done.stdout)
     return { ...report, warnings: report.verdict === "accepted" ? await this.warnings() : [] }
   }
 
@@ -438,7 +436,8 @@ export class Recording {
     own.pasts.push(own.others)
     if (isChange) own.changes.push(own.operations)
     if (changeId !== null) {
-      this.#changes.set(changeId, [...(this.#changes.get(changeId) ?? []), [replica, own.operations]])
+      if (!this.#changes.has(changeId)) this.#changes.set(changeId, [])
+      this.#changes.get(changeId).push([replica, own.operations])
     }
     this.#write([...words, ":", ...names].join(" "))
     return own.operations
@@ -524,16 +523,20 @@ export class Recording {
   // Writes the receipts of what an update carries, if the replica has or gets with it all that the authors had seen.
   #take(replica, carried, seen) {
     const has = this.#has(replica), isCarried = new Set(carried.map((one) => one.join(".")))
+    // By replica its first change that is neither there nor carried; undefined where there is none.
+    const lacking = this.#replicas.map(({ changes }, other) => {
+      let at = upTo(changes, has[other])
+      while (isCarried.has(`${other}.${changes[at]}`)) at += 1
+      return changes[at]
+    })
     const missing = carried.filter(([author, n]) => n > has[author]).sort((a, b) => a[0] - b[0] || a[1] - b[1])
     const ends = new Map(missing)
     for (const [author, n] of missing) {
       this.#replicas[author].pasts[n - 1].forEach((past, other) => {
-        const last = Math.max(other === author ? n - 1 : past, seen ? seen[other] : 0)
-        const changes = this.#replicas[other].changes
-        const lacking = changes.slice(upTo(changes, has[other]), upTo(changes, last)).find((one) => !isCarried.has(`${other}.${one}`))
-        if (lacking === undefined) return
-        throw new NotCausal(`not causal: ${author}.${n} was applied at replica ${replica} before ${other}.${lacking}, ` +
-          `which replica ${author} had seen; ${other}.${lacking} has to arrive first, or in the same update, ` +
+        const first = lacking[other]
+        if (first === undefined || first > Math.max(other === author ? n - 1 : past, seen ? seen[other] : 0)) return
+        throw new NotCausal(`not causal: ${author}.${n} was applied at replica ${replica} before ${other}.${first}, ` +
+          `which replica ${author} had seen; ${other}.${first} has to arrive first, or in the same update, ` +
           "or the call for its update is missing" +
           (seen && other === author ? MORE_CHANGES : ""))
       })
@@ -605,6 +608,44 @@ function pathOf(caller, fileURLToPath) {
   } catch { // a URL that is no path here
     return caller
   }
+}
+
+// The path to which a link leads, or that is none; and an error where the path's folder is not there.
+async function linkedTo(path) {
+  const { readlink, stat } = await import("node:fs/promises")
+  const { dirname, resolve } = await import("node:path")
+  let target = resolve(path)
+  for (let links = 0; links < MOST_LINKS; links++) {
+    const next = await readlink(target).catch(() => null)
+    if (next === null) break
+    target = resolve(dirname(target), next)
+  }
+  await stat(dirname(target)).catch((why) => { throw telling(why, path) })
+  return target
+}
+
+// Puts a file with this text in the place of what is there: all of it, or an error and nothing. A link stays one.
+async function put(path, text, target = null) {
+  const { access, chmod, constants, rename, rm, stat, writeFile } = await import("node:fs/promises")
+  const { randomBytes } = await import("node:crypto")
+  const { dirname, join } = await import("node:path")
+  const end = target ?? await linkedTo(path)
+  const made = join(dirname(end), `.domepeeler-${randomBytes(8).toString("hex")}`)
+  try {
+    const there = await stat(end).catch(() => null)
+    if (there !== null) await access(end, constants.W_OK)
+    await writeFile(made, text, { flag: "wx" })
+    if (there !== null) await chmod(made, there.mode & 0o7777)
+    await rename(made, end)
+  } catch (why) {
+    await rm(made, { force: true }).catch(() => {})
+    throw telling(why, path)
+  }
+}
+
+// The error, with the path that was asked for in the place of those of its call.
+function telling(why, path) {
+  return Object.assign(new Error(`${why.message.replace(/, [a-z]+(?: '.*)?$/s, "")}: ${path}`), { code: why.code, errno: why.errno, path })
 }
 
 // What says a place from the current folder.
@@ -808,9 +849,19 @@ async function besideProgram(command) {
   }
 }
 
+function reportIn(name, printed) {
+  let report = null
+  try {
+    report = JSON.parse(printed)
+  } catch { /* as what is no report at all */ }
+  if (typeof report?.verdict !== "string") throw new Error(`${name} printed what is no report`)
+  return report
+}
+
 // Says how a program ended of whose words there are none, or not the right ones.
 function ended(name, done, lacking) {
   if (done.signal) return new Error(`${name} was ended by signal ${done.signalNumber}`)
   const why = done.stderr.trim()
-  return new Error(`${name} ended with status ${done.status}${why ? `: ${why}` : ` and printed no ${lacking}`}`)
+  const isTold = why || (done.status !== 0 && done.status !== 1)
+  return new Error(`${name} ended with status ${done.status}${isTold ? `: ${why}` : ` and printed no ${lacking}`}`)
 }

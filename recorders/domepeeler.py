@@ -21,14 +21,17 @@ Threads may share a recording: each call is whole before the next one begins.
 Each call that a trace can't say raises `Refused`, or `Full` at a limit, and leaves the recording as it was."""
 from __future__ import annotations
 
+import errno
 import json
 import os
 import re
+import stat
 import subprocess
 import sys
+import threading
 from bisect import bisect_right
-from functools import lru_cache
-from typing import Any, Dict, Hashable, Iterable, List, Mapping, NoReturn, Optional, Sequence, Set, Tuple, Union
+from functools import lru_cache, wraps
+from typing import Any, Callable, Dict, Hashable, Iterable, List, Mapping, NoReturn, Optional, Sequence, Set, Tuple, TypeVar, Union, cast
 
 MOST_REPLICAS, MOST_ENTRIES, MOST_INSERTS = 16, 16384, 4096
 MOST_NAMES, MOST_PLACES, MOST_POSITION, MOST_BYTES = 4096, 262144, 4294967295, 32
@@ -55,6 +58,7 @@ Clock = Union[Sequence[int], Mapping[int, int]]
 Words = Union[str, Sequence[str]]
 Lists = Union[Sequence[Iterable[str]], Mapping[int, Iterable[str]]]
 Callers = Tuple[Tuple[str, int], ...]
+Call = TypeVar("Call", bound=Callable[..., Any])
 
 
 class Refused(ValueError):
@@ -67,6 +71,16 @@ class Full(Refused):
 
 class NotCausal(Refused):
     """An update was applied at a replica that lacks a change which the update's author had seen."""
+
+
+def _alone(call: Call) -> Call:
+    """A call of a recording that no other thread's call interrupts."""
+    @wraps(call)
+    def alone(recording: Recording, *given: Any, **named: Any) -> Any:
+        with recording._lock:
+            return call(recording, *given, **named)
+
+    return cast(Call, alone)
 
 
 class _Replica:
@@ -84,9 +98,11 @@ class Recording:
     """A session of so many replicas; with `only`, the log that this one replica keeps on its own machine."""
 
     def __init__(self, replicas: int, only: Optional[int] = None) -> None:
+        self._lock = threading.RLock()
         if not _whole(replicas, 1, MOST_REPLICAS):
             raise Refused(f"replicas are 1 to {MOST_REPLICAS}, not {replicas}" if _is_int(replicas) else
                           _not_whole("number of replicas", replicas, 1, MOST_REPLICAS))
+        replicas = int(replicas)
         self._lines = ["trace 1", f"replicas {replicas}"]
         self._callers: List[Callers] = []  # of each entry: the lines of code from which it was recorded, or the log's line
         self._log_line: Callers = ()  # the log's line whose entries are recorded now, if any
@@ -98,9 +114,15 @@ class Recording:
         self._changes: Dict[Hashable, List[Tuple[int, int]]] = {}  # by the id of a change: its operations
         self._notes: List[str] = []
         if only is not None:
-            self._known(only)
-            self._only = only
+            self._only = self._known(only)
 
+    def __getstate__(self) -> Dict[str, Any]:
+        return {name: value for name, value in vars(self).items() if name != "_lock"}  # a copy has its own
+
+    def __setstate__(self, state: Dict[str, Any]) -> None:
+        vars(self).update(state, _lock=threading.RLock())
+
+    @_alone
     def at(self, file: Union[str, "os.PathLike[str]", None] = None, line: int = 1) -> None:
         """What is recorded from now on comes from this line of this file, a log's: `save` and `explain` name it, and not the lines of your
         code. Without a file, from your code again."""
@@ -108,47 +130,51 @@ class Recording:
             raise Refused(f"a file is a path, not {_told(file)}")
         if not _whole(line, 1, MOST_POSITION):
             raise Refused(_not_whole("line", line, 1, MOST_POSITION, " of a file"))
-        self._log_line = () if file is None else ((os.fsdecode(file), line),)
+        self._log_line = () if file is None else ((os.fsdecode(file), int(line)),)
 
+    @_alone
     def insert(self, replica: int, name: str, position: int, response: Iterable[str], change_id: Optional[Hashable] = None) -> int:
         """The replica inserted the name at the position and then had this list. Answers the operation's number. The change's id is for
         `received_changes`."""
         return self._operation(replica, "ins", response, name, position, change_id)
 
+    @_alone
     def delete(self, replica: int, name: str, response: Iterable[str], change_id: Optional[Hashable] = None) -> int:
         """The replica deleted the name and then had this list. Answers the operation's number. The change's id is for
         `received_changes`."""
         return self._operation(replica, "del", response, name, None, change_id)
 
+    @_alone
     def read(self, replica: int, response: Iterable[str]) -> int:
         """The replica read its list. Answers the operation's number."""
         return self._operation(replica, "read", response)
 
+    @_alone
     def view(self, replica: int, part: Iterable[str]) -> int:
         """The replica showed this part of its list, the window of an editor say. Answers the operation's number."""
         n = self._operation(replica, "view", part)
         self._lines[0] = "trace 2"
         return n
 
+    @_alone
     def received(self, replica: int, author: int, n: int) -> None:
         """The author's operation n, and with it all that the author had seen by then, was applied at the replica."""
-        self._acts(replica)
-        self._known(author)
+        replica, author = self._acts(replica), self._known(author)
         if not _whole(n, 1, MOST_POSITION):
             raise Refused(_not_whole("operation number", n, 1, MOST_POSITION))
         self._of_another(replica, author)
-        have = self._replicas[author].operations
+        n, have = int(n), self._replicas[author].operations
         if n > have and self._only is None:
             raise Refused(f"{author}.{n} cannot have arrived: replica {author} has {have} operations so far")
         self._room(replica)
         self._receipt(replica, author, n)
 
+    @_alone
     def received_clock(self, replica: int, author: int, clock: Clock, changes: int = 1) -> None:
         """The author's update with this vector clock was applied at the replica: it carries the last of the author's changes that the
         clock counts, or so many of the last. The clock has for each replica how many of its inserts and deletes the author had seen,
         its own with the carried ones among them; as a list, or by replica. Writes the receipt, unless the replica has it already."""
-        self._acts(replica)
-        self._known(author)
+        replica, author = self._acts(replica), self._known(author)
         self._of_another(replica, author)
         counts = self._counts(clock)
         if not counts[author]:
@@ -157,13 +183,14 @@ class Recording:
             raise Refused(f"an update carries 1 to {counts[author]} of the changes that its clock counts, not {changes}"
                           if _is_int(changes) else _not_whole("number of changes", changes, 1, counts[author]))
         own = self._replicas[author].changes
-        carried = {(author, n) for n in own[counts[author] - changes:counts[author]]}
+        carried = {(author, n) for n in own[counts[author] - int(changes):counts[author]]}
         self._take(replica, carried, [of.changes[count - 1] if count else 0 for of, count in zip(self._replicas, counts)])
 
+    @_alone
     def received_changes(self, replica: int, change_ids: Iterable[Hashable]) -> None:
         """An update that carries the changes with these ids, and no others, was applied at the replica. Writes a receipt for each
         author of them, unless the replica has it already."""
-        self._acts(replica)
+        replica = self._acts(replica)
         self._in_one_recording()
         if isinstance(change_ids, (str, bytes)) or not isinstance(change_ids, Iterable):
             raise Refused("an update carries a list or a set of ids")
@@ -175,6 +202,7 @@ class Recording:
             carried.update(self._changes[change_id])
         self._take(replica, carried, [])
 
+    @_alone
     def delivered(self, lists: Lists) -> None:
         """By now everything has arrived everywhere, and these are the lists that the replicas show: one for each, in their order or by
         replica. Writes for each replica the receipts that are missing, and a read with its list: what an editor has lost, or still
@@ -195,6 +223,7 @@ class Recording:
             self._back_to(before)
             raise
 
+    @_alone
     def note(self, text: str) -> None:
         """Keeps a word of yours for the whole recording, as "seed 17": one line of 1 to 200 printable characters. `save` writes it beside
         the trace, and `explain` ends with it. A recording takes 20."""
@@ -204,57 +233,65 @@ class Recording:
             raise Refused(f"a recording has {MOST_NOTES} notes, the most that it takes")
         self._notes.append(text)
 
+    @_alone
     def lines(self) -> int:
         """How many lines the text has so far: 2 before the first entry."""
         return len(self._lines)
 
+    @_alone
     def clock(self, replica: int) -> List[int]:
         """How many inserts and deletes of each replica this one has: the vector clock of an update that it makes now."""
-        self._acts(replica)
+        replica = self._acts(replica)
         self._in_one_recording()
         return [bisect_right(of.changes, have) for of, have in zip(self._replicas, self._has(replica))]
 
+    @_alone
     def ids(self) -> Dict[str, str]:
         """By name in the trace the id that has this name, for each id that is no name itself."""
         return {name: given for given, name in self._short.items()}
 
+    @_alone
     def text(self) -> str:
         """The trace; of one replica's log the text that merge.py takes."""
         return "\n".join(self._lines) + "\n"
 
+    @_alone
     def save(self, path: Union[str, "os.PathLike[str]"]) -> None:
         """Writes the text into a file of this name; and first, into one with `.lines` behind the name, how many lines it has, so
-        that the tools notice where the end of the file is lost. In the end it writes there from where in your code or log each
-        line was recorded. A pipe or a device has no such file beside it."""
+        that the tools notice where the end of the file is lost, your notes, and from where in your code or log each line was recorded.
+        Each file appears whole, or not at all. A pipe or a device has none beside it."""
         text = self.text().encode()
-        with open(path, "wb") as file:  # as bytes: each line ends with LF alone on every system
-            beside = f"{os.fsdecode(path)}.lines" if os.path.isfile(path) else None
-            if beside is not None:
-                with open(beside, "wb") as lines:
-                    lines.write(b"%d\nlanguage python\n" % text.count(b"\n"))
-                    lines.write("".join(f"note {note}\n" for note in self._notes).encode())
-            file.write(text)
-        if beside is not None:
-            with open(beside, "ab") as lines:
-                lines.write(b"log\n" if self._has_log else b"")
-                lines.write("".join(f"{line} {places}\n" for line, places in self._places()).encode(errors="replace"))
+        name = os.fsdecode(path)
+        if os.path.exists(name) and not os.path.isfile(name):
+            with open(name, "wb") as file:
+                file.write(text)
+            return
+        marks = ["language python", *(f"note {note}" for note in self._notes), *(["log"] if self._has_log else [])]
+        beside = [str(len(self._lines)), *marks, *(f"{line} {places}" for line, places in self._places())]
+        if not os.path.isdir(os.path.dirname(os.path.realpath(name))):
+            raise FileNotFoundError(errno.ENOENT, os.strerror(errno.ENOENT), name)
+        _put(f"{name}.lines", "".join(f"{line}\n" for line in beside).encode(errors="replace"))
+        _put(name, text)  # as bytes: each line ends with LF alone on every system
 
+    @_alone
     def warnings(self) -> List[str]:
         """What an accepted verdict on this recording may hide: that replicas end differently, say, or that nothing was recorded."""
         if self._only is not None:
             raise Refused(ONE_LOG)
         return [self._with_nearest(told) for told in _hidden(self._lines)]
 
+    @_alone
     def judge(self, program: Optional[Words] = None) -> Dict[str, Any]:
         """The program's report on this recording, and as `warnings` what it may hide where it says `accepted`. The program is the words
         that are given, that of $DOMEPEELER, or `domepeeler`."""
         name, done = self._ask(program, "DOMEPEELER", "domepeeler", "the program's", ["verdict", "--json", "-"])
         if done.returncode not in (0, 1) or not done.stdout.startswith(b"{"):
             _ended(name, done, "report")
-        report: Dict[str, Any] = json.loads(done.stdout)
+        report = _report_in(name, done.stdout)
         report["warnings"] = self.warnings() if report.get("verdict") == "accepted" else []
         return report
 
+    @_alone
     def explain(self, explainer: Optional[Words] = None) -> str:
         """What the report means, in words, and behind them the lines of your code or log, the ids of the numbered names, and your notes.
         The tool is the words that are given, that of $DOMEPEELER_EXPLAIN, or `domepeeler-explain`, beside the program of $DOMEPEELER or on
@@ -310,15 +347,17 @@ class Recording:
         except OSError as why:
             raise RuntimeError(f"{words[0]} cannot be run ({why.strerror}): name {whose} path in {variable}") from None
 
-    def _known(self, replica: int) -> None:
+    def _known(self, replica: int) -> int:
         if not _whole(replica, 0, len(self._replicas) - 1):
             raise Refused(f"no replica {replica} among 0 to {len(self._replicas) - 1}" if _is_int(replica) else
                           _not_whole("replica", replica, 0, len(self._replicas) - 1))
+        return int(replica)  # a number of an enumeration is written otherwise
 
-    def _acts(self, replica: int) -> None:
-        self._known(replica)
+    def _acts(self, replica: int) -> int:
+        replica = self._known(replica)
         if self._only not in (None, replica):
             raise Refused(f"this log is of replica {self._only} alone, not of {replica}")
+        return replica
 
     def _of_another(self, replica: int, author: int) -> None:
         if author == replica:
@@ -379,14 +418,14 @@ class Recording:
 
     def _said(self, replica: int, kind: str, response: Iterable[str], name: Optional[str], position: Optional[int],
               change_id: Optional[Hashable]) -> int:
-        self._acts(replica)
+        replica = self._acts(replica)
         words = [str(replica), kind]
         if kind in ("ins", "del"):
             words.append(self._name(name))
         if kind == "ins":
             if not _whole(position, 0, MOST_POSITION):
                 raise Refused(_not_whole("position", position, 0, MOST_POSITION))
-            words.append(str(position))
+            words.append(str(int(cast(int, position))))
         names = [self._name(one) for one in _listed(response)]
         if change_id is not None:
             self._check_change(replica, change_id)
@@ -420,6 +459,7 @@ class Recording:
         """The name in the trace: what is given, or of an id that is no name, a name that no other one has."""
         if not isinstance(given, str):
             raise Refused(f"a name is a string, not {_told(given)}")
+        given = str.__str__(given)  # a string of an enumeration is another key
         if given in self._short:
             return self._short[given]
         if NAME.fullmatch(given):
@@ -476,33 +516,33 @@ class Recording:
             have = len(self._replicas[replica].changes)
             if count > have:
                 raise Refused(f"the clock counts {count} changes of replica {replica}, which has recorded {have}")
-        return counts
+        return list(map(int, counts))
 
     def _take(self, replica: int, carried: Set[Tuple[int, int]], seen: List[int]) -> None:
         """Writes the receipts of what an update carries, if the replica has or gets with it all that the authors had seen."""
         has = self._has(replica)
-        for author, n in sorted(carried):
-            if n <= has[author]:
-                continue
-            past = list(self._replicas[author].pasts[n - 1])
-            past[author] = n - 1
-            for other, pair in enumerate(zip(past, seen or past)):
-                self._check_has(replica, (author, n), other, has[other], max(pair), carried, bool(seen))
-        ends = {author: n for author, n in sorted(carried) if n > has[author]}
+        lacking = [self._first_lacking(other, have, carried) for other, have in enumerate(has)]
+        ends: Dict[int, int] = {}
+        for author, n in sorted(change for change in carried if change[1] > has[change[0]]):
+            past = self._replicas[author].pasts[n - 1]
+            for other, first in enumerate(lacking):
+                last = max(n - 1 if other == author else past[other], seen[other] if seen else 0)
+                if first and first <= last:
+                    raise NotCausal(f"not causal: {author}.{n} was applied at replica {replica} before {other}.{first}, "
+                                    f"which replica {author} had seen; {other}.{first} has to arrive first, or in the same update, "
+                                    "or the call for its update is missing" + (MORE_CHANGES if seen and other == author else ""))
+            ends[author] = n
         self._room(replica, len(ends))
         for author, n in ends.items():
             self._receipt(replica, author, n)
 
-    def _check_has(self, replica: int, change: Tuple[int, int], other: int, have: int, last: int, carried: Set[Tuple[int, int]],
-                   by_clock: bool) -> None:
-        """Each change of the other replica up to the last one is at the replica, or carried."""
+    def _first_lacking(self, other: int, have: int, carried: Set[Tuple[int, int]]) -> int:
+        """The first of the other's changes that is neither among so many operations of it nor carried; 0 if there is none."""
         changes = self._replicas[other].changes
-        for n in changes[bisect_right(changes, have):bisect_right(changes, last)]:
-            if (other, n) not in carried:
-                author, number = change
-                raise NotCausal(f"not causal: {author}.{number} was applied at replica {replica} before {other}.{n}, "
-                                f"which replica {author} had seen; {other}.{n} has to arrive first, or in the same update, "
-                                "or the call for its update is missing" + (MORE_CHANGES if by_clock and other == author else ""))
+        at = bisect_right(changes, have)
+        while at < len(changes) and (other, changes[at]) in carried:
+            at += 1
+        return changes[at] if at < len(changes) else 0
 
     def _receipt(self, replica: int, author: int, n: int) -> None:
         """Writes a receipt that may be written."""
@@ -549,6 +589,28 @@ def _place(file: str, line: int, here: str) -> str:
     """A line of code, with the file's path from the current folder if it lies below that."""
     path = file[len(here):] if here and file.startswith(here) else file
     return "".join(letter if letter.isprintable() else "?" for letter in path) + f":{line}"
+
+
+def _put(path: str, content: bytes) -> None:
+    """Puts a file with this content in the place of what is there: all of it, or an error and nothing. A link stays one."""
+    target = os.path.realpath(path)
+    new = os.path.join(os.path.dirname(target), f".domepeeler-{os.urandom(8).hex()}")
+    try:
+        mode = stat.S_IMODE(os.stat(target).st_mode) if os.path.exists(target) else None
+        if mode is not None and not os.access(target, os.W_OK):
+            raise PermissionError(errno.EACCES, os.strerror(errno.EACCES))
+        try:
+            with open(new, "xb") as file:
+                file.write(content)
+            if mode is not None:
+                os.chmod(new, mode)
+            os.replace(new, target)
+        except BaseException:
+            if os.path.exists(new):
+                os.unlink(new)
+            raise
+    except OSError as why:
+        raise OSError(why.errno, why.strerror, path) from None
 
 
 def _folder_here() -> str:
@@ -751,9 +813,20 @@ def _beside_program(command: str) -> str:
     return path if folder and os.path.isfile(path) and os.access(path, os.X_OK) else command
 
 
+def _report_in(name: str, printed: bytes) -> Dict[str, Any]:
+    try:
+        report = json.loads(printed)
+    except (ValueError, RecursionError):
+        report = None
+    if not isinstance(report, dict) or not isinstance(report.get("verdict"), str):
+        raise RuntimeError(f"{name} printed what is no report")
+    return report
+
+
 def _ended(name: str, done: subprocess.CompletedProcess[bytes], lacking: str) -> NoReturn:
     """Says how a program ended of whose words there are none, or not the right ones."""
     if done.returncode < 0:
         raise RuntimeError(f"{name} was ended by signal {-done.returncode}")
     why = done.stderr.decode(errors="replace").strip()
-    raise RuntimeError(f"{name} ended with status {done.returncode}" + (f": {why}" if why else f" and printed no {lacking}"))
+    is_told = why or done.returncode not in (0, 1)
+    raise RuntimeError(f"{name} ended with status {done.returncode}" + (f": {why}" if is_told else f" and printed no {lacking}"))

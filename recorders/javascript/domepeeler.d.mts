@@ -77,8 +77,8 @@ export class Recording {
   text(): string
 
   /** Writes the text into a file of this name; and first, into one with `.lines` behind the name, how many lines it has, so that the
-   * tools notice where the end of the file is lost. In the end it writes there from where in your code or log each line was recorded. A
-   * pipe or a device has no such file beside it. */
+   * tools notice where the end of the file is lost, your notes, and from where in your code or log each line was recorded. Each file
+   * appears whole, or not at all. A pipe or a device has none beside it. */
   save(path: string | URL): Promise<void>
 
   /** What an accepted verdict on this recording may hide: that replicas end differently, say, or that nothing was recorded. */

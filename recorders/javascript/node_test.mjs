@@ -8,15 +8,17 @@
 //       ...
 //     }))
 //
-// Where the recording is not accepted the test fails, and its error has the explanation and the path of the saved trace; where the test
-// fails by itself, its diagnostics have them. Where it passes, the trace that it saved before is removed. For a property of fast-check or
-// another library, let the property end with: await accepted(recording, "failed.trace")
+// Where the recording is not accepted, or nothing was recorded, the test fails, and its error has the explanation and the path of the
+// saved trace. Where the test fails by itself, its diagnostics have them, of an accepted recording too. Where it passes, the trace that it
+// saved before is removed, and what the verdict may hide stands in its diagnostics. For a property of fast-check or another library, let
+// the property end with: await accepted(recording, "failed.trace")
 import { createHash } from "node:crypto"
-import { mkdir, rm } from "node:fs/promises"
-import { dirname, relative, resolve } from "node:path"
+import { mkdir, rm, stat, writeFile } from "node:fs/promises"
+import { basename, dirname, join, relative, resolve } from "node:path"
 import { Recording } from "./domepeeler.mjs"
 
 const FOLDER = "failed_traces", MOST_LETTERS = 150
+const FIRST_LINES = 2 // of each trace: its version, and how many replicas there are
 const named = new Map() // by name of a file: how many tests of this process have had it
 
 /** The recording is not accepted, or was not judged. */
@@ -34,45 +36,59 @@ export function recorded(replicas, body, { folder = FOLDER } = {}) {
     const recording = new Recording(replicas)
     const test = context.fullName ?? context.name // with the suites' names where Node tells them
     const path = resolve(folder, fileName(test))
+    const tell = (told) => `${test}: ${told}`.split("\n").forEach((line) => context.diagnostic(line)) // TAP shows each as one line
     try {
       await body(recording, context)
     } catch (why) {
-      const told = await fault(recording, path)
-      if (told) `${test}: ${told}`.split("\n").forEach((line) => context.diagnostic(line)) // TAP shows each as one line
+      tell((await judged(recording, path, true)).told)
       throw why
     }
-    await accepted(recording, path)
+    const { told, warnings } = await judged(recording, path)
+    if (told) throw new NotAccepted(told)
+    if (recording.lines() === FIRST_LINES) throw new NotAccepted(warnings.join("\n"))
+    warnings.forEach(tell)
     for (const left of [path, `${path}.lines`]) await rm(left, { force: true }).catch(() => {}) // most often there is none
   }
 }
 
 /** A promise that is kept where the recording is accepted; else it is saved, and the error says what is wrong with it. */
 export async function accepted(recording, path) {
-  const told = await fault(recording, path)
+  const { told } = await judged(recording, path)
   if (told) throw new NotAccepted(told)
 }
 
-// What is wrong with a recording, which is then saved; nothing where it is accepted.
-async function fault(recording, path) {
-  let told
+// The verdict on a recording in words, which is then saved; nothing where it is accepted, unless its test has failed by itself. And of
+// what an accepted verdict warns.
+async function judged(recording, path, hasFailed = false) {
+  let told, warnings = []
   try {
-    const { verdict } = await recording.judge()
-    if (verdict === "accepted") return ""
-    told = await recording.explain().catch((why) => `The recording is not accepted: ${verdict}. There is no explanation: ${why.message}`)
+    const report = await recording.judge(), isAccepted = report.verdict === "accepted"
+    warnings = report.warnings
+    if (isAccepted && !hasFailed) return { told: "", warnings }
+    const verdict = isAccepted ? "accepted" : `not accepted: ${report.verdict}`
+    told = await recording.explain().catch((why) => `The recording is ${verdict}. There is no explanation: ${why.message}`)
   } catch (why) {
     told = `The recording was not judged: ${why.message}`
   }
-  return `${told.trimEnd()}\n\n${await saved(recording, resolve(path))}`
+  return { told: `${told.trimEnd()}\n\n${await saved(recording, resolve(path))}`, warnings }
 }
 
 async function saved(recording, path) {
   try {
-    await mkdir(dirname(path), { recursive: true })
+    await makeFolder(dirname(path))
     await recording.save(path)
   } catch (why) {
     return `The trace can't be saved in ${path}: ${why.code}. It is:\n${recording.text()}`
   }
   return `The trace is saved: ${path}`
+}
+
+// Makes the folder, which Git then passes over. Another folder that is there already may hold what Git is to see.
+async function makeFolder(folder) {
+  const isOurs = basename(folder) === FOLDER || await stat(folder).then(() => false, () => true)
+  await mkdir(folder, { recursive: true })
+  if (!isOurs) return
+  await writeFile(join(folder, ".gitignore"), "*\n", { flag: "wx" }).catch((why) => { if (why.code !== "EEXIST") throw why })
 }
 
 // The name of a file that no other test has which is run in this folder.

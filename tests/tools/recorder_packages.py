@@ -176,6 +176,118 @@ test("fails_by_itself_now", record(isLost, !isLost))
 # What a test of CommonJS has in the place of `import`, by the package's README.
 COMMON = "(async () => {{ {line}; console.log(new Recording(2).text()) }})()"
 
+# Tests that record before and after their own part, that fail by themselves, and whose accepted recordings may hide something.
+ENDS = {
+    "python": '''
+import pytest
+
+
+@pytest.fixture
+def late(domepeeler):
+    recording = domepeeler(2)
+    n = recording.insert(0, "a", 0, ["a"])
+    yield recording
+    recording.received(1, 0, n)
+    recording.read(1, [])
+
+
+@pytest.fixture
+def late_and_right(domepeeler):
+    recording = domepeeler(2)
+    recording.insert(0, "a", 0, ["a"])
+    yield recording
+    recording.delivered([["a"], ["a"]])
+
+
+@pytest.fixture
+def begun_late(domepeeler):
+    yield
+    domepeeler(1).insert(0, "a", 0, [])
+
+
+@pytest.fixture
+def failing(domepeeler):
+    domepeeler(1).read(0, [])
+    raise ValueError("no editor")
+
+
+@pytest.fixture
+def failing_late(domepeeler):
+    yield domepeeler(1)
+    raise ValueError("no end")
+
+
+def test_late(late):
+    pass
+
+
+def test_late_and_right(late_and_right):
+    late_and_right.read(0, ["a"])
+
+
+def test_begun_late(begun_late):
+    pass
+
+
+def test_unsure(domepeeler):
+    recording = domepeeler(2)
+    recording.insert(0, "a", 0, ["a"])
+    recording.read(1, [])
+
+
+def test_fails_and_is_right(domepeeler):
+    recording = domepeeler(1)
+    recording.note("seed 17")
+    recording.read(0, [])
+    assert 5 == 6
+
+
+def test_set_up(failing):
+    pass
+
+
+def test_torn_down(failing_late):
+    failing_late.read(0, [])
+
+
+@pytest.mark.xfail
+def test_meant_to_fail(domepeeler):
+    domepeeler(1).read(0, [])
+    assert 7 == 8
+
+
+def test_skipped(domepeeler):
+    domepeeler(1).insert(0, "a", 0, [])
+    pytest.skip("not today")
+''',
+    "javascript": '''
+import { test } from "node:test"
+import { recorded } from "domepeeler/node_test"
+
+test("nothing", recorded(2, () => {}))
+test("unsure", recorded(2, (recording) => {
+  recording.insert(0, "a", 0, ["a"])
+  recording.read(1, [])
+}))
+test("fails and is right", recorded(1, (recording) => {
+  recording.note("seed 17")
+  recording.read(0, [])
+  throw new Error("five is not six")
+}))
+'''}
+
+# What an accepted recording of one replica's insert and another's read may hide.
+UNSURE = ["in the end replicas 0 and 1 show different lists",
+          "replica 1 never hears of replica 0: no receipt brings it an insert or a delete from there, so nothing shows what it makes of "
+          "these. At the end of a session let everyone receive everything, and read"]
+NOTHING = "nothing was recorded: the trace has no entry, so the verdict says nothing of an editor"
+
+# Programs that give no report, and what is said of each.
+BROKEN = [("cat > /dev/null; kill -9 $$", "{} was ended by signal 9"), ("cat > /dev/null", "{} ended with status 0 and printed no report"),
+          ("cat > /dev/null; echo '{\"verdict\": '", "{} printed what is no report"),
+          ("cat > /dev/null; echo '{}'", "{} printed what is no report"),
+          ("cat > /dev/null; echo no >&2; exit 3", "{} ended with status 3: no")]
+
 # Explains an empty recording in each language; in Rust it is the command that is built of USES, without a word.
 EXPLAINING = {
     "python": "from domepeeler import Recording; print(Recording(1).explain())",
@@ -363,7 +475,7 @@ def check_again(tally: Tally, place: Place, name: str, words: list, folder: str,
         (kept / other).write_text("kept\n")
     done = place.run(words, folder)
     wanted = sorted(others + [one for one, is_left in traces.items() if is_left])
-    left = sorted(path.name for path in kept.iterdir() if not path.name.endswith(".trace.lines"))
+    left = sorted(path.name for path in kept.iterdir() if not path.name.endswith(".trace.lines") and path.name != ".gitignore")
     tally.check(f"{name}: left afterwards", left == wanted, (left, wanted, done.stdout))
     lines = [path.name for path in kept.iterdir() if path.name.endswith(".trace.lines") and not (kept / path.stem).is_file()]
     tally.check(f"{name}: no number of lines without its trace", lines == [], lines)
@@ -446,12 +558,16 @@ def check_python(tally: Tally, place: Place) -> None:
     tally.check("pytest: a refused call is shown where the test makes it", "test_editor.py:" in refused and "__init__.py" not in refused
                 and "NotCausal: not causal: 1.1 was applied at replica 0 before 2.1, which replica 1 had seen" in refused, refused)
     alone = said.get("test_fails_by_itself_alone", "")
-    tally.check("pytest: nothing is told of an accepted recording", "assert 3 == 4" in alone and "The trace is saved" not in alone, alone)
-    check_saved(tally, "pytest", "".join(said.values()), place.folder / "python" / "failed_traces")
+    tally.check("pytest: an accepted recording of a test that fails by itself",
+                alone.find("assert 3 == 4") in range(alone.find("accepted")) and "The trace is saved: " in alone, alone)
+    lost = {name: text for name, text in said.items() if name not in ("test_fails_by_itself_alone", "test_not_causal")}
+    check_saved(tally, "pytest", "".join(lost.values()), place.folder / "python" / "failed_traces")
     kept = sorted(path.name for path in (place.folder / "python" / "failed_traces").iterdir())
     traces = [name for name in kept if name.endswith(".trace")]
-    tally.check("pytest: a file for each recording that fails", len(traces) == 5 and "test_editor.py--test_lost.trace" in traces, kept)
-    tally.check("pytest: and its number of lines beside it", kept == sorted([*traces, *(f"{name}.lines" for name in traces)]), kept)
+    tally.check("pytest: a file for each recording that fails", len(traces) == 7 and "test_editor.py--test_lost.trace" in traces, kept)
+    tally.check("pytest: and its number of lines beside it", kept == sorted([".gitignore", *traces, *(f"{name}.lines" for name in traces)]),
+                kept)
+    tally.check("pytest: Git passes over the folder", Path(place.folder, "python/failed_traces/.gitignore").read_text() == "*\n")
     lost = [*command, "-k", "test_lost", "--failed-traces"]
     done = place.run([*lost, "kept/here"], "python")
     check_saved(tally, "pytest: a folder that is asked for", done.stdout, place.folder / "python/kept/here")
@@ -470,9 +586,47 @@ def check_python(tally: Tally, place: Place) -> None:
     said = check_again(tally, place, "pytest", [*command[:-1], "test_again.py"], "python", {one: "mended" not in one for one in again})
     tally.check("pytest: warns where nothing was recorded, and nowhere else", "2 failed, 3 passed, 1 warning" in said and
                 "test_nothing" in said and all(words in said for words in warnings_of("accepted", b"trace 1\nreplicas 2\n").all), said)
+    check_ends_of_pytest(tally, place, [*command[:-1], "test_ends.py"])
     check_beside(tally, place, "Python", [python, "-c", EXPLAINING["python"]], "python")
     script = place.make("python/use.py", USES["python"])
     check_used(tally, "Python", place.run([python, script, place.make("no_explainer", NO_EXPLAINER, 0o755)], "python"))
+
+
+def check_ends_of_pytest(tally: Tally, place: Place, command: list) -> None:
+    """What is recorded before and after the test's own part is judged or told of; what an accepted recording may hide is warned of; and a
+    program that gives no report is an error of that test alone."""
+    place.make("python/test_ends.py", ENDS["python"])
+    kept = place.folder / "python/failed_traces"
+    shutil.rmtree(kept)
+    done = place.run(command, "python")
+    tally.check("pytest: counts of ends", done.returncode == 1 and
+                "1 failed, 5 passed, 1 skipped, 1 xfailed, 2 warnings, 4 errors" in done.stdout, done.stdout)
+    said = dict(zip(*[iter(re.split(r"^_{3,} (.+) _{3,}$", done.stdout.split("= short test summary")[0], flags=re.MULTILINE)[1:])] * 2))
+    for name, words in ("ERROR at teardown of test_late", [LOST]), ("ERROR at teardown of test_begun_late", ["contents 0.1: "]), (
+            "ERROR at setup of test_set_up", ["no editor", "accepted"]), ("ERROR at teardown of test_torn_down", ["no end", "accepted"]), (
+            "test_fails_and_is_right", ["assert 5 == 6", "accepted", "\nNoted\n  seed 17\n"]):
+        text = said.get(name, "")
+        tally.check(f"pytest: {name}", all(word in text for word in words) and "The trace is saved: " in text, (sorted(said), text))
+    traces = sorted(path.name for path in kept.iterdir() if path.name.endswith(".trace"))
+    tally.check("pytest: traces of ends", traces == [f"test_ends.py--test_{name}.trace" for name in (
+        "begun_late", "fails_and_is_right", "late", "set_up", "torn_down")], traces)
+    tally.check("pytest: warns of what an accepted recording may hide", all(f"Unsure: {told}\n" in done.stdout for told in UNSURE),
+                done.stdout)
+    done = place.run([*command, "-k", "unsure", "-W", "error::domepeeler.pytest_plugin.Unsure"], "python")
+    tally.check("pytest: such a warning as an error", done.returncode == 1 and "1 passed, 8 deselected, 1 error" in done.stdout
+                and f"\nUnsure: {UNSURE[0]}\n" in done.stdout and "The trace is saved: " in done.stdout, done.stdout)
+    broken = str(place.folder / "broken")
+    for script, told in BROKEN:
+        place.make("broken", f"#!/bin/sh\n{script}\n", 0o755)
+        done = place.run([*command, "-k", "late_and_right or fails_and_is_right"], "python", DOMEPEELER=broken)
+        tally.check(f"pytest: {told}", "2 failed" in done.stdout and "INTERNALERROR" not in done.stdout and done.stdout.count(
+            f"The recording was not judged: {told.format(broken)}\n") == 2, done.stdout)
+    mine = place.folder / "python/mine"
+    mine.mkdir()
+    place.run([*command, "-k", "fails_and_is_right", "--failed-traces", "mine"], "python")
+    names = sorted(path.name for path in mine.iterdir())
+    tally.check("pytest: a folder that was there is not passed over", names == [f"test_ends.py--test_fails_and_is_right.trace{end}"
+                                                                              for end in ("", ".lines")], names)
 
 
 NO_EXPLAINER = "#!/bin/sh\ncat > /dev/null\necho 'not today' >&2\nexit 2\n"
@@ -522,10 +676,11 @@ def check_javascript(tally: Tally, place: Place) -> None:
         (place.folder / "packed/failed_traces" / name).read_text() == LOST_TRACE for name in kept) and
         all(name in done.stdout for name in kept), (kept, done.stdout))
     beside = {path.name: path.read_text().split("\n")[0] for path in (place.folder / "packed/failed_traces").iterdir()
-              if path.name not in kept}
+              if path.name not in [*kept, ".gitignore"]}
     tally.check("node --test: and the number of lines beside each", beside == {f"{name}.lines": "5" for name in kept}, beside)
     own = sorted(path.name for path in (place.folder / "packed/own").iterdir())
-    tally.check("node --test: a path of its own", own == ["awaited.trace", "awaited.trace.lines"], own)
+    tally.check("node --test: a path of its own", own == [".gitignore", "awaited.trace", "awaited.trace.lines"], own)
+    check_ends_of_node(tally, place)
     place.make("folder/editor.test.mjs", NODE_TEST)
     linked = place.run(["node", "--test", "--test-reporter=tap", "editor.test.mjs"], "folder").stdout.split("not ok 2 - lost")[-1]
     check_places(tally, "node --test: of a folder that is a link", re.sub("^    ", "", linked, flags=re.MULTILINE), "editor.test.mjs", NODE_TEST)
@@ -544,6 +699,32 @@ def check_javascript(tally: Tally, place: Place) -> None:
     line = example("javascript", "const { Recording }").strip()
     done = place.run(["node", "--input-type=commonjs", "-e", COMMON.format(line=line)], "packed")
     tally.check("JavaScript: in CommonJS", done.stdout.startswith("trace 1\nreplicas 2\n"), (line, done.stdout))
+
+
+def check_ends_of_node(tally: Tally, place: Place) -> None:
+    """A test that records nothing fails; what an accepted recording may hide stands in the diagnostics, and of a test that fails by itself
+    its verdict, whatever that is; a program that gives no report is an error of that test."""
+    place.make("packed/ends.test.mjs", ENDS["javascript"])
+    words = ["node", "--test", "--test-reporter=tap", "ends.test.mjs"]
+    done = place.run(words, "packed")
+    tally.check("node --test: counts of ends", "# pass 1\n" in done.stdout and "# fail 2\n" in done.stdout and
+                "ok 2 - unsure" in done.stdout, done.stdout)
+    tally.check("node --test: nothing was recorded", NOTHING in done.stdout.split("not ok 1 - nothing")[-1].split("ok 2")[0], done.stdout)
+    tally.check("node --test: warns of what an accepted recording may hide", all(f"# unsure: {told}\n" in done.stdout for told in UNSURE),
+                done.stdout)
+    path = place.folder / "packed/failed_traces" / next((path.name for path in (place.folder / "packed/failed_traces").iterdir()
+                                                         if path.name.startswith("ends.test.mjs-") and path.name.endswith(".trace")), "none")
+    told = [line.strip() for line in re.findall("^# (.*)", done.stdout, re.MULTILINE)]
+    begins = any(line.startswith("fails and is right: accepted") for line in told)
+    tally.check("node --test: an accepted recording of a test that fails by itself", begins and "Noted" in told and "seed 17" in told and
+                f"The trace is saved: {path}" in told and path.is_file() and path.read_text() == "trace 1\nreplicas 1\n0 read :\n", told)
+    tally.check("node --test: Git passes over the folder", (path.parent / ".gitignore").read_text() == "*\n")
+    broken = str(place.folder / "broken")
+    for script, why in BROKEN:
+        place.make("broken", f"#!/bin/sh\n{script}\n", 0o755)
+        done = place.run(words, "packed", DOMEPEELER=broken)
+        tally.check(f"node --test: {why}", "# fail 3\n" in done.stdout and done.stdout.count(
+            f"The recording was not judged: {why.format(broken)}\n") >= 3, done.stdout)
 
 
 def check_rust(tally: Tally, place: Place) -> None:

@@ -3,15 +3,21 @@
 
 What is expected was written by hand from docs/formats.md. Needs node, rustc and gcc; where emacs, or Hypothesis or pytest for
 Debian's Python, are missing it installs Debian's packages, and fails if it can't."""
+import copy
 import json
 import os
+import pickle
 import re
 import shlex
 import shutil
 import subprocess
 import sys
 import tempfile
+import threading
+import time
 import weakref
+from collections.abc import Iterator
+from enum import Enum
 from pathlib import Path
 from random import Random
 from urllib.parse import unquote, unquote_to_bytes
@@ -532,7 +538,8 @@ NO_ROOM = ["sh", "-c", "trap '' XFSZ; ulimit -c 0; ulimit -f 1; exec \"$@\"", "s
 
 def check_lines(tally: Tally, recorder: Recorder, folder: Path) -> None:
     """Beside what is saved stands how many lines it has, also where another recorder saved before, so that the tool warns of what was
-    cut, and of nothing else. It is written first. A pipe or a device has no such file, and where there can't be one save fails."""
+    cut, and of nothing else. Each file is written whole or not at all. A pipe or a device has no such file, and where there can't be one
+    save fails."""
     from domepeeler import Recording
     place, own = folder / f"lines of {recorder.language}", LANGUAGES[recorder.language]
     place.mkdir()
@@ -578,15 +585,49 @@ def check_lines(tally: Tally, recorder: Recorder, folder: Path) -> None:
     got = saved(place / "nowhere" / "a.trace")
     tally.check(f"{recorder.language}: nothing can be written", got.startswith("failed ") and "a.trace.lines" not in got, got)
     full = place / "full.trace"
-    got = saved(full, Recorder(recorder.language, [*NO_ROOM, *recorder.words], recorder.surroundings["DOMEPEELER"]),
-                ["new\t1", *["read\t0"] * 100])
-    tally.check(f"{recorder.language}: the number comes first", got.startswith(("failed ", "ended with -")) and full.is_file()
-                and full.stat().st_size == 512 and beside(full) == f"102 {own}", (got, beside(full)))
-    if recorder.language in PLACING:
-        got = saved(full, Recorder(recorder.language, [*NO_ROOM, *recorder.words], recorder.surroundings["DOMEPEELER"]),
-                    ["new\t1", *["read\t0"] * 40])
-        tally.check(f"{recorder.language}: the places come last", got.startswith("failed ") and beside(full) == f"42 {own}"
-                    and full.read_bytes() == b"trace 1\nreplicas 1\n" + b"0 read :\n" * 40, (got, beside(full)))
+    narrow = Recorder(recorder.language, [*NO_ROOM, *recorder.words], recorder.surroundings["DOMEPEELER"])
+    got = [saved(full, recorder, ["new\t1"]), saved(full, narrow, ["new\t1", *["read\t0"] * 100])]
+    left = sorted(path.name for path in place.iterdir() if path.name.startswith((".", "full")))
+    tally.check(f"{recorder.language}: what can't be written whole is not written", got[0] == "ok" and
+                got[1].startswith(("failed ", "ended with -")) and full.read_bytes() == b"trace 1\nreplicas 1\n" and
+                beside(full) in (f"2 {own}", f"102 {own}"), (got, beside(full)))
+    tally.check(f"{recorder.language}: and nothing is left of it", left == ["full.trace", "full.trace.lines"] or
+                got[1].startswith("ended with -"), (got, left))
+    check_replaced(tally, recorder, place / "replaced")
+
+
+def check_replaced(tally: Tally, recorder: Recorder, place: Path) -> None:
+    """What stands in the place of a file that is saved: a link stays one, and a file keeps who may read it. Another process that saves to
+    the same path, or reads there, finds one whole text or the other."""
+    place.mkdir()
+    target, link = place / "target.trace", place / "link.trace"
+    target.write_text("what was there\n")
+    target.chmod(0o640)
+    link.symlink_to("target.trace")
+    got = recorder.answers(["new\t1", f"save\t{link}", f"save\t{place}/new.trace"])
+    written = b"trace 1\nreplicas 1\n"
+    tally.check(f"{recorder.language}: a link is followed", got == ["ok"] * 3 and link.is_symlink() and target.read_bytes() == written, got)
+    umask = os.umask(0)
+    os.umask(umask)
+    modes = [oct(path.stat().st_mode & 0o777) for path in (target, place / "new.trace", Path(f"{place}/new.trace.lines"))]
+    tally.check(f"{recorder.language}: who may read it", modes == ["0o640", *[oct(0o666 & ~umask)] * 2], modes)
+    both = place / "both.trace"
+    texts = [written + b"0 read :\n" * count for count in (1, 400)]
+    seen, processes = set(), []
+    for text in texts:
+        calls = ["new\t1", *["read\t0"] * (text.count(b"\n") - 2), *[f"save\t{both}"] * 60]
+        processes.append(subprocess.Popen(recorder.words, stdin=subprocess.PIPE, stdout=subprocess.PIPE, env=recorder.surroundings))
+        processes[-1].stdin.write("".join(call + "\n" for call in calls).encode())
+        processes[-1].stdin.close()
+    while any(process.poll() is None for process in processes):
+        if both.exists():
+            seen.add(both.read_bytes())
+    ended = [process.stdout.read().splitlines()[-60:] == [b"ok"] * 60 and process.wait() == 0 for process in processes]
+    tally.check(f"{recorder.language}: two that save to one path", all(ended) and seen and seen <= set(texts),
+                (ended, [text[:40] for text in seen - set(texts)]))
+    left = [path.name for path in place.iterdir() if path.name not in ("target.trace", "link.trace", "link.trace.lines", "new.trace",
+                                                                       "new.trace.lines", "both.trace", "both.trace.lines")]
+    tally.check(f"{recorder.language}: nothing else is left", left == [], left)
 
 
 # Languages whose recorder remembers where each line was recorded, and those whose `explain` has no more than the tool's words.
@@ -1040,6 +1081,29 @@ def check_frames(tally: Tally, folder: Path) -> None:
     tally.check("py: keeps no frame of its callers", act()() is None)
 
 
+MOST_SECONDS = 30  # where the calls take 3 at most on four processors that are busy; by looking up each change in a list, over 60
+
+
+def check_long_updates(tally: Tally, recorder: Recorder) -> None:
+    """An update of very many changes takes no longer than its length, nor do warnings of a long session."""
+    count = 16000
+    calls = ["new 3", *["delete 0 a"] * count, f"received_clock 1 0 {count} {count} 0 0", "warnings"]
+    started = time.monotonic()
+    got = recorder.answers([fields(call) for call in calls])
+    took = time.monotonic() - started
+    tally.check(f"{recorder.language}: an update of {count} changes", got[count + 1:count + 2] == ["ok"] and got[-2:] ==
+                [f"| and {count - 5} more deletes of what no line inserts", "ok"] and took < MOST_SECONDS, (took, got[count:]))
+    if recorder.language not in WITH_IDS:
+        return
+    calls = ["new 2", *[f"as i{n} delete 0 a" for n in range(2000)], *["received_changes 1 " + " ".join(f"i{n}" for n in range(2000))] * 300,
+             "as paste insert 1 b 0", *["as paste delete 1 b"] * 12000, "received_changes 0 paste", "lines"]
+    started = time.monotonic()
+    got = recorder.answers([fields(call) for call in calls])
+    took = time.monotonic() - started
+    tally.check(f"{recorder.language}: very many updates with all ids", got[2001:2301] == ["ok"] * 300 and
+                got[-2:] == ["ok", "ok 14005"] and took < MOST_SECONDS, (took, got[-5:]))
+
+
 NOTHING = "nothing was recorded: the trace has no entry, so the verdict says nothing of an editor"
 NEVER_HEARS = ("replica {} never hears of {}: no receipt brings it an insert or a delete from there, so nothing shows what it makes of these. "
                "At the end of a session let everyone receive everything, and read")
@@ -1138,6 +1202,81 @@ def check_notes(tally: Tally, recorder: Recorder, folder: Path) -> None:
         asked, "| ", "| Noted", *(f"|   {note}" for note in notes), "ok", "ok", asked, "ok"], got)
 
 
+class Number(int, Enum):
+    """Numbers as an editor's own enumeration has them; formatted, they are their names."""
+
+    NONE = 0
+    ONE = 1
+
+
+class Word(str, Enum):
+    FIRST = "a-b"
+
+
+def check_python(tally: Tally) -> None:
+    """What Python alone has: numbers and names of enumerations, copies, lists by replica, lists that fail, and threads."""
+    from domepeeler import Recording
+    recording = Recording(Number.ONE + Number.ONE)
+    n = recording.insert(Number.NONE, Word.FIRST, Number.NONE, [Word.FIRST])
+    recording.received(Number.ONE, Number.NONE, Number(n))
+    recording.read(Number.ONE, ["a-b"])
+    recording.received_clock(Number.ONE, Number.NONE, {Number.NONE: Number.ONE})
+    recording.delivered({Number.ONE: ["a-b"], Number.NONE: (word for word in [Word.FIRST])})
+    text = "trace 1\nreplicas 2\n0 ins a-b 0 : a-b\n1 recv 0 1\n1 read : a-b\n0 read : a-b\n1 read : a-b\n"
+    tally.check("py: numbers and names of enumerations", recording.text() == text, recording.text())
+    one = Recording(Number.ONE, Number.NONE)
+    one.read(Number.NONE, [])
+    tally.check("py: a log's replica of an enumeration", one.text() == "trace 1\nreplicas 1\n0 read :\n", one.text())
+    for name, copied in ("copied", copy.deepcopy(recording)), ("pickled", pickle.loads(pickle.dumps(recording))):
+        copied.read(0, [])
+        tally.check(f"py: a recording that is {name}", copied.text() == text + "0 read :\n" and recording.text() == text, copied.text())
+
+    def failing() -> Iterator[str]:
+        yield f"{LETTERS32}x"
+        raise KeyError("no name")
+
+    for act in lambda: recording.read(0, failing()), lambda: recording.delivered([["c@d"], failing()]):
+        try:
+            act()
+            tally.check("py: a list that fails", False)
+        except KeyError:
+            tally.check("py: a list that fails leaves the recording as it was", recording.text() == text and recording.ids() == {} and
+                        recording.lines() == 7, recording.text())
+    check_threads(tally)
+
+
+def check_threads(tally: Tally) -> None:
+    """Eight threads record at once: each operation has a number of its own, and each line the place of its call."""
+    from domepeeler import Recording
+    recording, numbers = Recording(2), [[] for _ in range(8)]
+
+    def shows(own: list) -> None:
+        for _ in range(1000):
+            own.append(recording.view(0, ["even"]))
+
+    def inserts(own: list) -> None:
+        for _ in range(1000):
+            own.append(recording.delete(0, "odd", []))
+
+    threads = [threading.Thread(target=inserts if at % 2 else shows, args=(own,)) for at, own in enumerate(numbers)]
+    before = sys.getswitchinterval()
+    sys.setswitchinterval(1e-6)
+    for thread in threads:
+        thread.start()
+    for thread in threads:
+        thread.join()
+    sys.setswitchinterval(before)
+    tally.check("py: eight threads, numbers", sorted(sum(numbers, [])) == list(range(1, 8001)) and
+                all(own == sorted(own) for own in numbers), len(set(sum(numbers, []))))
+    with tempfile.TemporaryDirectory() as folder:
+        recording.save(Path(folder, "threads.trace"))
+        entries = Path(folder, "threads.trace").read_text().splitlines()[2:]
+        places = [line.split(" ", 1)[1] for line in Path(folder, "threads.trace.lines").read_text().splitlines()[2:]]
+    pairs = set(zip(entries, places))
+    tally.check("py: eight threads, places", len(entries) == len(places) == 8000 and len(pairs) == 2 and
+                {entry for entry, _ in pairs} == {"0 view : even", "0 del odd :"}, pairs)
+
+
 def check_judge(tally: Tally, recorder: Recorder, folder: Path) -> None:
     """The report of the cycle, and what is said where there is no report."""
     calls = [fields(line.split(" -> ")[0]) for line in CYCLE.split("\n")[:-1]]
@@ -1159,6 +1298,15 @@ def check_judge(tally: Tally, recorder: Recorder, folder: Path) -> None:
     for absent, why in [(str(folder / "nowhere"), "cannot be run"), ("/bin/false", "ended with status 1 and printed no report")]:
         got = recorder.answers(["new\t1", "judge"], DOMEPEELER=absent)
         tally.check(f"{recorder.language}: judge by {absent}", got[1:] and got[1].startswith(f"failed {absent} {why}"), got)
+    killed = folder / "killed"
+    for script, why in ("kill -9 $$", "was ended by signal 9"), ("kill -15 $$", "was ended by signal 15"), (
+            "exit 0", "ended with status 0 and printed no {}"), ("exit 1", "ended with status 1 and printed no {}"), (
+            "echo why >&2; exit 0", "ended with status 0: why"):
+        killed.write_text(f"#!/bin/sh\ncat > /dev/null\n{script}\n")
+        killed.chmod(0o755)
+        got = recorder.answers(["new\t1", "judge", "explain"], DOMEPEELER=str(killed), DOMEPEELER_EXPLAIN=str(killed))
+        wanted = [f"failed {killed} {why.format(lacking)}" for lacking in ("report", "words")]
+        tally.check(f"{recorder.language}: judge by what {script}", got == ["ok", *wanted], got)
     got = recorder.answers(["new\t1", "judge"], DOMEPEELER="", PATH=f"{folder / 'path'}:{os.environ['PATH']}")
     tally.check(f"{recorder.language}: judge by domepeeler on the PATH", got[1:] and got[1].startswith("report {"), got)
 
@@ -1844,6 +1992,7 @@ def main() -> None:
             check_warnings(tally, recorder)
             check_notes(tally, recorder, folder)
             check_full_delivery(tally, recorder)
+            check_long_updates(tally, recorder)
             texts[language] = check_limits(tally, recorder)
             tally.check(f"{language}: texts at the limits", texts[language] == texts["py"])
             if language in CLOCKED:
@@ -1855,6 +2004,7 @@ def main() -> None:
             check_judge(tally, recorder, folder)
             if language in EXPLAINING:
                 check_explain(tally, recorder, folder)
+        check_python(tally)
         check_users(tally, program, folder)
         check_grouped(tally, program, folder)
         check_stopping(tally, folder)

@@ -4,9 +4,10 @@
         recording = domepeeler(2)
         ...
 
-Where a recording is not accepted the test fails, and its report has the explanation and the path of the saved trace. The report of
-a test that fails by itself has them too, in a section of its own. Where a test passes, the traces that it saved before are removed;
-and where a recording of it has no operation, pytest warns of that."""
+Where a recording is not accepted the test fails, and its report has the explanation and the path of the saved trace. What other
+fixtures record while they are torn down is judged too, when that is done; pytest tells it as an error of the test. The report of a
+test that fails by itself has the verdict on its recordings, accepted or not, in a section of its own, and they are saved. Where a test
+passes, the traces that it saved before are removed; and of what its accepted recordings may hide pytest warns, by `Unsure`."""
 from __future__ import annotations
 
 import contextlib
@@ -23,93 +24,143 @@ from . import Recording
 FOLDER = "failed_traces"
 PLAIN = re.compile(r"[A-Za-z0-9_.]+(/[A-Za-z0-9_.]+)*(::[A-Za-z0-9_.]+)+", re.ASCII)
 MOST_LETTERS = 150  # of a test's own name in the name of a file
-BEGUN = "_domepeeler_recordings"
+BEGUN = "_domepeeler_begun"
 FIRST_LINES = 2  # of each trace: its version, and how many replicas there are
 
 
-class NothingRecorded(pytest.PytestWarning):
-    """A recording has no operation."""
+class Unsure(pytest.PytestWarning):
+    """A recording is accepted, and may hide something."""
+
+
+class NothingRecorded(Unsure):
+    """A recording has no entry."""
+
+
+class Judged:
+    """A recording of a test; how many lines it had when it was judged; and of what its verdict then warned."""
+
+    def __init__(self, recording: Recording) -> None:
+        self.recording = recording
+        self.lines = 0
+        self.warnings: List[str] = []
+
+
+class Begun:
+    """The recordings of a test of which nothing is told yet; and whether the test has passed so far, and they are accepted."""
+
+    def __init__(self) -> None:
+        self.recordings: List[Judged] = []
+        self.has_passed = False
+
+    def numbered(self) -> List[Tuple[Optional[int], Judged]]:
+        """The recordings with their numbers; a single one has none."""
+        return [(number if len(self.recordings) > 1 else None, one) for number, one in enumerate(self.recordings, 1)]
 
 
 def pytest_addoption(parser: pytest.Parser) -> None:
     parser.getgroup("domepeeler").addoption("--failed-traces", metavar="FOLDER", default=FOLDER,
-                                            help=f"where traces that are not accepted are saved; {FOLDER} by default")
+                                            help=f"where the traces of tests that fail are saved; {FOLDER} by default")
 
 
 @pytest.fixture
 def domepeeler(request: pytest.FixtureRequest) -> Callable[[int], Recording]:
     """Begins a recording of so many replicas, which is judged when the test ends."""
-    begun: List[Recording] = []
+    begun = Begun()
     setattr(request.node, BEGUN, begun)
 
     def begin(replicas: int) -> Recording:
-        begun.append(Recording(replicas))
-        return begun[-1]
+        begun.recordings.append(Judged(Recording(replicas)))
+        return begun.recordings[-1].recording
 
     return begin
 
 
 @pytest.hookimpl(trylast=True)  # after the test itself has run, if it has passed
 def pytest_runtest_call(item: pytest.Item) -> None:
-    begun, told = getattr(item, BEGUN, []), told_of(item)
-    setattr(item, BEGUN, [])
-    if told:
-        pytest.fail(told, pytrace=False)
+    begun: Begun = getattr(item, BEGUN, Begun())
+    fail_by_faults(item, begun)
+    begun.has_passed = True
+
+
+@pytest.hookimpl(trylast=True)  # after all fixtures were torn down, if that went well
+def pytest_runtest_teardown(item: pytest.Item) -> None:
+    begun: Begun = getattr(item, BEGUN, Begun())
+    if not begun.has_passed:
+        return
+    fail_by_faults(item, begun)
     remove_saved(item, begun)
-    if any(recording.text().count("\n") == FIRST_LINES for recording in begun):
-        item.warn(NothingRecorded("nothing was recorded: the trace has no entry, so the verdict says nothing of an editor"))
+    try:
+        for one in begun.recordings:
+            for told in one.warnings:
+                item.warn(NothingRecorded(told) if one.lines == FIRST_LINES else Unsure(told))
+    except Unsure as why:  # where warnings are errors
+        pytest.fail(f"{type(why).__name__}: {why}", pytrace=False)
+    begun.recordings = []
 
 
-@pytest.hookimpl(hookwrapper=True)
+@pytest.hookimpl(hookwrapper=True, tryfirst=True)  # when all others have said whether it has failed
 def pytest_runtest_makereport(item: pytest.Item, call: pytest.CallInfo[None]) -> Generator[None, Any, None]:
     outcome = yield
-    report = outcome.get_result()
-    if call.when == "call" and report.failed:
-        told = told_of(item)
-        if told:
-            report.sections.append(("Domepeeler", told))
+    report, begun = outcome.get_result(), getattr(item, BEGUN, Begun())
+    if report.failed and begun.recordings:
+        told = [told_of(item, one, number, True) for number, one in begun.numbered()]
+        report.sections.append(("Domepeeler", "\n\n".join(told)))
+        begun.recordings = []
 
 
-def told_of(item: pytest.Item) -> str:
-    """What is wrong with the recordings of a test; nothing where all are accepted."""
-    begun: List[Recording] = getattr(item, BEGUN, [])
-    told = [fault(item, recording, number) for number, recording in numbered(begun)]
-    return "\n\n".join(filter(None, told))
+def fail_by_faults(item: pytest.Item, begun: Begun) -> None:
+    """Fails the test where a recording to which something was added since it was judged is not accepted."""
+    told = [told_of(item, one, number, False) for number, one in begun.numbered() if one.lines != one.recording.lines()]
+    if any(told):
+        begun.recordings = []
+        pytest.fail("\n\n".join(filter(None, told)), pytrace=False)
 
 
-def numbered(begun: List[Recording]) -> List[Tuple[Optional[int], Recording]]:
-    """The recordings of a test with their numbers; a single one has none."""
-    return [(number if len(begun) > 1 else None, recording) for number, recording in enumerate(begun, 1)]
-
-
-def fault(item: pytest.Item, recording: Recording, number: Optional[int]) -> str:
-    """What is wrong with a recording, which is then saved. One that can't be judged is told of and saved too."""
+def told_of(item: pytest.Item, one: Judged, number: Optional[int], has_failed: bool) -> str:
+    """The verdict on a recording in words, which is then saved; nothing where it is accepted, unless its test has failed by itself."""
+    one.lines = one.recording.lines()
     try:
-        verdict = recording.judge()["verdict"]
-    except RuntimeError as why:
-        return f"The recording was not judged: {why}\n\n{saved(item, recording, number)}"
-    if verdict == "accepted":
-        return ""
+        report = one.recording.judge()
+        one.warnings = report["warnings"]
+    except Exception as why:  # whatever it is, it is an error of this test alone
+        told = f"The recording was not judged: {why}"
+    else:
+        if report["verdict"] == "accepted" and not has_failed:
+            return ""
+        told = explained(one.recording, report["verdict"])
+    return f"{told}\n\n{saved(item, one.recording, number)}"
+
+
+def explained(recording: Recording, verdict: str) -> str:
     try:
-        told = recording.explain().rstrip("\n")
-    except RuntimeError as why:
-        told = f"The recording is not accepted: {verdict}. There is no explanation: {why}"
-    return f"{told}\n\n{saved(item, recording, number)}"
+        return recording.explain().rstrip("\n")
+    except Exception as why:
+        is_so = "accepted" if verdict == "accepted" else f"not accepted: {verdict}"
+        return f"The recording is {is_so}. There is no explanation: {why}"
 
 
 def saved(item: pytest.Item, recording: Recording, number: Optional[int]) -> str:
     path = path_of(item, number)
     try:
-        path.parent.mkdir(parents=True, exist_ok=True)
+        make_folder(path.parent)
         recording.save(path)
     except OSError as why:
         return f"The trace can't be saved in {path}: {why.strerror}. It is:\n{recording.text()}"
     return f"The trace is saved: {path}"
 
 
-def remove_saved(item: pytest.Item, begun: List[Recording]) -> None:
+def make_folder(folder: Path) -> None:
+    """Makes the folder, which Git then passes over. Another folder that is there already may hold what Git is to see."""
+    is_ours = not folder.exists() or folder.name == FOLDER
+    folder.mkdir(parents=True, exist_ok=True)
+    if is_ours:
+        with contextlib.suppress(FileExistsError), open(folder / ".gitignore", "x") as file:
+            file.write("*\n")
+
+
+def remove_saved(item: pytest.Item, begun: Begun) -> None:
     """Removes what an earlier run of the test has saved of these recordings, which are accepted now."""
-    for number, _ in numbered(begun):
+    for number, _ in begun.numbered():
         path = path_of(item, number)
         for left in path, Path(f"{path}.lines"):
             with contextlib.suppress(OSError):  # most often there is none
