@@ -2,73 +2,131 @@
 """judge_recordings.py FOLDER: judges all recordings below a folder in a job of CI, and explains those that are not accepted.
 
 It leaves a folder `judged`: `junit.xml` with all verdicts, and of each failure a page and a small trace, `1.html` and `1.trace` of the
-one that fails in the fewest lines. It prints annotations where GitHub runs it, and writes `annotations.json` for GitLab. It ends with the status of
-domepeeler-judge-many: 0 where all are accepted, 1 where the editor failed, 2 where the recordings or the setting are at fault."""
+one that fails in the fewest lines. What it left there before it removes first; a folder of this name that holds anything else it leaves
+alone, and ends. It prints the first explanation whole, and of failures that look alike one line. It prints annotations where GitHub runs
+it, and writes `annotations.json` for GitLab. It ends with the status of domepeeler-judge-many: 0 where all are accepted, 1 where the
+editor failed, 2 where the recordings or the setting are at fault. Words behind the folder are options for domepeeler-judge-many."""
 import json
 import os
+import re
 import subprocess
 import sys
+import traceback
 from pathlib import Path
 
 JUDGED = Path("judged")
+OWN = re.compile(r"junit\.xml|annotations\.json|[1-9][0-9]*\.(html|trace|trace\.lines)")  # files that it leaves there
 IN_MESSAGES, IN_PROPERTIES = "%\r\n", "%\r\n:,"  # marks that GitHub wants escaped
+MOST_LEFT = 3  # names of other files that are told
 
 
-def ended(*words: object) -> subprocess.CompletedProcess:
+class Failed(Exception):
+    """What keeps it from judging."""
+
+
+def ended(*words):
     try:
         return subprocess.run([str(word) for word in words], capture_output=True, text=True, errors="surrogateescape")
     except OSError as error:
-        print(f"judge_recordings: {words[0]} can't be run: {error.strerror}. Is Domepeeler installed?", file=sys.stderr)
-        sys.exit(2)
+        raise Failed(f"{words[0]} can't be run: {error.strerror}. Is Domepeeler installed?") from None
 
 
-def escaped(text: str, marks: str) -> str:
+def shown(text):
+    """A file's name: what can't be printed stands as `\\x1b` and the like, so that no name writes lines of its own into a log."""
+    return "".join(letter if letter.isprintable() else f"\\x{ord(letter) - 0xdc00:02x}" if "\udc80" <= letter <= "\udcff" else ascii(letter)[1:-1]
+                   for letter in text)
+
+
+def escaped(text, marks):
     """As GitHub wants it in an annotation: these marks as a percent sign and two digits."""
     return "".join(f"%{ord(mark):02X}" if mark in marks else mark for mark in text)
 
 
-def annotate(file: str, title: str, told: str) -> None:
+def annotate(file, title, told):
     """An error that GitHub shows with the file, on the page of the run."""
     print(f"::error file={escaped(file, IN_PROPERTIES)},title={escaped(title, IN_PROPERTIES)}::{escaped(told, IN_MESSAGES)}")
 
 
-def explain(number: int, row: dict) -> dict:
-    """Explains a failure, and answers what GitLab shows of it: a link to its page."""
+def explain(number, row):
+    """Explains a failure; answers the words, and what GitLab shows of it: a link to its page."""
     page, small = JUDGED / f"{number}.html", JUDGED / f"{number}.trace"
-    for old in page, small:
-        old.unlink(missing_ok=True)
-    done = ended("domepeeler-explain", "--html", page, "--small", small, row["file"])
+    done = ended("domepeeler-explain", "--html", page, "--small", small, "--", row["file"])
     told = (done.stdout + done.stderr).strip()
-    print(f"{row['file']}: {told}\n", flush=True)
+    if row["verdict"] == "accepted":  # but unequal in the end
+        told = f"accepted, but unequal in the end: {' '.join(row['warnings'][:1])}\n{told.partition(chr(10))[2]}"
+    name = f"{shown(row['file'])}: {row['verdict']}"
     if os.environ.get("GITHUB_ACTIONS"):
-        annotate(row["file"], f"{row['file']}: {row['verdict']}", told.split("\n")[0])
+        annotate(shown(row["file"]), name, told.split("\n")[0])
     url = f"{os.environ.get('CI_JOB_URL', '')}/artifacts/file/{page}" if page.exists() else os.environ.get("CI_JOB_URL", "")
-    return {"external_link": {"label": f"{row['file']}: {row['verdict']}".encode(errors="replace").decode(), "url": url}}
+    return told, {"external_link": {"label": name, "url": url}}
 
 
-def main() -> None:
-    if len(sys.argv) != 2:
-        print("usage: judge_recordings.py FOLDER", file=sys.stderr)
-        sys.exit(2)
-    for stream in sys.stdout, sys.stderr:
-        stream.reconfigure(errors="surrogateescape")
+def alike(number, row):
+    """What failures share that look alike; the number where something of it is not known."""
+    return str([row["verdict"], row.get("k"), row["causes"], row["place"]]) if "causes" in row and "place" in row else number
+
+
+def print_explanations(rows, told):
+    """The first whole, and of those that look alike the first line of the first."""
+    groups = {}
+    for number, (row, words) in enumerate(zip(rows, told)):
+        groups.setdefault(alike(number, row), []).append((row, words))
+    for place, same in enumerate(groups.values()):
+        (row, words), more = same[0], len(same) - 1
+        first = words if place == 0 else words.split("\n")[0]
+        print(f"{shown(row['file'])}: {first}" + (f"\n  and {more} more that look{'s' * (more == 1)} alike: {shown(same[1][0]['file'])}"
+                                                    f"{' and others' * (more > 1)}" if more else "") + "\n", flush=True)
+
+
+def prepare():
+    """Makes the folder, or takes away what an earlier run has left in it."""
     JUDGED.mkdir(exist_ok=True)
-    done = ended("domepeeler-judge-many", "--failing", "--json", "--junit", JUDGED / "junit.xml", sys.argv[1])
+    names = sorted(os.listdir(JUDGED))
+    others = [name for name in names if not OWN.fullmatch(name)]
+    if others:
+        more = " and others" if len(others) > MOST_LEFT else ""
+        raise Failed(f"the folder {JUDGED} holds what this script did not write ({', '.join(map(shown, others[:MOST_LEFT]))}{more}): move it away")
+    for name in names:
+        (JUDGED / name).unlink()
+
+
+def judge(folder, options):
+    if JUDGED.resolve() == Path(folder).resolve():
+        raise Failed(f"{JUDGED} is where the pages go, so its traces are not judged")
+    prepare()
+    done = ended("domepeeler-judge-many", "--failing", "--json", "--junit", JUDGED / "junit.xml", *options, "--", folder)
     rows = [json.loads(line) for line in done.stdout.splitlines()]
-    links = [explain(number, row) for number, row in enumerate(rows, 1)]
+    rows = [row for row in rows if JUDGED.resolve() not in Path(row["file"]).resolve().parents]
+    explained = [explain(number, row) for number, row in enumerate(rows, 1)]
+    print_explanations(rows, [told for told, _ in explained])
     print(done.stderr, end="", file=sys.stderr)
     if os.environ.get("CI_JOB_URL"):
-        (JUDGED / "annotations.json").write_text(json.dumps({"recordings that are not accepted": links}))
+        (JUDGED / "annotations.json").write_text(json.dumps({"recordings that are not accepted": [link for _, link in explained]}))
     if done.returncode == 0:
-        print(f"all recordings below {sys.argv[1]} are accepted")
+        print(f"all recordings below {shown(folder)} are accepted")
     if rows:
         print(f"{len(rows)} not accepted: {JUDGED}/junit.xml has them all, and {JUDGED}/1.html is the page of the first")
-    sys.exit(done.returncode)
+    if done.returncode not in (0, 1, 2) or done.returncode == 1 and not rows:
+        raise Failed(f"domepeeler-judge-many ended with status {done.returncode}, and listed {len(rows)} recordings")
+    return done.returncode
+
+
+def main():
+    if len(sys.argv) < 2 or sys.argv[1].startswith("--"):
+        print("usage: judge_recordings.py FOLDER [OPTION..]", file=sys.stderr)
+        return 2
+    for stream in sys.stdout, sys.stderr:
+        stream.reconfigure(errors="surrogateescape")
+    try:
+        return judge(sys.argv[1], sys.argv[2:])
+    except Failed as error:
+        print(f"judge_recordings: {error}", file=sys.stderr)
+    except OSError as error:
+        print(f"judge_recordings: cannot write {error.filename}: {error.strerror}", file=sys.stderr)
+    except Exception:  # which nobody has thought of: no verdict
+        traceback.print_exc()
+    return 2
 
 
 if __name__ == "__main__":
-    try:
-        main()
-    except OSError as error:
-        print(f"judge_recordings: cannot write {error.filename}: {error.strerror}", file=sys.stderr)
-        sys.exit(2)
+    sys.exit(main())

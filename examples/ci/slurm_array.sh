@@ -1,8 +1,12 @@
 #!/bin/sh
 # An array of 100 tasks, of which each judges one of the folders night/part0 to night/part99 and leaves a file of lines in the folder
-# judged. It needs the installed tools. Status 1 says that some trace is not accepted, which is no failure of the task.
+# judged. It needs the installed tools. A task succeeds where its file has a line with a verdict for each trace, accepted or not: status 1
+# alone does not say so, since a shell and Python end with it too.
 #SBATCH --array=0-99
 #SBATCH --cpus-per-task=4
-domepeeler-judge-many --json --jobs 4 "night/part$SLURM_ARRAY_TASK_ID" > "judged/$SLURM_ARRAY_TASK_ID.jsonl"
+part="night/part$SLURM_ARRAY_TASK_ID" lines="judged/$SLURM_ARRAY_TASK_ID.jsonl"
+mkdir -p judged && : > "$lines" || exit 2
+domepeeler-judge-many --json --jobs 4 -- "$part" > "$lines"
 status=$?
-[ "$status" -eq 1 ] || exit "$status"
+[ "$status" -le 1 ] || exit "$status"
+[ "$(grep -c '^{.*}$' "$lines")" -eq "$(find -L "$part" -iname '*.trace' | wc -l)" ] || { echo "$lines has not a line for each trace" >&2; exit 2; }

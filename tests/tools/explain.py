@@ -730,8 +730,8 @@ def sooner(tally: Tally, program: str, text: str, report: dict, said: str) -> tu
                           for one in (report, first))
     told = paragraph(said, "When it went wrong").splitlines()
     wanted = count < max(named)
-    is_right = len(told) == 2 and told[0].startswith(f"  line {count} of the trace, ") and told[1] == f"  `head -{count}` of the trace has no more than that" \
-        and told[0].endswith(f": up to line {count - 1} the session is accepted, and with line {count} it is `{of_first}`")
+    is_right = bool(told) and told[0].startswith(f"  line {count} of the trace, ") and (
+        first["verdict"] == "refused" or told[1:] == [f"  `head -{count}` of the trace has no more than that"]) and told[0].endswith(f": up to line {count - 1} the session is accepted, and with line {count} it is `{of_first}`")
     tally.check("a fault: when it went wrong", is_right if wanted else not told, f"{text}{report}\n{said}")
     headline, is_other = said.splitlines()[0], of_whole != of_first
     tally.check("a fault: its headline", headline.startswith(of_first.partition(" ")[0]) and headline.endswith(f" The whole trace is `{of_whole}`.") == is_other
