@@ -12,8 +12,9 @@
 ;;     (domepeeler-delete recording 1 "a" nil)                ; replica 1 deleted a; its list is now empty
 ;;     (domepeeler-read recording 0 '("a"))                   ; replica 0 read its list
 ;;     (domepeeler-view recording 0 '("a"))                   ; replica 0 showed this part of its list
+;;     (domepeeler-delivered recording '(nil nil))            ; by now all has arrived everywhere, and both lists are empty
 ;;     (domepeeler-save recording "session.trace")            ; the trace as a file, for tools/explain
-;;     (alist-get 'verdict (domepeeler-judge recording))      ; asks the program
+;;     (alist-get 'verdict (domepeeler-judge recording))      ; asks the program; `warnings' are in its report too
 ;;     (princ (domepeeler-explain recording)))                ; what that means, in words
 ;;
 ;; Where updates have vector clocks, `domepeeler-received-clock' writes the receipts, and refuses what is not causal.
@@ -35,6 +36,18 @@
 (defconst domepeeler--places 262144)
 (defconst domepeeler--position 4294967295)
 (defconst domepeeler--bytes 32)
+(defconst domepeeler--head 2 "Lines of a trace, before its entries.")
+(defconst domepeeler--notes 20)
+(defconst domepeeler--letters 200 "Of a note.")
+(defconst domepeeler--told 5 "Deletes, or inserts, that warnings tell one by one.")
+(defconst domepeeler--few 3
+  "Changes that warnings tell one by one.
+They are those that a replica lacks, or has made nothing of.")
+(defconst domepeeler--one-log "one replica's log is no recording: merge the logs first")
+(defconst domepeeler--signals
+  '("Hangup" "Interrupt" "Quit" "Illegal instruction" "Trace/breakpoint trap" "Aborted" "Bus error" "Floating point exception"
+    "Killed" "User defined signal 1" "Segmentation fault" "User defined signal 2" "Broken pipe" "Alarm clock" "Terminated")
+  "The words by which Emacs names the signals from 1 on.")
 
 (define-error 'domepeeler-refused "No trace can say this")
 (define-error 'domepeeler-not-causal "A change that the author had seen is lacking" 'domepeeler-refused)
@@ -52,7 +65,8 @@
   only
   (ids (make-hash-table :test #'equal))    ; by name: the id that has it, where another might come to the same name
   (short (make-hash-table :test #'equal))  ; by id: its name, where that is a shorter one
-  known)    ; the names among the ids, the last one first
+  known     ; the names among the ids, the last one first
+  notes)    ; the last one first
 
 (defun domepeeler--refuse (format &rest words)
   (signal 'domepeeler-refused (list (apply #'format format words))))
@@ -60,14 +74,27 @@
 (defun domepeeler--full (format &rest words)
   (signal 'domepeeler-full (list (apply #'format format words))))
 
-(defun domepeeler--whole (number least most)
-  (and (integerp number) (<= least number most)))
+(defun domepeeler--whole (number least most what)
+  "Whether NUMBER is one from LEAST to MOST; refused where WHAT is no whole number."
+  (unless (integerp number)
+    (domepeeler--refuse "%s is not a whole number from %d to %d but %s" what least most (domepeeler--shown number)))
+  (<= least number most))
+
+(defun domepeeler--shown (value)
+  "VALUE with its type, in words."
+  (cond
+   ((stringp value) (format "the string \"%s\"%s" (substring value 0 (min 40 (length value))) (if (> (length value) 40) ".." "")))
+   ((null value) "nil")
+   ((integerp value) (format "the number %d" value))
+   ((floatp value) (format "the float %s" value))
+   ((symbolp value) (format "the symbol %s" value))
+   (t (format "a value of type %s" (type-of value)))))
 
 (defun domepeeler-new (replicas &optional only)
   "A session of so many REPLICAS.
 With ONLY, the log that this replica keeps on its own machine."
-  (unless (domepeeler--whole replicas 1 domepeeler--replicas)
-    (domepeeler--refuse "replicas are 1 to %d, not %s" domepeeler--replicas replicas))
+  (unless (domepeeler--whole replicas 1 domepeeler--replicas "number of replicas")
+    (domepeeler--refuse "replicas are 1 to %d, not %d" domepeeler--replicas replicas))
   (let ((recording (domepeeler--make
                     :lines (list (format "replicas %d" replicas) "trace 1")
                     :replicas (cl-map 'vector (lambda (_) (make-domepeeler--replica :others (make-vector replicas 0)))
@@ -102,8 +129,8 @@ Answers the operation's number."
 With it came all that AUTHOR had seen by then."
   (domepeeler--acts recording replica)
   (domepeeler--known recording author)
-  (unless (domepeeler--whole n 1 domepeeler--position)
-    (domepeeler--refuse "operation number %s is not a whole number from 1 to %d" n domepeeler--position))
+  (unless (domepeeler--whole n 1 domepeeler--position "operation number")
+    (domepeeler--refuse "operation number %d is not a whole number from 1 to %d" n domepeeler--position))
   (when (= author replica)
     (domepeeler--refuse "replica %d receives no operation of its own" replica))
   (let ((have (domepeeler--replica-operations (domepeeler--of recording author))))
@@ -128,8 +155,8 @@ Writes the receipt, unless REPLICA has it already."
          (own (domepeeler--replica-changes (domepeeler--of recording author))))
     (when (= most 0)
       (domepeeler--refuse "the clock counts no change of replica %d, whose update it is" author))
-    (unless (domepeeler--whole changes 1 most)
-      (domepeeler--refuse "an update carries 1 to %d of the changes that its clock counts, not %s" most changes))
+    (unless (domepeeler--whole changes 1 most "number of changes")
+      (domepeeler--refuse "an update carries 1 to %d of the changes that its clock counts, not %d" most changes))
     (let ((have (domepeeler--has recording replica author))
           (first (gethash (- most changes -1) own))
           (last (gethash most own)))
@@ -139,6 +166,49 @@ Writes the receipt, unless REPLICA has it already."
       (when (> last have)
         (domepeeler--room recording replica)
         (domepeeler--receipt recording replica author last)))))
+
+(defun domepeeler-delivered (recording lists)
+  "By now everything has arrived everywhere.
+Each replica, from 0 upward, shows its list of LISTS, a list or a vector.
+Writes for each replica the receipts that are missing, and a read.  So a
+change that an editor has lost, or still holds back, is `contents' there."
+  (when (domepeeler-recording-only recording)
+    (domepeeler--refuse "one replica's log can't say that everything has arrived: the others are recorded elsewhere"))
+  (let* ((replicas (domepeeler-recording-replicas recording))
+         (wanted (format "delivered wants the list of each of the %d replicas, not " (length replicas))))
+    (unless (or (vectorp lists) (proper-list-p lists))
+      (domepeeler--refuse "%s%s" wanted (domepeeler--shown lists)))
+    (unless (= (length lists) (length replicas))
+      (domepeeler--refuse "%sof %d" wanted (length lists)))
+    (let ((known (domepeeler-recording-known recording))
+          (lines (domepeeler-recording-lines recording))
+          (before (mapcar #'copy-sequence replicas)))
+      (condition-case why
+          (seq-do-indexed (lambda (list replica) (domepeeler--delivered-at recording replica list)) lists)
+        (domepeeler-refused
+         (setf (domepeeler-recording-lines recording) lines)
+         (domepeeler--forget recording known)
+         (seq-do-indexed (lambda (own replica) (domepeeler--undo recording replica own)) before)
+         (signal (car why) (cdr why))))
+      nil)))
+
+(defun domepeeler-note (recording text)
+  "Keep TEXT, a word of yours on the whole RECORDING.
+Such is the seed of a random session: `domepeeler-save' writes it, and
+`domepeeler-explain' names it."
+  (unless (and (stringp text) (<= 1 (length text) domepeeler--letters)
+               (seq-every-p #'domepeeler--printable (string-to-multibyte text)))
+    (domepeeler--refuse "a note is one line of 1 to %d printable characters" domepeeler--letters))
+  (when (= (length (domepeeler-recording-notes recording)) domepeeler--notes)
+    (domepeeler--refuse "a recording has %d notes, the most that it takes" domepeeler--notes))
+  (push text (domepeeler-recording-notes recording))
+  nil)
+
+(defun domepeeler-lines (recording)
+  "How many lines the text of RECORDING has.
+A debugger stops by (when (= (domepeeler-lines recording) N) (debug))."
+  (seq-reduce (lambda (lines own) (+ lines (domepeeler--replica-entries own)))
+              (domepeeler-recording-replicas recording) domepeeler--head))
 
 (defun domepeeler-clock (recording replica)
   "How many inserts and deletes of each replica REPLICA has, as a list.
@@ -150,7 +220,7 @@ It is the vector clock of an update that REPLICA makes now."
            collect (domepeeler--up-to of (domepeeler--has recording replica other))))
 
 (defun domepeeler-ids (recording)
-  "An alist of RECORDING's short names, each with the id of more than 32 bytes."
+  "An alist of RECORDING's names that stand for an id, each with this."
   (let (pairs)
     (maphash (lambda (id name) (push (cons name id) pairs)) (domepeeler-recording-short recording))
     (nreverse pairs)))
@@ -162,32 +232,107 @@ It is the vector clock of an update that REPLICA makes now."
 (defun domepeeler-save (recording file)
   "Write the text of RECORDING into FILE.
 First write into a file with `.lines' behind its name how many lines the
-text has, so that the tools notice where the end of FILE is lost.
+text has, so that the tools notice where the end of FILE is lost, and the
+notes.  Each appears whole, or what stood there stays.
 A pipe or a device has no such file beside it."
-  (let ((coding-system-for-write 'no-conversion))
-    (when (and (file-writable-p file) (or (file-regular-p file) (not (file-exists-p file))))
-      (write-region (format "%d\n" (length (domepeeler-recording-lines recording))) nil (concat file ".lines") nil 'silent))
-    (write-region (domepeeler-text recording) nil file nil 'silent)))
+  (let ((coding-system-for-write 'utf-8-unix)
+        (beside (concat file ".lines")))
+    (if (and (file-exists-p file) (not (file-regular-p file)))
+        (write-region (domepeeler-text recording) nil file nil 'silent)
+      (let ((trace (domepeeler--write-fresh (domepeeler-text recording) file)))
+        (unwind-protect
+            (progn
+              (domepeeler--put-fresh (domepeeler--write-fresh (domepeeler--beside recording) beside) beside)
+              (domepeeler--put-fresh trace file))
+          (when (file-exists-p trace) (delete-file trace)))))
+    nil))
+
+(defun domepeeler--beside (recording)
+  "What stands in the file beside the trace."
+  (format "%d\nlanguage emacs-lisp\n%s" (domepeeler-lines recording)
+          (mapconcat (lambda (note) (format "note %s\n" note)) (reverse (domepeeler-recording-notes recording)) "")))
+
+(defmacro domepeeler--named (file &rest body)
+  "Do BODY; an error of a file is told with FILE's name."
+  (declare (indent 1))
+  `(condition-case why
+       (progn ,@body)
+     (file-error (signal (car why) (list (nth 1 why) (nth 2 why) (expand-file-name ,file))))))
+
+(defun domepeeler--write-fresh (text file)
+  "Write TEXT into a new file beside what FILE, or a link of this name, leads to.
+Answers the new file's name."
+  (let* ((becomes (file-truename file))
+         (fresh (make-temp-name (expand-file-name ".domepeeler-" (file-name-directory becomes)))))
+    (domepeeler--named file
+      (condition-case why
+          (progn
+            (write-region text nil fresh nil 'silent nil 'excl)
+            (when (file-exists-p becomes) (set-file-modes fresh (file-modes becomes))))
+        (error
+         (ignore-errors (delete-file fresh))
+         (signal (car why) (cdr why)))))
+    fresh))
+
+(defun domepeeler--put-fresh (fresh file)
+  "Let the file FRESH become FILE, or what a link of this name leads to."
+  (domepeeler--named file
+    (condition-case why
+        (rename-file fresh (file-truename file) t)
+      (error
+       (ignore-errors (delete-file fresh))
+       (signal (car why) (cdr why))))))
+
+(defun domepeeler-warnings (recording)
+  "What an accepted verdict on RECORDING may hide, a list of strings.
+Such are a change that never arrived, a replica that shows nothing, a
+delete of what nothing inserts.  It asks no program, and takes time
+linear in the text."
+  (when (domepeeler-recording-only recording)
+    (domepeeler--refuse domepeeler--one-log))
+  (if (= (domepeeler-lines recording) domepeeler--head)
+      (list "nothing was recorded: the trace has no entry, so the verdict says nothing of an editor")
+    (let ((warned (domepeeler--warned recording)))
+      (append (domepeeler--different recording warned)
+              (domepeeler--unheard recording)
+              (domepeeler--unshown recording warned)
+              (domepeeler--without-operation recording warned)
+              (domepeeler--some (domepeeler--warned-of-nothing warned) "delete" "of what no line inserts")
+              (domepeeler--some (domepeeler--warned-past-end warned) "insert" "past the end of a list")))))
 
 (defun domepeeler-judge (recording &optional program)
   "The report of PROGRAM on RECORDING, as an alist.
+It has one more key, `warnings': where the verdict is accepted a list of
+what that may hide, and else nil.
 PROGRAM is by default that of the environment's DOMEPEELER, or \"domepeeler\"."
-  (json-read-from-string
-   (domepeeler--ask recording (list program (getenv "DOMEPEELER") "domepeeler") "the program's path in DOMEPEELER" "{"
-                    "verdict" "--json" "-")))
+  (let* ((programs (list program (getenv "DOMEPEELER") "domepeeler"))
+         (said (domepeeler--ask recording programs "the program's path in DOMEPEELER" "{" "report" "verdict" "--json" "-"))
+         (report (ignore-errors (json-read-from-string said))))
+    (unless (alist-get 'verdict report)
+      (error "%s printed a report without a verdict" (domepeeler--first programs)))
+    (append report (list (cons 'warnings (and (equal (alist-get 'verdict report) "accepted") (domepeeler-warnings recording)))))))
 
 (defun domepeeler-explain (recording &optional explainer)
   "What the report on RECORDING means, in words.
-At the end stand the ids of the numbered names.  EXPLAINER is by default
-that of the environment's DOMEPEELER_EXPLAIN, or \"domepeeler-explain\",
-beside the program of DOMEPEELER or where programs are found."
+At the end stand the ids of the numbered names, and the notes.  EXPLAINER
+is by default that of the environment's DOMEPEELER_EXPLAIN, or
+\"domepeeler-explain\", beside the program of DOMEPEELER or where programs
+are found."
   (let* ((named (list explainer (getenv "DOMEPEELER_EXPLAIN") (domepeeler--beside-program "domepeeler-explain")))
-         (said (domepeeler--ask recording named "the tool's path in DOMEPEELER_EXPLAIN" "." "-"))
-         (words (split-string said "[^A-Za-z0-9]+"))
-         (told (cl-loop for (name . id) in (domepeeler-ids recording)
-                        when (and (string-prefix-p "long" name) (member name words))
-                        concat (format "  %s: %s\n" name id))))
-    (if (string-empty-p told) said (concat said "\nIds that were too long for a name\n" told))))
+         (said (domepeeler--ask recording named "the tool's path in DOMEPEELER_EXPLAIN" "." "words" "--language" "emacs-lisp" "-"))
+         (words (make-hash-table :test #'equal)))
+    (dolist (word (split-string said "[^A-Za-z0-9]+"))
+      (puthash word t words))
+    (concat said
+            (domepeeler--section "Ids that were too long for a name"
+                                 (cl-loop for (name . id) in (domepeeler-ids recording)
+                                          when (and (string-prefix-p "long" name) (gethash name words))
+                                          collect (format "%s: %s" name id)))
+            (domepeeler--section "Noted" (reverse (domepeeler-recording-notes recording))))))
+
+(defun domepeeler--section (title lines)
+  "A part of the explanation with this TITLE, where it has LINES."
+  (if lines (concat "\n" title "\n" (mapconcat (lambda (line) (format "  %s\n" line)) lines "")) ""))
 
 (defun domepeeler--beside-program (command)
   "The path of COMMAND where it lies beside the program of DOMEPEELER.
@@ -196,13 +341,17 @@ Else COMMAND."
          (path (and folder (expand-file-name command folder))))
     (if (and path (file-regular-p path) (file-executable-p path)) path command)))
 
-(defun domepeeler--ask (recording programs named begin &rest words)
+(defun domepeeler--first (programs)
+  "The first of PROGRAMS that there is."
+  (seq-find (lambda (named) (and named (not (string-empty-p named)))) programs))
+
+(defun domepeeler--ask (recording programs named begin lacking &rest words)
   "What the first of PROGRAMS that there is prints for the text of RECORDING.
-Its arguments are WORDS; BEGIN matches where an answer begins, and NAMED
-says what another program is named by."
+Its arguments are WORDS; BEGIN matches where an answer begins, which is
+else LACKING, and NAMED says what another program is named by."
   (when (domepeeler-recording-only recording)
-    (domepeeler--refuse "one replica's log is no recording: merge the logs first"))
-  (let ((program (seq-find (lambda (named) (and named (not (string-empty-p named)))) programs))
+    (domepeeler--refuse domepeeler--one-log))
+  (let ((program (domepeeler--first programs))
         (coding-system-for-read 'utf-8-unix)
         (errors (make-temp-file "domepeeler")))
     (unwind-protect
@@ -213,18 +362,29 @@ says what another program is named by."
                           (file-error (error "%s cannot be run (%s): name %s" program (error-message-string why) named)))))
             (goto-char (point-min))
             (unless (and (memq status '(0 1)) (looking-at begin))
-              (error "%s ended with status %s: %s" program status
-                     (with-temp-buffer (insert-file-contents errors) (string-trim (buffer-string)))))
+              (domepeeler--ended program status lacking
+                                 (with-temp-buffer (insert-file-contents errors) (string-trim (buffer-string)))))
             (buffer-string)))
       (delete-file errors))))
+
+(defun domepeeler--ended (program status lacking why)
+  "Say how PROGRAM ended, which printed LACKING not, and WHY as its error.
+STATUS is a number, or the words for a signal."
+  (cond
+   ((stringp status)
+    (let ((number (seq-position domepeeler--signals (replace-regexp-in-string "\\( (core dumped)\\|: [0-9]+\\)\\'" "" status))))
+      (error "%s was ended by signal %s" program (if number (1+ number) status))))
+   ((string-empty-p why)
+    (error "%s ended with status %d and printed no %s" program status lacking))
+   (t (error "%s ended with status %s: %s" program status why))))
 
 (defun domepeeler--of (recording replica)
   (aref (domepeeler-recording-replicas recording) replica))
 
 (defun domepeeler--known (recording replica)
   (let ((last (1- (length (domepeeler-recording-replicas recording)))))
-    (unless (domepeeler--whole replica 0 last)
-      (domepeeler--refuse "no replica %s among 0 to %d" replica last))))
+    (unless (domepeeler--whole replica 0 last "replica")
+      (domepeeler--refuse "no replica %d among 0 to %d" replica last))))
 
 (defun domepeeler--acts (recording replica)
   (domepeeler--known recording replica)
@@ -241,15 +401,15 @@ says what another program is named by."
   "CLOCK as a vector."
   (domepeeler--in-one-recording recording)
   (let* ((replicas (domepeeler-recording-replicas recording))
-         (counts (and (or (vectorp clock) (listp clock)) (vconcat clock))))
+         (counts (and (or (vectorp clock) (proper-list-p clock)) (vconcat clock))))
     (unless (= (length counts) (length replicas))
       (domepeeler--refuse "a clock has a count for each of %d replicas" (length replicas)))
     (cl-loop for count across counts
              for of across replicas
              for replica from 0
              for have = (hash-table-count (domepeeler--replica-changes of))
-             unless (domepeeler--whole count 0 domepeeler--position)
-             do (domepeeler--refuse "count %s of a clock is not a whole number from 0 to %d" count domepeeler--position)
+             unless (domepeeler--whole count 0 domepeeler--position "count of a clock")
+             do (domepeeler--refuse "count %d of a clock is not a whole number from 0 to %d" count domepeeler--position)
              when (> count have)
              do (domepeeler--refuse "the clock counts %d changes of replica %d, which has recorded %d" count replica have))
     counts))
@@ -283,9 +443,36 @@ COUNTS are the clock of the update, which carries AUTHOR's changes from FIRST."
            do (signal 'domepeeler-not-causal
                       (list (format "not causal: %d.%d was applied at replica %d before %d.%d, which replica %d had seen; %s%s"
                                     author n replica other lacking author
-                                    (format "%d.%d has to arrive first, or in the same update" other lacking)
+                                    (format "%d.%d has to arrive first, or in the same update, or the call for its update is missing"
+                                            other lacking)
                                     (if (/= other author) ""
                                       "; if the update carried more than one change, say how many (`changes`)"))))))
+
+(defun domepeeler--delivered-at (recording replica list)
+  "Write the receipts that REPLICA lacks, and a read of its LIST.
+Each receipt is of the last change of an author."
+  (cl-loop for of across (domepeeler-recording-replicas recording)
+           for author from 0
+           for changes = (domepeeler--replica-changes of)
+           for last = (gethash (hash-table-count changes) changes 0)
+           when (and (/= author replica) (> last (domepeeler--has recording replica author)))
+           do (domepeeler--room recording replica)
+           (domepeeler--receipt recording replica author last))
+  (domepeeler--said recording replica "read" list nil nil))
+
+(defun domepeeler--undo (recording replica before)
+  "Forget the receipts and reads since REPLICA was as BEFORE."
+  (cl-loop for n from (1+ (domepeeler--replica-operations before))
+           to (domepeeler--replica-operations (domepeeler--of recording replica))
+           do (remhash n (domepeeler--replica-pasts before)))
+  (aset (domepeeler-recording-replicas recording) replica before))
+
+(defun domepeeler--printable (letter)
+  "Whether a note may have LETTER.
+It may have neither controls, nor what breaks a line or turns the
+direction of writing, nor what is no text."
+  (not (or (< letter ?\s) (<= #x7f letter #x9f) (<= #x2028 letter #x202e) (<= #x2066 letter #x2069)
+           (<= #xd800 letter #xdfff) (> letter #x10ffff))))
 
 (defun domepeeler--receipt (recording replica author n)
   "Write a receipt that may be written."
@@ -302,29 +489,37 @@ COUNTS are the clock of the update, which carries AUTHOR's changes from FIRST."
 
 (defun domepeeler--name (recording given)
   "The name of GIVEN in the trace.
-What has more than 32 bytes gets a short name that no other id has."
+What is no name but an id gets a name that no other id has."
   (unless (stringp given)
-    (domepeeler--refuse "a name is a string, not %S" given))
+    (domepeeler--refuse "a name is a string, not %s" (domepeeler--shown given)))
   (let ((case-fold-search nil)
         (ids (domepeeler-recording-ids recording)))
     (cond
      ((gethash given (domepeeler-recording-short recording)))
      ((string-match-p "\\`[A-Za-z0-9_.-]\\{1,32\\}\\'" given)
-      (when (or (= (length given) domepeeler--bytes) (string-prefix-p "long" given)) ; others are never short for an id
+      (when (or (= (length given) domepeeler--bytes) (string-match-p "\\`long\\|-" given)) ; others never stand for an id
         (let ((had (gethash given ids)))
           (when (and had (not (string= had given)))
             (domepeeler--refuse "name \"%s\" is short for the id \"%s\" already" given had))
           (unless had (domepeeler--keep recording given given))))
       given)
-     ((<= (string-bytes given) domepeeler--bytes)
-      (domepeeler--refuse "name \"%s\" is not 1 to 32 of A-Z a-z 0-9 _ - ." given))
-     (t
-      (let ((name (and (string-match-p "\\`[0-9A-Fa-f]\\{8\\}\\(-[0-9A-Fa-f]\\{4\\}\\)\\{3\\}-[0-9A-Fa-f]\\{12\\}\\'" given)
-                       (replace-regexp-in-string "-" "" given))))
+     ((or (> (string-bytes given) domepeeler--bytes) (string-match-p "\\`[A-Za-z0-9_.@,-]+\\'" given))
+      (let ((name (domepeeler--become given)))
         (when (or (not name) (gethash name ids))
           (setq name (domepeeler--numbered recording given)))
         (domepeeler--keep recording name given)
-        (puthash given name (domepeeler-recording-short recording)))))))
+        (puthash given name (domepeeler-recording-short recording))))
+     (t
+      (domepeeler--refuse "name \"%s\" is not 1 to 32 of A-Z a-z 0-9 _ - ." given)))))
+
+(defun domepeeler--become (id)
+  "The name that ID becomes if no other id has it; nil where only a number will do.
+A letter stands first, as `2-0' would look like an operation's name."
+  (if (> (string-bytes id) domepeeler--bytes)
+      (and (string-match-p "\\`[0-9A-Fa-f]\\{8\\}\\(-[0-9A-Fa-f]\\{4\\}\\)\\{3\\}-[0-9A-Fa-f]\\{12\\}\\'" id)
+           (replace-regexp-in-string "-" "" id))
+    (let ((name (concat (if (string-match-p "\\`[0-9]" id) "e" "") (replace-regexp-in-string "[@,]" "-" id))))
+      (and (<= (length name) domepeeler--bytes) name))))
 
 (defun domepeeler--numbered (recording given)
   "The next name that stands for an id, GIVEN."
@@ -369,10 +564,10 @@ What has more than 32 bytes gets a short name that no other id has."
     (when (member kind '("ins" "del"))
       (push (domepeeler--name recording name) words))
     (when is-insert
-      (unless (domepeeler--whole position 0 domepeeler--position)
-        (domepeeler--refuse "position %s is not a whole number from 0 to %d" position domepeeler--position))
+      (unless (domepeeler--whole position 0 domepeeler--position "position")
+        (domepeeler--refuse "position %d is not a whole number from 0 to %d" position domepeeler--position))
       (push (number-to-string position) words))
-    (unless (listp response)
+    (unless (proper-list-p response)
       (domepeeler--refuse "a response is a list of names"))
     (let* ((shown (mapcar (lambda (one) (domepeeler--name recording one)) response))
            (own (domepeeler--of recording replica))
@@ -397,6 +592,170 @@ What has more than 32 bytes gets a short name that no other id has."
         (when (member kind '("ins" "del"))
           (puthash (1+ (hash-table-count changes)) n changes))
         n))))
+
+(cl-defstruct (domepeeler--entries (:copier nil))
+  (lines (make-hash-table))  ; by place from 1: the lines of its changes
+  receiving                  ; whether it has receipts
+  since                      ; those since its last operation, the last one first: author, number and line
+  (shown 'nothing))          ; the names that it showed last
+
+(cl-defstruct (domepeeler--warned (:copier nil))
+  entries     ; of each replica, a vector
+  of-nothing  ; what is told of single deletes and inserts
+  past-end)
+
+(defun domepeeler--warned (recording)
+  "What the entries of RECORDING say that warnings are made of."
+  (let* ((entries (cl-map 'vector (lambda (_) (make-domepeeler--entries)) (domepeeler-recording-replicas recording)))
+         (operations (make-vector (length entries) 0))
+         (inserted (make-hash-table :test #'equal))
+         (line domepeeler--head)
+         deletes past-end)
+    (dolist (entry (nthcdr domepeeler--head (reverse (domepeeler-recording-lines recording))))
+      (cl-incf line)
+      (pcase-let* ((`(,first ,kind ,third ,fourth) (seq-take (split-string entry " ") 4))
+                   (replica (string-to-number first))
+                   (own (aref entries replica)))
+        (if (string= kind "recv")
+            (progn
+              (setf (domepeeler--entries-receiving own) t)
+              (push (list (string-to-number third) (string-to-number fourth) line) (domepeeler--entries-since own)))
+          (let* ((names (split-string (substring entry (1+ (seq-position entry ?:))) " " t))
+                 (before (1- (length names)))
+                 (named (format "line %d, %d.%d: replica %d" line replica (cl-incf (aref operations replica)) replica)))
+            (setf (domepeeler--entries-since own) nil)
+            (unless (string= kind "view")
+              (setf (domepeeler--entries-shown own) names))
+            (when (member kind '("ins" "del"))
+              (puthash (1+ (hash-table-count (domepeeler--entries-lines own))) line (domepeeler--entries-lines own)))
+            (when (string= kind "del")
+              (push (cons third named) deletes))
+            (when (string= kind "ins")
+              (puthash third t inserted)
+              (when (> (string-to-number fourth) before)
+                (push (format "%s inserted %s at position %s of a list of %d, so at its end: %s" named third fourth before
+                              "is that the position that was asked for?")
+                      past-end)))))))
+    (make-domepeeler--warned
+     :entries entries
+     :of-nothing (cl-loop for (name . named) in (nreverse deletes)
+                          unless (gethash name inserted)
+                          collect (format "%s deleted %s, which no line inserts, so no response shows whether it was deleted: %s"
+                                          named name "is that its name, and was its insert recorded?"))
+     :past-end (nreverse past-end))))
+
+(defun domepeeler--acting (recording)
+  "The replicas of RECORDING that did something."
+  (cl-loop for own across (domepeeler-recording-replicas recording)
+           for replica from 0
+           when (> (domepeeler--replica-operations own) 0) collect replica))
+
+(defun domepeeler--without-operation (recording warned)
+  (cl-loop for own across (domepeeler-recording-replicas recording)
+           for entries across (domepeeler--warned-entries warned)
+           for replica from 0
+           when (= (domepeeler--replica-operations own) 0)
+           collect (format "replica %d has %s: nothing that it showed is judged" replica
+                           (if (domepeeler--entries-receiving entries) "receipts, but no operation" "no entry"))))
+
+(defun domepeeler--different (recording warned)
+  "Whether the last lists that replicas showed differ as sets.
+And which changes never arrived at which replica."
+  (let (lists never (count 0))
+    (cl-loop for entries across (domepeeler--warned-entries warned)
+             for replica from 0
+             for shown = (domepeeler--entries-shown entries)
+             unless (eq shown 'nothing)
+             do (push replica (alist-get (sort (delete-dups (copy-sequence shown)) #'string<) lists nil nil #'equal)))
+    (dolist (replica (domepeeler--acting recording))
+      (let ((changes (domepeeler--lacked recording warned replica)))
+        (cl-incf count (length changes))
+        (when changes
+          (push (format "%s never arrived at replica %d" (domepeeler--listed changes) replica) never))))
+    (let* ((never (domepeeler--joined (nreverse never)))
+           (lost (if (= count 1) "it was lost or is still held back" "they were lost or are still held back"))
+           (groups (mapcar (lambda (pair) (reverse (cdr pair))) (reverse lists)))
+           (same (cl-loop for group in groups
+                          when (cdr group) collect (format "%s the same one" (domepeeler--joined group))))
+           (told (format "in the end replicas %s show different lists%s" (domepeeler--joined (sort (apply #'append groups) #'<))
+                         (if same (format " (%s)" (domepeeler--joined same)) ""))))
+      (cond
+       ((and (< (length groups) 2) (= count 0)) nil)
+       ((< (length groups) 2) (list (format "by this recording %s. If everything was delivered, %s" never lost)))
+       ((= count 0) (list told))
+       (t (list (format "%s: %s by this recording. If everything was delivered, %s" told never lost)))))))
+
+(defun domepeeler--lacked (recording warned replica)
+  "The changes that never arrived at REPLICA, with their lines.
+None of an author of which it never hears."
+  (let (found)
+    (cl-loop for of across (domepeeler-recording-replicas recording)
+             for author from 0
+             for changes = (domepeeler--replica-changes of)
+             for lines = (domepeeler--entries-lines (aref (domepeeler--warned-entries warned) author))
+             for heard = (domepeeler--up-to of (domepeeler--has recording replica author))
+             when (and (> heard 0) (/= author replica))
+             do (cl-loop for place from (1+ heard) to (hash-table-count changes)
+                         do (push (list (gethash place lines) author (gethash place changes)) found)))
+    (mapcar (pcase-lambda (`(,line ,author ,n)) (format "%d.%d (line %d)" author n line))
+            (sort found (lambda (one two) (< (car one) (car two)))))))
+
+(defun domepeeler--unheard (recording)
+  "Of replicas that did something, and never heard of a change of another."
+  (cl-loop for replica in (domepeeler--acting recording)
+           for others = (cl-loop for of across (domepeeler-recording-replicas recording)
+                                 for author from 0
+                                 for first = (gethash 1 (domepeeler--replica-changes of))
+                                 when (and first (/= author replica) (> first (domepeeler--has recording replica author)))
+                                 collect author)
+           when others
+           collect (format "replica %d never hears of replica%s %s: %s, %s. %s" replica (if (cdr others) "s" "")
+                           (domepeeler--joined others) "no receipt brings it an insert or a delete from there"
+                           "so nothing shows what it makes of these"
+                           "At the end of a session let everyone receive everything, and read")))
+
+(defun domepeeler--unshown (recording warned)
+  "Of replicas whose last receipts bring changes, and that show nothing after them."
+  (cl-loop for replica in (domepeeler--acting recording)
+           for news = (domepeeler--news recording warned replica)
+           when news
+           collect (format "replica %d received %s last, and nothing shows what it made of %s: let each replica read at the end"
+                           replica (domepeeler--listed news) (if (cdr news) "them" "that"))))
+
+(defun domepeeler--news (recording warned replica)
+  "The receipts since REPLICA's last operation that bring changes.
+Each is told with its line."
+  (let* ((own (domepeeler--of recording replica))
+         (n (domepeeler--replica-operations own))
+         (has (copy-sequence (gethash n (domepeeler--replica-pasts own)))))
+    (aset has replica n)
+    (cl-loop for (author n line) in (reverse (domepeeler--entries-since (aref (domepeeler--warned-entries warned) replica)))
+             for past = (copy-sequence (gethash n (domepeeler--replica-pasts (domepeeler--of recording author))))
+             do (aset past author n)
+             when (let (new)
+                    (cl-loop for of across (domepeeler-recording-replicas recording)
+                             for other from 0
+                             when (> (domepeeler--up-to of (aref past other)) (domepeeler--up-to of (aref has other)))
+                             do (setq new t))
+                    (setq has (cl-map 'vector #'max has past))
+                    new)
+             collect (format "%d.%d (line %d)" author n line))))
+
+(defun domepeeler--some (told what which)
+  "The first that are TOLD, and how many more there are of WHAT, WHICH of them."
+  (let ((more (- (length told) domepeeler--told)))
+    (append (seq-take told domepeeler--told)
+            (and (> more 0) (list (format "and %d more %s%s %s" more what (if (= more 1) "" "s") which))))))
+
+(defun domepeeler--listed (changes)
+  "The first of CHANGES, and how many more there are."
+  (let ((more (- (length changes) domepeeler--few)))
+    (domepeeler--joined (append (seq-take changes domepeeler--few) (and (> more 0) (list (format "%d more" more)))))))
+
+(defun domepeeler--joined (words)
+  (if (cdr words)
+      (format "%s and %s" (mapconcat (lambda (word) (format "%s" word)) (butlast words) ", ") (car (last words)))
+    (format "%s" (or (car words) ""))))
 
 (provide 'domepeeler)
 ;;; domepeeler.el ends here

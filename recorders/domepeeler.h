@@ -5,21 +5,28 @@
  *     struct domepeeler *recording = domepeeler_new(2);
  *     const char *list[] = {"a"};
  *     unsigned n = domepeeler_insert(recording, 0, "a", 0, list, 1); // replica 0 inserted a at 0; its list is now: a
- *     domepeeler_received(recording, 1, 0, n);                       // that operation was applied at replica 1
- *     domepeeler_delete(recording, 1, "a", NULL, 0);                 // replica 1 deleted a; its list is now empty
- *     domepeeler_read(recording, 0, list, 1);                        // replica 0 read its list
- *     domepeeler_view(recording, 0, list, 1);                        // replica 0 showed this part of its list
- *     domepeeler_save(recording, "session.trace");                   // the trace as a file, for tools/explain
- *     char *report = domepeeler_judge(recording, NULL);              // asks the program: its report as JSON, or NULL
+ *     const char *const *lists[] = {NULL, NULL};
+ *     size_t names[] = {0, 0};
+ *     unsigned is_recorded = domepeeler_received(recording, 1, 0, n) // that operation was applied at replica 1
+ *         && domepeeler_delete(recording, 1, "a", NULL, 0)           // replica 1 deleted a; its list is now empty
+ *         && domepeeler_read(recording, 0, list, 1)                  // replica 0 read its list
+ *         && domepeeler_view(recording, 0, list, 1)                  // replica 0 showed this part of its list
+ *         && domepeeler_delivered(recording, lists, names, 2)        // by now all has arrived everywhere; both are empty
+ *         && domepeeler_save(recording, "session.trace");            // the trace as a file, for tools/explain
+ *     if (!is_recorded) puts(domepeeler_why(recording));
+ *     char *report = domepeeler_judge(recording, NULL);              // asks the program: its report as JSON, with warnings, or NULL
  *     free(report);
  *     char *words = domepeeler_explain(recording, NULL);             // what that means, in words, or NULL
  *     free(words);
  *     domepeeler_free(recording);
  *
  * Each call that a trace can't say answers 0 and leaves the recording as it was; domepeeler_why() then says why, and
- * domepeeler_full() whether it is that a limit of traces is reached: then end this session, and begin another.
+ * domepeeler_full() whether it is that a limit of traces is reached: then end this session, and begin another. What was refused is
+ * missing in the recording, so warnings and explanations begin with it.
  *
- * Where updates have vector clocks, domepeeler_received_clock() writes the receipts, and refuses what is not causal. */
+ * Where updates have vector clocks, domepeeler_received_clock() writes the receipts, and refuses what is not causal.
+ *
+ * One recording is one thread's: where several threads record, hold a lock of your own around each call. */
 #ifndef DOMEPEELER_H
 #define DOMEPEELER_H
 
@@ -29,6 +36,9 @@
 
 #include <ctype.h>
 #include <errno.h>
+#include <fcntl.h>
+#include <signal.h>
+#include <spawn.h>
 #include <stdarg.h>
 #include <stdio.h>
 #include <stdlib.h>
@@ -37,6 +47,16 @@
 #include <sys/wait.h>
 #include <unistd.h>
 
+#ifdef __cplusplus
+extern "C" {
+#else /* which the system's headers leave out where another one was included before this, and the language is strict */
+ssize_t readlink(const char *path, char *target, size_t room);
+#endif
+extern char **environ;
+#ifdef __cplusplus
+}
+#endif
+
 enum {
     DOMEPEELER_REPLICAS = 16,
     DOMEPEELER_ENTRIES = 16384,
@@ -44,9 +64,22 @@ enum {
     DOMEPEELER_NAMES = 4096,
     DOMEPEELER_PLACES = 262144,
     DOMEPEELER_BYTES = 32, /* of a name */
-    DOMEPEELER_UUID = 36   /* bytes */
+    DOMEPEELER_UUID = 36,  /* bytes */
+    DOMEPEELER_HEAD = 2,   /* lines of a trace, before its entries */
+    DOMEPEELER_SHORT = 1000, /* lines of a session that is judged by one thread, as more would be slower to begin */
+    DOMEPEELER_NOTES = 20,
+    DOMEPEELER_LETTERS = 200, /* of a note */
+    DOMEPEELER_TOLD = 5,      /* deletes, or inserts, that warnings tell one by one */
+    DOMEPEELER_CHANGES = 3    /* that warnings tell one by one of those that a replica lacks, or has made nothing of */
 };
 #define DOMEPEELER_POSITION 4294967295LL
+
+/* Of a call whose answer says whether it was recorded: a compiler warns where nobody looks at it. */
+#if defined __GNUC__
+#define DOMEPEELER_CHECKED __attribute__((warn_unused_result))
+#else
+#define DOMEPEELER_CHECKED
+#endif
 
 /* What one replica has recorded: its counts; which of its operations insert or delete; how many operations of each other replica
  * it has received, now and at each operation of its own. */
@@ -55,7 +88,7 @@ struct domepeeler_replica {
     unsigned others[DOMEPEELER_REPLICAS], *changes, (*pasts)[DOMEPEELER_REPLICAS];
 };
 
-/* An id, and its name in the trace: of an id with more bytes than a name has, or of one that looks like such a name. */
+/* An id, and its name in the trace: of an id that is no name, or of a name that looks like what such an id becomes. */
 struct domepeeler_id {
     char *id, name[DOMEPEELER_BYTES + 1];
 };
@@ -68,16 +101,65 @@ struct domepeeler {
     struct domepeeler_id **ids;       /* in the order in which they came */
     size_t known, shortened, *places; /* places: by id, and behind these by name, where each stands in ids, counted from 1 */
     size_t slots;                     /* half of the places; a power of two, or 0 */
+    char *notes[DOMEPEELER_NOTES];
+    size_t noted;
+    size_t refused; /* calls, but for limits and what is not causal, after which a session may well go on */
     int full;
-    char why[256];
+    char why[512], first[512]; /* of the last call that answered 0, and of the first one that was refused so */
 };
 
+/* The code point at which the text stands, which is behind it then; -1 where there is no UTF-8. */
+static inline long domepeeler_letter(const unsigned char **at) {
+    static const long least[] = {0, 0x80, 0x800, 0x10000};
+    unsigned char first = *(*at)++;
+    int more = first < 0x80 ? 0 : first < 0xC0 ? -1 : first < 0xE0 ? 1 : first < 0xF0 ? 2 : first < 0xF8 ? 3 : -1;
+    long point = more < 1 ? first : first & (0x3F >> more);
+    for (int i = 0; i < more; i++) {
+        if ((**at & 0xC0) != 0x80) return -1;
+        point = point << 6 | (*(*at)++ & 0x3F);
+    }
+    return more < 0 || point < least[more] || (point >= 0xD800 && point < 0xE000) || point > 0x10FFFF ? -1 : point;
+}
+
+/* Whether it may be shown: neither controls, nor what breaks a line or turns the direction of writing. */
+static inline int domepeeler_is_printable(long letter) {
+    return letter >= 0x20 && (letter < 0x7F || letter > 0x9F) && (letter < 0x2028 || letter > 0x202E) &&
+           (letter < 0x2066 || letter > 0x2069);
+}
+
+/* Puts a question mark in the place of what can't be shown. */
+static inline void domepeeler_clean(char *text) {
+    const unsigned char *at = (const unsigned char *)text;
+    char *end = text;
+    while (*at) {
+        const unsigned char *from = at;
+        if (!domepeeler_is_printable(domepeeler_letter(&at))) *end++ = '?';
+        else
+            while (from < at) *end++ = (char)*from++;
+    }
+    *end = 0;
+}
+
+/* A call of the recording is refused. */
 static inline unsigned domepeeler_refuse(struct domepeeler *d, int full, const char *format, ...) {
     va_list words;
     va_start(words, format);
     vsnprintf(d->why, sizeof d->why, format, words);
     va_end(words);
     d->full = full;
+    if (full || !strncmp(d->why, "not causal: ", 12) || d->refused++) return 0;
+    memcpy(d->first, d->why, sizeof d->first);
+    domepeeler_clean(d->first);
+    return 0;
+}
+
+/* What was asked of a recording failed, which does not change it. */
+static inline unsigned domepeeler_fail(struct domepeeler *d, const char *format, ...) {
+    va_list words;
+    va_start(words, format);
+    vsnprintf(d->why, sizeof d->why, format, words);
+    va_end(words);
+    d->full = 0;
     return 0;
 }
 
@@ -162,6 +244,7 @@ static inline void domepeeler_forget(struct domepeeler *d, size_t known) {
 static inline void domepeeler_free(struct domepeeler *d) {
     if (!d) return;
     for (size_t i = 0; i < d->known; i++) free(d->ids[i]);
+    for (size_t i = 0; i < d->noted; i++) free(d->notes[i]);
     for (int i = 0; i < d->replicas; i++) {
         free(d->of[i].changes);
         free(d->of[i].pasts);
@@ -192,51 +275,193 @@ static inline struct domepeeler *domepeeler_new_only(int replicas, int only) {
 /* A session of so many replicas, 1 to 16; else NULL. */
 static inline struct domepeeler *domepeeler_new(int replicas) { return domepeeler_new_only(replicas, -1); }
 
-/* Why the last refused call was refused. */
-static inline const char *domepeeler_why(const struct domepeeler *d) { return d->why; }
+/* Why the last call that answered 0 or NULL did so; of NULL, why there is no recording. */
+static inline const char *domepeeler_why(const struct domepeeler *d) {
+    return d ? d->why : "there is no recording: replicas are 1 to 16, a log is of one of them, and memory is needed";
+}
 
 /* Whether that was because a limit of traces is reached. */
-static inline int domepeeler_full(const struct domepeeler *d) { return d->full; }
+static inline int domepeeler_full(const struct domepeeler *d) { return d && d->full; }
 
 /* The trace; of one replica's log the text that merge.py takes. It stays until the next call. */
 static inline const char *domepeeler_text(const struct domepeeler *d) { return d->text; }
 
-/* The id of more than 32 bytes of which this name in the trace is short; NULL where the name is no short one. */
+/* How many lines the text has. A debugger's line N: if (domepeeler_lines(recording) == N) raise(SIGTRAP); */
+static inline size_t domepeeler_lines(const struct domepeeler *d) {
+    size_t lines = DOMEPEELER_HEAD;
+    for (int i = 0; i < d->replicas; i++) lines += d->of[i].entries;
+    return lines;
+}
+
+/* The id, which is no name itself, that has this name in the trace; NULL where the name stands for no other id. */
 static inline const char *domepeeler_id_of(const struct domepeeler *d, const char *name) {
     const struct domepeeler_id *one = domepeeler_find(d, name, 1);
     return one && strcmp(one->id, name) ? one->id : NULL;
 }
 
-/* Writes so many bytes into the file of this name that was opened, and closes it; it is NULL where it could not be. Answers 1. */
-static inline unsigned domepeeler_write(struct domepeeler *d, const char *path, FILE *file, const char *bytes, size_t length) {
-    int is_written = file && fwrite(bytes, 1, length, file) == length;
-    if (file && fclose(file)) is_written = 0;
-    return is_written ? 1 : domepeeler_refuse(d, 0, "cannot write %s: %s", path, strerror(errno));
+/* Words that grow, as a text for free(); `is_short` where memory was wanting. */
+struct domepeeler_words {
+    char *text;
+    size_t length, room;
+    int is_short;
+};
+
+static inline void domepeeler_say(struct domepeeler_words *words, const char *format, ...) {
+    va_list given;
+    if (words->is_short) return;
+    va_start(given, format);
+    int more = vsnprintf(NULL, 0, format, given);
+    va_end(given);
+    size_t room = words->room ? words->room : 256;
+    while (room - words->length <= (size_t)more) room *= 2;
+    char *text = room == words->room ? words->text : (char *)realloc(words->text, room);
+    words->is_short = !text;
+    if (!text) return;
+    words->text = text;
+    words->room = room;
+    va_start(given, format);
+    vsnprintf(text + words->length, room - words->length, format, given);
+    va_end(given);
+    words->length += (size_t)more;
 }
 
-/* Writes how many lines the text has into the file with `.lines` behind this name. Answers 1. */
-static inline unsigned domepeeler_save_lines(struct domepeeler *d, const char *path) {
-    size_t lines = 0, room = strlen(path) + sizeof ".lines";
-    for (size_t i = 0; i < d->length; i++) lines += d->text[i] == '\n';
-    char number[32], *beside = (char *)malloc(room);
-    if (!beside) return domepeeler_refuse(d, 0, "no memory");
-    snprintf(number, sizeof number, "%zu\n", lines);
-    snprintf(beside, room, "%s.lines", path);
-    unsigned is_written = domepeeler_write(d, beside, fopen(beside, "wb"), number, strlen(number));
-    free(beside);
-    return is_written;
+/* The text of the words; NULL without memory. */
+static inline char *domepeeler_said(struct domepeeler *d, struct domepeeler_words *words) {
+    if (!words->text) domepeeler_say(words, "%s", "");
+    if (!words->is_short) return words->text;
+    free(words->text);
+    words->text = NULL;
+    domepeeler_fail(d, "no memory");
+    return NULL;
+}
+
+/* Opens a new file of this folder, which is so many bytes with the slash behind it, and puts its path into the room. Answers the file, or
+ * -1. */
+static inline int domepeeler_new_file(char *path, size_t room, const char *folder, size_t bytes, mode_t mode) {
+    for (unsigned number = 0;; number++) {
+        snprintf(path, room, "%.*s.domepeeler-%ld-%u", (int)bytes, folder, (long)getpid(), number);
+        int file = open(path, O_RDWR | O_CREAT | O_EXCL, mode);
+        if (file >= 0 || (errno != EEXIST && errno != EINTR)) return file;
+    }
+}
+
+/* Writes all the bytes, and answers whether that went well; if not, errno tells why. */
+static inline int domepeeler_put_out(int file, const char *bytes, size_t length) {
+    while (length) {
+        ssize_t written = write(file, bytes, length);
+        if (written < 0 && errno != EINTR) return 0;
+        if (written > 0) bytes += written, length -= (size_t)written;
+    }
+    return 1;
+}
+
+/* The bytes of a path up to its last slash. */
+static inline size_t domepeeler_folder(const char *path) {
+    const char *slash = strrchr(path, '/');
+    return slash ? (size_t)(slash + 1 - path) : 0;
+}
+
+/* The path of what a path leads to by links, for free(); NULL without memory. */
+static inline char *domepeeler_behind_links(const char *path) {
+    enum { LINKS = 40, ROOM = 4096 };
+    char *at = (char *)malloc(strlen(path) + 1), target[ROOM];
+    if (at) strcpy(at, path);
+    for (int links = 0; at && links < LINKS; links++) {
+        ssize_t length = readlink(at, target, sizeof target);
+        if (length <= 0 || length == ROOM) break;
+        size_t folder = *target == '/' ? 0 : domepeeler_folder(at);
+        char *next = (char *)malloc(folder + (size_t)length + 1);
+        if (next) {
+            memcpy(next, at, folder);
+            memcpy(next + folder, target, (size_t)length);
+            next[folder + (size_t)length] = 0;
+        }
+        free(at);
+        at = next;
+    }
+    return at;
+}
+
+/* A file of its own beside the one that it is to become, so that this one appears whole or stays what it was. */
+struct domepeeler_fresh {
+    char *path, *becomes; /* for free() */
+    const char *named;    /* as the caller has it */
+};
+
+static inline unsigned domepeeler_cannot_write(struct domepeeler *d, const char *path) {
+    return domepeeler_fail(d, "cannot write %s: %s", path, strerror(errno));
+}
+
+/* Writes such a file. Answers 1; else there is none. */
+static inline unsigned domepeeler_write_fresh(struct domepeeler *d, struct domepeeler_fresh *fresh, const char *path, const char *bytes,
+                                              size_t length) {
+    struct stat about;
+    fresh->named = path;
+    fresh->becomes = domepeeler_behind_links(path);
+    size_t folder = fresh->becomes ? domepeeler_folder(fresh->becomes) : 0, room = folder + 64;
+    fresh->path = fresh->becomes ? (char *)malloc(room) : NULL;
+    if (!fresh->path) return domepeeler_fail(d, "no memory");
+    int file = domepeeler_new_file(fresh->path, room, fresh->becomes, folder, 0666);
+    if (file < 0) return domepeeler_cannot_write(d, path);
+    int is_written = (stat(path, &about) || !chmod(fresh->path, about.st_mode & 0777)) && domepeeler_put_out(file, bytes, length);
+    int why = errno;
+    if (close(file) && is_written) is_written = 0, why = errno;
+    if (is_written) return 1;
+    unlink(fresh->path);
+    errno = why;
+    return domepeeler_cannot_write(d, path);
+}
+
+static inline unsigned domepeeler_put_fresh(struct domepeeler *d, const struct domepeeler_fresh *fresh) {
+    if (!rename(fresh->path, fresh->becomes)) return 1;
+    domepeeler_cannot_write(d, fresh->named);
+    unlink(fresh->path);
+    return 0;
+}
+
+static inline void domepeeler_free_fresh(struct domepeeler_fresh *fresh) {
+    free(fresh->path);
+    free(fresh->becomes);
+}
+
+/* Writes the text, and what stands beside it, into files that become those of these names. Answers 1. */
+static inline unsigned domepeeler_save_both(struct domepeeler *d, const char *path, const char *beside, const char *lines) {
+    struct domepeeler_fresh trace = {NULL, NULL, NULL}, side = {NULL, NULL, NULL};
+    unsigned is_saved = 0;
+    if (domepeeler_write_fresh(d, &trace, path, d->text, d->length)) {
+        is_saved = domepeeler_write_fresh(d, &side, beside, lines, strlen(lines)) && domepeeler_put_fresh(d, &side);
+        if (is_saved) is_saved = domepeeler_put_fresh(d, &trace);
+        else unlink(trace.path);
+    }
+    domepeeler_free_fresh(&trace);
+    domepeeler_free_fresh(&side);
+    return is_saved;
+}
+
+/* Writes the text into a pipe or a device. Answers 1. */
+static inline unsigned domepeeler_save_into(struct domepeeler *d, const char *path) {
+    int file = open(path, O_WRONLY | O_CREAT | O_TRUNC, 0666), is_written = file >= 0 && domepeeler_put_out(file, d->text, d->length);
+    int why = errno;
+    if (file >= 0 && close(file) && is_written) is_written = 0, why = errno;
+    errno = why;
+    return is_written ? 1 : domepeeler_cannot_write(d, path);
 }
 
 /* Writes the text into a file of this name; and first, into one with `.lines` behind the name, how many lines it has, so that the
- * tools notice where the end of the file is lost. A pipe or a device has no such file beside it. Answers 1. */
-static inline unsigned domepeeler_save(struct domepeeler *d, const char *path) {
-    FILE *file = fopen(path, "wb");
+ * tools notice where the end of the file is lost, and the notes. Each appears whole, or what stood there stays. A pipe or a device has
+ * no such file beside it. Answers 1. */
+DOMEPEELER_CHECKED static inline unsigned domepeeler_save(struct domepeeler *d, const char *path) {
     struct stat about;
-    if (file && !fstat(fileno(file), &about) && S_ISREG(about.st_mode) && !domepeeler_save_lines(d, path)) {
-        fclose(file);
-        return 0;
-    }
-    return domepeeler_write(d, path, file, d->text, d->length);
+    if (!stat(path, &about) && !S_ISREG(about.st_mode)) return domepeeler_save_into(d, path);
+    struct domepeeler_words beside = {NULL, 0, 0, 0}, lines = {NULL, 0, 0, 0};
+    domepeeler_say(&beside, "%s.lines", path);
+    domepeeler_say(&lines, "%zu\nlanguage c\n", domepeeler_lines(d));
+    for (size_t i = 0; i < d->noted; i++) domepeeler_say(&lines, "note %s\n", d->notes[i]);
+    int is_room = domepeeler_said(d, &beside) && domepeeler_said(d, &lines);
+    unsigned is_saved = is_room && domepeeler_save_both(d, path, beside.text, lines.text);
+    free(beside.text);
+    free(lines.text);
+    return is_saved;
 }
 
 static inline unsigned domepeeler_known(struct domepeeler *d, int replica) {
@@ -259,10 +484,20 @@ static inline int domepeeler_is_uuid(const char *id) {
     return !id[DOMEPEELER_UUID];
 }
 
-/* Makes a short name for an id, which no other id has. */
+/* Puts what a short id with `@` or a comma becomes, if that is short enough, into the name: with a letter first, as `2-0` would look
+ * like an operation's name. */
+static inline void domepeeler_translate(const char *id, char *name) {
+    size_t first = id[0] >= '0' && id[0] <= '9', length = strlen(id);
+    if (first + length > DOMEPEELER_BYTES) return;
+    if (first) name[0] = 'e';
+    for (size_t i = 0; i <= length; i++) name[first + i] = id[i] == '@' || id[i] == ',' ? '-' : id[i];
+}
+
+/* Makes a name for an id, which no other id has. */
 static inline const char *domepeeler_shorten(struct domepeeler *d, const char *id) {
     char name[DOMEPEELER_BYTES + 1] = "";
-    if (domepeeler_is_uuid(id))
+    if (strlen(id) <= DOMEPEELER_BYTES) domepeeler_translate(id, name);
+    else if (domepeeler_is_uuid(id))
         for (size_t i = 0, digits = 0; digits < DOMEPEELER_BYTES; i++)
             if (id[i] != '-') name[digits++] = id[i];
     for (size_t number = 1 + d->shortened; !*name || domepeeler_find(d, name, 1); number++) {
@@ -277,25 +512,31 @@ static inline const char *domepeeler_shorten(struct domepeeler *d, const char *i
     return NULL;
 }
 
-/* The name in the trace: what is given, or if that has more than 32 bytes, a short name that no other id has. NULL if refused. */
+/* The name of what is a name itself, unless it stands for another id. NULL if refused. */
+static inline const char *domepeeler_own_name(struct domepeeler *d, const char *given) {
+    if (strlen(given) < DOMEPEELER_BYTES && strncmp(given, "long", 4) && !strchr(given, '-')) return given; /* it never stands for an id */
+    const struct domepeeler_id *one = domepeeler_find(d, given, 1);
+    if (one ? strcmp(one->id, given) == 0 : domepeeler_keep(d, given, given)) return given;
+    if (one) domepeeler_refuse(d, 0, "name \"%s\" is short for the id \"%s\" already", given, one->id);
+    else domepeeler_refuse(d, 0, "no memory");
+    return NULL;
+}
+
+/* The name in the trace: what is given, or if that is no name but an id, a name that no other id has. NULL if refused. */
 static inline const char *domepeeler_name(struct domepeeler *d, const char *given) {
-    static const char *allowed = "ABCDEFGHIJKLMNOPQRSTUVWXYZabcdefghijklmnopqrstuvwxyz0123456789_-.";
-    size_t length = given ? strlen(given) : 0;
+    static const char *allowed = "@,ABCDEFGHIJKLMNOPQRSTUVWXYZabcdefghijklmnopqrstuvwxyz0123456789_-.";
     if (!given) {
         domepeeler_refuse(d, 0, "a name is a string, not NULL");
-    } else if (length > DOMEPEELER_BYTES) {
+        return NULL;
+    }
+    size_t length = strlen(given);
+    int is_long = length > DOMEPEELER_BYTES, is_id = length && strspn(given, allowed) == length;
+    if (!is_long && is_id && strspn(given, allowed + 2) == length) return domepeeler_own_name(d, given);
+    if (is_long || is_id) {
         const struct domepeeler_id *one = domepeeler_find(d, given, 0);
         return one ? one->name : domepeeler_shorten(d, given);
-    } else if (!length || strspn(given, allowed) != length) {
-        domepeeler_refuse(d, 0, "name \"%s\" is not 1 to 32 of A-Z a-z 0-9 _ - .", given);
-    } else if (length == DOMEPEELER_BYTES || strncmp(given, "long", 4) == 0) { /* other names are never short for an id */
-        const struct domepeeler_id *one = domepeeler_find(d, given, 1);
-        if (one ? strcmp(one->id, given) == 0 : domepeeler_keep(d, given, given)) return given;
-        if (one) domepeeler_refuse(d, 0, "name \"%s\" is short for the id \"%s\" already", given, one->id);
-        else domepeeler_refuse(d, 0, "no memory");
-    } else {
-        return given;
     }
+    domepeeler_refuse(d, 0, "name \"%s\" is not 1 to 32 of A-Z a-z 0-9 _ - .", given);
     return NULL;
 }
 
@@ -369,7 +610,7 @@ static inline unsigned domepeeler_operation(struct domepeeler *d, int replica, c
 }
 
 /* The replica inserted the name at the position and then had this list. Answers the operation's number. */
-static inline unsigned domepeeler_insert(struct domepeeler *d, int replica, const char *name, long long position,
+DOMEPEELER_CHECKED static inline unsigned domepeeler_insert(struct domepeeler *d, int replica, const char *name, long long position,
                                          const char *const *response, size_t names) {
     char words[80];
     size_t known = d->known;
@@ -382,7 +623,7 @@ static inline unsigned domepeeler_insert(struct domepeeler *d, int replica, cons
 }
 
 /* The replica deleted the name and then had this list. Answers the operation's number. */
-static inline unsigned domepeeler_delete(struct domepeeler *d, int replica, const char *name,
+DOMEPEELER_CHECKED static inline unsigned domepeeler_delete(struct domepeeler *d, int replica, const char *name,
                                          const char *const *response, size_t names) {
     char words[80];
     size_t known = d->known;
@@ -392,13 +633,13 @@ static inline unsigned domepeeler_delete(struct domepeeler *d, int replica, cons
 }
 
 /* The replica read its list. Answers the operation's number. */
-static inline unsigned domepeeler_read(struct domepeeler *d, int replica, const char *const *response, size_t names) {
+DOMEPEELER_CHECKED static inline unsigned domepeeler_read(struct domepeeler *d, int replica, const char *const *response, size_t names) {
     if (!domepeeler_acts(d, replica)) return 0;
     return domepeeler_operation(d, replica, "read", 0, response, names, d->known);
 }
 
 /* The replica showed this part of its list, the window of an editor say. Answers the operation's number. */
-static inline unsigned domepeeler_view(struct domepeeler *d, int replica, const char *const *part, size_t names) {
+DOMEPEELER_CHECKED static inline unsigned domepeeler_view(struct domepeeler *d, int replica, const char *const *part, size_t names) {
     if (!domepeeler_acts(d, replica)) return 0;
     unsigned n = domepeeler_operation(d, replica, "view", 0, part, names, d->known);
     if (n) d->text[strlen("trace ")] = '2';
@@ -422,7 +663,7 @@ static inline unsigned domepeeler_receipt(struct domepeeler *d, int replica, int
 }
 
 /* The author's operation n, and with it all that the author had seen by then, was applied at the replica. Answers 1. */
-static inline unsigned domepeeler_received(struct domepeeler *d, int replica, int author, long long n) {
+DOMEPEELER_CHECKED static inline unsigned domepeeler_received(struct domepeeler *d, int replica, int author, long long n) {
     if (!domepeeler_acts(d, replica) || !domepeeler_known(d, author)) return 0;
     if (n < 1 || n > DOMEPEELER_POSITION)
         return domepeeler_refuse(d, 0, "operation number %lld is not a whole number from 1 to %lld", n,
@@ -433,6 +674,61 @@ static inline unsigned domepeeler_received(struct domepeeler *d, int replica, in
         return domepeeler_refuse(d, 0, "%d.%lld cannot have arrived: replica %d has %u operations so far", author, n,
                                  author, have);
     return domepeeler_receipt(d, replica, author, n);
+}
+
+/* The receipts that the replica lacks, each of the last change of an author, and a read of its list. Answers the read's number. */
+static inline unsigned domepeeler_delivered_at(struct domepeeler *d, int replica, const char *const *list, size_t names) {
+    for (int author = 0; author < d->replicas; author++) {
+        const struct domepeeler_replica *of = &d->of[author];
+        unsigned last = of->changed ? of->changes[of->changed - 1] : 0;
+        if (author != replica && last > d->of[replica].others[author] && !domepeeler_receipt(d, replica, author, last)) return 0;
+    }
+    return domepeeler_line(d, replica, "read", 0, list, names);
+}
+
+/* By now everything has arrived everywhere, and each replica, from 0 upward, shows its list of these, which has so many names; count is
+ * the number of lists. Writes for each replica the receipts that are missing, and a read. So a change that an editor has lost, or still
+ * holds back, is `contents` there. Answers 1. */
+DOMEPEELER_CHECKED static inline unsigned domepeeler_delivered(struct domepeeler *d, const char *const *const *lists,
+                                                               const size_t *names, size_t count) {
+    struct domepeeler_replica before[DOMEPEELER_REPLICAS];
+    size_t length = d->length, known = d->known;
+    if (d->only >= 0)
+        return domepeeler_refuse(d, 0, "one replica's log can't say that everything has arrived: the others are recorded elsewhere");
+    if (count != (size_t)d->replicas)
+        return domepeeler_refuse(d, 0, "delivered wants the list of each of the %d replicas, not of %zu", d->replicas, count);
+    memcpy(before, d->of, sizeof before);
+    unsigned is_said = 1;
+    for (int replica = 0; replica < d->replicas && is_said; replica++)
+        is_said = domepeeler_delivered_at(d, replica, lists[replica], names[replica]) > 0;
+    for (int replica = 0; replica < d->replicas && !is_said; replica++) { /* what was said is taken back; the room stays */
+        struct domepeeler_replica *own = &d->of[replica], now = *own;
+        *own = before[replica];
+        own->changes = now.changes;
+        own->pasts = now.pasts;
+        own->room = now.room;
+    }
+    if (is_said) return 1;
+    d->text[d->length = length] = 0;
+    domepeeler_forget(d, known);
+    return 0;
+}
+
+/* Keeps a word of yours, in UTF-8, on the whole recording, such as the seed of a random session: domepeeler_save() writes it, and
+ * domepeeler_explain() names it. Answers 1. */
+DOMEPEELER_CHECKED static inline unsigned domepeeler_note(struct domepeeler *d, const char *text) {
+    const unsigned char *at = (const unsigned char *)text;
+    int is_right = at && *at;
+    for (size_t letters = 0; is_right && *at; letters++)
+        is_right = letters < DOMEPEELER_LETTERS && domepeeler_is_printable(domepeeler_letter(&at));
+    if (!is_right)
+        return domepeeler_fail(d, "a note is one line of 1 to %d printable characters", DOMEPEELER_LETTERS);
+    if (d->noted == DOMEPEELER_NOTES) return domepeeler_fail(d, "a recording has %d notes, the most that it takes", DOMEPEELER_NOTES);
+    char *note = (char *)malloc(strlen(text) + 1);
+    if (!note) return domepeeler_refuse(d, 0, "no memory");
+    strcpy(note, text);
+    d->notes[d->noted++] = note;
+    return 1;
 }
 
 /* How many of the replica's inserts and deletes are among its first operations, so many of them. */
@@ -459,7 +755,7 @@ static inline unsigned domepeeler_in_one_recording(struct domepeeler *d) {
 
 /* How many inserts and deletes of each replica this one has, one count for each: the vector clock of an update that it makes now.
  * Answers 1. */
-static inline unsigned domepeeler_clock(struct domepeeler *d, int replica, unsigned *clock) {
+DOMEPEELER_CHECKED static inline unsigned domepeeler_clock(struct domepeeler *d, int replica, unsigned *clock) {
     if (!domepeeler_acts(d, replica) || !domepeeler_in_one_recording(d)) return 0;
     for (int other = 0; other < d->replicas; other++)
         clock[other] = domepeeler_up_to(&d->of[other], domepeeler_has(d, replica, other));
@@ -487,7 +783,8 @@ static inline unsigned domepeeler_check_causal(struct domepeeler *d, int replica
         if (clock[other] > seen) seen = clock[other];
         if (lacking < seen && (other != author || of->changes[lacking] < first))
             return domepeeler_refuse(d, 0, "not causal: %d.%u was applied at replica %d before %d.%u, which replica %d had seen; "
-                                           "%d.%u has to arrive first, or in the same update%s", author, n, replica, other,
+                                           "%d.%u has to arrive first, or in the same update, or the call for its update is missing%s",
+                                     author, n, replica, other,
                                      of->changes[lacking], author, other, of->changes[lacking],
                                      other == author ? "; if the update carried more than one change, say how many (`changes`)" : "");
     }
@@ -497,7 +794,7 @@ static inline unsigned domepeeler_check_causal(struct domepeeler *d, int replica
 /* The author's update with this vector clock was applied at the replica: it carries the last of the author's changes that the clock
  * counts, or so many of the last. The clock has for each replica how many of its inserts and deletes the author had seen, its own
  * with the carried ones among them. Writes the receipt, unless the replica has it already. Answers 1. */
-static inline unsigned domepeeler_received_clock(struct domepeeler *d, int replica, int author, const unsigned *clock,
+DOMEPEELER_CHECKED static inline unsigned domepeeler_received_clock(struct domepeeler *d, int replica, int author, const unsigned *clock,
                                                  size_t counts, unsigned changes) {
     if (!domepeeler_acts(d, replica) || !domepeeler_known(d, author)) return 0;
     if (author == replica) return domepeeler_refuse(d, 0, "replica %d receives no operation of its own", replica);
@@ -511,72 +808,502 @@ static inline unsigned domepeeler_received_clock(struct domepeeler *d, int repli
     return own[most - 1] > have ? domepeeler_receipt(d, replica, author, own[most - 1]) : 1;
 }
 
+/* A name that stands in the text. */
+struct domepeeler_span {
+    const char *at;
+    size_t length;
+};
+
+static inline int domepeeler_compare(const void *one, const void *two) {
+    const struct domepeeler_span *first = (const struct domepeeler_span *)one, *second = (const struct domepeeler_span *)two;
+    int order = memcmp(first->at, second->at, first->length < second->length ? first->length : second->length);
+    return order ? order : (first->length > second->length) - (first->length < second->length);
+}
+
+/* A receipt of author.n, or the delete n of the name by the author, in this line. */
+struct domepeeler_event {
+    int author;
+    unsigned n;
+    size_t line;
+    struct domepeeler_span name;
+};
+
+/* What the entries of one replica in the text say: its operations; the lines of its changes; whether it has receipts, and which came
+ * since its last operation; the names of the list that it showed last, or NULL. */
+struct domepeeler_entries {
+    unsigned operations, changed, since;
+    int is_receiving;
+    size_t *lines;
+    struct domepeeler_event *arrived;
+    const char *shown;
+};
+
+/* What warnings are made of. */
+struct domepeeler_warned {
+    const struct domepeeler *d;
+    struct domepeeler_words *said;
+    struct domepeeler_entries of[DOMEPEELER_REPLICAS];
+    struct domepeeler_span *inserted, *shown; /* shown: the names of the lists that replicas showed last, one list behind the other */
+    struct domepeeler_event *deletes;
+    size_t *lines, inserts, deleted, ends;
+    struct domepeeler_event *arrived;
+    struct domepeeler_words past_end; /* inserts past the end of a list, of which there are so many ends */
+};
+
+/* What stands before the word number i of so many that are joined. */
+static inline const char *domepeeler_joint(size_t i, size_t count) { return i == 0 ? "" : i + 1 == count ? " and " : ", "; }
+
+static inline const char *domepeeler_plural(size_t count) { return count == 1 ? "" : "s"; }
+
+/* Says the changes, the first of them by name, and how many more there are. */
+static inline void domepeeler_say_changes(struct domepeeler_words *said, const struct domepeeler_event *changes, size_t count) {
+    size_t most = DOMEPEELER_CHANGES, told = count < most ? count : most, words = told + (count > told);
+    for (size_t i = 0; i < told; i++)
+        domepeeler_say(said, "%s%d.%u (line %zu)", domepeeler_joint(i, words), changes[i].author, changes[i].n, changes[i].line);
+    if (count > told) domepeeler_say(said, " and %zu more", count - told);
+}
+
+/* Reads an operation's entry. */
+static inline void domepeeler_read_operation(struct domepeeler_warned *w, int replica, const char *kind, size_t line) {
+    struct domepeeler_entries *own = &w->of[replica];
+    const char *name = strchr(kind, ' ') + 1, *colon = strchr(kind, ':'), *end = strchr(kind, '\n');
+    struct domepeeler_event event = {replica, ++own->operations, line, {name, strcspn(name, " ")}};
+    own->since = 0;
+    if (*kind != 'v') own->shown = colon + 1;
+    if (*kind != 'i' && *kind != 'd') return; /* ins, del */
+    own->lines[own->changed++] = line;
+    if (*kind == 'd') {
+        w->deletes[w->deleted++] = event;
+        return;
+    }
+    w->inserted[w->inserts++] = event.name;
+    long long before = -1, position = atoll(event.name.at + event.name.length);
+    for (const char *letter = colon; letter < end; letter++) before += *letter == ' ';
+    if (position <= before || w->ends++ >= DOMEPEELER_TOLD) return;
+    domepeeler_say(&w->past_end, "line %zu, %d.%u: replica %d inserted %.*s at position %lld of a list of %lld, so at its end: "
+                                 "is that the position that was asked for?\n", line, replica, event.n, replica,
+                   (int)event.name.length, event.name.at, position, before);
+}
+
+static inline void domepeeler_read_entries(struct domepeeler_warned *w) {
+    const char *at = strchr(strchr(w->d->text, '\n') + 1, '\n') + 1;
+    for (size_t line = DOMEPEELER_HEAD + 1; *at; line++, at = strchr(at, '\n') + 1) {
+        char *kind;
+        int replica = (int)strtol(at, &kind, 10);
+        struct domepeeler_entries *own = &w->of[replica];
+        if (strncmp(++kind, "recv", 4)) {
+            domepeeler_read_operation(w, replica, kind, line);
+            continue;
+        }
+        int author = (int)strtol(kind + 4, &kind, 10);
+        struct domepeeler_event event = {author, (unsigned)strtoul(kind, NULL, 10), line, {NULL, 0}};
+        own->is_receiving = 1;
+        own->arrived[own->since++] = event;
+    }
+}
+
+/* The changes that never arrived at the replica, the first of them in the order of the text; none of an author of which it never hears.
+ * Answers how many there are. */
+static inline size_t domepeeler_lacked(const struct domepeeler_warned *w, int replica, struct domepeeler_event *first) {
+    unsigned next[DOMEPEELER_REPLICAS];
+    size_t count = 0;
+    for (int author = 0; author < w->d->replicas; author++) {
+        const struct domepeeler_replica *of = &w->d->of[author];
+        next[author] = author == replica ? 0 : domepeeler_up_to(of, w->d->of[replica].others[author]);
+        if (!next[author]) next[author] = of->changed;
+        count += of->changed - next[author];
+    }
+    for (size_t told = 0; told < count && told < DOMEPEELER_CHANGES; told++) {
+        int least = -1;
+        for (int author = 0; author < w->d->replicas; author++)
+            if (next[author] < w->d->of[author].changed &&
+                (least < 0 || w->of[author].lines[next[author]] < w->of[least].lines[next[least]])) least = author;
+        first[told].author = least;
+        first[told].n = w->d->of[least].changes[next[least]];
+        first[told].line = w->of[least].lines[next[least]++];
+    }
+    return count;
+}
+
+/* Says what never arrived at which replica. Answers how many changes that are. */
+static inline size_t domepeeler_say_lacked(const struct domepeeler_warned *w, struct domepeeler_words *never) {
+    struct domepeeler_event first[DOMEPEELER_REPLICAS][DOMEPEELER_CHANGES];
+    size_t counts[DOMEPEELER_REPLICAS], lacking = 0, told = 0, all = 0;
+    for (int i = 0; i < w->d->replicas; i++) {
+        counts[i] = w->d->of[i].operations ? domepeeler_lacked(w, i, first[i]) : 0;
+        lacking += counts[i] > 0;
+        all += counts[i];
+    }
+    for (int i = 0; i < w->d->replicas; i++) {
+        if (!counts[i]) continue;
+        domepeeler_say(never, "%s", domepeeler_joint(told++, lacking));
+        domepeeler_say_changes(never, first[i], counts[i]);
+        domepeeler_say(never, " never arrived at replica %d", i);
+    }
+    return all;
+}
+
+/* Sorts the names behind the colon of a response, each once, into the room. Answers how many they are. */
+static inline size_t domepeeler_set(const char *shown, struct domepeeler_span *names) {
+    size_t count = 0, once = 0;
+    for (; *shown == ' '; shown += names[count++].length) {
+        names[count].at = ++shown;
+        names[count].length = strcspn(shown, " \n");
+    }
+    qsort(names, count, sizeof *names, domepeeler_compare);
+    for (size_t i = 0; i < count; i++)
+        if (!once || domepeeler_compare(&names[once - 1], &names[i])) names[once++] = names[i];
+    return once;
+}
+
+/* Puts into `like` for each replica the first one whose last list has the same names, or -1 where it showed none. Answers how many lists
+ * there are. */
+static inline size_t domepeeler_alike(const struct domepeeler_warned *w, int *like) {
+    struct domepeeler_span *sets[DOMEPEELER_REPLICAS], *room = w->shown;
+    size_t counts[DOMEPEELER_REPLICAS], lists = 0;
+    for (int i = 0; i < w->d->replicas; i++) {
+        like[i] = -1;
+        if (!w->of[i].shown) continue;
+        sets[i] = room;
+        counts[i] = domepeeler_set(w->of[i].shown, sets[i]);
+        room += counts[i];
+        like[i] = i;
+        for (int other = i - 1; other >= 0; other--) {
+            if (like[other] != other || counts[other] != counts[i]) continue;
+            size_t same = 0;
+            while (same < counts[i] && !domepeeler_compare(&sets[other][same], &sets[i][same])) same++;
+            if (same == counts[i]) like[i] = other;
+        }
+        lists += like[i] == i;
+    }
+    return lists;
+}
+
+/* Says the replicas whose list is like that of this one; those that showed a list, where it is -1. Answers how many they are. */
+static inline size_t domepeeler_say_alike(const struct domepeeler_warned *w, struct domepeeler_words *said, const int *like, int one) {
+    size_t count = 0, told = 0;
+    for (int i = 0; i < w->d->replicas; i++) count += like[i] >= 0 && (one < 0 || like[i] == one);
+    for (int i = 0; i < w->d->replicas; i++)
+        if (like[i] >= 0 && (one < 0 || like[i] == one)) domepeeler_say(said, "%s%d", domepeeler_joint(told++, count), i);
+    return count;
+}
+
+/* Whether the last lists that replicas showed differ as sets, and which changes never arrived at which replica. */
+static inline void domepeeler_say_different(const struct domepeeler_warned *w) {
+    struct domepeeler_words never = {NULL, 0, 0, 0}, none = {NULL, 0, 0, 0};
+    size_t count = domepeeler_say_lacked(w, &never), groups = 0, told = 0;
+    const char *lost = count == 1 ? "it was lost or is still held back" : "they were lost or are still held back";
+    int like[DOMEPEELER_REPLICAS];
+    w->said->is_short |= never.is_short;
+    if (domepeeler_alike(w, like) > 1) {
+        domepeeler_say(w->said, "in the end replicas ");
+        domepeeler_say_alike(w, w->said, like, -1);
+        domepeeler_say(w->said, " show different lists");
+        for (int i = 0; i < w->d->replicas; i++) groups += like[i] == i && domepeeler_say_alike(w, &none, like, i) > 1;
+        for (int i = 0; i < w->d->replicas; i++) {
+            if (like[i] != i || domepeeler_say_alike(w, &none, like, i) < 2) continue;
+            domepeeler_say(w->said, "%s", told ? domepeeler_joint(told, groups) : " (");
+            domepeeler_say_alike(w, w->said, like, i);
+            domepeeler_say(w->said, " the same one%s", ++told == groups ? ")" : "");
+        }
+        if (count) domepeeler_say(w->said, ": %s by this recording. If everything was delivered, %s", never.text ? never.text : "", lost);
+        domepeeler_say(w->said, "\n");
+    } else if (count) {
+        domepeeler_say(w->said, "by this recording %s. If everything was delivered, %s\n", never.text ? never.text : "", lost);
+    }
+    free(never.text);
+    free(none.text);
+}
+
+/* Of replicas that did something, and never heard of a change of another. */
+static inline void domepeeler_say_unheard(const struct domepeeler_warned *w) {
+    for (int i = 0; i < w->d->replicas; i++) {
+        int others[DOMEPEELER_REPLICAS];
+        size_t count = 0;
+        for (int author = 0; author < w->d->replicas; author++) {
+            const struct domepeeler_replica *of = &w->d->of[author];
+            if (author != i && of->changed && of->changes[0] > w->d->of[i].others[author]) others[count++] = author;
+        }
+        if (!count || !w->d->of[i].operations) continue;
+        domepeeler_say(w->said, "replica %d never hears of replica%s ", i, domepeeler_plural(count));
+        for (size_t k = 0; k < count; k++) domepeeler_say(w->said, "%s%d", domepeeler_joint(k, count), others[k]);
+        domepeeler_say(w->said, ": no receipt brings it an insert or a delete from there, so nothing shows what it makes of these. "
+                                "At the end of a session let everyone receive everything, and read\n");
+    }
+}
+
+/* Of replicas whose last receipts bring changes, and are followed by nothing that they show. */
+static inline void domepeeler_say_unshown(struct domepeeler_warned *w) {
+    for (int i = 0; i < w->d->replicas; i++) {
+        const struct domepeeler_replica *own = &w->d->of[i];
+        struct domepeeler_entries *entries = &w->of[i];
+        unsigned has[DOMEPEELER_REPLICAS], news = 0;
+        if (!own->operations) continue;
+        memcpy(has, own->pasts[own->operations - 1], sizeof has);
+        has[i] = own->operations;
+        for (unsigned k = 0; k < entries->since; k++) {
+            struct domepeeler_event event = entries->arrived[k];
+            int is_new = 0;
+            for (int other = 0; other < w->d->replicas; other++) {
+                unsigned seen = other == event.author ? event.n : w->d->of[event.author].pasts[event.n - 1][other];
+                if (seen <= has[other]) continue;
+                is_new |= domepeeler_up_to(&w->d->of[other], seen) > domepeeler_up_to(&w->d->of[other], has[other]);
+                has[other] = seen;
+            }
+            if (is_new) entries->arrived[news++] = event;
+        }
+        if (!news) continue;
+        domepeeler_say(w->said, "replica %d received ", i);
+        domepeeler_say_changes(w->said, entries->arrived, news);
+        domepeeler_say(w->said, " last, and nothing shows what it made of %s: let each replica read at the end\n",
+                       news == 1 ? "that" : "them");
+    }
+}
+
+static inline void domepeeler_say_without_operation(const struct domepeeler_warned *w) {
+    for (int i = 0; i < w->d->replicas; i++)
+        if (!w->d->of[i].operations)
+            domepeeler_say(w->said, "replica %d has %s: nothing that it showed is judged\n", i,
+                           w->of[i].is_receiving ? "receipts, but no operation" : "no entry");
+}
+
+static inline void domepeeler_say_more(struct domepeeler_words *said, size_t count, const char *what, const char *which) {
+    if (count <= DOMEPEELER_TOLD) return;
+    count -= DOMEPEELER_TOLD;
+    domepeeler_say(said, "and %zu more %s%s %s\n", count, what, domepeeler_plural(count), which);
+}
+
+/* Of deletes whose element is inserted nowhere. */
+static inline void domepeeler_say_of_nothing(const struct domepeeler_warned *w) {
+    size_t count = 0;
+    qsort(w->inserted, w->inserts, sizeof *w->inserted, domepeeler_compare);
+    for (size_t i = 0; i < w->deleted; i++) {
+        const struct domepeeler_event *one = &w->deletes[i];
+        if (bsearch(&one->name, w->inserted, w->inserts, sizeof *w->inserted, domepeeler_compare)) continue;
+        if (count++ < DOMEPEELER_TOLD)
+            domepeeler_say(w->said, "line %zu, %d.%u: replica %d deleted %.*s, which no line inserts, so no response shows whether it was "
+                                    "deleted: is that its name, and was its insert recorded?\n", one->line, one->author, one->n,
+                           one->author, (int)one->name.length, one->name.at);
+    }
+    domepeeler_say_more(w->said, count, "delete", "of what no line inserts");
+}
+
+/* Room for what is read of so many entries, and of as many names in the lists that replicas showed last as they may have. */
+static inline int domepeeler_warned_room(struct domepeeler_warned *w, size_t entries) {
+    size_t names = 0, start = 0, most = DOMEPEELER_NAMES;
+    for (int i = 0; i < w->d->replicas; i++) names += w->d->of[i].places < most ? w->d->of[i].places : most;
+    w->inserted = (struct domepeeler_span *)malloc((entries + 1) * sizeof *w->inserted);
+    w->shown = (struct domepeeler_span *)malloc((names + 1) * sizeof *w->shown);
+    w->deletes = (struct domepeeler_event *)malloc((entries + 1) * sizeof *w->deletes);
+    w->arrived = (struct domepeeler_event *)malloc((entries + 1) * sizeof *w->arrived);
+    w->lines = (size_t *)malloc((entries + 1) * sizeof *w->lines);
+    if (!w->inserted || !w->shown || !w->deletes || !w->arrived || !w->lines) return 0;
+    for (int i = 0; i < w->d->replicas; i++) {
+        w->of[i].lines = w->lines + start;
+        w->of[i].arrived = w->arrived + start;
+        start += w->d->of[i].entries;
+    }
+    return 1;
+}
+
+/* Says whether calls were refused. */
+static inline void domepeeler_say_refused(const struct domepeeler *d, struct domepeeler_words *said, const char *end) {
+    if (d->refused == 1) domepeeler_say(said, "a call was refused, so what it says is not recorded: %s%s", d->first, end);
+    if (d->refused > 1)
+        domepeeler_say(said, "%zu calls were refused, so what they say is not recorded; the first: %s%s", d->refused, d->first, end);
+}
+
+/* What an accepted verdict on this recording may hide, a line each, for free(): a call that was refused, but for limits and what is not
+ * causal; a change that never arrived, a replica that shows nothing, a delete of what nothing inserts. Empty where nothing is to be said;
+ * NULL where there is no answer. It asks no program, and takes time linear in the text. */
+DOMEPEELER_CHECKED static inline char *domepeeler_warnings(struct domepeeler *d) {
+    struct domepeeler_words said = {NULL, 0, 0, 0};
+    struct domepeeler_warned w;
+    size_t entries = domepeeler_lines(d) - DOMEPEELER_HEAD;
+    if (d->only >= 0) {
+        domepeeler_fail(d, "one replica's log is no recording: merge the logs first");
+        return NULL;
+    }
+    domepeeler_say_refused(d, &said, "\n");
+    if (!entries) domepeeler_say(&said, "nothing was recorded: the trace has no entry, so the verdict says nothing of an editor\n");
+    if (!entries) return domepeeler_said(d, &said);
+    memset(&w, 0, sizeof w);
+    w.d = d;
+    w.said = &said;
+    if (domepeeler_warned_room(&w, entries)) {
+        domepeeler_read_entries(&w);
+        domepeeler_say_different(&w);
+        domepeeler_say_unheard(&w);
+        domepeeler_say_unshown(&w);
+        domepeeler_say_without_operation(&w);
+        domepeeler_say_of_nothing(&w);
+        if (w.past_end.text) domepeeler_say(&said, "%s", w.past_end.text);
+        domepeeler_say_more(&said, w.ends, "insert", "past the end of a list");
+    } else {
+        said.is_short = 1;
+    }
+    said.is_short |= w.past_end.is_short;
+    free(w.inserted);
+    free(w.shown);
+    free(w.deletes);
+    free(w.arrived);
+    free(w.lines);
+    free(w.past_end.text);
+    return domepeeler_said(d, &said);
+}
+
+/* A file without a name that is read and written; -1 where there can be none. */
+static inline int domepeeler_stream(void) {
+    char path[4096];
+    const char *folder = getenv("TMPDIR");
+    if (!folder || !*folder || strlen(folder) > sizeof path / 2) folder = "/tmp";
+    snprintf(path, sizeof path, "%s/", folder);
+    size_t bytes = strlen(path);
+    char *where = (char *)malloc(bytes + 1);
+    if (!where) return -1;
+    memcpy(where, path, bytes + 1);
+    int file = domepeeler_new_file(path, sizeof path, where, bytes, 0600);
+    free(where);
+    if (file >= 0) unlink(path);
+    return file;
+}
+
 /* All that stands in the file, for free(); NULL where it can't be read. */
-static inline char *domepeeler_whole(FILE *file) {
-    long length = fseek(file, 0, SEEK_END) ? -1 : ftell(file);
-    char *text = length < 0 ? NULL : (char *)malloc((size_t)length + 1);
-    if (!text) return NULL;
-    rewind(file);
-    text[fread(text, 1, (size_t)length, file)] = 0;
+static inline char *domepeeler_whole(int file) {
+    off_t length = lseek(file, 0, SEEK_END);
+    char *text = length < 0 || lseek(file, 0, SEEK_SET) ? NULL : (char *)malloc((size_t)length + 1);
+    size_t have = 0;
+    while (text && have < (size_t)length) {
+        ssize_t more = read(file, text + have, (size_t)length - have);
+        if (!more || (more < 0 && errno != EINTR)) break;
+        if (more > 0) have += (size_t)more;
+    }
+    if (text) text[have] = 0;
     return text;
 }
 
-/* Runs the words, the first of which is the program, with these three files as its streams; answers its exit status, or 127 where it
- * could not run. */
-static inline int domepeeler_run(const char *const *words, FILE *in, FILE *out, FILE *err) {
-    fflush(NULL); /* or the child would write once more what is still in a buffer */
-    pid_t child = fork();
-    if (child < 0) return 127;
-    if (child == 0) {
-        if (dup2(fileno(in), 0) == 0 && dup2(fileno(out), 1) == 1 && dup2(fileno(err), 2) == 2)
-            execvp(words[0], (char *const *)words);
-        _exit(127);
-    }
-    int status;
-    if (waitpid(child, &status, 0) != child || !WIFEXITED(status)) return 127;
-    return WEXITSTATUS(status);
+/* Begins the words, the first of which is the program, with these files as its three streams. Answers 0, or why they can't be run. */
+static inline int domepeeler_begin(char *const *words, const int *files, pid_t *child) {
+    posix_spawn_file_actions_t actions;
+    int why = posix_spawn_file_actions_init(&actions);
+    if (why) return why;
+    for (int i = 0; i < 3 && !why; i++) why = posix_spawn_file_actions_adddup2(&actions, files[i], i);
+    if (!why) why = posix_spawnp(child, words[0], &actions, NULL, words, environ);
+    posix_spawn_file_actions_destroy(&actions);
+    return why;
+}
+
+/* Begins the words so, waits for their end, and puts into the status how they ended. Answers 0, or why they can't be run, or -1 where how
+ * they ended can't be learned. */
+static inline int domepeeler_begin_and_wait(char *const *words, const int *files, int *status) {
+    pid_t child;
+    int why = domepeeler_begin(words, files, &child);
+    if (why) return why;
+    while (waitpid(child, status, 0) != child)
+        if (errno != EINTR) return -1;
+    return WIFEXITED(*status) && WEXITSTATUS(*status) == 127 ? ENOENT : 0; /* so says a system that finds out only in the child */
+}
+
+/* The same. Where your program ignores SIGCHLD, the system would forget how the words ended, and what they begin themselves: so not now. */
+static inline int domepeeler_run(char *const *words, const int *files, int *status) {
+#ifdef SA_NOCLDSTOP
+    struct sigaction kept, usual;
+    memset(&usual, 0, sizeof usual);
+    usual.sa_handler = SIG_DFL;
+    int is_ignored = !sigaction(SIGCHLD, NULL, &kept) && (kept.sa_handler == SIG_IGN || (kept.sa_flags & SA_NOCLDWAIT));
+    if (is_ignored) sigaction(SIGCHLD, &usual, NULL);
+    int why = domepeeler_begin_and_wait(words, files, status);
+    if (is_ignored) sigaction(SIGCHLD, &kept, NULL);
+    return why;
+#else
+    return domepeeler_begin_and_wait(words, files, status);
+#endif
+}
+
+/* Says how a program ended that printed nothing that is wanted. */
+static inline void domepeeler_refuse_end(struct domepeeler *d, const char *program, int status, const char *why, const char *lacking) {
+    if (WIFSIGNALED(status)) domepeeler_fail(d, "%s was ended by signal %d", program, WTERMSIG(status));
+    else if (!*why)
+        domepeeler_fail(d, "%s ended with status %d and printed no %s", program, WEXITSTATUS(status), lacking);
+    else domepeeler_fail(d, "%s ended with status %d: %.160s", program, WEXITSTATUS(status), why);
+}
+
+/* What the words print for this recording, with these files as the streams; NULL where that is not what is lacking then. */
+static inline char *domepeeler_answer(struct domepeeler *d, const char *const *words, const int *files, const char *named,
+                                      const char *lacking, char first) {
+    char *given[8] = {NULL};
+    int status = 0;
+    for (size_t i = 0; words[i] && i < 7; i++) memcpy(&given[i], &words[i], sizeof *given); /* they are only read */
+    int why = domepeeler_run(given, files, &status);
+    if (why > 0) domepeeler_fail(d, "%s cannot be run (%s): name %s", words[0], strerror(why), named);
+    if (why < 0) domepeeler_fail(d, "how %s ended was not learned: %s", words[0], strerror(errno));
+    if (why) return NULL;
+    char *printed = WIFEXITED(status) && WEXITSTATUS(status) < 2 ? domepeeler_whole(files[1]) : NULL;
+    if (printed && *printed && (!first || *printed == first)) return printed;
+    free(printed);
+    char *said = domepeeler_whole(files[2]);
+    if (said) said[strcspn(said, "\n")] = 0;
+    domepeeler_refuse_end(d, words[0], status, said ? said : "", lacking);
+    free(said);
+    return NULL;
 }
 
 /* What the words print for this recording; free() it. NULL where they print nothing, or nothing that begins with this letter, if there
- * is one; `named` says what to do where they can't be run. */
-static inline char *domepeeler_ask(struct domepeeler *d, const char *const *words, const char *named, char first) {
+ * is one; that is what is lacking then. `named` says what to do where they can't be run. */
+static inline char *domepeeler_ask(struct domepeeler *d, const char *const *words, const char *named, const char *lacking, char first) {
     if (d->only >= 0) {
-        domepeeler_refuse(d, 0, "one replica's log is no recording: merge the logs first");
+        domepeeler_fail(d, "one replica's log is no recording: merge the logs first");
         return NULL;
     }
-    FILE *in = tmpfile(), *out = tmpfile(), *err = tmpfile();
+    int files[3];
     char *printed = NULL;
-    if (in && out && err && fwrite(d->text, 1, d->length, in) == d->length && !fflush(in)) {
-        rewind(in);
-        int status = domepeeler_run(words, in, out, err);
-        if (status == 0 || status == 1) printed = domepeeler_whole(out);
-        if (!printed || !*printed || (first && *printed != first)) {
-            free(printed);
-            printed = NULL;
-            char *why = domepeeler_whole(err);
-            if (why) why[strcspn(why, "\n")] = 0;
-            if (status == 127)
-                domepeeler_refuse(d, 0, "%s cannot be run: name %s", words[0], named);
-            else
-                domepeeler_refuse(d, 0, "%s ended with status %d: %.160s", words[0], status, why ? why : "");
-            free(why);
-        }
-    } else {
-        domepeeler_refuse(d, 0, "no files for the program's streams");
-    }
-    if (in) fclose(in);
-    if (out) fclose(out);
-    if (err) fclose(err);
+    for (int i = 0; i < 3; i++) files[i] = domepeeler_stream();
+    int are_open = files[0] >= 0 && files[1] >= 0 && files[2] >= 0;
+    if (are_open && domepeeler_put_out(files[0], d->text, d->length) && !lseek(files[0], 0, SEEK_SET))
+        printed = domepeeler_answer(d, words, files, named, lacking, first);
+    else
+        domepeeler_fail(d, "no files for the program's streams: %s", strerror(errno));
+    for (int i = 0; i < 3; i++)
+        if (files[i] >= 0) close(files[i]);
     return printed;
 }
 
-/* The report, as JSON, of the program on this recording; free() it. NULL where there is none. The program is that of the
- * environment's DOMEPEELER, or domepeeler, where NULL is given. */
-static inline char *domepeeler_judge(struct domepeeler *d, const char *program) {
+/* The report, with what an accepted verdict may hide as its last key; both are freed. NULL without memory. */
+static inline char *domepeeler_with_warnings(struct domepeeler *d, char *report, char *warnings) {
+    struct domepeeler_words said = {NULL, 0, 0, 0};
+    char *end = strrchr(report, '}');
+    domepeeler_say(&said, "%.*s,\"warnings\":[", (int)(end - report), report);
+    for (const char *at = warnings; *at; at++) {
+        if (at == warnings || at[-1] == '\n') domepeeler_say(&said, "%s\"", at == warnings ? "" : ",");
+        if (*at == '\n') domepeeler_say(&said, "\"");
+        else domepeeler_say(&said, "%s%c", *at == '"' || *at == '\\' ? "\\" : "", *at);
+    }
+    domepeeler_say(&said, "]%s", end);
+    free(report);
+    free(warnings);
+    return domepeeler_said(d, &said);
+}
+
+/* The report, as JSON, of the program on this recording; free() it. NULL where there is none. It has one more key, `warnings`: where the
+ * verdict is accepted a list of what that may hide, and else an empty one. The program is that of the environment's DOMEPEELER, or
+ * domepeeler, where NULL is given. */
+DOMEPEELER_CHECKED static inline char *domepeeler_judge(struct domepeeler *d, const char *program) {
     if (!program) program = getenv("DOMEPEELER");
     if (!program || !*program) program = "domepeeler";
-    const char *words[] = {program, "verdict", "--json", "-", NULL};
-    return domepeeler_ask(d, words, "the program's path in DOMEPEELER", '{');
+    const char *many[] = {program, "verdict", "--json", "-", NULL}, *few[] = {program, "verdict", "--workers", "1", "--json", "-", NULL};
+    int is_short = domepeeler_lines(d) < DOMEPEELER_SHORT;
+    char *report = domepeeler_ask(d, is_short ? few : many, "the program's path in DOMEPEELER", "report", '{');
+    if (!report) return NULL;
+    if (!strrchr(report, '}') || !strstr(report, "\"verdict\":\"")) {
+        domepeeler_fail(d, "%s printed a report without a verdict", program);
+        free(report);
+        return NULL;
+    }
+    char *warnings = strstr(report, "\"verdict\":\"accepted\"") ? domepeeler_warnings(d) : (char *)calloc(1, 1);
+    if (warnings) return domepeeler_with_warnings(d, report, warnings);
+    free(report);
+    domepeeler_fail(d, "no memory");
+    return NULL;
 }
 
 /* The path, put into this room, of domepeeler-explain where it lies beside the program of the environment's DOMEPEELER; else the
@@ -593,7 +1320,7 @@ static inline const char *domepeeler_beside_program(char *path, size_t room) {
 
 /* Whether what is said has this id's name, where that is a numbered one, as a word. */
 static inline int domepeeler_is_told(const char *said, const struct domepeeler_id *one) {
-    if (strcmp(one->id, one->name) == 0 || strncmp(one->name, "long", 4)) return 0;
+    if (strcmp(one->id, one->name) == 0 || strncmp(one->name, "long", 4) || strchr(one->name, '-')) return 0;
     for (const char *at = strstr(said, one->name); at; at = strstr(at + 1, one->name)) {
         unsigned char before = at == said ? ' ' : (unsigned char)at[-1], behind = (unsigned char)at[strlen(one->name)];
         if (!isalnum(before) && !isalnum(behind)) return 1;
@@ -601,32 +1328,32 @@ static inline int domepeeler_is_told(const char *said, const struct domepeeler_i
     return 0;
 }
 
-/* What is said, and behind it the ids of the numbered names in it. */
+/* What is said, and behind it the ids of the numbered names in it, and the notes. */
 static inline char *domepeeler_with_ids(struct domepeeler *d, char *said) {
+    struct domepeeler_words whole = {NULL, 0, 0, 0};
     const char *title = "\nIds that were too long for a name\n";
-    size_t length = strlen(said), room = length + strlen(title) + 1, end = length;
-    for (size_t i = 0; i < d->known; i++) room += strlen(d->ids[i]->id) + DOMEPEELER_BYTES + sizeof "  : ";
-    char *whole = (char *)malloc(room);
-    if (whole) memcpy(whole, said, length + 1);
-    else domepeeler_refuse(d, 0, "no memory");
-    for (size_t i = 0; whole && i < d->known; i++) {
+    domepeeler_say_refused(d, &whole, "\n\n");
+    domepeeler_say(&whole, "%s", said);
+    for (size_t i = 0; i < d->known; i++) {
         const struct domepeeler_id *one = d->ids[i];
-        if (domepeeler_is_told(said, one))
-            end += (size_t)snprintf(whole + end, room - end, "%s  %s: %s\n", end == length ? title : "", one->name, one->id);
+        if (!domepeeler_is_told(said, one)) continue;
+        domepeeler_say(&whole, "%s  %s: %s\n", title, one->name, one->id);
+        title = "";
     }
+    for (size_t i = 0; i < d->noted; i++) domepeeler_say(&whole, "%s  %s\n", i ? "" : "\nNoted\n", d->notes[i]);
     free(said);
-    return whole;
+    return domepeeler_said(d, &whole);
 }
 
-/* What the report on this recording means, in words, and at the end the ids of the numbered names; free() it. NULL where there is none.
- * The tool is that of the environment's DOMEPEELER_EXPLAIN, or domepeeler-explain, beside the program of DOMEPEELER or on the PATH,
- * where NULL is given. */
-static inline char *domepeeler_explain(struct domepeeler *d, const char *explainer) {
+/* What the report on this recording means, in words, and at the end the ids of the numbered names, and the notes; free() it. Before them
+ * stands whether calls were refused. NULL where there is no answer. The tool is that of the environment's DOMEPEELER_EXPLAIN, or
+ * domepeeler-explain, beside the program of DOMEPEELER or on the PATH, where NULL is given. */
+DOMEPEELER_CHECKED static inline char *domepeeler_explain(struct domepeeler *d, const char *explainer) {
     char path[4096];
     if (!explainer) explainer = getenv("DOMEPEELER_EXPLAIN");
     if (!explainer || !*explainer) explainer = domepeeler_beside_program(path, sizeof path);
-    const char *words[] = {explainer, "-", NULL};
-    char *said = domepeeler_ask(d, words, "the tool's path in DOMEPEELER_EXPLAIN", 0);
+    const char *words[] = {explainer, "--language", "c", "-", NULL};
+    char *said = domepeeler_ask(d, words, "the tool's path in DOMEPEELER_EXPLAIN", "words", 0);
     return said ? domepeeler_with_ids(d, said) : NULL;
 }
 

@@ -1,33 +1,43 @@
 //! Records what the replicas of a list editor do and answer, and has Domepeeler judge it.
 //!
-//! Copy this file into your project and write `mod domepeeler;`, or depend on the crate in recorders/rust, which is made of it.
+//! Copy this file into your project and write `mod domepeeler;`, or depend on the crate in recorders/rust, which is made of it. For an
+//! integration test copy it to tests/domepeeler/mod.rs: as tests/domepeeler.rs it would be a test of its own, without tests.
 //! It needs the standard library alone. docs/recording.md says where the calls go.
 //!
 //! ```ignore
+//! let none: &[&str] = &[];
 //! let mut recording = Recording::new(2)?;
 //! let n = recording.insert(0, "a", 0, &["a"])?; // replica 0 inserted a at position 0, and its list is now: a
 //! recording.received(1, 0, n)?;                 // that operation was applied at replica 1
-//! recording.delete(1, "a", &[] as &[&str])?;    // replica 1 deleted a, and its list is now empty
+//! recording.delete(1, "a", none)?;              // replica 1 deleted a, and its list is now empty
 //! recording.read(0, &["a"])?;                   // replica 0 read its list
 //! recording.view(0, &["a"])?;                   // replica 0 showed this part of its list
+//! recording.delivered(&[none, none])?;          // by now all has arrived everywhere, and both lists are empty
+//! recording.assert_accepted();                  // in a test: asks the program, and panics with an explanation; or
 //! recording.save("session.trace")?;             // the trace as a file, for tools/explain
-//! println!("{}", recording.judge().unwrap());   // asks the program: its report as JSON
+//! println!("{}", recording.verdict().unwrap()); // asks the program: what it says, as an enum
+//! println!("{}", recording.judge().unwrap());   // its report as JSON, with warnings
 //! println!("{}", recording.explain().unwrap()); // what that means, in words
 //! ```
 //!
 //! Where updates have vector clocks, `received_clock` writes the receipts, and refuses what is not causal.
 //!
 //! Each call that a trace can't say is `Refused`, and leaves the recording as it was.
+//!
+//! An explanation names the line of code that made each call. Where a function of yours makes the calls for others, put
+//! `#[track_caller]` before it, and it names theirs.
 #![allow(dead_code)]
 
-use std::collections::{HashMap, HashSet};
+use std::collections::{BTreeSet, HashMap, HashSet};
+use std::ffi::OsString;
 use std::fmt::{self, Display, Write as _};
-use std::fs::File;
+use std::fs::{self, File};
 use std::io::{self, Write as _};
 use std::panic::Location;
-use std::path::Path;
+use std::path::{Path, PathBuf};
 use std::process::{Command, Output, Stdio};
-use std::sync::Arc;
+use std::sync::atomic::{AtomicUsize, Ordering};
+use std::sync::{Arc, Mutex};
 
 const MOST_REPLICAS: usize = 16;
 const MOST_ENTRIES: usize = 16384;
@@ -37,7 +47,15 @@ const MOST_PLACES: usize = 262_144;
 const MOST_BYTES: usize = 32;
 const UUID_BYTES: usize = 36;
 const HEAD_LINES: usize = 2; // of a trace, before its entries
-const WARNINGS: &str = "\nWhat this verdict may hide\n"; // the title of what stands last in the explainer's words
+const LANGUAGE: &str = "rust"; // by its name for the explainer
+const WARNINGS: &str = "\nWhat this verdict may hide\n"; // a title in the explainer's words
+const ONE_LOG: &str = "one replica's log is no recording: merge the logs first";
+const FAILED_TRACES: &str = "failed_traces"; // the folder of traces that were not accepted in tests
+const MOST_LINKS: usize = 40; // that are followed, one behind the other
+const MOST_NOTES: usize = 20;
+const MOST_LETTERS: usize = 200; // of a note
+const MOST_TOLD: usize = 5; // deletes, or inserts, that warnings tell one by one
+const MOST_CHANGES: usize = 3; // that warnings tell one by one of those that a replica lacks, or has made nothing of
 const MORE_CHANGES: &str = "; if the update carried more than one change, say how many (`changes`)";
 
 /// Why a call was refused: no trace can say it, or a limit of traces is reached.
@@ -58,6 +76,10 @@ pub enum Refused {
     NoChange { author: usize },
     Carried { changes: u32, most: u32 },
     NotCausal { replica: usize, change: (usize, u32), lacking: (usize, u32) },
+    Lists { lists: usize, replicas: usize },
+    Others,
+    Note,
+    Notes,
     EntriesFull { replica: usize },
     InsertsFull { replica: usize },
     LongResponse { names: usize },
@@ -107,10 +129,19 @@ impl Display for Refused {
             }
             Refused::NotCausal { replica, change: (author, n), lacking: (other, lacking) } => {
                 write!(f, "not causal: {author}.{n} was applied at replica {replica} before {other}.{lacking}, ")?;
-                write!(f, "which replica {author} had seen; {other}.{lacking} has to arrive first, or in the same update")?;
+                write!(f, "which replica {author} had seen; {other}.{lacking} has to arrive first, ")?;
+                write!(f, "or in the same update, or the call for its update is missing")?;
                 let more = if other == author { MORE_CHANGES } else { "" };
                 f.write_str(more)
             }
+            Refused::Lists { lists, replicas } => {
+                write!(f, "delivered wants the list of each of the {replicas} replicas, not of {lists}")
+            }
+            Refused::Others => {
+                write!(f, "one replica's log can't say that everything has arrived: the others are recorded elsewhere")
+            }
+            Refused::Note => write!(f, "a note is one line of 1 to {MOST_LETTERS} printable characters"),
+            Refused::Notes => write!(f, "a recording has {MOST_NOTES} notes, the most that it takes"),
             Refused::EntriesFull { replica } => {
                 write!(f, "replica {replica} has {MOST_ENTRIES} entries, the most that a trace takes")
             }
@@ -130,6 +161,84 @@ impl Display for Refused {
 
 impl std::error::Error for Refused {}
 
+/// An operation's name: its replica, and its number there, from 1.
+pub type Operation = (usize, u32);
+
+/// What the program says of a recording. Its words are those of the report, as `contents 2.1`.
+#[derive(Clone, Debug, PartialEq, Eq)]
+pub enum Verdict {
+    /// One order of all elements follows every response. Here is the first such order, and what that may hide.
+    Accepted { order: Vec<String>, warnings: Vec<String> },
+    /// As many responses as there are steps can't be right together, and any fewer can. With two, the weak list specification fails
+    /// as well as the strong one; with more, it holds.
+    Refused { steps: Vec<Step>, weak: bool },
+    /// The response is not what was visible to the operation.
+    Contents { at: Operation },
+    /// The element does not stand where it was asked for.
+    Position { at: Operation },
+    /// Two operations insert the same name; nothing else is judged.
+    Doubled { first: Operation, again: Operation },
+}
+
+/// An operation whose response shows one element before another. The steps of a refusal lead round a cycle.
+#[derive(Clone, Debug, PartialEq, Eq)]
+pub struct Step {
+    pub from: String,
+    pub to: String,
+    pub shown: Operation,
+    pub response: Vec<String>,
+}
+
+impl Verdict {
+    pub fn is_accepted(&self) -> bool {
+        matches!(self, Verdict::Accepted { .. })
+    }
+
+    /// The verdict of the report as text; of an accepted one without warnings.
+    fn read(report: &str) -> Option<Verdict> {
+        let lines: Vec<&str> = report.lines().collect();
+        let words: Vec<&str> = lines.get(1)?.split(' ').collect();
+        let after = |begin: &str| lines.iter().find_map(|line| line.strip_prefix(begin));
+        let list = |names: &str| names.split_ascii_whitespace().map(str::to_string).collect();
+        match words[..] {
+            ["accepted"] => Some(Verdict::Accepted { order: list(after("order :")?), warnings: vec![] }),
+            ["refused", count] => {
+                let steps = lines.iter().filter_map(|line| line.strip_prefix("step "));
+                let steps: Option<Vec<Step>> = steps.map(Step::read).collect();
+                let steps = steps.filter(|steps| steps.len().to_string() == count)?;
+                Some(Verdict::Refused { steps, weak: after("weak ")? == "yes" })
+            }
+            ["contents", at] => Some(Verdict::Contents { at: operation(at)? }),
+            ["position", at] => Some(Verdict::Position { at: operation(at)? }),
+            ["doubled", first, again] => Some(Verdict::Doubled { first: operation(first)?, again: operation(again)? }),
+            _ => None,
+        }
+    }
+}
+
+impl Step {
+    fn read(line: &str) -> Option<Step> {
+        let (head, names) = line.split_once(" :")?;
+        let response = names.split_ascii_whitespace().map(str::to_string).collect();
+        match head.split(' ').collect::<Vec<&str>>()[..] {
+            [from, to, shown] => Some(Step { from: from.into(), to: to.into(), shown: operation(shown)?, response }),
+            _ => None,
+        }
+    }
+}
+
+impl Display for Verdict {
+    fn fmt(&self, f: &mut fmt::Formatter) -> fmt::Result {
+        match self {
+            Verdict::Accepted { .. } => f.write_str("accepted"),
+            Verdict::Refused { steps, .. } => write!(f, "refused {}", steps.len()),
+            Verdict::Contents { at } => write!(f, "contents {}.{}", at.0, at.1),
+            Verdict::Position { at } => write!(f, "position {}.{}", at.0, at.1),
+            Verdict::Doubled { first, again } => write!(f, "doubled {}.{} {}.{}", first.0, first.1, again.0, again.1),
+        }
+    }
+}
+
 #[derive(Clone)]
 struct Replica {
     entries: usize,
@@ -143,7 +252,7 @@ struct Replica {
     pasts: Vec<Arc<[u32]>>,
 }
 
-/// What became of ids that might come to the same name: those of more than 32 bytes, and names that look like a short one.
+/// What became of ids that might come to the same name: those that are no names, and names that look like what these become.
 #[derive(Clone, Default)]
 struct Names {
     ids: HashMap<String, String>,
@@ -161,6 +270,7 @@ pub struct Recording {
     replicas: Vec<Replica>,
     only: Option<usize>,
     names: Names,
+    notes: Vec<String>,
 }
 
 impl Recording {
@@ -172,7 +282,8 @@ impl Recording {
         let others: Arc<[u32]> = vec![0; replicas].into();
         let new = Replica { entries: 0, operations: 0, inserts: 0, places: 0, changes: vec![], others, pasts: vec![] };
         let callers = Vec::new();
-        Ok(Recording { lines, callers, replicas: vec![new; replicas], only: None, names: Names::default() })
+        let names = Names::default();
+        Ok(Recording { lines, callers, replicas: vec![new; replicas], only: None, names, notes: vec![] })
     }
 
     /// The log of one replica of so many, on its own machine.
@@ -263,12 +374,46 @@ impl Recording {
         let has = self.has(replica);
         let last = carried[carried.len() - 1];
         for &n in carried.iter().filter(|&&n| n > has[author]) {
-            self.check_causal(replica, author, n, clock, carried)?;
+            self.check_causal(replica, author, n, clock, &has, carried[0])?;
         }
         if last > has[author] {
             self.room(replica)?;
             self.receipt(replica, author, last);
         }
+        Ok(())
+    }
+
+    /// By now everything has arrived everywhere, and each replica, from 0 upward, shows its list of these. Writes for each replica
+    /// the receipts that are missing, and a read. So a change that an editor has lost, or still holds back, is `contents` there.
+    #[track_caller]
+    pub fn delivered<L: AsRef<[N]>, N: AsRef<str>>(&mut self, lists: &[L]) -> Result<(), Refused> {
+        if self.only.is_some() {
+            return Err(Refused::Others);
+        }
+        let replicas = self.replicas.len();
+        if lists.len() != replicas {
+            return Err(Refused::Lists { lists: lists.len(), replicas });
+        }
+        let before = self.mark();
+        for (replica, list) in lists.iter().enumerate() {
+            if let Err(why) = self.delivered_at(replica, list.as_ref()) {
+                self.undo(before);
+                return Err(why);
+            }
+        }
+        Ok(())
+    }
+
+    /// Keeps a word of yours on the whole recording, such as the seed of a random session: `save` writes it, and `explain` names it.
+    pub fn note(&mut self, text: &str) -> Result<(), Refused> {
+        let letters = text.chars().count();
+        if !(1..=MOST_LETTERS).contains(&letters) || !text.chars().all(is_printable) {
+            return Err(Refused::Note);
+        }
+        if self.notes.len() == MOST_NOTES {
+            return Err(Refused::Notes);
+        }
+        self.notes.push(text.to_string());
         Ok(())
     }
 
@@ -282,7 +427,7 @@ impl Recording {
         Ok(pairs.map(|(of, have)| of.changes.partition_point(|&n| n <= have) as u32).collect())
     }
 
-    /// Each id of more than 32 bytes: its name in the trace, and the id.
+    /// Each id that is no name itself: its name in the trace, and the id.
     pub fn ids(&self) -> Vec<(&str, &str)> {
         let pairs = self.names.order.iter().map(|name| (name.as_str(), self.names.ids[name].as_str()));
         pairs.filter(|(name, id)| name != id).collect()
@@ -293,79 +438,181 @@ impl Recording {
         &self.lines
     }
 
-    /// Writes the text into a file of this name; and first, into one with `.lines` behind the name, how many lines it has, so that
-    /// the tools notice where the end of the file is lost. In the end it writes there from where in your code each line was
-    /// recorded. A pipe or a device has no such file beside it.
-    pub fn save(&self, path: impl AsRef<Path>) -> io::Result<()> {
-        let mut file = File::create(&path)?;
-        if !file.metadata()?.is_file() {
-            return file.write_all(self.lines.as_bytes());
-        }
-        let mut name = path.as_ref().as_os_str().to_owned();
-        name.push(".lines");
-        let mut beside = File::create(name)?;
-        writeln!(beside, "{}", self.lines.matches('\n').count())?;
-        file.write_all(self.lines.as_bytes())?;
-        let places: String = self.places().map(|(line, place)| format!("{line} {place}\n")).collect();
-        beside.write_all(places.as_bytes())
+    /// How many lines the text has. A debugger stops behind line N at the statement in
+    /// `if recording.lines() == N { eprintln!("here") }`.
+    pub fn lines(&self) -> usize {
+        self.callers.len() + HEAD_LINES
     }
 
-    /// The program's report on this recording, as JSON. The program is that of $DOMEPEELER, or `domepeeler`.
+    /// Writes the text into a file of this name; and first, into one with `.lines` behind the name, how many lines it has, so that
+    /// the tools notice where the end of the file is lost, the notes, and from where in your code each line was recorded. Each
+    /// appears whole, or what stood there stays. A pipe or a device has no such file beside it.
+    pub fn save(&self, path: impl AsRef<Path>) -> io::Result<()> {
+        let path = path.as_ref();
+        if fs::metadata(path).map_or(false, |about| !about.is_file()) {
+            return File::create(path)?.write_all(self.lines.as_bytes());
+        }
+        let mut beside = path.as_os_str().to_owned();
+        beside.push(".lines");
+        let trace = Fresh::written(path, &self.lines)?;
+        Fresh::written(Path::new(&beside), &self.beside())?.put()?;
+        trace.put()
+    }
+
+    /// What an accepted verdict on this recording may hide, a line each, with the places in your code: a change that never arrived,
+    /// a replica that shows nothing, a delete of what nothing inserts. It asks no program, and takes time linear in the text.
+    pub fn warnings(&self) -> Result<Vec<String>, String> {
+        if self.only.is_some() {
+            return Err(ONE_LOG.to_string());
+        }
+        Ok(Warned::of(self).all())
+    }
+
+    /// The program's report on this recording, as JSON. It has one more key, `warnings`: where the verdict is accepted a list of what
+    /// that may hide, and else an empty one. The program is that of $DOMEPEELER, or `domepeeler`.
     pub fn judge(&self) -> Result<String, String> {
         self.judge_by(&named("DOMEPEELER", "domepeeler"))
     }
 
     /// The report of the program at this path.
     pub fn judge_by(&self, program: &str) -> Result<String, String> {
-        let done = self.ask(program, &["verdict", "--json", "-"], "the program's path in DOMEPEELER")?;
-        if done.stdout.starts_with(b"{") { printed(program, done) } else { Err(ended(program, &done)) }
+        let done = self.ask(program, &["verdict", "--json", "-"], "the program's path in DOMEPEELER", "no report")?;
+        if !done.stdout.starts_with(b"{") {
+            return Err(ended(program, &done, "no report"));
+        }
+        let mut report = printed(program, done)?;
+        let end = report.rfind('}').filter(|_| report.contains("\"verdict\":\""));
+        let end = end.ok_or_else(|| format!("{program} printed a report without a verdict"))?;
+        let is_accepted = report.contains("\"verdict\":\"accepted\"");
+        let warnings = if is_accepted { self.warnings()? } else { vec![] };
+        let told: Vec<String> = warnings.iter().map(|warning| quoted(warning)).collect();
+        report.insert_str(end, &format!(",\"warnings\":[{}]", told.join(",")));
+        Ok(report)
     }
 
-    /// What the report means, in words, with the lines of your code, and at the end the ids of the numbered names. The tool is that
-    /// of $DOMEPEELER_EXPLAIN, or `domepeeler-explain`, beside the program of $DOMEPEELER or on the PATH.
+    /// The program's verdict on this recording. The program is that of $DOMEPEELER, or `domepeeler`.
+    pub fn verdict(&self) -> Result<Verdict, String> {
+        self.verdict_by(&named("DOMEPEELER", "domepeeler"))
+    }
+
+    /// The verdict of the program at this path.
+    pub fn verdict_by(&self, program: &str) -> Result<Verdict, String> {
+        let done = self.ask(program, &["verdict", "-"], "the program's path in DOMEPEELER", "no report")?;
+        let read = Verdict::read(&String::from_utf8_lossy(&done.stdout));
+        let mut verdict = read.ok_or_else(|| ended(program, &done, "no report"))?;
+        if let Verdict::Accepted { warnings, .. } = &mut verdict {
+            *warnings = self.warnings()?;
+        }
+        Ok(verdict)
+    }
+
+    /// For a test: panics unless the program accepts the recording, with the words of `explain`. The trace is then saved below the folder
+    /// `failed_traces`, by the name of the test, and where no tool explains it, the verdict stands in the place of the words. What an
+    /// accepted verdict may hide goes to standard error; but a recording of nothing panics.
+    #[track_caller]
+    pub fn assert_accepted(&self) {
+        let path = failed_trace(Location::caller());
+        match self.verdict() {
+            Err(why) => panic!("{why}"),
+            Ok(Verdict::Accepted { warnings, .. }) if self.callers.is_empty() => panic!("{}", warnings.join("\n")),
+            Ok(Verdict::Accepted { warnings, .. }) => {
+                for warning in warnings {
+                    eprintln!("domepeeler: {warning}");
+                }
+            }
+            Ok(verdict) => {
+                let said = self.explain().unwrap_or_else(|why| format!("{verdict}\n{why}\n"));
+                match self.save_failed(&path) {
+                    Ok(()) => panic!("{said}\nThe trace is saved: {}", path.display()),
+                    Err(why) => panic!("{said}\nThe trace can't be saved: {}: {why}", path.display()),
+                }
+            }
+        }
+    }
+
+    /// Saves the trace in a folder that git does not look into.
+    fn save_failed(&self, path: &Path) -> io::Result<()> {
+        fs::create_dir_all(FAILED_TRACES)?;
+        let ignored = Path::new(FAILED_TRACES).join(".gitignore");
+        if !ignored.exists() {
+            fs::write(ignored, "*\n")?;
+        }
+        self.save(path)
+    }
+
+    /// What the report means, in words, with the lines of your code, and at the end the ids of the numbered names and the notes. The
+    /// tool is that of $DOMEPEELER_EXPLAIN, or `domepeeler-explain`, beside the program of $DOMEPEELER or on the PATH.
     pub fn explain(&self) -> Result<String, String> {
         self.explain_by(&named("DOMEPEELER_EXPLAIN", &beside_program("domepeeler-explain")))
     }
 
     /// The words of the tool at this path.
     pub fn explain_by(&self, explainer: &str) -> Result<String, String> {
-        let done = self.ask(explainer, &["-"], "the tool's path in DOMEPEELER_EXPLAIN")?;
+        let words = ["--language", LANGUAGE, "-"];
+        let done = self.ask(explainer, &words, "the tool's path in DOMEPEELER_EXPLAIN", "no words")?;
         if done.stdout.is_empty() {
-            return Err(ended(explainer, &done));
+            return Err(ended(explainer, &done, "no words"));
         }
         let said = printed(explainer, done)?;
         let words: HashSet<&str> = said.split(|letter: char| !letter.is_ascii_alphanumeric()).collect();
         let ids = self.ids().into_iter().filter(|(name, _)| words.contains(name) && name.starts_with("long"));
-        let told: String = ids.map(|(name, id)| format!("  {name}: {id}\n")).collect();
-        let title = if told.is_empty() { "" } else { "\nIds that were too long for a name\n" };
-        Ok(self.with_places(&said) + title + &told)
+        let long = section("Ids that were too long for a name", ids.map(|(name, id)| format!("{name}: {id}")));
+        let noted = section("Noted", self.notes.iter().cloned());
+        let code = section("In your code", self.places_named(&said));
+        Ok(self.with_places(&said) + &code + &long + &noted)
     }
 
-    /// The words, and behind those on the verdict the places of the lines of the trace that they name.
+    /// The words, with the place behind each line that stands in brackets in what the verdict may hide.
     fn with_places(&self, said: &str) -> String {
+        let here = std::env::current_dir().unwrap_or_default();
+        let from = said.find(WARNINGS).map_or(said.len(), |at| at + WARNINGS.len());
+        let to = said[from..].find("\n\n").map_or(said.len(), |at| from + at);
+        let mut told = said[..from].to_string();
+        for (count, part) in said[from..to].split("(line ").enumerate() {
+            let line = part.split_once(')').filter(|_| count > 0).and_then(|(digits, rest)| Some((digits.parse().ok()?, rest)));
+            let caller = line.and_then(|(line, rest): (usize, _)| Some((line, self.callers.get(line.checked_sub(HEAD_LINES + 1)?)?, rest)));
+            told += if count > 0 { "(line " } else { "" };
+            match caller {
+                Some((line, caller, rest)) => told += &format!("{line}, {}){rest}", place(caller, &here)),
+                None => told += part,
+            }
+        }
+        told + &said[to..]
+    }
+
+    /// The places of the lines of the trace that the words name, each once with all its lines.
+    fn places_named(&self, said: &str) -> impl Iterator<Item = String> {
         let named = lines_named(said);
-        let places = self.places().filter(|(line, _)| named.contains(line));
-        let told: String = places.map(|(line, place)| format!("  line {line}: {place}\n")).collect();
-        let title = if told.is_empty() { "" } else { "\nIn your code\n" };
-        let (front, rest) = said.split_at(said.find(WARNINGS).unwrap_or(said.len()));
-        format!("{front}{title}{told}{rest}")
+        let mut found: Vec<(String, Vec<usize>)> = Vec::new();
+        let mut at: HashMap<String, usize> = HashMap::new();
+        for (line, place) in self.places().filter(|(line, _)| named.contains(line)) {
+            let of = *at.entry(place.clone()).or_insert(found.len());
+            if of == found.len() {
+                found.push((place, vec![]));
+            }
+            found[of].1.push(line);
+        }
+        let told = |(place, lines): (String, Vec<usize>)| format!("{place}: line{} {}", plural(lines.len()), joined(&lines));
+        found.into_iter().map(told)
     }
 
     /// By line of the trace the place in your code.
     fn places(&self) -> impl Iterator<Item = (usize, String)> + '_ {
         let here = std::env::current_dir().unwrap_or_default();
-        let place = move |caller: &Location| {
-            let file = Path::new(caller.file());
-            let near = file.strip_prefix(&here).unwrap_or(file).to_string_lossy();
-            near.replace(char::is_control, "?") + &format!(":{}", caller.line())
-        };
-        self.callers.iter().enumerate().map(move |(at, caller)| (at + HEAD_LINES + 1, place(caller)))
+        self.callers.iter().enumerate().map(move |(at, caller)| (at + HEAD_LINES + 1, place(caller, &here)))
     }
 
-    /// How a program ended, by itself and with a status that says that it has answered.
-    fn ask(&self, program: &str, words: &[&str], named: &str) -> Result<Output, String> {
+    /// What stands in the file beside the trace.
+    fn beside(&self) -> String {
+        let notes: String = self.notes.iter().map(|note| format!("note {note}\n")).collect();
+        let places: String = self.places().map(|(line, place)| format!("{line} {place}\n")).collect();
+        format!("{}\nlanguage {LANGUAGE}\n{notes}{places}", self.lines())
+    }
+
+    /// How a program ended, by itself and with a status that says that it has answered, which is else lacking.
+    fn ask(&self, program: &str, words: &[&str], named: &str, lacking: &str) -> Result<Output, String> {
         if self.only.is_some() {
-            return Err("one replica's log is no recording: merge the logs first".to_string());
+            return Err(ONE_LOG.to_string());
         }
         let failed = |why: io::Error| format!("{program} cannot be run ({why}): name {named}");
         let mut child = Command::new(program)
@@ -375,12 +622,49 @@ impl Recording {
             .stderr(Stdio::piped())
             .spawn()
             .map_err(failed)?;
-        // The program reads all before it writes; where it ends early, its status says why.
-        let written = child.stdin.take().map(|mut input| input.write_all(self.lines.as_bytes()));
-        let done = child.wait_with_output().map_err(failed)?;
+        let input = child.stdin.take();
+        // In a thread, as another program than the right one may write before it has read all; where it ends early, its status says why.
+        let (done, written) = std::thread::scope(|scope| {
+            let writer = scope.spawn(|| input.map(|mut input| input.write_all(self.lines.as_bytes())));
+            (child.wait_with_output(), writer.join())
+        });
+        let done = done.map_err(failed)?;
         match (done.status.code(), written) {
-            (Some(0 | 1), Some(Ok(()))) => Ok(done),
-            _ => Err(ended(program, &done)),
+            (Some(0 | 1), Ok(Some(Ok(())))) => Ok(done),
+            (Some(0 | 1), _) if done.stdout.is_empty() => Ok(done),
+            (Some(status @ (0 | 1)), _) => Err(format!("{program} ended with status {status} before it had read the recording")),
+            _ => Err(ended(program, &done, lacking)),
+        }
+    }
+
+    /// The receipts that the replica lacks, each of the last change of an author, and a read of its list.
+    #[track_caller]
+    fn delivered_at<N: AsRef<str>>(&mut self, replica: usize, list: &[N]) -> Result<(), Refused> {
+        for author in (0..self.replicas.len()).filter(|&author| author != replica) {
+            let last = self.replicas[author].changes.last().copied().unwrap_or(0);
+            if last > self.replicas[replica].others[author] {
+                self.room(replica)?;
+                self.receipt(replica, author, last);
+            }
+        }
+        self.said(replica, "read", None, list).map(drop)
+    }
+
+    /// Where the recording stands now.
+    fn mark(&self) -> Mark {
+        let of = |own: &Replica| (own.entries, own.operations, own.places, Arc::clone(&own.others));
+        let replicas = self.replicas.iter().map(of).collect();
+        Mark { bytes: self.lines.len(), entries: self.callers.len(), names: self.names.order.len(), replicas }
+    }
+
+    /// Forgets the receipts and reads since then.
+    fn undo(&mut self, mark: Mark) {
+        self.lines.truncate(mark.bytes);
+        self.callers.truncate(mark.entries);
+        self.names.forget(mark.names);
+        for (own, (entries, operations, places, others)) in self.replicas.iter_mut().zip(mark.replicas) {
+            own.pasts.truncate(operations as usize);
+            (own.entries, own.operations, own.places, own.others) = (entries, operations, places, others);
         }
     }
 
@@ -500,24 +784,24 @@ impl Recording {
         Ok(())
     }
 
-    /// The replica has, or gets with the carried changes, all that the author had seen at its operation n.
+    /// The replica, which has so many operations of each, has or gets with the carried changes, which are the author's from the
+    /// first one on, all that the author had seen at its operation n.
     fn check_causal(
         &self,
         replica: usize,
         author: usize,
         n: u32,
         clock: &[u32],
-        carried: &[u32],
+        has: &[u32],
+        first: u32,
     ) -> Result<(), Refused> {
-        let has = self.has(replica);
         let past = &self.replicas[author].pasts[n as usize - 1];
         for (other, of) in self.replicas.iter().enumerate() {
             let by_receipts = if other == author { n - 1 } else { past[other] };
             let by_clock = clock[other].checked_sub(1).map_or(0, |place| of.changes[place as usize]);
             let last = by_receipts.max(by_clock);
-            let from = of.changes.partition_point(|&one| one <= has[other]);
-            let news = &of.changes[from..of.changes.partition_point(|&one| one <= last).max(from)];
-            if let Some(&lacking) = news.iter().find(|one| other != author || !carried.contains(one)) {
+            let new = of.changes.get(of.changes.partition_point(|&one| one <= has[other]));
+            if let Some(&lacking) = new.filter(|&&one| one <= last && (other != author || one < first)) {
                 return Err(Refused::NotCausal { replica, change: (author, n), lacking: (other, lacking) });
             }
         }
@@ -541,23 +825,279 @@ impl Recording {
     }
 }
 
+/// Where a recording stands: bytes of its text, entries, names of ids; and of each replica what a receipt and a read change.
+struct Mark {
+    bytes: usize,
+    entries: usize,
+    names: usize,
+    replicas: Vec<(usize, u32, usize, Arc<[u32]>)>,
+}
+
+/// What warnings are made of: of each replica what its entries in the text say, and what is told of single deletes and inserts.
+struct Warned<'a> {
+    recording: &'a Recording,
+    replicas: Vec<Entries<'a>>,
+    of_nothing: Vec<String>,
+    past_end: Vec<String>,
+    here: PathBuf,
+}
+
+/// The lines of a replica's changes; whether it has receipts, and which came since its last operation, each as the author, the
+/// operation's number and the line; and the names of the list that it showed last.
+#[derive(Default)]
+struct Entries<'a> {
+    lines: Vec<usize>,
+    is_receiving: bool,
+    since: Vec<(usize, u32, usize)>,
+    shown: Option<&'a str>,
+}
+
+impl<'a> Warned<'a> {
+    fn of(recording: &'a Recording) -> Self {
+        let replicas = recording.replicas.iter().map(|_| Entries::default()).collect();
+        let here = std::env::current_dir().unwrap_or_default();
+        let mut warned = Warned { recording, replicas, of_nothing: vec![], past_end: vec![], here };
+        let mut inserted = HashSet::new();
+        let mut deletes = Vec::new();
+        let mut operations = vec![0; recording.replicas.len()];
+        for (at, entry) in recording.lines.lines().skip(HEAD_LINES).enumerate() {
+            let line = at + HEAD_LINES + 1;
+            let (head, names) = entry.split_once(':').unwrap_or((entry, ""));
+            let words: Vec<&str> = head.split_ascii_whitespace().collect();
+            let replica = number(words[0]) as usize;
+            let own = &mut warned.replicas[replica];
+            if words[1] == "recv" {
+                own.is_receiving = true;
+                own.since.push((number(words[2]) as usize, number(words[3]), line));
+                continue;
+            }
+            operations[replica] += 1;
+            let named = format!("line {line}, {replica}.{}: replica {replica}", operations[replica]);
+            own.since.clear();
+            if words[1] != "view" {
+                own.shown = Some(names);
+            }
+            match words[1] {
+                "ins" => {
+                    own.lines.push(line);
+                    inserted.insert(words[2]);
+                    let before = names.matches(' ').count() as i64 - 1;
+                    if i64::from(number(words[3])) > before {
+                        warned.past_end.push(format!(
+                            "{named} inserted {} at position {} of a list of {before}, so at its end: \
+                             is that the position that was asked for?",
+                            words[2], words[3]
+                        ));
+                    }
+                }
+                "del" => {
+                    own.lines.push(line);
+                    deletes.push((words[2], named));
+                }
+                _ => {}
+            }
+        }
+        for (name, named) in deletes.into_iter().filter(|(name, _)| !inserted.contains(name)) {
+            warned.of_nothing.push(format!(
+                "{named} deleted {name}, which no line inserts, so no response shows whether it was deleted: \
+                 is that its name, and was its insert recorded?"
+            ));
+        }
+        warned
+    }
+
+    fn all(self) -> Vec<String> {
+        if self.recording.callers.is_empty() {
+            return vec!["nothing was recorded: the trace has no entry, so the verdict says nothing of an editor".to_string()];
+        }
+        let mut all = self.different();
+        all.extend(self.unheard());
+        all.extend(self.unshown());
+        all.extend(self.without_operation());
+        all.extend(some(&self.of_nothing, "delete", "of what no line inserts"));
+        all.extend(some(&self.past_end, "insert", "past the end of a list"));
+        all
+    }
+
+    /// The replicas that did something, each with how many operations of each replica it has.
+    fn acting(&self) -> impl Iterator<Item = (usize, Vec<u32>)> + '_ {
+        let replicas = self.recording.replicas.iter().enumerate();
+        replicas.filter(|(_, own)| own.operations > 0).map(|(replica, _)| (replica, self.recording.has(replica)))
+    }
+
+    fn without_operation(&self) -> impl Iterator<Item = String> + '_ {
+        let replicas = self.recording.replicas.iter().zip(&self.replicas).enumerate();
+        replicas.filter(|(_, (own, _))| own.operations == 0).map(|(replica, (_, entries))| {
+            let has = if entries.is_receiving { "receipts, but no operation" } else { "no entry" };
+            format!("replica {replica} has {has}: nothing that it showed is judged")
+        })
+    }
+
+    /// Whether the last lists that replicas showed differ as sets, and which changes never arrived at which replica.
+    fn different(&self) -> Vec<String> {
+        let mut lists: Vec<(BTreeSet<&str>, Vec<usize>)> = Vec::new();
+        for (replica, entries) in self.replicas.iter().enumerate() {
+            let list = entries.shown.map(|shown| shown.split_ascii_whitespace().collect());
+            match list.map(|list| (lists.iter().position(|(other, _)| *other == list), list)) {
+                Some((Some(at), _)) => lists[at].1.push(replica),
+                Some((None, list)) => lists.push((list, vec![replica])),
+                None => {}
+            }
+        }
+        let lacking: Vec<_> = self.acting().map(|(replica, has)| (replica, self.lacked(replica, &has))).collect();
+        let lacking: Vec<_> = lacking.into_iter().filter(|(_, changes)| !changes.is_empty()).collect();
+        let never: Vec<String> =
+            lacking.iter().map(|(replica, changes)| format!("{} never arrived at replica {replica}", listed(changes))).collect();
+        let never = joined(&never);
+        let count: usize = lacking.iter().map(|(_, changes)| changes.len()).sum();
+        let lost = if count == 1 { "it was lost or is still held back" } else { "they were lost or are still held back" };
+        if lists.len() < 2 {
+            let told = format!("by this recording {never}. If everything was delivered, {lost}");
+            return if count == 0 { vec![] } else { vec![told] };
+        }
+        let mut replicas: Vec<usize> = lists.iter().flat_map(|(_, of)| of).copied().collect();
+        replicas.sort_unstable();
+        let same: Vec<String> =
+            lists.iter().filter(|(_, of)| of.len() > 1).map(|(_, of)| format!("{} the same one", joined(of))).collect();
+        let same = if same.is_empty() { String::new() } else { format!(" ({})", joined(&same)) };
+        let told = format!("in the end replicas {} show different lists{same}", joined(&replicas));
+        vec![if count == 0 { told } else { format!("{told}: {never} by this recording. If everything was delivered, {lost}") }]
+    }
+
+    /// The changes that never arrived at the replica, with their lines; none of an author of which it never hears.
+    fn lacked(&self, replica: usize, has: &[u32]) -> Vec<String> {
+        let mut found = Vec::new();
+        for (author, of) in self.recording.replicas.iter().enumerate().filter(|(author, _)| *author != replica) {
+            let heard = of.changes.partition_point(|&n| n <= has[author]);
+            if heard > 0 {
+                let lines = self.replicas[author].lines[heard..].iter();
+                found.extend(lines.zip(&of.changes[heard..]).map(|(&line, n)| (line, author, *n)));
+            }
+        }
+        found.sort_unstable();
+        found.into_iter().map(|(line, author, n)| format!("{author}.{n} {}", self.line(line))).collect()
+    }
+
+    /// Of replicas that did something, and never heard of a change of another.
+    fn unheard(&self) -> Vec<String> {
+        let mut told = Vec::new();
+        for (replica, has) in self.acting() {
+            let is_unheard = |(author, of): &(usize, &Replica)| *author != replica && of.changes.first() > Some(&has[*author]);
+            let others: Vec<usize> =
+                self.recording.replicas.iter().enumerate().filter(is_unheard).map(|(author, _)| author).collect();
+            if !others.is_empty() {
+                told.push(format!(
+                    "replica {replica} never hears of replica{} {}: no receipt brings it an insert or a delete from there, \
+                     so nothing shows what it makes of these. At the end of a session let everyone receive everything, and read",
+                    plural(others.len()),
+                    joined(&others)
+                ));
+            }
+        }
+        told
+    }
+
+    /// Of replicas whose last receipts bring changes, and are followed by nothing that they show.
+    fn unshown(&self) -> Vec<String> {
+        let mut told = Vec::new();
+        for (replica, own) in self.recording.replicas.iter().enumerate().filter(|(_, own)| own.operations > 0) {
+            let mut has = own.pasts[own.pasts.len() - 1].to_vec();
+            has[replica] = own.operations;
+            let mut news = Vec::new();
+            for &(author, n, line) in &self.replicas[replica].since {
+                let mut is_new = false;
+                for (other, of) in self.recording.replicas.iter().enumerate() {
+                    let seen = if other == author { n } else { self.recording.replicas[author].pasts[n as usize - 1][other] };
+                    let next = of.changes.get(of.changes.partition_point(|&one| one <= has[other]));
+                    is_new |= next.map_or(false, |&next| next <= seen);
+                    has[other] = has[other].max(seen);
+                }
+                if is_new {
+                    news.push(format!("{author}.{n} {}", self.line(line)));
+                }
+            }
+            if !news.is_empty() {
+                let what = if news.len() == 1 { "that" } else { "them" };
+                told.push(format!(
+                    "replica {replica} received {} last, and nothing shows what it made of {what}: let each replica read at the end",
+                    listed(&news)
+                ));
+            }
+        }
+        told
+    }
+
+    /// A line of the trace, with its place in your code.
+    fn line(&self, line: usize) -> String {
+        format!("(line {line}, {})", place(self.recording.callers[line - HEAD_LINES - 1], &self.here))
+    }
+}
+
+/// A file of its own beside the one that it is to become, so that this one appears whole or stays what it was.
+struct Fresh {
+    path: PathBuf,
+    becomes: PathBuf,
+    is_put: bool,
+}
+
+impl Fresh {
+    fn written(path: &Path, text: &str) -> io::Result<Fresh> {
+        static COUNT: AtomicUsize = AtomicUsize::new(0);
+        let becomes = behind_links(path);
+        let (path, mut file) = loop {
+            let number = COUNT.fetch_add(1, Ordering::Relaxed);
+            let name = OsString::from(format!(".domepeeler-{}-{number}", std::process::id()));
+            let path = becomes.with_file_name(name);
+            match File::options().write(true).create_new(true).open(&path) {
+                Err(why) if why.kind() == io::ErrorKind::AlreadyExists => continue,
+                opened => break (path, opened?),
+            }
+        };
+        let fresh = Fresh { path, becomes, is_put: false };
+        if let Ok(about) = fs::metadata(&fresh.becomes) {
+            file.set_permissions(about.permissions())?;
+        }
+        file.write_all(text.as_bytes())?;
+        Ok(fresh)
+    }
+
+    fn put(mut self) -> io::Result<()> {
+        fs::rename(&self.path, &self.becomes)?;
+        self.is_put = true;
+        Ok(())
+    }
+}
+
+impl Drop for Fresh {
+    fn drop(&mut self) {
+        if !self.is_put {
+            let _ = fs::remove_file(&self.path); // the error that led here is the one to tell
+        }
+    }
+}
+
 impl Names {
-    /// The name in the trace: what is given, or if that has more than 32 bytes, a short name that no other id has.
+    /// The name in the trace: what is given, or if that is no name but an id, a name that no other id has.
     fn name(&mut self, given: &str, is_log: bool) -> Result<String, Refused> {
         if let Some(name) = self.short.get(given) {
             return Ok(name.clone());
         }
         if is_name(given) {
-            if given.len() == MOST_BYTES || given.starts_with("long") {
-                self.keep(given, given)?; // other names are never short for an id
+            if given.len() == MOST_BYTES || given.starts_with("long") || given.contains('-') {
+                self.keep(given, given)?; // other names never stand for an id
             }
             return Ok(given.to_string());
         }
-        if given.len() <= MOST_BYTES {
+        let is_long = given.len() > MOST_BYTES;
+        if !is_long && !is_id(given) {
             return Err(Refused::Name { name: given.to_string() });
         }
-        let mut name = if is_uuid(given) { given.replace('-', "") } else { String::new() };
-        if name.is_empty() || self.ids.contains_key(&name) {
+        let mut name = match (is_long, is_uuid(given)) {
+            (true, true) => given.replace('-', ""),
+            (true, false) => String::new(),
+            (false, _) => translated(given),
+        };
+        if !is_name(&name) || self.ids.contains_key(&name) {
             name = self.numbered(given, is_log)?;
         }
         self.keep(&name, given)?;
@@ -600,6 +1140,106 @@ impl Names {
     }
 }
 
+/// What a path leads to by links, which stay links when that is written.
+fn behind_links(path: &Path) -> PathBuf {
+    let mut at = path.to_path_buf();
+    for _ in 0..MOST_LINKS {
+        match fs::read_link(&at) {
+            Ok(target) => at = at.parent().unwrap_or_else(|| Path::new("")).join(target),
+            Err(_) => break, // it is none
+        }
+    }
+    at
+}
+
+/// Where a test saves its trace: by the name of the program that runs it and its own, or by the line that asks if it has none. What an
+/// earlier run of the test saved there is removed when it first asks; later in the run it stays, as a property's smallest case may fail
+/// before others pass.
+fn failed_trace(caller: &Location) -> PathBuf {
+    static ASKED: Mutex<Vec<PathBuf>> = Mutex::new(Vec::new());
+    let program = std::env::current_exe().unwrap_or_default();
+    let program = program.file_stem().unwrap_or_default().to_string_lossy();
+    let (name, hash) = program.rsplit_once('-').unwrap_or((&program, ""));
+    let is_hash = hash.len() == 16 && hash.bytes().all(|byte| byte.is_ascii_hexdigit()); // as cargo puts it there
+    let program = if is_hash { name } else { &program };
+    let thread = std::thread::current();
+    let test = thread.name().filter(|name| *name != "main").map(str::to_string);
+    let test = test.unwrap_or_else(|| format!("line {}", caller.line()));
+    let plain = |letter: char| if letter.is_ascii_alphanumeric() || "_-.".contains(letter) { letter } else { '-' };
+    let name: String = format!("{program}-{}", test.replace("::", "-")).chars().map(plain).take(MOST_LETTERS).collect();
+    let path = Path::new(FAILED_TRACES).join(name + ".trace");
+    let mut asked = ASKED.lock().unwrap_or_else(|poisoned| poisoned.into_inner());
+    if !asked.contains(&path) {
+        for old in [path.clone(), path.with_extension("trace.lines")] {
+            let _ = fs::remove_file(old); // most often there is none
+        }
+        asked.push(path.clone());
+    }
+    path
+}
+
+/// The operation of this name, as `2.1`.
+fn operation(name: &str) -> Option<Operation> {
+    let (replica, n) = name.split_once('.')?;
+    Some((replica.parse().ok()?, n.parse().ok()?))
+}
+
+/// A line of code, with the file's path from this folder if it lies below that.
+fn place(caller: &Location, here: &Path) -> String {
+    let file = Path::new(caller.file());
+    let near = file.strip_prefix(here).unwrap_or(file).to_string_lossy();
+    near.replace(char::is_control, "?") + &format!(":{}", caller.line())
+}
+
+/// A part of the explanation with a title, where it has lines.
+fn section(title: &str, lines: impl Iterator<Item = String>) -> String {
+    let told: String = lines.map(|line| format!("  {line}\n")).collect();
+    if told.is_empty() { told } else { format!("\n{title}\n{told}") }
+}
+
+/// The first of the lines, and how many more there are.
+fn some(told: &[String], what: &str, which: &str) -> Vec<String> {
+    let more = told.len().saturating_sub(MOST_TOLD);
+    let rest = format!("and {more} more {what}{} {which}", plural(more));
+    told.iter().take(MOST_TOLD).cloned().chain((more > 0).then_some(rest)).collect()
+}
+
+/// The first of the changes, and how many more there are.
+fn listed(changes: &[String]) -> String {
+    let more = changes.len().saturating_sub(MOST_CHANGES);
+    let mut told = changes[..changes.len() - more].to_vec();
+    told.extend((more > 0).then(|| format!("{more} more")));
+    joined(&told)
+}
+
+fn joined<T: ToString>(words: &[T]) -> String {
+    let mut words: Vec<String> = words.iter().map(T::to_string).collect();
+    let last = words.pop().unwrap_or_default();
+    if words.is_empty() { last } else { format!("{} and {last}", words.join(", ")) }
+}
+
+fn plural(count: usize) -> &'static str {
+    if count == 1 { "" } else { "s" }
+}
+
+/// As a string of JSON.
+fn quoted(text: &str) -> String {
+    let mut told = String::from("\"");
+    for letter in text.chars() {
+        match letter {
+            '"' | '\\' => told.extend(['\\', letter]),
+            control if control < ' ' => told += &format!("\\u{:04x}", control as u32),
+            other => told.push(other),
+        }
+    }
+    told + "\""
+}
+
+/// A number that the recorder has written.
+fn number(word: &str) -> u32 {
+    word.parse().expect("a number of the text")
+}
+
 /// The lines of the trace that the explainer's words name: `line 7` with something behind it that is no name.
 fn lines_named(said: &str) -> HashSet<usize> {
     let number = |(at, word): (usize, &str)| {
@@ -618,8 +1258,27 @@ fn is_named(behind: &str) -> bool {
 }
 
 fn is_name(given: &str) -> bool {
-    let allowed = |byte: u8| byte.is_ascii_alphanumeric() || b"_-.".contains(&byte);
-    (1..=MOST_BYTES).contains(&given.len()) && given.bytes().all(allowed)
+    (1..=MOST_BYTES).contains(&given.len()) && given.bytes().all(is_of_names)
+}
+
+fn is_of_names(byte: u8) -> bool {
+    byte.is_ascii_alphanumeric() || b"_-.".contains(&byte)
+}
+
+/// Whether it has the letters of names, and at least one `@` or comma.
+fn is_id(given: &str) -> bool {
+    given.contains(['@', ',']) && given.bytes().all(|byte| is_of_names(byte) || b"@,".contains(&byte))
+}
+
+/// What such an id becomes, if that is a name: with a letter first, as `2-0` would look like an operation's name.
+fn translated(given: &str) -> String {
+    let first = if given.starts_with(|letter: char| letter.is_ascii_digit()) { "e" } else { "" };
+    first.to_string() + &given.replace(['@', ','], "-")
+}
+
+/// Whether a note may have it: neither controls, nor what breaks a line or turns the direction of writing.
+fn is_printable(letter: char) -> bool {
+    !(letter.is_control() || ('\u{2028}'..='\u{202e}').contains(&letter) || ('\u{2066}'..='\u{2069}').contains(&letter))
 }
 
 /// Whether an id has the form of a UUID: 8, 4, 4, 4 and 12 hexadecimal digits between dashes.
@@ -642,9 +1301,26 @@ fn beside_program(command: &str) -> String {
     path.and_then(|path| path.to_str().map(str::to_string)).unwrap_or_else(|| command.to_string())
 }
 
-fn ended(program: &str, done: &Output) -> String {
-    let why = String::from_utf8_lossy(&done.stderr);
-    format!("{program} ended with status {}: {}", done.status.code().unwrap_or(-1), why.trim())
+/// How a program ended that has not answered.
+fn ended(program: &str, done: &Output, lacking: &str) -> String {
+    let said = String::from_utf8_lossy(&done.stderr);
+    let why = said.trim();
+    match done.status.code() {
+        None => format!("{program} was ended by {}", signal(done)),
+        Some(status) if why.is_empty() => format!("{program} ended with status {status} and printed {lacking}"),
+        Some(status) => format!("{program} ended with status {status}: {why}"),
+    }
+}
+
+#[cfg(unix)]
+fn signal(done: &Output) -> String {
+    use std::os::unix::process::ExitStatusExt;
+    done.status.signal().map_or("a signal".to_string(), |number| format!("signal {number}"))
+}
+
+#[cfg(not(unix))]
+fn signal(_: &Output) -> String {
+    "a signal".to_string()
 }
 
 fn printed(program: &str, done: Output) -> Result<String, String> {

@@ -20,12 +20,12 @@ from collections.abc import Iterator
 from enum import Enum
 from pathlib import Path
 from random import Random
-from urllib.parse import unquote
+from urllib.parse import unquote, unquote_to_bytes
 
 ROOT = Path(__file__).resolve().parents[2]
 sys.path[:0] = [str(ROOT / "tests"), str(ROOT / "tools")]
 from explaining.warnings import hidden  # noqa: E402
-from shared.program import Tally, program_of, run  # noqa: E402
+from shared.program import Tally, need, program_of, run  # noqa: E402
 
 DRIVERS = ROOT / "tests" / "tools" / "recorder_drivers"
 EXAMPLES = ROOT / "examples"
@@ -367,6 +367,11 @@ def has_hypothesis() -> bool:
 def fields(call: str) -> str:
     """A call of the table as a line for the drivers."""
     return "\t".join("" if word == "(empty)" else unquote(word) for word in call.split(" "))
+
+
+def bytes_of(call: str) -> bytes:
+    """The same, where a word may have bytes that are no text."""
+    return b"\t".join(unquote_to_bytes(word) for word in call.split(" "))
 
 
 class Recorder:
@@ -1679,6 +1684,314 @@ def check_hypothesis(tally: Tally, program: str, folder: Path) -> None:
     tally.check("Hypothesis: another run tries other sessions", set(tried[0]) != set(tried[1]))
 
 
+def check_no_verdict(tally: Tally, recorder: Recorder, folder: Path) -> None:
+    """A program that prints what begins as a report does, and has no verdict, is no judge."""
+    other = folder / "another program"
+    for printed in "{}", "{", '{"verdict":"acc', '{"at":"1.1"}':
+        other.write_text(f"#!/bin/sh\ncat > /dev/null\necho '{printed}'\n")
+        other.chmod(0o755)
+        got = recorder.answers(["new\t1", "judge"], DOMEPEELER=str(other))
+        tally.check(f"{recorder.language}: judge by a program that prints {printed}", got == [
+            "ok", f"failed {other} printed a report without a verdict"], got)
+
+
+# The first line of the example in a recorder's head, its last, what begins its lines, what stands around it, and how it is run.
+HEADS = {
+    "domepeeler.rs": ("let none", "println!(\"{}\", recording.explain()", "//! ",
+                      "#[path = \"{recorder}\"]\nmod domepeeler;\nuse domepeeler::Recording;\n"
+                      "fn main() -> Result<(), Box<dyn std::error::Error>> {{\n{example}Ok(())\n}}\n",
+                      "rustc --edition 2021 -D warnings -o head {source} && ./head"),
+    "domepeeler.h": ("    struct domepeeler *", "    domepeeler_free", " * ",
+                     "#include \"{recorder}\"\nint main(void) {{\n{example}return 0;\n}}\n",
+                     "gcc -std=c99 -Wall -Wextra -Werror -o head {source} && ./head"),
+    "domepeeler.el": ("  (let* ((recording", "    (princ (domepeeler-explain", ";; ", "(load \"{recorder}\" nil t)\n{example}",
+                      "emacs -Q --batch -l {source}")}
+
+
+def check_heads(tally: Tally, program: str, folder: Path) -> None:
+    """The example in the head of a recorder runs as it stands there, and is accepted without warnings."""
+    place = folder / "heads"
+    place.mkdir()
+    for name, (first, last, mark, around, command) in HEADS.items():
+        recorder = ROOT / "recorders" / name
+        lines = [line[len(mark):] for line in recorder.read_text().splitlines() if line.startswith(mark)]
+        begin = next(at for at, line in enumerate(lines) if line.startswith(first))
+        end = next(at for at, line in enumerate(lines) if line.startswith(last))
+        example = "".join(line + "\n" for line in lines[begin:end + 1])
+        example = example.replace("free(report)", "puts(report), free(report)").replace("free(words)", "puts(words), free(words)")
+        source = place / f"head{recorder.suffix.replace('.h', '.c')}"
+        source.write_text(around.format(recorder=recorder, example=example))
+        done = subprocess.run(["sh", "-c", command.format(source=source.name)], cwd=place, capture_output=True, text=True,
+                              env={**os.environ, "DOMEPEELER": program, "DOMEPEELER_EXPLAIN": EXPLAIN, "LC_ALL": "C.UTF-8"})
+        trace = place / "session.trace"
+        tally.check(f"{name}: the example of its head", done.returncode == 0 and "accepted: " in done.stdout and
+                    "may hide" not in done.stdout and trace.is_file() and trace.read_text().endswith("0 read :\n1 read :\n"), done)
+        trace.unlink(missing_ok=True)
+
+
+# A user's tests in Rust: of one the list is lost where the variable says so.
+RUST_TESTS = f"""#[path = "{ROOT / 'recorders'}/domepeeler.rs"]
+mod domepeeler;
+use domepeeler::{{Recording, Step, Verdict}};
+
+const NONE: &[&str] = &[];
+
+fn session() -> Recording {{
+    let mut recording = Recording::new(2).unwrap();
+    let n = recording.insert(0, "a", 0, &["a"]).unwrap();
+    recording.received(1, 0, n).unwrap();
+    recording
+}}
+
+#[test]
+fn all_is_delivered() {{
+    let mut recording = session();
+    recording.delivered(&[vec!["a".to_string()], vec!["a".to_string()]]).unwrap();
+    recording.assert_accepted();
+    assert_eq!(recording.verdict(), Ok(Verdict::Accepted {{ order: vec!["a".into()], warnings: vec![] }}));
+    let report = recording.judge().unwrap();
+    assert!(report.contains("\\"verdict\\":\\"accepted\\"") && report.trim().ends_with(",\\"warnings\\":[]}}"), "{{report}}");
+}}
+
+mod inner {{
+    #[test]
+    fn a_list_is_lost() {{
+        let mut recording = super::session();
+        recording.read(1, if std::env::var_os("LOST").is_some() {{ super::NONE }} else {{ &["a"] }}).unwrap(); // reads
+        recording.assert_accepted(); // asks
+    }}
+}}
+
+#[test]
+fn nothing_is_recorded() {{
+    Recording::new(2).unwrap().assert_accepted();
+}}
+
+#[test]
+fn there_is_no_program() {{
+    assert!(session().verdict_by("/nowhere/domepeeler").unwrap_err().starts_with("/nowhere/domepeeler cannot be run ("));
+    assert_eq!(session().verdict_by("true").unwrap_err(), "true ended with status 0 and printed no report");
+}}
+
+#[test]
+fn verdicts() {{
+    let mut recording = session();
+    let warning = "replica 1 has receipts, but no operation: nothing that it showed is judged".to_string();
+    assert_eq!(recording.verdict(), Ok(Verdict::Accepted {{ order: vec!["a".into()], warnings: vec![warning] }}));
+    let mut lost = recording.clone();
+    lost.read(1, NONE).unwrap();
+    assert_eq!(lost.verdict(), Ok(Verdict::Contents {{ at: (1, 1) }}));
+    let mut moved = recording.clone();
+    moved.insert(0, "b", 1, &["b", "a"]).unwrap();
+    assert_eq!(moved.verdict(), Ok(Verdict::Position {{ at: (0, 2) }}));
+    recording.insert(0, "a", 0, NONE).unwrap();
+    assert_eq!(recording.verdict(), Ok(Verdict::Doubled {{ first: (0, 1), again: (0, 2) }}));
+    let mut crossed = Recording::new(2).unwrap();
+    crossed.insert(0, "a", 0, &["a"]).unwrap();
+    crossed.insert(1, "b", 0, &["b"]).unwrap();
+    crossed.delivered(&[["a", "b"], ["b", "a"]]).unwrap();
+    let step = |from: &str, to: &str, shown| Step {{
+        from: from.to_string(),
+        to: to.to_string(),
+        shown,
+        response: vec![from.to_string(), to.to_string()],
+    }};
+    let steps = vec![step("a", "b", (0, 2)), step("b", "a", (1, 2))];
+    assert_eq!(crossed.verdict(), Ok(Verdict::Refused {{ steps, weak: false }}));
+    let shown: Vec<String> = [lost, moved, recording, crossed].iter().map(|one| one.verdict().unwrap().to_string()).collect();
+    assert_eq!(shown, ["contents 1.1", "position 0.2", "doubled 0.1 0.2", "refused 2"]);
+}}
+"""
+
+
+def check_rust_tests(tally: Tally, program: str, folder: Path) -> None:
+    """A verdict as a value; and `assert_accepted`, which explains, saves, and removes what an earlier run has saved. Its folder's name has
+    signs that JSON escapes, and a place is named with them."""
+    place = folder / 'a "user\'s" \\tests'
+    place.mkdir()
+    (place / "editor.rs").write_text(RUST_TESTS)
+    subprocess.run(["rustc", "--edition", "2021", "-D", "warnings", "--test", "-o", "editor-0123456789abcdef", "editor.rs"], cwd=place,
+                   check=True)
+    surroundings = {**os.environ, "DOMEPEELER": program, "DOMEPEELER_EXPLAIN": EXPLAIN, "RUST_BACKTRACE": "0", "LC_ALL": "C.UTF-8"}
+    line = {word: next(number for number, text in enumerate(RUST_TESTS.splitlines(), 1) if f"// {word}" in text) for word in ("asks", "reads")}
+    saved = place / "failed_traces" / "editor-inner-a_list_is_lost.trace"
+    done = subprocess.run(["./editor-0123456789abcdef"], cwd=place, env={**surroundings, "LOST": "1"}, capture_output=True, text=True)
+    tally.check("Rust tests: counts", done.returncode != 0 and "test result: FAILED. 3 passed; 2 failed;" in done.stdout, done)
+    tally.check("Rust tests: a lost list is explained", f"editor.rs:{line['asks']}:" in done.stdout and "contents 1.1: " in done.stdout and
+                f"\nIn your code\n  editor.rs:9: line 3\n  editor.rs:10: line 4\n  editor.rs:{line['reads']}: line 5\n" in done.stdout and
+                f"\nThe trace is saved: failed_traces/{saved.name}\n" in done.stdout, done)
+    tally.check("Rust tests: nothing recorded", NOTHING in done.stdout, done)
+    tally.check("Rust tests: what is saved", sorted(path.name for path in saved.parent.iterdir()) == [
+        ".gitignore", saved.name, f"{saved.name}.lines"] and saved.read_text().endswith("1 recv 0 1\n1 read :\n") and
+        (saved.parent / ".gitignore").read_text() == "*\n", done)
+    done = subprocess.run(["./editor-0123456789abcdef"], cwd=place, env=surroundings, capture_output=True, text=True)
+    tally.check("Rust tests: one that passes removes what it saved before", "4 passed; 1 failed;" in done.stdout and
+                [path.name for path in saved.parent.iterdir()] == [".gitignore"], done)
+    (place / "placed.rs").write_text(f"""#[path = "{ROOT / 'recorders'}/domepeeler.rs"]
+mod domepeeler;
+fn main() {{
+    let mut recording = domepeeler::Recording::new(2).unwrap();
+    recording.insert(0, "a", 0, &["a"]).unwrap();
+    recording.read(1, &[] as &[&str]).unwrap();
+    recording.received(1, 0, 1).unwrap();
+    print!("{{}}", recording.judge().unwrap());
+}}
+""")
+    subprocess.run(["rustc", "--edition", "2021", "-o", "placed", place / "placed.rs"], cwd=place, check=True)
+    done = subprocess.run([place / "placed"], cwd=folder, env=surroundings, capture_output=True, text=True)
+    tally.check("Rust: places with signs that JSON escapes", json.loads(done.stdout)["warnings"] == [
+        "in the end replicas 0 and 1 show different lists",
+        'replica 1 received 0.1 (line 5, a "user\'s" \\tests/placed.rs:7) last, and nothing shows what it made of that: let each replica '
+        "read at the end"], done)
+
+
+# Compilers and the standards that they follow; and headers that a user may include before the recorder.
+COMPILERS = {"gcc": ["c99", "c11", "c17"], "clang": ["c99", "c11", "c17"],
+             "g++": ["c++11", "c++14", "c++17", "c++20"], "clang++": ["c++11", "c++14", "c++17", "c++20"]}
+HEADERS = ["", "#include <stdio.h>\n#include <string.h>\n", "#include <unistd.h>\n#include <sys/stat.h>\n#include <stdlib.h>\n"]
+STRICT = ["-Wall", "-Wextra", "-Wconversion", "-Wcast-qual", "-pedantic", "-Werror", "-fsyntax-only"]
+CHECKED = ['insert(d, 0, "a", 0, list, 1)', 'delete(d, 0, "a", list, 1)', "read(d, 0, list, 1)", "view(d, 0, list, 1)", "received(d, 1, 0, 1)",
+           "received_clock(d, 1, 0, clock, 2, 1)", "clock(d, 0, clock)", "delivered(d, lists, names, 2)", 'note(d, "seed 17")', 'save(d, "x")']
+USES_C = """{}#include "{}"
+int main(void) {{
+    const char *list[] = {{"a"}};
+    const char *const *lists[] = {{list, list}};
+    unsigned clock[2] = {{1, 0}};
+    size_t names[] = {{1, 1}};
+    struct domepeeler *d = domepeeler_new(2);
+    (void)lists, (void)clock, (void)names;
+{}    domepeeler_free(d);
+    return 0;
+}}
+"""
+
+
+def check_compilers(tally: Tally, folder: Path) -> None:
+    """The recorder of C compiles without a warning by the standards of C and C++, whatever was included before it; and a compiler warns
+    of each call whose answer nobody looks at."""
+    need("g++", "g++")
+    need("clang", "clang")
+    looked_at = "".join(f"    if (!domepeeler_{call}) puts(domepeeler_why(d));\n" for call in CHECKED)
+    runs = {}
+    for compiler, standards in COMPILERS.items():
+        for number, headers in enumerate(HEADERS):
+            source = folder / f"uses{number}.{'cpp' if '+' in compiler else 'c'}"
+            source.write_text(USES_C.format(headers, ROOT / "recorders/domepeeler.h", looked_at))
+            for standard in standards:
+                words = [compiler, f"-std={standard}", *STRICT, source]
+                runs[compiler, standard, number] = subprocess.Popen(words, stderr=subprocess.PIPE, text=True)
+            for standard in standards:
+                said = runs[compiler, standard, number].communicate()[1]
+                tally.check(f"C: no warning of {compiler}, {standard}, {headers!r}", not said, said)
+    source = folder / "ignores.c"
+    source.write_text(USES_C.format("", ROOT / "recorders/domepeeler.h", "".join(f"    domepeeler_{call};\n" for call in CHECKED)))
+    for compiler in "gcc", "clang":
+        said = subprocess.run([compiler, "-std=c99", "-c", "-o", "/dev/null", source], capture_output=True, text=True).stderr
+        tally.check(f"C: {compiler} warns of answers that are ignored", said.count(": warning: ignoring return value") == len(CHECKED), said)
+
+
+# A program whose timer interrupts it, and which ignores how its children end; and then one that goes on after calls were refused.
+HOSTILE_C = f"""#include "{ROOT / 'recorders'}/domepeeler.h"
+#include <sys/time.h>
+
+static volatile int ticks;
+
+static void tick(int number) {{
+    ticks += number == SIGALRM;
+}}
+
+static struct domepeeler *lost(void) {{
+    struct domepeeler *d = domepeeler_new(2);
+    const char *list[] = {{"a"}};
+    if (!domepeeler_insert(d, 0, "a", 0, list, 1) || !domepeeler_read(d, 0, NULL, 0)) puts(domepeeler_why(d));
+    return d;
+}}
+
+static void show(struct domepeeler *d, char *said) {{
+    puts(said ? said : domepeeler_why(d));
+    free(said);
+    domepeeler_free(d);
+}}
+
+int main(void) {{
+    struct sigaction act;
+    memset(&act, 0, sizeof act);
+    act.sa_handler = tick; /* without SA_RESTART */
+    struct itimerval often = {{{{0, 1000}}, {{0, 1000}}}}, never = {{{{0, 0}}, {{0, 0}}}};
+    sigaction(SIGALRM, &act, NULL);
+    setitimer(ITIMER_REAL, &often, NULL);
+    struct domepeeler *d = lost();
+    show(d, domepeeler_judge(d, NULL));
+    setitimer(ITIMER_REAL, &never, NULL);
+    printf("interrupted: %s\\n", ticks > 9 ? "yes" : "no");
+    signal(SIGCHLD, SIG_IGN);
+    d = lost();
+    show(d, domepeeler_judge(d, NULL));
+    printf("still ignored: %s\\n", signal(SIGCHLD, SIG_DFL) == SIG_IGN ? "yes" : "no");
+    act.sa_handler = SIG_DFL;
+    act.sa_flags = SA_NOCLDWAIT;
+    sigaction(SIGCHLD, &act, NULL);
+    d = lost();
+    show(d, domepeeler_judge(d, NULL));
+    close(0);
+    close(1 + 1); /* standard error; the program's streams get these numbers */
+    d = lost();
+    show(d, domepeeler_explain(d, NULL));
+    show(NULL, NULL);
+    return 0;
+}}
+"""
+REFUSED_C = [
+    ("one", ["new 2", "insert 0 a 0 a", "received 0 1 1", "delivered a / a"],
+     "a call was refused, so what it says is not recorded: 1.1 cannot have arrived: replica 1 has 0 operations so far"),
+    ("several, with signs that JSON escapes", ["new 2", "insert 0 a 0 a", "read 0 %22%5C%01%C3%A4%FF", "read 7", "read 0 a%20b",
+                                               "delivered a / a"],
+     "3 calls were refused, so what they say is not recorded; the first: name \"\"\\?\u00e4?\" " + NAME),
+    ("what is not causal, and limits", ["new 3", *["read 2"] * 16385, "insert 0 a 0 a", "delete 0 a", "received_clock 1 0 1 2 0 0",
+                                        "received_clock 1 0 2 2 0 0", "read 1"], None),
+]
+
+
+def check_hostile_c(tally: Tally, recorder: Recorder, folder: Path) -> None:
+    """A program that is interrupted, or ignores how children end, is judged all the same. What was refused is told before all else, but
+    where a session may well go on."""
+    source = folder / "hostile.c"
+    source.write_text(HOSTILE_C)
+    subprocess.run(["gcc", "-std=gnu11", "-Wall", "-Wextra", "-Werror", "-o", folder / "hostile", source], check=True)
+    slow = folder / "slow"
+    slow.write_text('#!/bin/sh\nsleep 0.1\nexec "$JUDGE" "$@"\n')
+    slow.chmod(0o755)
+    done = subprocess.run([folder / "hostile"], capture_output=True, text=True, stdin=subprocess.DEVNULL, timeout=60,
+                          env={**recorder.surroundings, "JUDGE": recorder.surroundings["DOMEPEELER"], "DOMEPEELER": str(slow),
+                               "DOMEPEELER_EXPLAIN": EXPLAIN})
+    said = [line for line in done.stdout.splitlines() if line]
+    told = '{"at":"0.2","inserts":1,"operations":2,"replicas":2,"strong":false,"verdict":"contents","weak":false,"warnings":[]}'
+    tally.check("C: interrupted, and without news of children", done.returncode == 0 and said[:5] == [
+        told, "interrupted: yes", told, "still ignored: yes", told] and said[5].startswith("contents 0.2: "), done)
+    tally.check("C: why there is no recording", said[-1:] == [
+        "there is no recording: replicas are 1 to 16, a log is of one of them, and memory is needed"], done)
+    asked = folder / "asked"
+    asked.write_text("#!/bin/sh\ncat > /dev/null\necho \"$*\" >&2\nexit 2\n")
+    asked.chmod(0o755)
+    for reads, words in (997, "--workers 1 --json -"), (998, "--json -"):
+        got = recorder.answers(["new\t1", *["read\t0"] * reads, "judge"], DOMEPEELER=str(asked))[-1]
+        tally.check(f"C: {reads} reads are judged by {words}", got == f"failed {asked} ended with status 2: verdict {words}", got)
+    teller = folder / "teller"
+    teller.write_text("#!/bin/sh\ncat > /dev/null\necho told\n")
+    teller.chmod(0o755)
+    for name, script, wanted in REFUSED_C:
+        calls = b"".join(bytes_of(call) + b"\n" for call in [*script, "judge", "warnings", "explain"])
+        done = subprocess.run(recorder.words, input=calls, capture_output=True, env={**recorder.surroundings, "DOMEPEELER_EXPLAIN": str(teller)})
+        got = done.stdout.decode(errors="replace").splitlines()
+        report = next((json.loads(line[7:]) for line in got if line.startswith("report {")), {"verdict": got})
+        first = [wanted] if wanted else []
+        told = [f"| {line}" for line in first]
+        tally.check(f"C: judge tells of refused calls, {name}", report["verdict"] == "accepted" and
+                    [line for line in report["warnings"] if "refused" in line] == report["warnings"][:1] * bool(wanted) == first, report)
+        tally.check(f"C: explain tells of refused calls, {name}", got[-len(told) - len(first) - 2:] == [*told, *["| "] * len(first), "| told", "ok"],
+                    got[-5:])
+
+
 def main() -> None:
     program = program_of(sys.argv)
     tally = Tally()
@@ -1723,6 +2036,12 @@ def main() -> None:
         check_guide(tally, program, folder)
         check_readme(tally, program, folder)
         check_hypothesis(tally, program, folder)
+        for language in "rs", "c", "el":
+            check_no_verdict(tally, Recorder(language, drivers[language], program), folder)
+        check_heads(tally, program, folder)
+        check_rust_tests(tally, program, folder)
+        check_compilers(tally, folder)
+        check_hostile_c(tally, Recorder("c", drivers["c"], program), folder)
     tally.close()
 
 

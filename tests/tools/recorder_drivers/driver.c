@@ -66,6 +66,26 @@ static void explain(struct domepeeler *d) {
     free(words);
 }
 
+static void warnings(struct domepeeler *d) {
+    char *lines = domepeeler_warnings(d);
+    if (lines) show(lines);
+    else answer(d, 0, 0);
+    free(lines);
+}
+
+/* The lists stand one behind the other, with a field `/` between two. */
+static void delivered(struct domepeeler *d) {
+    const char *const *lists[MOST_WORDS];
+    size_t names[MOST_WORDS], known = 0, begin = 1;
+    for (size_t i = 1; i <= count; i++) {
+        if (i < count && strcmp(words[i], "/")) continue;
+        lists[known] = (const char *const *)words + begin;
+        names[known++] = i - begin;
+        begin = i + 1;
+    }
+    answer(d, domepeeler_delivered(d, lists, names, known), 0);
+}
+
 static struct domepeeler *begin(struct domepeeler *old) {
     struct domepeeler *d = domepeeler_new_only(atoi(words[1]), count > 2 ? atoi(words[2]) : -1);
     puts(d ? "ok" : "refused");
@@ -90,6 +110,10 @@ int main(void) {
         if (is("received")) answer(d, domepeeler_received(d, replica, atoi(words[2]), atoll(words[3])), 0);
         if (is("received_clock")) received_clock(d, replica);
         if (is("clock")) clock_of(d, replica);
+        if (is("delivered")) delivered(d);
+        if (is("note")) answer(d, domepeeler_note(d, words[1]), 0);
+        if (is("lines")) printf("ok %zu\n", domepeeler_lines(d));
+        if (is("warnings")) warnings(d);
         if (is("id_of")) printf(domepeeler_id_of(d, words[1]) ? "ok %s\n" : "none\n", domepeeler_id_of(d, words[1]));
         if (is("save")) save(d);
         if (is("judge")) judge(d);

@@ -19,6 +19,13 @@
 
 (defvar driver-recording nil)
 
+(defun driver-lists (words)
+  "The lists in WORDS, which stand with a word `/' between two."
+  (let ((lists (list nil)))
+    (dolist (word words)
+      (if (string= word "/") (push nil lists) (push word (car lists))))
+    (reverse (mapcar #'reverse lists))))
+
 (defun driver-call (words)
   (let ((number (string-to-number (or (nth 1 words) "0"))))
     (pcase (car words)
@@ -36,9 +43,15 @@
                                                    (string-to-number (nth 3 words)))
        "ok")
       ("clock" (string-join (cons "ok" (mapcar #'number-to-string (domepeeler-clock driver-recording number))) " "))
+      ("delivered" (domepeeler-delivered driver-recording (driver-lists (cdr words))) "ok")
+      ("note" (domepeeler-note driver-recording (nth 1 words)) "ok")
+      ("lines" (format "ok %d" (domepeeler-lines driver-recording)))
+      ("warnings" (concat (mapconcat (lambda (warning) (format "| %s\n" warning)) (domepeeler-warnings driver-recording) "") "ok"))
       ("id_of" (let ((pair (assoc (nth 1 words) (domepeeler-ids driver-recording)))) (if pair (concat "ok " (cdr pair)) "none")))
       ("save" (domepeeler-save driver-recording (nth 1 words)) "ok")
-      ("judge" (concat "report " (json-encode (domepeeler-judge driver-recording))))
+      ("judge" (let ((report (domepeeler-judge driver-recording)))
+                 (setf (alist-get 'warnings report) (vconcat (alist-get 'warnings report))) ; or an empty list were null
+                 (concat "report " (json-encode report))))
       ("explain" (concat (replace-regexp-in-string "\\(.*\\)\n" "| \\1\n" (domepeeler-explain driver-recording)) "ok"))
       ("untyped" (funcall (nth number driver-untyped)))
       (_ (concat (replace-regexp-in-string "^\\(.\\)" "| \\1" (domepeeler-text driver-recording)) "ok")))))

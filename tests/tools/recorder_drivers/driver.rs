@@ -19,6 +19,11 @@ fn begin(words: &[&str]) -> Result<Recording, Refused> {
     }
 }
 
+/// Each line of the text behind a bar.
+fn shown(text: &str) -> String {
+    text.lines().map(|line| format!("| {line}\n")).collect::<String>() + "ok"
+}
+
 fn call(recording: &mut Recording, words: &[&str]) -> Result<String, Refused> {
     let done = |n: u32| format!("ok {n}");
     match words[0] {
@@ -38,6 +43,20 @@ fn call(recording: &mut Recording, words: &[&str]) -> Result<String, Refused> {
             let counts: Vec<String> = clock.iter().map(u32::to_string).collect();
             format!("ok {}", counts.join(" "))
         }),
+        "delivered" => {
+            let lists: Vec<&[&str]> = words[1..].split(|word| *word == "/").collect();
+            recording.delivered(&lists).map(|()| "ok".to_string())
+        }
+        "note" => recording.note(words[1]).map(|()| "ok".to_string()),
+        "lines" => Ok(format!("ok {}", recording.lines())),
+        "warnings" => Ok(match recording.warnings() {
+            Ok(warnings) => warnings.iter().map(|warning| format!("| {warning}\n")).collect::<String>() + "ok",
+            Err(why) => format!("refused {why}"),
+        }),
+        "explain" => Ok(match recording.explain() {
+            Ok(said) => shown(&said),
+            Err(why) => format!("failed {why}"),
+        }),
         "id_of" => Ok(match recording.ids().into_iter().find(|(name, _)| *name == words[1]) {
             Some((_, id)) => format!("ok {id}"),
             None => "none".to_string(),
@@ -50,7 +69,7 @@ fn call(recording: &mut Recording, words: &[&str]) -> Result<String, Refused> {
             Ok(report) => format!("report {}", report.trim()),
             Err(why) => format!("failed {why}"),
         }),
-        _ => Ok(recording.text().lines().map(|line| format!("| {line}\n")).collect::<String>() + "ok"),
+        _ => Ok(shown(recording.text())),
     }
 }
 
