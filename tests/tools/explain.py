@@ -160,7 +160,8 @@ WORDS = [
      "[c] before [a]: line 11, 2.2: replica 2 read the list, answered [c] [a]|"
      "b arrived at replica 0 in line 6, c at replica 1 in line 8, a at replica 2 in line 10|"
      "Look at how a replica orders elements when it has only some of them: no two of 0.2, 1.2 and 2.2 contradict each other, and none of the "
-     "elements is deleted for any of them, so each replica still lacks some." + stop(10, "replica 2 applies 0.1", 8, 6)),
+     "elements is deleted for any of them, so each replica still lacks some. Often what decides between concurrent inserts is not the same "
+     "everywhere." + stop(10, "replica 2 applies 0.1", 8, 6)),
     ("an element that came along with what had seen it", 3, "0 ins a 0 : a|1 recv 0 1|1 read : a|1 ins b 1 : a b|2 recv 1 1|2 recv 1 2|"
      "2 recv 0 1|2 read : b a",
      "[b] before [a]: line 10, 2.1: replica 2 read the list, answered [b] [a]|b: inserted by 1.2 (line 6)|"

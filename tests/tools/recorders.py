@@ -1413,7 +1413,7 @@ MERGE_FAULTS = [
     (".", None, ["--output", "new.trace"], 2, f"{MERGE_USAGE}the following arguments are required: LOG\n"),
     (".", None, ["--out", "0.log"], 2, f"{MERGE_USAGE}unrecognized arguments: --out\n"),
     ("long.log", f"trace 1\nreplicas 3\n2 recv 1 {'1' * 5000}\n".encode(), ["long.log"], 1,
-     f"merge.py: line 3 of long.log is no entry: 2 recv 1 {'1' * 5000}\n"),
+     f"merge.py: line 3 of long.log is no entry: 2 recv 1 {'1' * 111}.. (5009 letters)\n"),
     (".", None, ["--output", "new.trace", "0.log"], 1, "merge.py: these receipts name operations that no log has before them: 0 recv 1 1\n"),
     (".", None, ["--output", "./1.log", "0.log", "1.log", "2.log"], 2, "merge.py: cannot write ./1.log: it is one of the logs\n"),
     (".", None, ["0.log", "1.log", "2.log", "--output=2.log"], 2, "merge.py: cannot write 2.log: it is one of the logs\n"),

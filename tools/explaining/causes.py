@@ -98,12 +98,19 @@ def of_refusal(evidence: Evidence) -> list:
     """Concurrent inserts first; then inserts beside deleted elements, then two elements of which one's author had seen the other."""
     if evidence.report["k"] > 2:
         return [of_several(evidence)]
-    beside = [Cause("beside deleted", "Look at inserts beside deleted elements, if replicas throw these away: above stands which element "
-                    "arrived where its neighbour was deleted, and without the neighbour nothing tells the place.")] if evidence.lost_neighbours else []
+    beside = beside_deleted(evidence)
     first, then = (evidence.recording.inserts[name][0] for name in evidence.elements)
     if not first.has_seen(then) and not then.has_seen(first):
         return [concurrent(evidence, first, then), *beside]
     return [*beside, seen_before(evidence, *((first, then) if first.has_seen(then) else (then, first)))]
+
+
+def beside_deleted(evidence: Evidence) -> list:
+    if not evidence.lost_neighbours and not evidence.hidden_neighbours:
+        return []
+    when = "arrived where its neighbour was deleted" if evidence.lost_neighbours else "had been put beside one that was deleted later"
+    return [Cause("beside deleted", f"Look at inserts beside deleted elements, if replicas throw these away: above stands which element {when}, and "
+                  "without the neighbour nothing tells the place.")]
 
 
 def of_several(evidence: Evidence) -> Cause:
@@ -113,7 +120,8 @@ def of_several(evidence: Evidence) -> Cause:
                      "element that another replica has deleted may have lost its place there. Above stands which elements are deleted for "
                      "which of them.")
     return Cause("several, apart", f"Look at how a replica orders elements when it has only some of them: no two of {named} contradict each other, and "
-                 "none of the elements is deleted for any of them, so each replica still lacks some.")
+                 "none of the elements is deleted for any of them, so each replica still lacks some. Often what decides between concurrent "
+                 "inserts is not the same everywhere.")
 
 
 def are_some_gone(evidence: Evidence) -> bool:

@@ -234,10 +234,12 @@ class Evidence:
 
     @cached_property
     def overtakings(self) -> list:
-        """Of wrong contents, the changes of its elements that were overtaken on their way to the response."""
+        """Of wrong contents, the changes of its elements, and of those beside which these were put, that were overtaken on their way to the
+        response."""
         if self.report["verdict"] != "contents":
             return []
-        changes = [change for element in self.elements for change in self.changes(element, self.operations[0])]
+        beside = [name for arrival in self.arrivals for name in self.beside(arrival.insert)]
+        changes = [change for element in dict.fromkeys(self.elements + beside) for change in self.changes(element, self.operations[0])]
         return [(change, found) for change in changes if (found := self.overtaking(change, self.operations[0]))]
 
     def line_at(self, change: Operation, replica: int) -> int:
