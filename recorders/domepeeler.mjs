@@ -235,7 +235,8 @@ export class Recording {
     const name = path.href ? fileURLToPath(path) : path
     const text = this.text(), places = await this.#places()
     const notes = this.#notes.map((note) => `note ${note}`)
-    const beside = [this.#lines.length, "language javascript", ...notes, ...(this.#hasLog ? ["log"] : []), ...places.map(([line, told]) => `${line} ${told}`)]
+    const beside = [this.#lines.length, "language javascript", ...notes, ...(this.#hasLog ? ["log"] : []),
+      ...places.map(([line, told]) => `${line} ${told}`)]
     const there = await stat(name).catch(() => null)
     if (there !== null && !there.isFile()) return await writeFile(name, text)
     const target = await linkedTo(name) // first of all, so that an error names the file that was asked for
@@ -745,9 +746,11 @@ function different(ends) {
     const set = [...new Set(shown)].sort().join(" ")
     lists.set(set, [...(lists.get(set) ?? []), replica])
   })
-  const lacking = ends.map(({ pasts }, replica) => (pasts.length ? lacked(ends, replica) : []))
-  const never = lacking.flatMap((changes, replica) => (changes.length ? [`${listing(changes)} never arrived at replica ${replica}`] : []))
-  const lost = lacking.flat().length === 1 ? "it was lost or is still held back" : "they were lost or are still held back"
+  const lacking = ends.map(({ pasts }, replica) => (pasts.length ? lacked(ends, replica) : { changes: [], count: 0 }))
+  const never = lacking.flatMap(({ changes, count }, replica) => (
+    count ? [`${listing(changes, count)} never arrived at replica ${replica}`] : []))
+  const isOne = lacking.reduce((all, { count }) => all + count, 0) === 1
+  const lost = isOne ? "it was lost or is still held back" : "they were lost or are still held back"
   if (lists.size < 2) return never.length ? [`by this recording ${joined(never)}. If everything was delivered, ${lost}`] : []
   const replicas = [...lists.values()].flat().sort((a, b) => a - b)
   const same = [...lists.values()].filter((one) => one.length > 1).map((one) => `${joined(one)} the same one`)
@@ -755,14 +758,18 @@ function different(ends) {
   return [never.length ? `${said}: ${joined(never)} by this recording. If everything was delivered, ${lost}` : said]
 }
 
-// The changes that never arrived at the replica, in the order of the trace; none of an author of which it never hears.
+// The changes that never arrived at the replica, in the order of the trace, as many as are told, and how many there are; none of an author
+// of which it never hears.
 function lacked(ends, replica) {
+  let count = 0
   const found = ends.flatMap(({ changes, lines }, author) => {
     const heard = upTo(changes, ends[replica].has[author])
     if (!heard || author === replica) return []
-    return changes.slice(heard).map((n, at) => [lines[heard + at], `${author}.${n}`])
+    count += changes.length - heard
+    return changes.slice(heard, heard + MOST_LACKED).map((n, at) => [lines[heard + at], `${author}.${n}`])
   })
-  return found.sort(([a], [b]) => a - b).map(([line, name]) => `${name} (line ${line})`)
+  const told = found.sort(([a], [b]) => a - b).slice(0, MOST_LACKED)
+  return { changes: told.map(([line, name]) => `${name} (line ${line})`), count }
 }
 
 // Of replicas that did something, and never heard of a change of another.
@@ -787,14 +794,14 @@ function unshown(ends) {
       return ends.some(({ changes }, other) => upTo(changes, has[other]) > upTo(changes, before[other]))
     }).map(({ author, n, line }) => `${author}.${n} (line ${line})`)
     if (!pasts.length || !news.length) return []
-    return [`replica ${replica} received ${listing(news)} last, and nothing shows what it made of ` +
+    return [`replica ${replica} received ${listing(news, news.length)} last, and nothing shows what it made of ` +
       `${news.length === 1 ? "that" : "them"}: let each replica read at the end`]
   })
 }
 
-// The first of them, and how many more there are.
-function listing(said) {
-  const more = said.length - MOST_LACKED
+// The first of so many, and how many more there are.
+function listing(said, count) {
+  const more = count - MOST_LACKED
   return joined(more > 0 ? [...said.slice(0, MOST_LACKED), `${more} more`] : said)
 }
 

@@ -656,7 +656,7 @@ def _hidden(lines: List[str]) -> List[str]:
         if kind == "recv":
             author, n = int(words[2]), int(words[3])
             one.receipts += 1
-            one.has = tuple(map(max, one.has, ends[author].pasts[n - 1]))
+            one.has = _most(one.has, ends[author].pasts[n - 1])
             one.since.append((author, n, line))
             continue
         n = len(one.pasts) + 1
@@ -684,6 +684,10 @@ def _hidden(lines: List[str]) -> List[str]:
             *_some(past_end, "insert", "past the end of a list")]
 
 
+def _most(one: Tuple[int, ...], two: Tuple[int, ...]) -> Tuple[int, ...]:
+    return tuple(max(pair) for pair in zip(one, two))
+
+
 def _some(told: List[str], what: str, which: str) -> List[str]:
     more = len(told) - MOST_WARNED
     return told[:MOST_WARNED] + ([f"and {more} more {what}{'' if more == 1 else 's'} {which}"] if more > 0 else [])
@@ -697,9 +701,9 @@ def _different(ends: List[_End]) -> List[str]:
         if one.shown is not None:
             lists.setdefault(frozenset(one.shown.split()), []).append(replica)
     lacking = [(replica, _lacked(ends, replica)) for replica, one in enumerate(ends) if one.pasts]
-    never = [f"{_listing(changes)} never arrived at replica {replica}" for replica, changes in lacking if changes]
-    lost = "it was lost or is still held back" if sum(len(changes) for _, changes in lacking) == 1 else \
-        "they were lost or are still held back"
+    never = [f"{_listing(changes, count)} never arrived at replica {replica}" for replica, (changes, count) in lacking if count]
+    is_one = sum(count for _, (_, count) in lacking) == 1
+    lost = "it was lost or is still held back" if is_one else "they were lost or are still held back"
     if len(lists) < 2:
         return [f"by this recording {_joined(never)}. If everything was delivered, {lost}"] if never else []
     differ = f"in the end replicas {_joined(map(str, sorted(sum(lists.values(), []))))} show different lists"
@@ -708,15 +712,18 @@ def _different(ends: List[_End]) -> List[str]:
     return [f"{told}: {_joined(never)} by this recording. If everything was delivered, {lost}" if never else told]
 
 
-def _lacked(ends: List[_End], replica: int) -> List[str]:
-    """The changes that never arrived at the replica, in the order of the trace; none of an author of which it never hears."""
-    has = ends[replica].has
+def _lacked(ends: List[_End], replica: int) -> Tuple[List[str], int]:
+    """The changes that never arrived at the replica, in the order of the trace, as many as are told, and how many there are; none of an
+    author of which it never hears."""
+    has, count = ends[replica].has, 0
     found: List[Tuple[int, str]] = []
     for author, other in enumerate(ends):
         heard = bisect_right(other.changes, has[author])
         if heard and author != replica:
-            found += [(line, f"{author}.{n}") for n, line in zip(other.changes[heard:], other.lines[heard:])]
-    return [f"{name} (line {line})" for line, name in sorted(found)]
+            count += len(other.changes) - heard
+            told = slice(heard, heard + MOST_CHANGES)
+            found += [(line, f"{author}.{n}") for n, line in zip(other.changes[told], other.lines[told])]
+    return [f"{name} (line {line})" for line, name in sorted(found)[:MOST_CHANGES]], count
 
 
 def _unheard(ends: List[_End]) -> List[str]:
@@ -738,20 +745,20 @@ def _unshown(ends: List[_End]) -> List[str]:
     for replica, one in enumerate(ends):
         has, news = one.at_last, []
         for author, n, line in one.since:
-            after = tuple(map(max, has, ends[author].pasts[n - 1]))
+            after = _most(has, ends[author].pasts[n - 1])
             if any(bisect_right(other.changes, now) > bisect_right(other.changes, before)
                    for other, before, now in zip(ends, has, after)):
                 news.append(f"{author}.{n} (line {line})")
             has = after
         if one.pasts and news:
-            told.append(f"replica {replica} received {_listing(news)} last, and nothing shows what it made of "
+            told.append(f"replica {replica} received {_listing(news, len(news))} last, and nothing shows what it made of "
                         f"{'that' if len(news) == 1 else 'them'}: let each replica read at the end")
     return told
 
 
-def _listing(told: List[str]) -> str:
-    """The first of them, and how many more there are."""
-    more = len(told) - MOST_CHANGES
+def _listing(told: List[str], count: int) -> str:
+    """The first of so many, and how many more there are."""
+    more = count - MOST_CHANGES
     return _joined(told[:MOST_CHANGES] + ([f"{more} more"] if more > 0 else []))
 
 

@@ -16,11 +16,13 @@ import sys
 from pathlib import Path
 
 SIDE = ".lines"  # the end of the name of a file beside a log or a trace
+NOTE = re.compile(rb"note .+")  # a line there: a word of the user's for the whole session
 LOG_MARK = b"log"  # a line there: the places are lines of a log, not of code
 MERGED_MARK = b"merged"  # a line there: the trace was no recorder's text
 COUNT = re.compile(rb"[0-9]{1,7}")
 PLACE = re.compile(rb"([1-9][0-9]{0,6}) (.+)")  # a line's number, and from where it was recorded
 HEAD = 2  # lines of a text before its entries
+MOST_NOTES = 20  # as many as a recording takes
 RECEIPT = "recv [0-9]{1,7} [0-9]{1,7}"
 ENTRIES = {"trace 1": re.compile(f"[0-9]+ ({RECEIPT}|(ins|del|read) .*)", re.ASCII),
            "trace 2": re.compile(f"[0-9]+ ({RECEIPT}|(ins|del|read|view) .*)", re.ASCII)}
@@ -126,10 +128,11 @@ class Log:
 
 
 def beside_trace(logs: list, lines: list) -> bytes:
-    """What is to stand beside the trace: how many lines there should be, and from where they were recorded."""
+    """What is to stand beside the trace: how many lines there should be, the notes of all logs, and from where the lines were recorded."""
     places = [log.places() for log in logs]
     found = [(number, places[log].get(b"%d" % at)) for number, (_, log, at) in enumerate(lines, 1)]
-    marks = [MERGED_MARK] + [LOG_MARK] * any(LOG_MARK in log.beside for log in logs)
+    notes = list(dict.fromkeys(line for log in logs for line in log.beside if NOTE.fullmatch(line)))[:MOST_NOTES]
+    marks = [*notes, MERGED_MARK] + [LOG_MARK] * any(LOG_MARK in log.beside for log in logs)
     told = [b"%d %b" % one for one in found if one[0] > HEAD and one[1]]
     return b"".join(line + b"\n" for line in [b"%d" % (len(lines) + sum(log.lost() for log in logs)), *marks, *told])
 

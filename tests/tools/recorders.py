@@ -655,6 +655,11 @@ def check_places(tally: Tally, recorder: Recorder, folder: Path) -> None:
             found = re.fullmatch(rf"\d+ {re.escape(path)}:(\d+)((?:, called from {re.escape(path)}:\d+){{0,2}})", line)
             is_call = found and f"recording.{kind}(" in source[int(found[1]) - 1]
             tally.check(f"{recorder.language}: the place of {kind}", is_call and (not found[2] or recorder.language != "rs"), line)
+    recorder.answers(["new\t3", "insert\t0\ta\t0\ta", "delivered\ta\t/\ta\t/\ta", f"save\t{trace}"])
+    lines = Path(f"{trace}.lines").read_text().splitlines()[3:]
+    places = {re.search(rf"driver\.{recorder.language}:(\d+)", line)[1] for line in lines}
+    tally.check(f"{recorder.language}: the place of delivered", len(lines) == 5 and len(places) == 1 and
+                "recording.delivered(" in source[int(*places) - 1], lines)
 
 
 # Programs of a user, in `tests/` of a folder in which they run, and what must stand beside the trace that each saves. An installed package
@@ -1277,6 +1282,19 @@ def check_threads(tally: Tally) -> None:
                 {entry for entry, _ in pairs} == {"0 view : even", "0 del odd :"}, pairs)
 
 
+def check_explains_file(tally: Tally, recorder: Recorder, folder: Path) -> None:
+    """What `explain` says of an accepted recording that may hide something is what the tool says of the saved file."""
+    trace = folder / f"unsure.{recorder.language}.trace"
+    calls = ["new 2", "note seed%2017", "insert 0 a 0 a", "received 1 0 1", "insert 0 b 1 a b", "read 1 a"]
+    got = recorder.answers([*map(fields, calls), f"save\t{trace}", "explain"], DOMEPEELER_EXPLAIN=EXPLAIN)
+    told = subprocess.run([EXPLAIN, trace], capture_output=True, text=True, env=recorder.surroundings)
+    said = [line[2:] for line in got[len(calls) + 1:-1]]
+    place = f"driver\\.{recorder.language}:\\d+" if recorder.language in PLACING else ""
+    tally.check(f"{recorder.language}: explains a file with warnings", told.returncode == 0 and said == told.stdout.splitlines() and
+                said[-3:] == ["", "Noted", "  seed 17"] and re.search(rf": 0\.2 \(line 5(, .*{place})?\) never arrived at replica 1 ", told.stdout)
+                and ("(line 5, " in told.stdout) == (recorder.language in PLACING), (said, told))
+
+
 def check_judge(tally: Tally, recorder: Recorder, folder: Path) -> None:
     """The report of the cycle, and what is said where there is no report."""
     calls = [fields(line.split(" -> ")[0]) for line in CYCLE.split("\n")[:-1]]
@@ -1478,6 +1496,8 @@ MERGED_BESIDE = [
     ("code", CODE_BESIDE, f"11\nmerged\n{MERGED_PLACES}", ""),
     ("logs", LOGS_BESIDE, f"11\nmerged\nlog\n{MERGED_PLACES}", ""),
     ("a log among code", [CODE_BESIDE[0] + b"log\n", *CODE_BESIDE[1:]], f"11\nmerged\nlog\n{MERGED_PLACES}", ""),
+    ("notes, each once", [b"7\nlanguage python\nnote seed 17\nnote \xc3\xa4\n3 a.py:1\n", b"4\nlanguage c\nnote seed 17\nnote two\n", b"4\nnote \n"],
+     "11\nnote seed 17\nnote \u00e4\nnote two\nmerged\n3 a.py:1\n", ""),
     ("one that was moved alone", [None, CODE_BESIDE[1], None], "11\nmerged\n6 c.py:4\n", ""),
     ("cut logs", [CODE_BESIDE[0], b"10\n4 c.py:4\n", b"5\n3 d.py:3\n"],
      "18\nmerged\n3 a.py:1\n4 a.py:2, called from b.py:9\n11 a.py:5\n", CUT.format("1.log", 4, 10) + CUT.format("2.log", 4, 5)),
@@ -1998,6 +2018,7 @@ def main() -> None:
             tally.check(f"{language}: names of ids", ids[language] == ids["py"], ids)
             check_warnings(tally, recorder)
             check_notes(tally, recorder, folder)
+            check_explains_file(tally, recorder, folder)
             check_full_delivery(tally, recorder)
             check_long_updates(tally, recorder)
             texts[language] = check_limits(tally, recorder)
