@@ -8,11 +8,15 @@ same logs have the same report.
 Beside a log may stand, in the file with `.lines` behind its name, how many lines were saved, and from where in your code each was
 recorded. A log that has fewer lines is warned of, and its places are left out. Beside TRACE such a file is left too: there the lines
 that are lost count, so that the tools warn of them."""
+from __future__ import annotations
+
 import argparse
 import os
 import re
 import signal
+import stat
 import sys
+import traceback
 from pathlib import Path
 
 SIDE = ".lines"  # the end of the name of a file beside a log or a trace
@@ -22,6 +26,8 @@ MERGED_MARK = b"merged"  # a line there: the trace was no recorder's text
 COUNT = re.compile(rb"[0-9]{1,7}")
 PLACE = re.compile(rb"([1-9][0-9]{0,6}) (.+)")  # a line's number, and from where it was recorded
 HEAD = 2  # lines of a text before its entries
+MOST_BYTES = 1 << 27  # of a log, or of what stands beside one
+MOST_SHOWN = 120  # letters of a faulty line
 MOST_NOTES = 20  # as many as a recording takes
 RECEIPT = "recv [0-9]{1,7} [0-9]{1,7}"
 ENTRIES = {"trace 1": re.compile(f"[0-9]+ ({RECEIPT}|(ins|del|read) .*)", re.ASCII),
@@ -70,7 +76,8 @@ def entries(name: str, text: str) -> list:
         raise Unmerged(f"{name} is no text of a recorder, or was cut off")
     for place, line in enumerate(lines[2:], 3):
         if not ENTRIES[lines[0]].fullmatch(line):
-            raise Unmerged(f"line {place} of {name} is no entry: {line}")
+            more = f".. ({len(line)} letters)" if len(line) > MOST_SHOWN else ""
+            raise Unmerged(f"line {place} of {name} is no entry: {shown(line[:MOST_SHOWN])}{more}")
         if line.split(" ")[0] != lines[2].split(" ")[0]:
             raise Unmerged(f"line {place} of {name} is of another replica than line 3")
     return lines[2:]
@@ -109,7 +116,7 @@ class Log:
         self.path, self.text = path, read(path)
         self.count = self.text.count("\n")
         try:
-            first, *self.beside = Path(path + SIDE).read_bytes().split(b"\n")[:-1] or [b""]
+            first, *self.beside = content(path + SIDE).split(b"\n")[:-1] or [b""]
         except OSError:
             first, self.beside = b"", []
         said = COUNT.fullmatch(first.strip())
@@ -137,19 +144,35 @@ def beside_trace(logs: list, lines: list) -> bytes:
     return b"".join(line + b"\n" for line in [b"%d" % (len(lines) + sum(log.lost() for log in logs)), *marks, *told])
 
 
+def content(path: str) -> bytes:
+    """The bytes of a regular file; a pipe or a device might never end."""
+    descriptor = os.open(path, os.O_RDONLY | os.O_NONBLOCK)
+    with open(descriptor, "rb", closefd=True) as file:
+        about = os.fstat(descriptor)
+        if not stat.S_ISREG(about.st_mode) or about.st_size > MOST_BYTES:
+            raise OSError(0, "it is no regular file" if not stat.S_ISREG(about.st_mode) else f"it has more than {MOST_BYTES:,} bytes")
+        return file.read()
+
+
 def read(path: str) -> str:
     """The text of a log; where there is none, the program ends."""
     try:
-        return Path(path).read_text("ascii")
+        return content(path).decode("ascii")
     except OSError as why:
         fail(2, f"cannot read {path}: {why.strerror}")
     except UnicodeDecodeError:
         fail(1, f"{path} is no text of a recorder: it is not ASCII")
 
 
+def shown(text: str) -> str:
+    """A name or a log's text for a message: what can't be printed stands as `\\x1b` and the like."""
+    return "".join(letter if letter.isprintable() else f"\\x{ord(letter) - 0xdc00:02x}" if "\udc80" <= letter <= "\udcff" else ascii(letter)[1:-1]
+                   for letter in text)
+
+
 def say(words: str) -> None:
     try:
-        print(f"merge.py: {words}", file=sys.stderr, flush=True)
+        print(f"merge.py: {shown(words)}", file=sys.stderr, flush=True)
     except OSError:  # nobody can be told
         os.dup2(os.open(os.devnull, os.O_WRONLY), sys.stderr.fileno())
 
@@ -219,4 +242,8 @@ def main() -> None:
 
 
 if __name__ == "__main__":
-    main()
+    try:
+        main()
+    except Exception:  # which nobody has thought of: no status that says something of the logs
+        traceback.print_exc()
+        sys.exit(2)

@@ -13,7 +13,10 @@ ENGINE is one of these; what each needs is installed from Debian 12 by apt-get w
 Prints, for each kind of session, how many were tried, how large they were, and what the program said of how many. Where
 some were not accepted it makes the shortest of each verdict smaller, as long as the verdict stays, and prints that trace;
 with --keep it writes these traces into the folder, and of each kind the accepted one with most receipts as it is. By
-default it runs within a minute, with Debian's cargo, whose build of crdts is slower, in a minute and a half."""
+default it runs within a minute, with Debian's cargo, whose build of crdts is slower, in a minute and a half. It ends with
+status 0 where sessions were judged, and 2 where none gave an answer, or something else is wrong."""
+from __future__ import annotations
+
 import argparse
 import os
 import random
@@ -22,9 +25,11 @@ import subprocess
 import sys
 import tempfile
 import threading
+import traceback
 from collections import Counter
 from concurrent.futures import ThreadPoolExecutor
 from pathlib import Path
+from typing import NoReturn
 
 import sessions
 from sessions import Plan, Session, smaller
@@ -36,6 +41,11 @@ JUDGES = 3  # how many programs run at the same time
 NODE = {"NODE_PATH": "/usr/share/nodejs"}
 SMALL = [sessions.SMALL_PEERS, sessions.SMALL_STAR, sessions.SMALL_MIDDLE]
 ALL = [*SMALL, sessions.LARGE_PEERS, sessions.LARGE_STAR, sessions.LARGE_MIDDLE]
+
+
+def fail(words: str) -> NoReturn:
+    print(f"record.py: {words}", file=sys.stderr)
+    sys.exit(2)
 
 
 class Engine:
@@ -106,11 +116,11 @@ def engine_of(word: str) -> Engine:
     if word in ENGINES:
         return ENGINES[word]
     if not word.endswith(".py"):
-        sys.exit(f"record.py: {word} is none of {', '.join(sorted(ENGINES))}, and no path of a Python module, which ends with .py")
+        fail(f"{word} is none of {', '.join(sorted(ENGINES))}, and no path of a Python module, which ends with .py")
     module = os.path.abspath(word)
     tried = subprocess.run([sys.executable, HERE / "own_engine.py", module], stdin=subprocess.DEVNULL, capture_output=True, text=True)
     if tried.returncode:
-        sys.exit(f"record.py: {tried.stderr.strip().splitlines()[-1]}")
+        fail(tried.stderr.strip().splitlines()[-1])
     return Engine([], [sys.executable, "{here}/own_engine.py", module.replace("{", "{{").replace("}", "}}")], ALL, OWN_COUNT)
 
 
@@ -178,9 +188,9 @@ def verdict(program: str, trace: str) -> str:
     if not trace:
         return STOPPED
     done = subprocess.run([program, "verdict", "--workers", "1", "-"], input=trace.encode(), capture_output=True)
-    if done.returncode not in (0, 1):
-        sys.exit(f"record.py: {program}: {done.stderr.decode().strip()}")
-    word, *rest = done.stdout.decode().split("\n")[1].split(" ")
+    word, *rest = (done.stdout.decode(errors="replace").split("\n") + [""])[1].split(" ")
+    if done.returncode not in (0, 1) or (word == "accepted") != (done.returncode == 0):
+        fail(f"{program} ended with status {done.returncode}, and with no verdict that agrees: {done.stderr.decode(errors='replace').strip()}")
     return f"{word} {rest[0]}" if word == "refused" else word
 
 
@@ -222,26 +232,44 @@ def tried(kind: sessions.Kind, count: int, rnd: random.Random, driver: Driver, p
     return {**firsts, **({"accepted": found[max(accepted)[1]]} if accepted else {})}
 
 
+def check_is_domepeeler(program: str) -> None:
+    """A program that does not answer its version as domepeeler does is another one."""
+    if not shutil.which(program):
+        fail(f"{program} is no program")
+    done = subprocess.run([program, "--version"], stdin=subprocess.DEVNULL, capture_output=True)
+    if done.returncode or not done.stdout.startswith(b"domepeeler "):
+        fail(f"{program} is not domepeeler: asked for its version it ended with status {done.returncode}")
+
+
+def number(word: str) -> int:
+    """Of sessions, from 1 on."""
+    if not word.isdecimal() or int(word) == 0:
+        raise argparse.ArgumentTypeError(f"{word} is no number from 1 on")
+    return int(word)
+
+
 def main() -> None:
     parser = argparse.ArgumentParser(description=__doc__.split("\n")[0])
     parser.add_argument("engine", help=", ".join(sorted(ENGINES)) + ", or the path of a Python module of your own")
     parser.add_argument("program")
-    parser.add_argument("--sessions", type=int, help="how many small sessions of each kind")
+    parser.add_argument("--sessions", type=number, help="how many small sessions of each kind")
     parser.add_argument("--seed", type=int, default=1)
     parser.add_argument("--keep", type=Path, help="a folder for the smallest traces that were not accepted")
     words = parser.parse_args()
-    if not shutil.which(words.program):
-        sys.exit(f"record.py: {words.program} is no program")
-    engine = engine_of(words.engine)
+    check_is_domepeeler(words.program)
+    engine, answered = engine_of(words.engine), 0
     with tempfile.TemporaryDirectory() as folder:
         driver = Driver(engine, Path(folder))
         for kind in engine.kinds:
             count = max(1, (words.sessions or engine.count) // kind.share)
             firsts = tried(kind, count, random.Random(f"{words.seed} {kind.name}"), driver, words.program)
+            answered += len(firsts)
             for word, one in firsts.items():
                 kept = one if word == "accepted" else smallest(driver, words.program, one, word)
                 show(words, kind, word, driver.trace(Plan(kept).text()))
         driver.close()
+    if not answered:
+        fail("no session gave an answer, so nothing was judged")
 
 
 def show(words: argparse.Namespace, kind: sessions.Kind, verdict_word: str, trace: str) -> None:
@@ -255,4 +283,8 @@ def show(words: argparse.Namespace, kind: sessions.Kind, verdict_word: str, trac
 
 
 if __name__ == "__main__":
-    main()
+    try:
+        main()
+    except Exception:  # which nobody has thought of
+        traceback.print_exc()
+        sys.exit(2)

@@ -989,14 +989,29 @@ def from_own_engine(tally: Tally, program: str, folder: str) -> None:
         mine.write_text(text)
         done = record(mine)
         wanted = f"record.py: {said.format(mine)}\n"
-        tally.check(f"own engine: {said}", done.returncode == 1 and not done.stdout and done.stderr == wanted, done)
+        tally.check(f"own engine: {said}", done.returncode == 2 and not done.stdout and done.stderr == wanted, done)
     mine.unlink()
     done = record(mine)
     begun = f"record.py: {mine} can't be loaded: FileNotFoundError: "
-    tally.check("own engine: no file", done.returncode == 1 and done.stderr.startswith(begun) and done.stderr.count("\n") == 1, done)
+    tally.check("own engine: no file", done.returncode == 2 and done.stderr.startswith(begun) and done.stderr.count("\n") == 1, done)
     done = record("yjss")
-    tally.check("no such engine", done.returncode == 1 and done.stderr.startswith("record.py: yjss is none of crdt_el, crdts, ")
+    tally.check("no such engine", done.returncode == 2 and done.stderr.startswith("record.py: yjss is none of crdt_el, crdts, ")
                 and done.stderr.count("\n") == 1, done)
+
+
+def from_no_answer(tally: Tally, program: str, folder: str) -> None:
+    """Where no session gave an answer, or the program is another one, `record.py` ends with 2."""
+    mine = Path(folder, "mine.py")
+    mine.write_text("class Engine:\n    def __init__(self, replica):\n        raise SystemExit(5)\n    names = insert = delete = apply = len\n")
+    done = subprocess.run([RECORD, str(mine), program, "--sessions", "1"], capture_output=True, text=True)
+    tally.check("record.py: no answer", done.returncode == 2 and done.stderr == "record.py: no session gave an answer, so nothing was judged\n"
+                and "accepted" not in done.stdout, done)
+    for words, wanted in ((["list_crdt", "/bin/true"], "record.py: /bin/true is not domepeeler: asked for its version it ended with status 0\n"),
+                          (["list_crdt", f"{folder}/none"], f"record.py: {folder}/none is no program\n"),
+                          (["list_crdt", program, "--sessions", "0"], "record.py: error: argument --sessions: 0 is no number from 1 on\n"),
+                          (["list_crdt", program, "--sessions", "-3"], "record.py: error: argument --sessions: -3 is no number from 1 on\n")):
+        done = subprocess.run([RECORD, *words], capture_output=True, text=True)
+        tally.check(f"record.py: {words}", done.returncode == 2 and done.stderr.endswith(wanted) and not done.stdout and "Traceback" not in done.stderr, done)
 
 
 def names_of_examples(tally: Tally) -> None:
@@ -1319,6 +1334,7 @@ def main() -> None:
         saved(tally, program, folder)
         from_yjs(tally, program, folder)
         from_own_engine(tally, program, folder)
+        from_no_answer(tally, program, folder)
         files(tally, program, folder)
         finding(tally, program, folder)
         others(tally, folder)

@@ -1,6 +1,7 @@
 #!/usr/bin/env python3
 """judge_many.py PROGRAM: the table of `tools/judge_many`, its order, counts and statuses, its JSON lines, and its file in JUnit's form,
 and the script of `examples/ci` with the jobs that run it."""
+import ast
 import json
 import os
 import pty
@@ -49,11 +50,16 @@ MESSAGES = {"lost.trace": ("contents", "contents 0.2: "), "-moved {#}.trace": ("
             "with 'blanks' and $signs.trace": ("refused", "refused 3: ")}
 
 # What another program does, as a shell says it, and what is said of the program and that.
-OTHERS = [("echo hello", "{} printed no report: is it domepeeler? It ended with status 0"),
-          ("echo '[]'", "{} printed no report: is it domepeeler? It ended with status 0"),
-          ("echo '{\"a\": 1}'; exit 1", "{} printed no report: is it domepeeler? It ended with status 1"),
-          ("echo 'usage: other' >&2; exit 2", "{} printed no report: is it domepeeler? It ended with status 2: usage: other"),
-          ("kill -9 $$", "no answer")]
+NO_REPORT = "{} printed no report that agrees with its status: is it domepeeler? It ended with status "
+OTHERS = [("echo hello", f"{NO_REPORT}0"), ("echo '[]'", f"{NO_REPORT}0"), ("echo '{\"a\": 1}'; exit 1", f"{NO_REPORT}1"),
+          ("echo '{\"verdict\":\"accepted\"}'; exit 1", f"{NO_REPORT}1"), ("echo '{\"verdict\":\"contents\",\"at\":\"0.1\"}'; exit 0", f"{NO_REPORT}0"),
+          ("printf '\\033[31musage\\n' >&2; exit 2", f"{NO_REPORT}2: \\x1b[31musage"),
+          ("echo 'usage: other' >&2; exit 2", f"{NO_REPORT}2: usage: other"), ("kill -9 $$", "{} was ended by signal 9 (SIGKILL)")]
+# Programs that don't answer their version as domepeeler does, and what is said of them: nothing is judged.
+STRANGERS = [("echo 'GNU coreutils 9.1'", "it ended with status 0: GNU coreutils 9.1"), ("exit 3", "it ended with status 3"),
+             ("echo 'domepeelers 0.2.0'", "it ended with status 0: domepeelers 0.2.0"), ("kill -9 $$", "it was ended by signal 9 (SIGKILL)"),
+             ("printf '\\033[31m\\n'", "it ended with status 0: \\x1b[31m")]
+VERSION = "[ \"$1\" != --version ] || exec echo domepeeler 0.2.0\n"  # what a program that is asked for its version answers
 
 SEED, SESSIONS, EXCHANGED = 20261128, 120, 40
 MOST_DELETES = 5  # that are told one by one
@@ -61,10 +67,15 @@ MOST_DELETES = 5  # that are told one by one
 WARNINGS = {
     "nothing": re.compile(r"()nothing was recorded: "),
     "idle": re.compile(r"replica (\d+) has (?:no entry|receipts, but no operation): "),
-    "deleted": re.compile(r"line (\d+), "),
-    "more": re.compile(r"and (\d+) more deletes? "),
+    "deleted": re.compile(r"line (\d+), \d+\.\d+: replica \d+ deleted "),
+    "past": re.compile(r"line (\d+), \d+\.\d+: replica \d+ inserted "),
+    "more": re.compile(r"and (\d+) more (?:deletes? of|inserts? past) "),
     "unheard": re.compile(r"replica (\d+) never hears of replicas? ([\d, and]+): "),
+    "ends": re.compile(r"(in the end replicas [\d, and]+ show different lists|by this recording )"),
+    "unshown": re.compile(r"replica (\d+) received .* last, and nothing shows what it made of (?:that|them): "),
 }
+LACKED = re.compile(r"((?:\d+\.\d+ \(line \d+\)(?:, | and )?|\d+ more )+)never arrived at replica (\d+)")
+NAMED = re.compile(r"(\d+)\.(\d+) \(line (\d+)\)")
 
 KINDS_EXCHANGED = [exchanged.SMALL_PEERS, exchanged.SMALL_STAR, exchanged.SMALL_MIDDLE]
 
@@ -123,7 +134,7 @@ def statuses(tally: Tally, program: str, folder: str, other: str) -> None:
     lines = got.out.decode().splitlines()
     tally.check("a trace that does not read: status 2", got.status == 2, got)
     tally.check("a trace that does not read: its row", cells(lines[1])[:5] == (str(bad), "unread", "-", "-", "3"), lines)
-    told = [f"judge_many: {bad}: finder: line 3: shape", "  line 3 is: 0 reads :",
+    told = [f"domepeeler-judge-many: {bad}: finder: line 3: shape", "  line 3 is: 0 reads :",
             "  `reads`, the second word, is not `ins`, `del`, `read`, `view` or `recv`"]
     tally.check("a trace that does not read: its line, and what is wrong with it", got.err.decode().splitlines() == told, got.err)
     tally.check("a trace that does not read: the counts", lines[-1].endswith("1 doubled, 1 unread"), lines[-1])
@@ -131,9 +142,8 @@ def statuses(tally: Tally, program: str, folder: str, other: str) -> None:
     tally.check("a trace that does not read: JSON", json.loads(got.out)["verdict"] == "unread" and got.status == 2
                 and json.loads(got.out)["error"].endswith("line 3: shape"), got)
     got = judge("/bin/false", [good[0]])
-    tally.check("a program that answers nothing: status 2", got.status == 2 and b"1 trace: 1 failed\n" in got.out, got)
-    fault = f"judge_many: {good[0]}: /bin/false printed no report: is it domepeeler? It ended with status 1\n"
-    tally.check("a program that answers nothing: its line", got.err == fault.encode(), got.err)
+    fault = "domepeeler-judge-many: /bin/false is not domepeeler: asked for its version it ended with status 1\n"
+    tally.same("a program that answers nothing", got, Ended(2, b"", fault.encode()))
 
 
 def failing(tally: Tally, program: str, folder: str) -> None:
@@ -173,8 +183,7 @@ def junit(tally: Tally, program: str, folder: str, other: str) -> None:
         tally.check(f"JUnit: {name}: its verdict", [fault[:2] for fault in faults] == ([("failure", kind)] if kind else []) and
                     all(fault[2].startswith(begins) for fault in faults), faults)
         about = {"long.trace": " It is about a and b.", "with 'blanks' and $signs.trace": " It is about x, b and a."}.get(name, "")
-        tally.check(f"JUnit: {name}: its elements", all(fault[2].endswith(f" fail.{about}" if name == "long.trace" else about) for fault in faults),
-                    faults)
+        tally.check(f"JUnit: {name}: its elements", all(fault[2].endswith(about) for fault in faults), faults)
         said = run(str(ROOT / "tools" / "explain"), ["--program", program, case.get("file")]).out.decode()
         tally.check(f"JUnit: {name}: its explanation", all(fault.text == said for fault in case), [fault.text for fault in case])
     odd = Path(other, "odd")
@@ -192,9 +201,9 @@ def junit(tally: Tally, program: str, folder: str, other: str) -> None:
     tally.check("JUnit: the explanation of an error", "`reads`, the second word, is not" in said and f"{first[0].text}\n" == said,
                 (first[0].text, said))
     names = [case.get("name") for case in (first, second)]
-    tally.check("JUnit: names that XML can't hold", names == ["a\ufffd <&\u00e9.trace", "b\ufffd.trace"], names)
+    tally.check("JUnit: names that XML can't hold", names == ["a\\x01 <&\u00e9.trace", "b\\xff.trace"], names)
     got = judge(program, ["--junit", f"{other}/missing/judged.xml", folder])
-    told = f"judge_many: cannot write {other}/missing/judged.xml: No such file or directory\n"
+    told = f"domepeeler-judge-many: cannot write {other}/missing/judged.xml: No such file or directory\n"
     tally.check("JUnit: it can't be written, and the table is printed", got.status == 2 and got.err == told.encode() and
                 got.out.endswith(b"1 position, 1 doubled\n"), got)
 
@@ -244,7 +253,7 @@ def jobs_of_ci(tally: Tally, program: str, folder: str) -> None:
     told = "judge_recordings: cannot write judged: File exists\n"
     tally.check("CI: it can't write", (done.returncode, done.stdout, done.stderr) == (2, "", told), done)
     done = in_ci(project_of(folder, {}), path, step, {"GITHUB_ACTIONS": "true"})
-    tally.check("CI: no recording", done.returncode == 2 and done.stderr.startswith("judge_many: "), done)
+    tally.check("CI: no recording", done.returncode == 2 and done.stderr.startswith("domepeeler-judge-many: "), done)
     done = in_ci(project_of(folder, ACCEPTED), path.partition(os.pathsep)[2], step, {})
     told = "judge_recordings: domepeeler-judge-many can't be run: No such file or directory. Is Domepeeler installed?\n"
     tally.check("CI: nothing installed", (done.returncode, done.stdout, done.stderr) == (2, "", told), done)
@@ -287,7 +296,7 @@ def others(tally: Tally, folder: str, other: str) -> None:
     """Another program, named by the variable: each trace failed, none is unread, and it is asked whether it is domepeeler."""
     path = Path(other, "other")
     for printed, told in OTHERS:
-        path.write_text(f"#!/bin/sh\n{printed}\n")
+        path.write_text(f"#!/bin/sh\n{VERSION}{printed}\n")
         path.chmod(0o755)
         done = subprocess.run([TOOL, folder], capture_output=True, text=True, env=os.environ | {"DOMEPEELER": str(path)})
         tally.check(f"another program, {printed}: the counts", done.returncode == 2 and done.stdout.endswith("\n7 traces: 7 failed\n"), done)
@@ -298,20 +307,24 @@ def others(tally: Tally, folder: str, other: str) -> None:
         statuses = {json.loads(line)["status"] for line in done.stdout.splitlines()}
         ended = 128 + 9 if printed.startswith("kill") else int(printed[-1]) if "exit" in printed else 0
         tally.check(f"another program, {printed}: its status", statuses == {ended}, done.stdout)
+    for printed, told in STRANGERS:
+        path.write_text(f"#!/bin/sh\n{printed}\n")
+        tally.same(f"no domepeeler: {printed}", judge(str(path), [folder]),
+                   Ended(2, b"", f"domepeeler-judge-many: {path} is not domepeeler: asked for its version {told}\n".encode()))
 
 
 def errors(tally: Tally, program: str, folder: str) -> None:
     empty = os.path.join(folder, "empty")
     os.mkdir(empty)
-    tally.same("no trace", judge(program, [empty]), Ended(2, b"", f"judge_many: there is no *.trace file below {empty}\n".encode()))
+    tally.same("no trace", judge(program, [empty]), Ended(2, b"", f"domepeeler-judge-many: there is no *.trace file below {empty}\n".encode()))
     missing = os.path.join(folder, "missing")
     tally.same("no folder", judge(program, [missing]),
-               Ended(2, b"", f"judge_many: cannot read {missing}: there is no such file or folder\n".encode()))
-    tally.same("no program", judge(missing, [folder]), Ended(2, b"", f"judge_many: {missing} of --program can't be run\n".encode()))
+               Ended(2, b"", f"domepeeler-judge-many: cannot read {missing}: there is no such file or folder\n".encode()))
+    tally.same("no program", judge(missing, [folder]), Ended(2, b"", f"domepeeler-judge-many: {missing} of --program can't be run\n".encode()))
     for jobs in "0", "-1", "2.5", "all", "":
         tally.same(f"jobs: {jobs!r}", judge(program, [f"--jobs={jobs}", folder]),
-                   Ended(2, b"", f"judge_many: --jobs {jobs} is no number from 1 on\n".encode()))
-    fault = b"judge_many: --sshlogin needs GNU parallel: on Debian, apt-get update and apt-get install parallel\n"
+                   Ended(2, b"", f"domepeeler-judge-many: --jobs {jobs} is no number from 1 on\n".encode()))
+    fault = b"domepeeler-judge-many: --sshlogin needs GNU parallel: on Debian, apt-get update and apt-get install parallel\n"
     words = [sys.executable, TOOL, "--program", program, "--sshlogin", "one", folder]
     got = subprocess.run(words, env={"PATH": empty}, capture_output=True)
     tally.same("no parallel", Ended(got.returncode, got.stdout, got.stderr), Ended(2, b"", fault))
@@ -386,7 +399,7 @@ def interrupted(tally: Tally, folder: str, other: str) -> None:
     signal does not reach the program, it is ended."""
     slow, begun = Path(other, "slow"), Path(other, "begun")
     for caught, deaf in ("Ctrl-C", ""), ("a program that hears nothing", "trap '' INT\n"):
-        slow.write_text(f"#!/bin/sh\n{deaf}echo >> '{begun}'\nexec sleep 60\n")
+        slow.write_text(f"#!/bin/sh\n{VERSION}{deaf}echo >> '{begun}'\nexec sleep 60\n")
         slow.chmod(0o755)
         begun.write_text("")
         running = subprocess.Popen([TOOL, "--program", str(slow), "--jobs", "2", folder], stdout=subprocess.PIPE, stderr=subprocess.PIPE,
@@ -406,26 +419,90 @@ def warnings(tally: Tally, program: str, folder: str) -> None:
     quiet = judge(program, [str(ROOT / "examples")])
     tally.check("warnings: none of the examples", quiet.status == 1 and not quiet.err and b"warnings" not in quiet.out, quiet)
     write(folder, {"apart.trace": "0 ins a 0 : a|1 ins b 0 : b", "lost.trace": "0 ins a 0 : a|0 read :", "fine.trace": "0 ins a 0 : a"})
-    Path(folder, "fine.trace.lines").write_text("3\n")
+    Path(folder, "fine.trace.lines").write_text("3\nnote seed 17\n")
     Path(folder, "lost.trace.lines").write_text("9\n")
     got = judge(program, [folder])
     lines = got.out.decode().splitlines()
-    tally.check("warnings: the column", [cells(line)[::6] for line in lines[:4]] == [("file", "warnings"), *(
-        (f"{folder}/{name}.trace", count) for name, count in (("lost", "1"), ("apart", "2"), ("fine", "0")))], lines)
+    tally.check("warnings: the columns", [cells(line)[::6] for line in lines[:4]] == [("file", "warnings"), *(
+        (f"{folder}/{name}.trace", count) for name, count in (("lost", "1"), ("apart", "3"), ("fine", "0")))], lines)
+    tally.check("noted: the column", [cells(line)[7] for line in lines[:4]] == ["noted", "-", "-", "seed 17"], lines)
+    tally.check("unequal: the verdict, and the count", [cells(line)[1] for line in lines[1:4]] == ["contents", "accepted, unequal", "accepted"]
+                and lines[4:] == ["3 traces: 2 accepted, 1 contents", "1 of those accepted is unequal: in the end replicas show different lists, or lack an "
+                                  "insert or a delete (--unequal lets these fail)"], lines)
     said = [line.partition(": warning: ") for line in got.err.decode().splitlines()]
-    begun = ("lost", "the trace m"), ("apart", "replica 0 n"), ("apart", "replica 1 n")
-    tally.check("warnings: on standard error", [(front, told[:11]) for front, _, told in said] == [
-        (f"judge_many: {folder}/{name}.trace", told) for name, told in begun] and got.status == 1, got)
+    begun = ("lost", "the trace m"), ("apart", "in the end "), ("apart", "replica 0 n"), ("apart", "replica 1 n")
+    tally.check("warnings: on standard error, lost lines first", [(front, told[:11]) for front, _, told in said] == [
+        (f"domepeeler-judge-many: {folder}/{name}.trace", told) for name, told in begun] and got.status == 1, got)
     rows = {Path(row["file"]).stem: row for row in map(json.loads, judge(program, ["--json", folder]).out.decode().splitlines())}
     tally.check("warnings: the field", {name: row.get("warnings") for name, row in rows.items()} == {
         "fine": None, "lost": [said[0][2]], "apart": [told for _, _, told in said[1:]]}, rows)
-    got = judge(program, ["--json", f"{folder}/apart.trace"])
-    tally.check("warnings: status 0", got.status == 0 and len(got.err.splitlines()) == 2, got)
+    tally.check("unequal, noted: the fields", {name: (row.get("unequal"), row.get("notes")) for name, row in rows.items()} == {
+        "fine": (None, ["seed 17"]), "lost": (None, None), "apart": (True, None)}, rows)
+    unequal(tally, program, folder)
     places(tally, program, folder)
-    write(folder, {f"many/{i}.trace": "0 ins a 0 : a|1 ins b 0 : b" for i in range(11)})
+    write(folder, {f"many/{i}.trace": "0 ins a 0 : a|1 ins b 0 : b" for i in range(8)})
     told = judge(program, [f"{folder}/many"]).err.decode().splitlines()
-    last = "judge_many: and 2 more warnings, which --json shows"
+    last = "domepeeler-judge-many: and 4 more warnings, which --json shows"
     tally.check("warnings: no more than twenty", len(told) == 21 and told[20] == last, told)
+
+
+def unequal(tally: Tally, program: str, folder: str) -> None:
+    """Accepted traces that end unequal fail where that is asked for, in JUnit's file too, where they else have their warnings as output."""
+    one, junit_file = f"{folder}/apart.trace", f"{folder}/ends.xml"
+    got = judge(program, ["--json", "--junit", junit_file, one])
+    tally.check("unequal: status 0", got.status == 0 and len(got.err.splitlines()) == 3, got)
+    (case,) = xml.parse(junit_file).getroot().iter("testcase")
+    told = case.find("system-out").text.splitlines()
+    tally.check("unequal: JUnit's output", [node.tag for node in case] == ["system-out"] and len(told) == 3
+                and told[0] == "warning: in the end replicas 0 and 1 show different lists", told)
+    got = judge(program, ["--unequal", "--failing", "--junit", junit_file, one, f"{folder}/fine.trace"])
+    lines = got.out.decode().splitlines()
+    tally.check("unequal: it fails where that is asked for", got.status == 1 and [cells(line)[:2] for line in lines[1:2]] == [(one, "accepted, unequal")]
+                and lines[2:] == ["2 traces: 2 accepted", "1 of those accepted is unequal: in the end replicas show different lists, or lack an insert or a "
+                                  "delete (and so failing)"], got)
+    faults = [(fault.tag, fault.get("type"), fault.get("message")) for case in xml.parse(junit_file).getroot().iter("testcase") for fault in case]
+    tally.check("unequal: JUnit's failure", faults == [("failure", "unequal", "accepted, but unequal in the end: in the end replicas 0 and 1 show different "
+                                                        "lists")], faults)
+    got = judge(program, ["--unequal", f"{folder}/fine.trace"])
+    tally.check("unequal: all are equal", got.status == 0, got)
+
+
+def known_as_cut(tally: Tally, program: str, folder: str) -> None:
+    """An accepted trace that has fewer lines than were saved is no pass: it is failed, an error in JUnit's file, and said first, behind
+    however many warnings. One that fails already has its verdict, and a warning."""
+    write(folder, {"zz.trace": "0 ins a 0 : a|0 read : a", "bad.trace": "0 ins a 0 : a|0 read :",
+                   **{f"apart{i}.trace": "0 ins a 0 : a|1 ins b 0 : b" for i in range(8)}})
+    for name in "zz", "bad":
+        Path(folder, f"{name}.trace.lines").write_text("9\n")
+    path = f"{folder}/junit.xml"
+    got = judge(program, ["--junit", path, folder])
+    lines, rows = got.err.decode().splitlines(), [cells(line)[:2] for line in got.out.decode().splitlines()]
+    told = f"{folder}/zz.trace: the trace may have been cut at a line's end: it has 4 lines, and by {folder}/zz.trace.lines it was saved with 9"
+    tally.check("cut: status 2, failed, and said first", got.status == 2 and lines[0] == f"domepeeler-judge-many: {told}"
+                and (f"{folder}/zz.trace", "failed") in rows and got.out.decode().splitlines()[-2] == "10 traces: 8 accepted, 1 contents, 1 failed", got)
+    tally.check("cut: of one that fails, the first warning", (f"{folder}/bad.trace", "contents") in rows and "more warning" in lines[-1]
+                and lines[1].startswith(f"domepeeler-judge-many: {folder}/bad.trace: warning: the trace may have been cut"), got)
+    errors = [(case.get("name"), case[0].get("type")) for case in xml.parse(path).getroot().iter("testcase") if case.find("error") is not None]
+    tally.check("cut: an error in JUnit's file", errors == [("zz.trace", "failed")], errors)
+    row = json.loads(judge(program, ["--json", f"{folder}/zz.trace"]).out)
+    tally.check("cut: its object", row["verdict"] == "failed" and row["error"] == told.partition(": ")[2] and row["report"]["verdict"] == "accepted", row)
+
+
+def grouped(tally: Tally, program: str, folder: str) -> None:
+    """Failures with one verdict, cause and line of code are one row of the table, and the script of CI tells the first whole and of others
+    a line; JSON and JUnit have each."""
+    lost, twice = "0 ins a 0 : a|1 recv 0 1|1 read :", "0 ins a 0 : a|1 recv 0 1|1 read : a a"
+    write(folder, {f"{name}.trace": entries for name, entries in (("a", lost), ("b", lost + "|0 read : a"), ("c", lost), ("d", twice), ("e", lost))})
+    for name, place in ("a", 7), ("b", 7), ("c", 9), ("d", 7):
+        Path(folder, f"{name}.trace.lines").write_text(f"{6 if name == 'b' else 5}\n5 t.py:{place}\n")
+    got = judge(program, ["--junit", f"{folder}/junit.xml", folder])
+    rows = [cells(line) for line in got.out.decode().splitlines()]
+    tally.check("grouped: the rows", [(Path(row[0]).stem, row[6]) for row in rows[:-1]] == [
+        ("file", "alike"), ("a", "2"), ("c", "0"), ("e", "0")] and rows[-1] == ("5 traces: 5 contents",), rows)
+    tally.check("grouped: JUnit has each", len(list(xml.parse(f"{folder}/junit.xml").getroot().iter("failure"))) == 5)
+    objects = [json.loads(line) for line in judge(program, ["--json", folder]).out.decode().splitlines()]
+    tally.check("grouped: JSON has each", sorted((Path(row["file"]).stem, row["causes"][-1], row.get("place")) for row in objects) == [
+        ("a", "arrival", "t.py:7"), ("b", "arrival", "t.py:7"), ("c", "arrival", "t.py:9"), ("d", "arrival", "t.py:7"), ("e", "arrival", None)], objects)
 
 
 def places(tally: Tally, program: str, folder: str) -> None:
@@ -433,28 +510,47 @@ def places(tally: Tally, program: str, folder: str) -> None:
     Path(folder, "lost.trace.lines").write_text("4\n3 t.py:7\n4 t.py:8, called from t.py:9\n")
     judge(program, ["--junit", f"{folder}/junit.xml", folder])
     (failure,) = xml.parse(f"{folder}/junit.xml").getroot().iter("failure")
-    wanted = "\n\nIn your code\n  line 3: t.py:7\n  line 4: t.py:8, called from t.py:9\n"
+    wanted = "\n\nIn your code\n  t.py:7: line 3\n  t.py:8, called from t.py:9: line 4\n"
     tally.check("JUnit's file: places", failure.text.endswith(wanted), failure.text)
 
 
 def expected_warnings(text: str) -> dict:
-    """What a slow reader of the definitions finds: replicas without an operation, lines with deletes of what nothing inserts, and
-    pairs of a replica that did something and one whose changes it never heard of."""
+    """What a slow reader of the definitions finds: replicas without an operation, lines with deletes of what nothing inserts and with
+    inserts past the end, pairs of a replica that did something and one whose changes it never heard of; which changes never came to
+    whom, whether the last lists differ, and who shows nothing of what came last."""
     recording = verdicts.recording_of(text)
     operations, pairs = recording.operations, verdicts.visibility(recording)
     inserted = {body.name for body in operations.values() if body.kind == "ins"}
-    heard = {(e[0], f[0]) for f, e in pairs if operations[f].kind in ("ins", "del")}
+    changes = {f for f, body in operations.items() if body.kind in ("ins", "del")}
+    has, news, shown = {}, {}, {}
     for replica, stream in enumerate(recording.streams):
-        seen = [entry.seen for entry in stream if isinstance(entry, verdicts.Receipt)]
-        heard |= {(replica, f[0]) for f, body in operations.items() if body.kind in ("ins", "del")
-                  if any(f == e or (f, e) in pairs for e in seen)}
+        has[replica], at_last, n = set(), set(), 0
+        for entry in stream:
+            if isinstance(entry, verdicts.Receipt):
+                has[replica] |= {f for f in changes if f == entry.seen or (f, entry.seen) in pairs}
+            else:
+                n += 1
+                has[replica] |= {f for f in changes if f == (replica, n)}
+                at_last = set(has[replica])
+                if entry.kind != "view":
+                    shown[replica] = set(entry.response)
+        news[replica] = has[replica] - at_last
     acting = {replica for replica, _ in operations}
-    changing = {replica for (replica, _), body in operations.items() if body.kind in ("ins", "del")}
-    deletes = [number for number, line in enumerate(text.splitlines(), 1) if line.split()[1] == "del" and line.split()[2] not in inserted]
-    more = [len(deletes) - MOST_DELETES] if len(deletes) > MOST_DELETES else []
+    unheard = {(r, q) for r in acting for q in {author for author, _ in changes} if r != q and not any(author == q for author, _ in has[r])}
+    lacked = {(r, f) for r in acting for f in changes if f[0] != r and f not in has[r] and (r, f[0]) not in unheard}
+    differ = len(set(map(frozenset, shown.values()))) > 1
+    deletes, past = [], []
+    for number, line in enumerate(text.splitlines()[2:], 3):
+        words = line.split()
+        if words[1] == "del" and words[2] not in inserted:
+            deletes.append(number)
+        if words[1] == "ins" and int(words[3]) > len(words) - 6:
+            past.append(number)
+    more = [len(told) - MOST_DELETES for told in (deletes, past) if len(told) > MOST_DELETES]
     idle = sorted(set(range(len(recording.streams))) - acting) if acting else []
-    return {"nothing": [] if acting else [""], "idle": idle, "deleted": deletes[:MOST_DELETES], "more": more,
-            "unheard": {(r, q) for r in acting for q in changing if r != q} - heard}
+    return {"nothing": [] if acting else [""], "idle": idle, "deleted": deletes[:MOST_DELETES], "past": past[:MOST_DELETES], "more": more,
+            "unheard": unheard, "ends": ["different"] if differ else ["lacking"] if lacked else [], "lacked": lacked,
+            "unshown": {r for r in acting if news[r]}}
 
 
 def played(steps: exchanged.Session) -> str:
@@ -480,14 +576,27 @@ def warnings_of_sessions(tally: Tally, program: str, folder: str) -> None:
             tally.check("sessions: no warning but of an accepted one", not said, row)
             continue
         found = {kind: [match for match in map(words.match, said) if match] for kind, words in WARNINGS.items()}
-        got = {kind: [int(match[1]) if match[1] else "" for match in found[kind]] for kind in ("nothing", "idle", "deleted", "more")}
+        got = {kind: [int(match[1]) if match[1] else "" for match in found[kind]] for kind in ("nothing", "idle", "deleted", "past", "more")}
         got["unheard"] = {(int(match[1]), int(q)) for match in found["unheard"] for q in re.findall(r"\d+", match[2])}
+        got["ends"] = ["different" if match[1].startswith("in") else "lacking" for match in found["ends"]]
+        got["unshown"] = {int(match[1]) for match in found["unshown"]}
+        lacked = [(int(r), changes) for match in found["ends"] for changes, r in LACKED.findall(match.string)]
+        named = {(r, (int(author), int(n))) for r, changes in lacked for author, n, _ in NAMED.findall(changes)}
+        left = sum(int(count) for _, changes in lacked for count in re.findall(r"(\d+) more ", changes))
         name = Path(row["file"]).name
         wanted = expected_warnings(texts[name])
         quiet += not said
+        all_lacked = wanted.pop("lacked")
         tally.check("sessions: the warnings", got == wanted and len(said) == sum(map(len, found.values())), f"{row}: {wanted}")
+        tally.check("sessions: what never arrived", named <= all_lacked and len(named) + left == len(all_lacked), f"{row}: {all_lacked}")
+        tally.check("sessions: unequal", row.get("unequal", False) == bool(wanted["unheard"] or wanted["ends"] or wanted["unshown"]), row)
         tally.check("sessions: none where all was exchanged", not (said and name.startswith("exchanged")), row)
     tally.check("sessions: some without a warning, some with", EXCHANGED <= quiet <= EXCHANGED + SESSIONS - 30, quiet)
+
+
+def name_of(tool: str) -> str:
+    """The name by which a tool is installed, which its messages begin with."""
+    return f"domepeeler-{Path(tool).name.replace('_', '-')}"
 
 
 def closed_output(tally: Tally, program: str, folder: str) -> None:
@@ -497,8 +606,8 @@ def closed_output(tally: Tally, program: str, folder: str) -> None:
     os.close(reader)
     with open("/dev/full", "wb") as full:
         for tool, what in (TOOL, folder), (str(ROOT / "tools" / "explain"), f"{folder}/lost.trace"):
-            told = f"{Path(tool).name}: cannot write: No space left on device\n".encode()
-            for stream, wanted in (1, f"{Path(tool).name}: cannot write: standard output is closed\n".encode()), (0, None), (2, b""):
+            told = f"{name_of(tool)}: cannot write: No space left on device\n".encode()
+            for stream, wanted in (1, f"{name_of(tool)}: cannot write: standard output is closed\n".encode()), (0, None), (2, b""):
                 got = subprocess.run(["sh", "-c", f'exec "$@" {stream}>&-', "sh", tool, "--program", program, what], capture_output=True)
                 status = 2 if stream == 1 else 1
                 tally.check(f"closed stream {stream}: {tool}", got.returncode == status and (wanted is None or got.stderr == wanted) and
@@ -519,7 +628,236 @@ def anywhere(tally: Tally, program: str, folder: str) -> None:
             got = subprocess.run([f"{tools}/{tool}", "--program", program, what], capture_output=True)
             tally.check(f"anywhere: {tool}", got.returncode == status and got.stdout and not got.stderr, got)
     long = "x" * 300
-    tally.same("too long a name", judge(program, [long]), Ended(2, b"", f"judge_many: cannot read {long}: File name too long\n".encode()))
+    tally.same("too long a name", judge(program, [long]), Ended(2, b"", f"domepeeler-judge-many: cannot read {long}: File name too long\n".encode()))
+
+
+def which_traces(tally: Tally, program: str, folder: str, other: str) -> None:
+    """Behind links, in each real folder once, and with the ending in any case; of several folders one without a trace is told of."""
+    write(folder, {"a.trace": "0 ins a 0 : a", "deep/BAD.TRACE": "0 ins a 0 : a|0 read :"})
+    write(other, {"linked.trace": "0 ins a 0 : a|0 read :"})
+    os.symlink(other, f"{folder}/link")
+    os.symlink(folder, f"{other}/back")
+    os.symlink(f"{folder}/missing", f"{folder}/to_nothing")
+    got = judge(program, ["--json", folder])
+    files = sorted(json.loads(line)["file"] for line in got.out.decode().splitlines())
+    tally.check("which traces: links and endings", got.status == 1 and files == [f"{folder}/a.trace", f"{folder}/deep/BAD.TRACE",
+                                                                                 f"{folder}/link/linked.trace"], got)
+    os.mkdir(f"{folder}/empty")
+    got = judge(program, [folder, f"{folder}/empty"])
+    tally.same("which traces: an empty folder beside a full one", got,
+               Ended(2, b"", f"domepeeler-judge-many: there is no *.trace file below {folder}/empty\n".encode()))
+
+
+def no_files(tally: Tally, program: str, folder: str) -> None:
+    """A pipe and a device under a trace's name, or beside one, don't hang, and what is longer than a trace can be is not read."""
+    write(folder, {"a.trace": "0 ins a 0 : a"})
+    os.mkfifo(f"{folder}/pipe.trace")
+    os.symlink("/dev/zero", f"{folder}/device.trace")
+    with open(f"{folder}/long.trace", "wb") as file:
+        file.truncate(8 << 30)
+    os.symlink(f"{folder}/missing", f"{folder}/nothing.trace")
+    os.mkfifo(f"{folder}/a.trace.lines")
+    told = {"pipe": "it is no regular file", "device": "it is no regular file", "nothing": "No such file or directory",
+            "long": "it has 8,589,934,592 bytes, and a trace has at most 152,305,684"}
+    done = subprocess.run(["sh", "-c", 'ulimit -v 4000000; exec "$@"', "sh", TOOL, "--program", program, "--json", folder], capture_output=True,
+                          text=True, timeout=60)
+    rows = {Path(row["file"]).stem: (row["verdict"], row.get("error")) for row in map(json.loads, done.stdout.splitlines())}
+    tally.check("no files: each is told of, and the rest is judged", done.returncode == 2 and rows == {"a": ("accepted", None)} | {
+        name: ("unread", f"{folder}/{name}.trace can't be read: {why}") for name, why in told.items()}, done)
+    tally.check("no files: a pipe beside a trace", f"{folder}/a.trace.lines can't be read (it is no regular file)" in done.stderr, done.stderr)
+    for name, why in told.items():
+        got = subprocess.run([str(ROOT / "tools" / "explain"), "--program", program, f"{folder}/{name}.trace"], capture_output=True, text=True, timeout=60)
+        tally.check(f"no files: explain {name}", (got.returncode, got.stdout, got.stderr) == (
+            2, "", f"domepeeler-explain: cannot read {folder}/{name}.trace: {why}\n"), got)
+    endless = subprocess.run(["sh", "-c", f"head -c 153000000 /dev/zero | {ROOT / 'tools' / 'explain'} --program {program} -"], capture_output=True, timeout=60)
+    tally.check("no files: too long a standard input", endless.returncode == 2 and b"standard input has more than 152,305,684 bytes" in endless.stderr, endless)
+
+
+def overwriting(tally: Tally, program: str, folder: str) -> None:
+    """Nothing is written over what is read, by whatever name, nor twice into one file; and what is written appears whole or not at all."""
+    write(folder, {"a.trace": "0 ins a 0 : a|0 read :"})
+    path, text = f"{folder}/a.trace", Path(folder, "a.trace").read_bytes()
+    Path(f"{path}.lines").write_text("4\n")
+    os.symlink(path, f"{folder}/link")
+    os.link(path, f"{folder}/same")
+    explain = str(ROOT / "tools" / "explain")
+    for output in path, f"{folder}/./a.trace", f"{folder}/link", f"{folder}/same", f"{path}.lines":
+        for words in [explain, "--small", output, path], [explain, "--html", output, path], [explain, "--svg", output, path], [TOOL, "--junit", output, folder]:
+            got = subprocess.run([words[0], "--program", program, *words[1:]], capture_output=True, text=True)
+            told = f"{name_of(words[0])}: {output} is read, so it is not written to\n"
+            tally.check(f"overwriting: {words[1]} {output}", (got.returncode, got.stdout, got.stderr) == (2, "", told), got)
+    for words in ["--html", "--small"], ["--svg", "--html"], ["--small", "--svg"]:
+        got = subprocess.run([explain, "--program", program, words[0], f"{folder}/out", words[1], f"{folder}/../{Path(folder).name}/out", path],
+                             capture_output=True, text=True)
+        tally.check(f"overwriting: {words} into one file", got.returncode == 2 and got.stderr.endswith(" is to be written twice\n") and not got.stdout, got)
+    got = subprocess.run([explain, "--program", program, "--html", f"{folder}/out.lines", "--small", f"{folder}/out", path], capture_output=True)
+    tally.check("overwriting: what stands beside the small trace", got.returncode == 2 and not got.stdout, got)
+    tally.check("overwriting: all is as it was", Path(path).read_bytes() == text and sorted(os.listdir(folder)) == ["a.trace", "a.trace.lines", "link", "same"],
+                os.listdir(folder))
+    old = Path(folder, "old.html")
+    old.write_text("old")
+    old.chmod(0o640)
+    limited = subprocess.run(["sh", "-c", 'ulimit -f 1; trap "" XFSZ; exec "$@"', "sh", explain, "--program", program, "--html", str(old), path], capture_output=True)
+    tally.check("overwriting: what can't be written whole", limited.returncode == 2 and old.read_text() == "old" and sorted(os.listdir(folder)) == [
+        "a.trace", "a.trace.lines", "link", "old.html", "same"], (limited, os.listdir(folder)))
+    subprocess.run([explain, "--program", program, "--html", str(old), path], capture_output=True)
+    tally.check("overwriting: the file's mode stays", old.read_text().startswith("<!DOCTYPE html>") and old.stat().st_mode & 0o777 == 0o640)
+
+
+def odd_names(tally: Tally, program: str, folder: str) -> None:
+    """A file's name writes no line of its own and sends nothing to a terminal: what can't be printed is shown."""
+    names = {"x\n::error::forged.trace": "x\\n::error::forged.trace", "y\x1b[31m.trace": "y\\x1b[31m.trace",
+             "z\udcff\u2028.trace": "z\\xff\\u2028.trace"}
+    write(folder, {name: "0 ins a 0 : a|0 read :" for name in names})
+    write(folder, {"w\r.trace": "0 reads :"})
+    got = judge(program, [folder])
+    tally.check("odd names: the table", [cells(line)[0] for line in got.out.decode().splitlines()[1:-1]] == [
+        f"{folder}/{name}" for name in ["w\\r.trace", *names.values()]], got)
+    tally.check("odd names: messages", got.status == 2 and got.err.startswith(f"domepeeler-judge-many: {folder}/w\\r.trace: finder: line 3: shape\n".encode())
+                and b"\r" not in got.err, got)
+    for name, shown in names.items():
+        page = f"{folder}/page.html"
+        got = subprocess.run([str(ROOT / "tools" / "explain"), "--program", program, "--html", page, "--small", f"{folder}/{name}.small",
+                              f"{folder}/{name}"], capture_output=True)
+        tally.check(f"odd names: {shown} explained", got.returncode == 1 and f"{folder}/{shown}.small has the same verdict".encode() in got.stdout
+                    and not re.search(rb"^::", got.stdout, re.MULTILINE) and b"\x1b" not in got.stdout, got)
+        tally.check(f"odd names: {shown} on the page", shown in Path(page).read_text(), shown)
+        missing = subprocess.run([str(ROOT / "tools" / "explain"), "--program", program, f"{folder}/no{name}"], capture_output=True, text=True)
+        tally.check(f"odd names: {shown} missing", missing.stderr == f"domepeeler-explain: cannot read {folder}/no{shown}: No such file or directory\n", missing)
+
+
+def stopped(tally: Tally, folder: str, other: str) -> None:
+    """SIGTERM and SIGHUP end it, and what judges for it."""
+    slow, begun = Path(other, "slow"), Path(other, "begun")
+    for stop in signal.SIGTERM, signal.SIGHUP:
+        slow.write_text(f"#!/bin/sh\n{VERSION}echo $$ >> '{begun}'\nexec sleep 60\n")
+        slow.chmod(0o755)
+        for words in [TOOL, "--program", str(slow), "--jobs", "2", folder], [str(ROOT / "tools" / "explain"), "--program", str(slow), f"{folder}/lost.trace"]:
+            begun.write_text("")
+            running = subprocess.Popen(words, stdout=subprocess.PIPE, stderr=subprocess.PIPE, start_new_session=True)
+            until = time.monotonic() + 60
+            while not begun.read_text().endswith("\n") and time.monotonic() < until:
+                time.sleep(0.01)
+            running.send_signal(stop)
+            out, err = running.communicate(timeout=30)
+            tally.same(f"stopped: {stop.name}, {Path(words[0]).name}", Ended(running.returncode, out, err), Ended(-stop, b"", b""))
+            left = [pid for pid in begun.read_text().split() if is_running(pid)]
+            tally.check(f"stopped: {stop.name}, {Path(words[0]).name}: nothing runs on", not left, left)
+
+
+def is_running(pid: str) -> bool:
+    """Whether a process does anything; one that has just been killed may not have been waited for yet."""
+    for _ in range(100):
+        try:
+            if Path(f"/proc/{pid}/stat").read_text().rpartition(")")[2].split()[0] == "Z":
+                return False
+        except OSError:
+            return False
+        time.sleep(0.01)
+    return True
+
+
+def unknown_faults(tally: Tally, program: str, folder: str) -> None:
+    """What nobody has thought of ends with 2, and not with Python's 1, which is a verdict: also while the tool is loaded. An older Python
+    is told which one is needed."""
+    with tempfile.TemporaryDirectory() as tools:
+        shutil.copytree(ROOT / "tools", tools, dirs_exist_ok=True)
+        for module, words in ("rows.py", "raise ValueError('not thought of')\n"), ("words.py", "import nowhere\n"), ("warnings.py", "def f(:\n"):
+            path = Path(tools, "explaining", module)
+            text = path.read_text()
+            path.write_text(words)
+            for tool, what in ("judge_many", folder), ("explain", f"{folder}/lost.trace"):
+                got = subprocess.run([f"{tools}/{tool}", "--program", program, what], capture_output=True, text=True)
+                is_touched = not (tool == "explain" and module == "rows.py")
+                tally.check(f"unknown faults: {tool}, {module}", got.returncode == (2 if is_touched else 1) and (not is_touched or not got.stdout and got.stderr.startswith(
+                    f"{name_of(tool)}: a fault of this tool, so nothing is said of a trace. Please report it with what follows:\nTraceback ")), got)
+            path.write_text(text)
+        for tool in "judge_many", "explain":
+            old = "import sys; sys.version_info = (3, 6, 8); sys.argv = ['x']; exec(compile(open(%r).read(), 'x', 'exec'))" % f"{tools}/{tool}"
+            got = subprocess.run([sys.executable, "-c", old], capture_output=True, text=True)
+            tally.check(f"an older Python: {tool}", (got.returncode, got.stdout, got.stderr) == (
+                2, "", f"{name_of(tool)}: this needs Python 3.9 or later, and is run by 3.6\n"), got)
+    for path in [*(ROOT / "tools" / "explaining").glob("*.py"), ROOT / "tools" / "explain", ROOT / "tools" / "judge_many", ROOT / "recorders" / "merge.py",
+                 ROOT / "recorders" / "domepeeler.py", ROOT / "recorders" / "python" / "domepeeler" / "pytest_plugin.py"]:
+        tree = ast.parse(path.read_text(), feature_version=(3, 9))
+        annotated = [node for node in ast.walk(tree) if isinstance(node, (ast.FunctionDef, ast.AnnAssign))]
+        later = any(isinstance(node, ast.ImportFrom) and node.module == "__future__" for node in tree.body)
+        tally.check(f"Python 3.9: {path.name}", later or not annotated or path.name in ("explain", "judge_many"), path)
+
+
+def tasks(tally: Tally, program: str, folder: str) -> None:
+    """The scripts of clusters succeed only where each trace has its line."""
+    subprocess.run([ROOT / "tools" / "install", f"{folder}/installed"], check=True, stdout=subprocess.DEVNULL, env=os.environ | {"DOMEPEELER": program})
+    slurm = str(ROOT / "examples" / "ci" / "slurm_array.sh")
+    command = re.search(r"        - \|\n((?:          .*\n)+)", (ROOT / "examples" / "ci" / "kubernetes_job.yml").read_text())[1].replace("cd /night", "cd night")
+    kinds = {"slurm": (["sh", slurm], {"SLURM_ARRAY_TASK_ID": "0"}, "judged/0.jsonl"), "bash": (["bash", slurm], {"SLURM_ARRAY_TASK_ID": "0"}, "judged/0.jsonl"),
+             "kubernetes": (["sh", "-c", command], {"JOB_COMPLETION_INDEX": "0"}, "night/judged/0.jsonl")}
+    for kind, (words, variables, lines) in kinds.items():
+        place = tempfile.mkdtemp(dir=folder)
+        write(f"{place}/night/part0", ACCEPTED | FAILING)
+        here = {"PATH": f"{folder}/installed/bin:{os.path.dirname(sys.executable)}:/usr/bin:/bin"} | variables
+        done = subprocess.run(words, cwd=place, capture_output=True, text=True, env=here)
+        tally.check(f"tasks: {kind}: all are judged", done.returncode == 0 and len(Path(place, lines).read_text().splitlines()) == 7, done)
+        stranger = Path(folder, "stranger")
+        stranger.mkdir(exist_ok=True)
+        for what, text in (("a traceback", "import nowhere\n"), ("a tool that answers too little", "import sys\nprint('{}')\nsys.exit(1)\n"),
+                           ("one that is killed", "import os\nos.kill(os.getpid(), 9)\n")):
+            Path(stranger, "domepeeler-judge-many").write_text(f"#!{sys.executable}\n{text}")
+            Path(stranger, "domepeeler-judge-many").chmod(0o755)
+            done = subprocess.run(words, cwd=place, capture_output=True, text=True, env=here | {"PATH": f"{stranger}:{here['PATH']}"})
+            tally.check(f"tasks: {kind}: {what}", done.returncode not in (0, 1), done)
+        shutil.rmtree(Path(place, lines).parent)
+        Path(place, lines).parent.write_text("a file\n")
+        done = subprocess.run(words, cwd=place, capture_output=True, text=True, env=here)
+        tally.check(f"tasks: {kind}: nothing can be written", done.returncode == 2, done)
+        shutil.rmtree(f"{place}/night")
+        Path(place, lines).parent.unlink(missing_ok=True)
+        done = subprocess.run(words, cwd=place, capture_output=True, text=True, env=here)
+        tally.check(f"tasks: {kind}: no folder", done.returncode == 2, done)
+
+
+def script_of_ci(tally: Tally, program: str, folder: str) -> None:
+    """The script's folder holds what it wrote alone; its traces are never judged; a name that looks like an option is none; of failures
+    that look alike the log has one line."""
+    subprocess.run([ROOT / "tools" / "install", f"{folder}/installed"], check=True, stdout=subprocess.DEVNULL, env=os.environ | {"DOMEPEELER": program})
+    path = os.pathsep.join([f"{folder}/installed/bin", *{os.path.dirname(shutil.which(tool)) for tool in ("python3", "sh")}])
+    place, script = Path(folder, "place"), f"python3 {ROOT / 'examples' / 'ci' / 'judge_recordings.py'}"
+    write(str(place), {"-x.trace": "0 ins a 0 : a|0 read :", "b.trace": "0 ins a 0 : a|0 read :|0 read : a", "c.trace": "0 ins a 0 : a|0 read : a a"})
+    for name, lines in ("-x", 4), ("b", 5), ("c", 4):
+        Path(place, f"{name}.trace.lines").write_text(f"{lines}\n4 t.py:{7 if name != 'c' else 9}\n")
+    first = in_ci(str(place), path, f"{script} .", {})
+    kept = sorted(os.listdir(place / "judged"))
+    tally.check("script of CI: three failures, of which two look alike", first.returncode == 1 and first.stdout.count("\nIn your code\n") == 1
+                and "\n  and 1 more that looks alike: b.trace\n" in first.stdout and "\nc.trace: contents 0.2: " in first.stdout
+                and first.stdout.count("3 not accepted: ") == 1, first)
+    again = in_ci(str(place), path, f"{script} .", {})
+    tally.check("script of CI: a second run judges the same", again.stdout == first.stdout and sorted(os.listdir(place / "judged")) == kept, again)
+    Path(place, "b.trace").unlink()
+    in_ci(str(place), path, f"{script} .", {})
+    tally.check("script of CI: what an earlier run left is gone", "3.html" in kept and "3.html" not in os.listdir(place / "judged"))
+    Path(place, "judged", "mine.txt").write_text("mine\n")
+    done = in_ci(str(place), path, f"{script} .", {})
+    tally.check("script of CI: a folder with other files", (done.returncode, done.stdout, done.stderr) == (2, "", "judge_recordings: the folder judged holds "
+                "what this script did not write (mine.txt): move it away\n") and Path(place, "judged", "1.html").exists(), done)
+    Path(place, "judged", "mine.txt").unlink()
+    done = in_ci(str(place), path, f"{script} judged", {})
+    tally.check("script of CI: its own folder", done.returncode == 2 and "is where the pages go" in done.stderr, done)
+    write(str(place), {"apart/a.trace": "0 ins a 0 : a|1 ins b 0 : b"})
+    done = in_ci(str(place), path, f"{script} apart --unequal", {"GITHUB_ACTIONS": "true"})
+    tally.check("script of CI: unequal, where that fails", done.returncode == 1 and done.stdout.startswith(
+        "::error file=apart/a.trace,title=apart/a.trace%3A accepted::accepted, but unequal in the end: in the end replicas 0 and 1 show different lists\n"), done)
+
+
+def big_traces(tally: Tally, program: str, folder: str) -> None:
+    """What is told of a big trace beside its verdict is found by other processes, with the same words."""
+    names = [f"e{i}" for i in range(1500)]
+    inserts = [f"0 ins {name} {place} : {' '.join(names[:place + 1])}" for place, name in enumerate(names[:600])]
+    write(folder, {f"{i}.trace": "|".join([*inserts, "1 recv 0 600", f"1 read : {' '.join(names[:600 - i])}"]) for i in range(3)})
+    rows = [json.loads(line) | {"seconds": 0} for line in judge(program, ["--json", "--jobs", "3", folder]).out.decode().splitlines()]
+    alone = [json.loads(line) | {"seconds": 0} for line in judge(program, ["--json", "--jobs", "1", folder]).out.decode().splitlines()]
+    sizes = [path.stat().st_size for path in Path(folder).glob("*.trace")]
+    tally.check("big traces: the same rows", rows == alone and [row["verdict"] for row in rows] == ["contents", "contents", "accepted"]
+                and min(sizes) > 1 << 20, (rows and rows[0].get("fails_at"), sizes))
 
 
 def main() -> None:
@@ -547,6 +885,14 @@ def main() -> None:
         fails_at(tally, program, third)
         warnings(tally, program, folder)
         warnings_of_sessions(tally, program, other)
+    for check in known_as_cut, grouped, no_files, overwriting, odd_names, tasks, script_of_ci, big_traces:
+        with tempfile.TemporaryDirectory() as folder:
+            check(tally, program, folder)
+    with tempfile.TemporaryDirectory() as folder, tempfile.TemporaryDirectory() as other, tempfile.TemporaryDirectory() as third:
+        which_traces(tally, program, folder, other)
+        write(third, ACCEPTED | FAILING)
+        stopped(tally, third, folder)
+        unknown_faults(tally, program, third)
     tally.close()
 
 
