@@ -1930,7 +1930,7 @@ int main(void) {{
     struct domepeeler *d = lost();
     show(d, domepeeler_judge(d, NULL));
     setitimer(ITIMER_REAL, &never, NULL);
-    printf("interrupted: %s\\n", ticks > 9 ? "yes" : "no");
+    printf("interrupted: %s\\n", ticks > 2 ? "yes" : "no");
     signal(SIGCHLD, SIG_IGN);
     d = lost();
     show(d, domepeeler_judge(d, NULL));
