@@ -597,7 +597,7 @@ A letter stands first, as `2-0' would look like an operation's name."
   (lines (make-hash-table))  ; by place from 1: the lines of its changes
   receiving                  ; whether it has receipts
   since                      ; those since its last operation, the last one first: author, number and line
-  (shown 'nothing))          ; the names that it showed last
+  shown)                     ; the names that it showed last, or nil
 
 (cl-defstruct (domepeeler--warned (:copier nil))
   entries     ; of each replica, a vector
@@ -613,15 +613,15 @@ A letter stands first, as `2-0' would look like an operation's name."
          deletes past-end)
     (dolist (entry (nthcdr domepeeler--head (reverse (domepeeler-recording-lines recording))))
       (cl-incf line)
-      (pcase-let* ((`(,first ,kind ,third ,fourth) (seq-take (split-string entry " ") 4))
+      (pcase-let* ((colon (string-match-p ":" entry))
+                   (`(,first ,kind ,third ,fourth) (seq-take (split-string (substring entry 0 colon) " " t) 4))
                    (replica (string-to-number first))
                    (own (aref entries replica)))
         (if (string= kind "recv")
             (progn
               (setf (domepeeler--entries-receiving own) t)
               (push (list (string-to-number third) (string-to-number fourth) line) (domepeeler--entries-since own)))
-          (let* ((names (split-string (substring entry (1+ (seq-position entry ?:))) " " t))
-                 (before (1- (length names)))
+          (let* ((names (substring entry (1+ colon)))
                  (named (format "line %d, %d.%d: replica %d" line replica (cl-incf (aref operations replica)) replica)))
             (setf (domepeeler--entries-since own) nil)
             (unless (string= kind "view")
@@ -632,10 +632,11 @@ A letter stands first, as `2-0' would look like an operation's name."
               (push (cons third named) deletes))
             (when (string= kind "ins")
               (puthash third t inserted)
-              (when (> (string-to-number fourth) before)
-                (push (format "%s inserted %s at position %s of a list of %d, so at its end: %s" named third fourth before
-                              "is that the position that was asked for?")
-                      past-end)))))))
+              (let ((before (1- (length (split-string names " " t)))))
+                (when (> (string-to-number fourth) before)
+                  (push (format "%s inserted %s at position %s of a list of %d, so at its end: %s" named third fourth before
+                                "is that the position that was asked for?")
+                        past-end))))))))
     (make-domepeeler--warned
      :entries entries
      :of-nothing (cl-loop for (name . named) in (nreverse deletes)
@@ -665,8 +666,8 @@ And which changes never arrived at which replica."
     (cl-loop for entries across (domepeeler--warned-entries warned)
              for replica from 0
              for shown = (domepeeler--entries-shown entries)
-             unless (eq shown 'nothing)
-             do (push replica (alist-get (sort (delete-dups (copy-sequence shown)) #'string<) lists nil nil #'equal)))
+             when shown
+             do (push replica (alist-get (sort (delete-dups (split-string shown " " t)) #'string<) lists nil nil #'equal)))
     (dolist (replica (domepeeler--acting recording))
       (let ((changes (domepeeler--lacked recording warned replica)))
         (cl-incf count (length changes))

@@ -449,7 +449,7 @@ impl Recording {
     /// appears whole, or what stood there stays. A pipe or a device has no such file beside it.
     pub fn save(&self, path: impl AsRef<Path>) -> io::Result<()> {
         let path = path.as_ref();
-        if fs::metadata(path).map_or(false, |about| !about.is_file()) {
+        if matches!(fs::metadata(path), Ok(about) if !about.is_file()) {
             return File::create(path)?.write_all(self.lines.as_bytes());
         }
         let mut beside = path.as_os_str().to_owned();
@@ -1009,7 +1009,7 @@ impl<'a> Warned<'a> {
                 for (other, of) in self.recording.replicas.iter().enumerate() {
                     let seen = if other == author { n } else { self.recording.replicas[author].pasts[n as usize - 1][other] };
                     let next = of.changes.get(of.changes.partition_point(|&one| one <= has[other]));
-                    is_new |= next.map_or(false, |&next| next <= seen);
+                    is_new |= matches!(next, Some(&next) if next <= seen);
                     has[other] = has[other].max(seen);
                 }
                 if is_new {
@@ -1253,7 +1253,7 @@ fn lines_named(said: &str) -> HashSet<usize> {
 
 fn is_named(behind: &str) -> bool {
     let replica = behind.strip_prefix(" (").map(|words| words.trim_start_matches(|digit: char| digit.is_ascii_digit()));
-    let is_receipt = replica.map_or(false, |words| words.starts_with(" recv "));
+    let is_receipt = matches!(replica, Some(words) if words.starts_with(" recv "));
     behind.starts_with([',', ')', ':']) || behind.starts_with(" of the trace,") || is_receipt
 }
 

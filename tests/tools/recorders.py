@@ -1806,7 +1806,7 @@ fn verdicts() {{
 
 def check_rust_tests(tally: Tally, program: str, folder: Path) -> None:
     """A verdict as a value; and `assert_accepted`, which explains, saves, and removes what an earlier run has saved. Its folder's name has
-    signs that JSON escapes, and a place is named with them."""
+    signs that JSON escapes, and a place is named with them. A copy of the recorder among tests gives clippy nothing to say."""
     place = folder / 'a "user\'s" \\tests'
     place.mkdir()
     (place / "editor.rs").write_text(RUST_TESTS)
@@ -1827,6 +1827,13 @@ def check_rust_tests(tally: Tally, program: str, folder: Path) -> None:
     done = subprocess.run(["./editor-0123456789abcdef"], cwd=place, env=surroundings, capture_output=True, text=True)
     tally.check("Rust tests: one that passes removes what it saved before", "4 passed; 1 failed;" in done.stdout and
                 [path.name for path in saved.parent.iterdir()] == [".gitignore"], done)
+    need("clippy-driver", "rust-clippy")
+    (place / "tests/domepeeler").mkdir(parents=True)
+    shutil.copy(ROOT / "recorders/domepeeler.rs", place / "tests/domepeeler/mod.rs")
+    (place / "tests/editor.rs").write_text(RUST_TESTS.partition("\n")[2])
+    words = ["clippy-driver", "--edition", "2021", "-D", "warnings", "-D", "clippy::all", "--test", "-o", "linted", "tests/editor.rs"]
+    done = subprocess.run(words, cwd=place, capture_output=True, text=True)
+    tally.check("Rust: nothing for clippy in a module of tests", (done.returncode, done.stderr) == (0, ""), done)
     (place / "placed.rs").write_text(f"""#[path = "{ROOT / 'recorders'}/domepeeler.rs"]
 mod domepeeler;
 fn main() {{
@@ -1923,7 +1930,7 @@ int main(void) {{
     struct domepeeler *d = lost();
     show(d, domepeeler_judge(d, NULL));
     setitimer(ITIMER_REAL, &never, NULL);
-    printf("interrupted: %s\\n", ticks > 9 ? "yes" : "no");
+    printf("interrupted: %s\\n", ticks > 2 ? "yes" : "no");
     signal(SIGCHLD, SIG_IGN);
     d = lost();
     show(d, domepeeler_judge(d, NULL));
