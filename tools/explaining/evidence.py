@@ -11,6 +11,7 @@ from .recordings import Operation, Receipt, Recording, place_asked
 from .telling import FIRST_STEPS, LAST_STEPS, MOST_STEPS
 
 MOST_ARRIVED = 6  # receipts that are told one by one
+SEVERAL = 3  # changes of an author, each with a receipt of its own, so that one without is noticed
 MOST_ELEMENTS = 4  # of a fault of contents, on each side, that are followed through the trace
 
 
@@ -230,7 +231,7 @@ class Evidence:
         receipts = self.recording.receipts[replica]
         has = max((receipt.seen.clock[but.replica] for receipt in receipts), default=0)
         others = [change for change in self.recording.streams[but.replica][:has] if change.element and change is not but]
-        return len(others) > 1 and {receipt.seen for receipt in receipts}.issuperset(others)
+        return len(others) >= SEVERAL and {receipt.seen for receipt in receipts}.issuperset(others)
 
     @cached_property
     def overtakings(self) -> list:
@@ -238,9 +239,10 @@ class Evidence:
         response."""
         if self.report["verdict"] != "contents":
             return []
-        beside = [name for arrival in self.arrivals for name in self.beside(arrival.insert)]
+        beside = [name for arrival in self.arrivals for name in self.beside(arrival.insert) if name not in self.elements]
         changes = [change for element in dict.fromkeys(self.elements + beside) for change in self.changes(element, self.operations[0])]
-        return [(change, found) for change in changes if (found := self.overtaking(change, self.operations[0]))]
+        found = [(change, overtaking) for change in changes if (overtaking := self.overtaking(change, self.operations[0]))]
+        return [(change, overtaking) for change, overtaking in found if overtaking.own or change.element in self.elements]
 
     def line_at(self, change: Operation, replica: int) -> int:
         """The line with which a change that the replica has came there."""

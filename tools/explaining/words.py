@@ -295,7 +295,7 @@ def facts(evidence: Evidence, name: str, operation: Operation) -> list:
         lines += overtaken(evidence, change, operation)
         lines += neighbours(evidence, change) if change.kind == "ins" and name not in evidence.repeated else []
         for other in evidence.beside(change) if change.kind == "ins" and operation.has_seen(change) else []:
-            told = [line for one in evidence.changes(other, operation) for line in overtaken(evidence, one, operation)]
+            told = [line for one, found in evidence.overtakings if one.element == other for line in overtaken(evidence, one, operation)]
             lines += [f"{other}, beside which it was put: {line}" for line in told]
     if name in recording.inserts and name not in recording.deletes:
         lines.append("nothing deletes it")
