@@ -107,14 +107,19 @@ FILES = {
     "vectors": ("recordings with expected reports by an independent reference", "tests/vectors"),
     "handles": ("what functions may ask of the machine", "HANDLES"),
     "small trace": ("a part of a trace that has the same verdict", "tools/explaining/small.py"),
-    "refused beginning": ("the shortest front of a refused trace that is refused; with its last line the session went wrong",
-                          "tools/explaining/beginning.py"),
+    "beginning": ("the shortest front of a trace that is not accepted; with its last line the session went wrong",
+                  "tools/explaining/beginning.py"),
+    "cause": ("where to look in the editor, by a name of its own", "tools/explaining/causes.py"),
+    "warning": ("what an accepted recording may hide; *unequal*: replicas end with different lists, or lack a change",
+                "tools/explaining/warnings.py"),
+    "note": ("the user's own words on a session, such as its seed", "tools/explaining/places.py"),
+    "planted bug": ("a usual mistake in a small engine, whose cause the words must name", "examples/planted"),
 }
 
 # The folders whose scripts are listed by name, and what their files may end with; one without an ending is listed where its first
 # line names what runs it.
 SCRIPTS = "tests/program tests/tools tests/memory tests/proofs tests/shared tests/reference bench bench/peers recorders " \
-          "recorders/engines recorders/properties"
+          "recorders/engines recorders/properties examples/planted"
 ENDINGS = {".py", ".mjs", ".rs", ".h", ".c", ".cpp", ".el"}
 
 ITEM = re.compile(r"( *)pub (?:const )?(fn|struct|enum|trait|const|type) (\w+)")
