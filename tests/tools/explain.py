@@ -23,11 +23,15 @@ from shared.program import Ended, Tally, program_of, run  # noqa: E402
 from shared.sessions import session, with_fault  # noqa: E402
 from shared.traces import trace as long_trace  # noqa: E402
 
-sys.path[:0] = [str(ROOT / "tools"), str(ROOT / "recorders")]
+sys.path[:0] = [str(ROOT / "tools"), str(ROOT / "recorders"), str(ROOT / "examples" / "planted")]
 import domepeeler as recorder
+import planted
+from explaining.beginning import explained
 from explaining.evidence import Evidence
+from explaining.programs import report_of
 from explaining.recordings import Recording
 from explaining.small import smallest
+from explaining.words import text_of as text_of_words
 
 EXPLAIN = str(ROOT / "tools" / "explain")
 GUIDE = str(ROOT / "docs" / "recording.md")
@@ -401,6 +405,18 @@ NO_TRACES = [
 # What another program does, as a shell says it, and how it is told that it ended.
 OTHERS = [("echo hello", "0"), ("exit 0", "0"), ("echo '[]'", "0"), ("echo 5; exit 1", "1"), ("echo '{\"a\": 1}'", "0"),
           ("printf '\\377'", "0"), ("echo 'usage: other' >&2; echo 'or so' >&2; exit 2", "2: usage: other"), ("exit 3", "3")]
+
+# By planted bug: how many seeds, how many sessions fail at least, and what the words of a failing one must have one of.
+PLANTED = {
+    "tombstone": (150, 50, ["beside deleted elements"]),
+    "tie": (100, 50, ["order of concurrent inserts", "decides between concurrent inserts"]),
+    "clock": (300, 20, ["numbers that order inserts", "number that orders inserts"]),
+    "overtaking": (100, 50, ["overtook it in line"]),
+    "mapping": (150, 40, ["may not have been moved over the delete"]),
+    "twice": (500, 10, ["already deleted here by"]),
+    "none": (60, 0, []),
+    "none_behind_server": (60, 0, []),
+}
 
 NO_INSERT = ", which no line inserts, so no response shows whether it was deleted: is that its name, and was its insert recorded?"
 UNHEARD = ("no receipt brings it an insert or a delete from there, so nothing shows what it makes of these. At the end of a session let "
@@ -1015,6 +1031,34 @@ def from_no_answer(tally: Tally, program: str, folder: str) -> None:
         tally.check(f"record.py: {words}", done.returncode == 2 and done.stderr.endswith(wanted) and not done.stdout and "Traceback" not in done.stderr, done)
 
 
+def planted_bugs(tally: Tally, program: str, folder: str) -> None:
+    """Random sessions of small engines with the usual bugs: of each that is not accepted the words name the cause, of the small trace too.
+    Without a bug all are accepted, but that behind a server strong may fail where weak holds."""
+    for bug, (seeds, least, phrases) in PLANTED.items():
+        failing, named, small_named = 0, 0, 0
+        for seed in range(seeds):
+            text = planted.session(bug, seed, 16).text()
+            report = report_of(program)(text.encode())
+            tally.check(f"planted: {bug} {seed}: judged", report is not None and (phrases or report["weak"] and (report["strong"] or "server" in bug)), text)
+            if not phrases or report["verdict"] == "accepted":
+                continue
+            words, told = explained(Evidence(Recording(text), report), report_of(program))
+            said = text_of_words(words)
+            is_named = any(phrase in said for phrase in phrases)
+            tally.check(f"planted: {bug} {seed}: named", is_named, f"{text}{said}")
+            small = smallest(told, report_of(program)).text
+            report = report_of(program)(small.encode())
+            again, _ = explained(Evidence(Recording(small), report), report_of(program))
+            failing, named, small_named = failing + 1, named + is_named, small_named + any(phrase in text_of_words(again) for phrase in phrases)
+        tally.check(f"planted: {bug}: how many fail, and are named", failing >= least and named == failing, (failing, named))
+        tally.check(f"planted: {bug}: named by most small traces too", small_named >= 0.9 * failing, (failing, small_named))
+        print(f"{bug}: {failing} of {seeds} sessions fail, the words name the cause of {named}, those of small traces of {small_named}")
+    done = subprocess.run([sys.executable, ROOT / "examples" / "planted" / "planted.py", "overtaking", "1", f"{folder}/planted.trace"], capture_output=True)
+    got = explain(program, [f"{folder}/planted.trace"])
+    tally.check("planted: by its own words", done.returncode == 0 and b"overtook it in line" in got.out and got.out.endswith(b"\n\nNoted\n  planted.py overtaking 1\n"),
+                (done, got))
+
+
 def names_of_examples(tally: Tally) -> None:
     """The names of elements begin with a letter: another one may look like an operation's name."""
     for example in sorted(ROOT.glob("examples/**/*.trace")):
@@ -1328,6 +1372,8 @@ def main() -> None:
     words(tally, program)
     said_first(tally, program)
     names_of_examples(tally)
+    with tempfile.TemporaryDirectory() as folder:
+        planted_bugs(tally, program, folder)
     with tempfile.TemporaryDirectory() as folder:
         faults(tally, program, folder)
         warnings(tally, program, folder)

@@ -30,9 +30,10 @@ COMPLETED = [
     (["domepeeler", "verdict", "--workers", "1"], {"1", "16"}),
     (["domepeeler", "live", "--"], {"--workers", "--help"}),
     (["domepeeler-explain", "--s"], {"--small", "--svg"}),
-    (["domepeeler-explain", "--"], {"--html", "--small", "--svg", "--program", "--version", "--help"}),
+    (["domepeeler-explain", "--"], {"--html", "--small", "--svg", "--language", "--program", "--version", "--help"}),
+    (["domepeeler-explain", "--language", "r"], {"rust"}),
     (["domepeeler-judge-many", "--j"], {"--json", "--junit", "--jobs"}),
-    (["domepeeler-judge-many", "--"], {"--json", "--failing", "--junit", "--jobs", "--sshlogin", "--program", "--version", "--help"}),
+    (["domepeeler-judge-many", "--"], {"--json", "--failing", "--unequal", "--junit", "--jobs", "--sshlogin", "--program", "--version", "--help"}),
 ]
 
 # Words, how the program ends by docs/formats.md, and what the man page says of that under its status alone.
@@ -64,12 +65,24 @@ def files(tally: Tally, program: str, folder: str) -> None:
     tally.check("install: a second time", again.returncode == 0, again)
 
 
-def errors(tally: Tally, folder: str) -> None:
+def errors(tally: Tally, program: str, folder: str) -> None:
     for words in [], [""], ["a", "b"], ["--prefix"]:
         got = run(INSTALL, words)
         tally.check(f"install: usage {words}", got.status == 2 and got.err.startswith(b"usage: tools/install PREFIX"), got)
     done = installed(f"{folder}/missing", folder)
     tally.check("install: no program", done.returncode == 2 and "is not there: build it first" in done.stderr, done)
+    done = installed("/bin/true", f"{folder}/other")
+    tally.check("install: another program", (done.returncode, done.stderr) == (
+        2, "install: /bin/true is not domepeeler: asked for its version it says something else\n") and not Path(folder, "other").exists(), done)
+    old = Path(folder, "odd/lib/domepeeler/tools/explaining/gone.py")
+    old.parent.mkdir(parents=True)
+    old.write_text("import nowhere\n")
+    done = subprocess.run(["sh", "-c", f"umask 077; cd '{ROOT}'; CDPATH='{folder}:{ROOT}' tools/install '{folder}/odd'"], capture_output=True, text=True,
+                          env=os.environ | {"DOMEPEELER": program})
+    unreadable = [path for path in Path(folder, "odd").rglob("*") if not path.is_symlink() and path.stat().st_mode & 0o044 != 0o044 and path not in (
+        old.parents[3], old.parents[2], old.parents[1], Path(folder, "odd"))]
+    tally.check("install: whoever installs it, everyone can read it, and no module is left", done.returncode == 0 and not done.stderr and not unreadable
+                and not old.exists(), (done, unreadable))
 
 
 def examples(tally: Tally, folder: str) -> None:
@@ -78,7 +91,7 @@ def examples(tally: Tally, folder: str) -> None:
     share, here = Path(folder, "share/domepeeler"), os.environ | {"PATH": f"{folder}/bin:{os.environ['PATH']}"}
     here.pop("DOMEPEELER", None)
     paths = [path.relative_to(ROOT) for path in sorted(ROOT.glob("examples/**/*")) if path.is_file() and path.parent.name != "ci"]
-    paths = [path for path in paths if path.suffix in (".trace", ".cert", ".mjs", ".log") or path.name == "convert.py"]
+    paths = [path for path in paths if path.suffix in (".trace", ".cert", ".mjs", ".log") or path.name in ("convert.py", "planted.py")]
     tally.check(f"examples in {folder}: all", len(paths) > 15 and all((share / path).is_file() and
                 (share / path).read_bytes() == (ROOT / path).read_bytes() for path in paths), paths)
     for words in ["domepeeler", "verdict"], ["domepeeler-explain"]:
@@ -127,7 +140,7 @@ def recorders(tally: Tally, folder: str) -> None:
     guides = []
     for tool in f"{folder}/bin/domepeeler-explain", str(ROOT / "tools" / "explain"):
         said = run(tool, ["--program", f"{folder}/bin/domepeeler", EXAMPLE]).out.decode()
-        found = re.search(r"applies it to another element\. (.*) says where receipts go\.", said)
+        found = re.search(r"applies it to another element\. (.*) says where the calls go\.", said)
         guides.append(Path(found[1]) if found else None)
     share = Path(folder, "share/domepeeler")
     wanted = [share / "docs/recording.md", ROOT / "docs/recording.md"]
@@ -197,6 +210,12 @@ def completions(tally: Tally, folder: str) -> None:
                   f"COMP_CWORD={len(words) - 1}; _domepeeler; printf '%s\\n' \"${{COMPREPLY[@]}}\"")
         done = subprocess.run(["bash", "-c", script], capture_output=True, text=True)
         tally.check(f"bash: {words}", set(done.stdout.split()) == offered and not done.stderr, done)
+    with tempfile.TemporaryDirectory() as place:
+        Path(place, "my first.trace").touch()
+        script = (f"compopt() {{ :; }}; source '{path}'; COMP_WORDS=(domepeeler-explain my); COMP_CWORD=1; _domepeeler; "
+                  "printf '<%s>' \"${COMPREPLY[@]}\"")
+        done = subprocess.run(["bash", "-c", script], capture_output=True, text=True, cwd=place)
+        tally.check("bash: a name with a blank", done.stdout == "<my first.trace>", done)
     script = f"source '{path}'; complete -p {' '.join(TOOLS)}"
     done = subprocess.run(["bash", "-c", script], capture_output=True, text=True)
     tally.check("bash: of each command", done.stdout.count("-F _domepeeler") == 3, done)
@@ -230,7 +249,7 @@ def main() -> None:
     need("fish", "fish")
     tally = Tally()
     with tempfile.TemporaryDirectory() as folder:
-        errors(tally, folder)
+        errors(tally, program, folder)
         files(tally, program, f"{folder}/a place")
         examples(tally, f"{folder}/a place")
         runs(tally, f"{folder}/a place")

@@ -5,11 +5,12 @@ _domepeeler() {
     case $before in
         --workers) COMPREPLY=($(compgen -W "1 2 4 8 16 32 64" -- "$word")); return ;;
         --jobs | --sshlogin) return ;;
-        --program | --html | --small | --svg | --junit) compopt -o filenames; COMPREPLY=($(compgen -f -- "$word")); return ;;
+        --language) COMPREPLY=($(compgen -W "python javascript rust c emacs-lisp" -- "$word")); return ;;
+        --program | --html | --small | --svg | --junit) compopt -o filenames; mapfile -t COMPREPLY < <(compgen -f -- "$word"); return ;;
     esac
     case ${COMP_WORDS[0]##*/} in
-        domepeeler-explain) options="--html --small --svg --program --version --help" ;;
-        domepeeler-judge-many) options="--json --failing --junit --jobs --sshlogin --program --version --help" ;;
+        domepeeler-explain) options="--html --small --svg --language --program --version --help" ;;
+        domepeeler-judge-many) options="--json --failing --unequal --junit --jobs --sshlogin --program --version --help" ;;
         *)
             if ((COMP_CWORD == 1)); then
                 COMPREPLY=($(compgen -W "verdict cert verify live --help --version" -- "$word"))
@@ -24,7 +25,7 @@ _domepeeler() {
         COMPREPLY=($(compgen -W "$options" -- "$word"))
     else
         compopt -o filenames
-        COMPREPLY=($(compgen -f -- "$word"))
+        mapfile -t COMPREPLY < <(compgen -f -- "$word")
     fi
 }
 

@@ -7,11 +7,13 @@ _domepeeler() {
             _arguments '--html[write a page with the session drawn]:file:_files' \
                 '--small[write the small trace that shows the same]:file:_files' \
                 '--svg[write the picture of the cycle]:file:_files' \
+                '--language[of the recorder]:language:(python javascript rust c emacs-lisp)' \
                 '--program[the program that judges]:program:_files' \
                 '--version[show the version]' '--help[show the help]' '1:trace:_files'
             return ;;
         domepeeler-judge-many)
             _arguments '--json[one JSON object a trace]' '--failing[list only the traces that are not accepted]' \
+                '--unequal[let traces fail whose replicas end unequal]' \
                 '--junit[write the verdicts as JUnit XML]:file:_files' '--jobs[how many at a time]:number:' \
                 '--sshlogin[machines to judge on]:hosts:_hosts' '--program[the program that judges]:program:_files' \
                 '--version[show the version]' '--help[show the help]' '*:folder:_files'
