@@ -1245,6 +1245,36 @@ def long_sessions(tally: Tally, program: str, folder: str) -> None:
     tally.check("longer: not folded but left out", not list(tree.iter("details")))
 
 
+def two_rings(n: int) -> str:
+    """A trace whose least cycle has 2 n + 1 elements: replica 3 sees two at a time."""
+    lines = ["2 ins g 0 : g", "3 recv 2 1"]
+    for i in range(1, n + 1):
+        lines += [f"0 ins e{i} 0 : e{i}", f"3 recv 0 {2 * i - 1}", f"3 view : {f'f{i - 1}' if i > 1 else 'g'} e{i}"]
+        lines += [f"1 del f{i - 1} :"] * (i > 1)
+        lines += [f"1 ins f{i} 0 : f{i}", f"3 recv 1 {2 * i - 1}", f"3 view : e{i} f{i}", f"0 del e{i} :"]
+    return text_of(4, "|".join([*lines, f"3 view : f{n} g"]))
+
+
+def long_cycles(tally: Tally, program: str, folder: str) -> None:
+    """A cycle of over twenty steps is told by its first ten and last five, on the page and in the picture too, in time that grows with the
+    trace."""
+    for n in 10, 200, 500:
+        trace, k = Path(folder, f"{n}.trace"), 2 * n + 1
+        trace.write_text(two_rings(n))
+        before = os.times().children_user
+        got = explain(program, ["--html", f"{folder}/page.html", "--svg", f"{folder}/cycle.svg", str(trace)])
+        seconds = os.times().children_user - before
+        said, drawn = got.out.decode(), Path(folder, "cycle.svg").read_text()
+        steps = re.findall(r"^  \[(\S+)\] before \[(\S+)\]: ", said, re.MULTILINE)
+        gaps = [line.strip() for line in said.splitlines() if line.startswith("  .. and ")]
+        tally.check(f"long cycle of {k}: its steps", said.startswith(f"refused {k}: ") and len(steps) == 15 and steps[0] == ("e1", "f1")
+                    and steps[-1] == ("g", "e1") and gaps == [f".. and {k - 15} more steps ..", f".. and {k - 15} more elements .."], said[:3000])
+        tally.check(f"long cycle of {k}: the picture", drawn.count('class="element"') == 15 and f">{k - 15} more</text>" in drawn
+                    and drawn.count('class="element between"') == 1 and f"A cycle of {k}: " in drawn, drawn)
+        tally.check(f"long cycle of {k}: no longer than that, and soon", len(said) < 12_000 and Path(folder, "page.html").stat().st_size < 1_000_000
+                    and seconds < 10, (len(said), seconds))
+
+
 def svg(tally: Tally, program: str, folder: str) -> None:
     for picture in sorted(ROOT.glob("docs/gallery/*.svg")):
         example = ROOT / "examples" / f"{picture.stem}.trace"
@@ -1390,6 +1420,7 @@ def main() -> None:
         letters(tally, program, folder)
         hostile(tally, program, folder)
         long_sessions(tally, program, folder)
+        long_cycles(tally, program, folder)
         svg(tally, program, folder)
         kept_more(tally)
         together(tally, program, folder)

@@ -155,7 +155,7 @@ def shown_by(evidence: Evidence, is_first: bool) -> list:
 def with_gap(lines: list, evidence: Evidence, what: str) -> list:
     """The lines of the steps that are told; of a long cycle, how many are left out stands where they are."""
     between = evidence.steps_between
-    return lines[:FIRST_STEPS] + [f".. {between} {what} more .."] + lines[FIRST_STEPS:] if between else lines
+    return lines[:FIRST_STEPS] + [f".. and {between} more {what} .."] + lines[FIRST_STEPS:] if between else lines
 
 
 def elements(evidence: Evidence) -> list:
