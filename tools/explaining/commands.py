@@ -77,7 +77,8 @@ def end_by(stop: int) -> None:
 
 def unknown(name: str) -> NoReturn:
     """Ends the command at an exception that it does not know."""
-    end(name, f"a fault of this tool, so nothing is said of a trace. Please report it with what follows:\n{traceback.format_exc().rstrip()}", STATUS)
+    told = "a fault of this tool, so nothing is said of a trace. Please report it with what follows:"
+    end(name, f"{told}\n{traceback.format_exc().rstrip()}", STATUS)
 
 
 def end(name: str, why: str, status: int) -> NoReturn:

@@ -30,7 +30,8 @@ def stop_of(evidence: Evidence) -> tuple:
         return entry, others[::-1]
     named = evidence.operations[0]
     if evidence.report["verdict"] == "contents":
-        second = [evidence.recording.arrival(again, named.replica) for again, _ in evidence.second_deletes if again.replica != named.replica]
+        arrived = [again for again, _ in evidence.second_deletes if again.replica != named.replica]
+        second = [evidence.recording.arrival(again, named.replica) for again in arrived]
         overtaking = [found.brought for _, found in evidence.overtakings]
         return [*second, *overtaking, *evidence.before(named)[1], named][0], []
     return named, []
@@ -53,5 +54,6 @@ def doing(entry: Operation | Receipt) -> str:
     """What the replica is about to do."""
     if isinstance(entry, Receipt):
         return f"replica {entry.replica} applies {entry.seen.name}"
-    what = {"ins": f"inserts {entry.element}", "del": f"deletes {entry.element}", "read": "reads the list", "view": "shows a part of the list"}
+    what = {"ins": f"inserts {entry.element}", "del": f"deletes {entry.element}", "read": "reads the list",
+            "view": "shows a part of the list"}
     return f"replica {entry.replica} {what[entry.kind]}"

@@ -207,13 +207,14 @@ class Evidence:
         had = before[0].has_seen if before else lambda change: False
         found = []
         for deletes in self.recording.deletes.values():
-            seen = sorted(filter(operation.has_seen, deletes), key=lambda delete: self.line_at(delete, operation.replica)) if deletes[1:] else []
+            seen = [delete for delete in deletes if operation.has_seen(delete)] if deletes[1:] else []
+            seen.sort(key=lambda delete: self.line_at(delete, operation.replica))
             found += [(again, seen[0]) for again in seen[1:] if not had(again)]
         return sorted(found, key=lambda pair: self.line_at(pair[0], operation.replica))
 
     def overtaking(self, change: Operation, operation: Operation) -> Overtaking | None:
-        """Whether a later operation brought a change to a response before the change came by itself: the exchange may not be causal, which is
-        what a new recorder meets first. That one receipt stands for several changes of an author is no sign of it, where none names the
+        """Whether a later operation brought a change to a response before the change came by itself: the exchange may not be causal,
+        which is what a new recorder meets first. That one receipt stands for several changes of an author is no sign of it, where none names the
         change and the author's others have not each their own."""
         way = self.recording.way(change, operation) if operation.has_seen(change) else []
         if not way or way[-1].seen is change:

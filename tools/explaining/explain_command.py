@@ -34,8 +34,8 @@ def words_asked() -> argparse.Namespace:
     parser.add_argument("--html", metavar="FILE", help="write a page with the session drawn and the words beside it")
     parser.add_argument("--small", metavar="FILE", help="write the small trace that shows the same")
     parser.add_argument("--svg", metavar="FILE", help="write the picture of the cycle of a refused recording")
-    parser.add_argument("--language", choices=list(LANGUAGES), help="the language of the recorder, in which to say where to stop a debugger; by "
-                        f"default what stands beside the trace, else {USUAL}")
+    parser.add_argument("--language", choices=list(LANGUAGES), help="the language of the recorder, in which to say where to stop a debugger; "
+                        f"by default what stands beside the trace, else {USUAL}")
     add_version(parser, NAME)
     return parser.parse_args()
 
@@ -93,8 +93,8 @@ def write_small(path: str, evidence: Evidence, told: Evidence, program: str, kno
     placed = [f"{number} {known.places[line]}" for number, line in enumerate(small.lines, FIRST_ENTRY) if line in known.places]
     if known.marks() + placed or os.path.isfile(path + SIDE):  # of a trace that was in this file before
         write(path + SIDE, "".join(f"{line}\n" for line in [len(lines), *known.marks(), *placed]))
-    print(f"\n{shown(path)} {same_as(evidence, told)} in {len(lines)} lines of {len(evidence.recording.lines)}; the editor need not answer so "
-          "again. Its operations in the whole trace:")
+    print(f"\n{shown(path)} {same_as(evidence, told)} in {len(lines)} lines of {len(evidence.recording.lines)}; the editor need not answer "
+          "so again. Its operations in the whole trace:")
     named = [f"{name} = {operation.name} (line {operation.line})" for name, operation in small.operations]
     print("  " + ", ".join(named[:MOST_TOLD]) + (f", and {len(named) - MOST_TOLD} more" if len(named) > MOST_TOLD else ""))
 

@@ -36,7 +36,7 @@ def opened(path: str, most: int = MOST_BYTES) -> int:
     elif not stat.S_ISREG(about.st_mode):
         why = "it is no regular file"
     elif about.st_size > most:
-        why = f"it has {about.st_size:,} bytes, and a trace has at most {most:,}" if most == MOST_BYTES else f"it has more than {most:,} bytes"
+        why = f"it has {about.st_size:,} bytes, and {'a trace' if most == MOST_BYTES else 'what is read here'} has at most {most:,}"
     if why:
         os.close(descriptor)
         raise Unread(why)

@@ -27,8 +27,8 @@ def junit_of(rows: list, program: str, unequal: bool) -> bytes:
     suite = xml.Element("testsuite", name="domepeeler")
     for row in rows:
         folder, name = os.path.split(row.file)
-        case = xml.SubElement(suite, "testcase", classname=written(shown(folder) or "."), name=written(shown(name)), file=written(shown(row.file)),
-                              time=f"{row.seconds:.3f}")
+        case = xml.SubElement(suite, "testcase", classname=written(shown(folder) or "."), name=written(shown(name)),
+                              file=written(shown(row.file)), time=f"{row.seconds:.3f}")
         if row.verdict in NO_VERDICTS:
             add_fault(case, "error", row.verdict, "\n  ".join([shown(row.error), *about_file(row.error, row.file)]))
         elif row.verdict != "accepted":
@@ -56,7 +56,8 @@ def add_fault(case: xml.Element, kind: str, verdict: str, told: str, about: str 
 
 
 def explanation_of(row: Row, program: str) -> tuple:
-    """What `explain` says of the trace, and the elements of a refusal; or its verdict alone, where the file is no longer what was judged."""
+    """What `explain` says of the trace, and the elements of a refusal; or its verdict alone, where the file is no longer what was
+    judged."""
     try:
         trace = read_file(row.file)
         known = beside(trace, row.file)

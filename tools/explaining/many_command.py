@@ -39,8 +39,8 @@ def words_asked() -> argparse.Namespace:
                         "each trace there; the program must have the same path on each of them")
     parser.add_argument("--json", action="store_true", help="a line for each trace, a JSON object, in place of the table")
     parser.add_argument("--failing", action="store_true", help="list only the traces that are not accepted; the counts are of all")
-    parser.add_argument("--unequal", action="store_true", help="let accepted traces fail whose replicas end with different lists, or without "
-                        "some insert or delete")
+    parser.add_argument("--unequal", action="store_true", help="let accepted traces fail whose replicas end with different lists, or "
+                        "without some insert or delete")
     parser.add_argument("--junit", metavar="FILE", help="write the verdicts of all traces in JUnit's XML form, with explanations")
     add_version(parser, NAME)
     return parser.parse_args()
@@ -129,8 +129,8 @@ def is_failing(row: Row, asked: argparse.Namespace) -> bool:
 
 
 def in_order(rows: list) -> list:
-    """First the one that fails in the fewest first lines, and of equals the smaller one; then those that are accepted, by name, unequal ones
-    first."""
+    """First the one that fails in the fewest first lines, and of equals the smaller one; then those that are accepted, by name, unequal
+    ones first."""
     def place(row: Row) -> tuple:
         if row.verdict == "accepted":
             return True, not row.unequal, 0, row.file
@@ -176,8 +176,8 @@ def print_unequal(rows: list, asked: argparse.Namespace) -> None:
     count = sum(bool(row.unequal) for row in rows)
     if count:
         told = "and so failing" if asked.unequal else "--unequal lets these fail"
-        print(f"{count} of those accepted {'is' if count == 1 else 'are'} unequal: in the end replicas show different lists, or lack an insert or "
-              f"a delete ({told})")
+        print(f"{count} of those accepted {'is' if count == 1 else 'are'} unequal: in the end replicas show different lists, or lack an "
+              f"insert or a delete ({told})")
 
 
 def print_errors(rows: list) -> None:

@@ -140,7 +140,8 @@ def section_of(section: Section, session: str, letters: dict) -> str:
         return f'<a href="#line-{found[0]}">{found[0]}</a>' if f'id="line-{found[0]}"' in session else found[0]
 
     if section.title in (CODE, LOG):  # behind the place stand the lines
-        lines = [escape(place) + ": " + NUMBER.sub(number_link, lines) for place, _, lines in (line.rpartition(": ") for line in section.lines)]
+        parts = [line.rpartition(": ") for line in section.lines]
+        lines = [f"{escape(place)}: {NUMBER.sub(number_link, numbers)}" for place, _, numbers in parts]
     elif section.title == NOTED:
         lines = [escape(line) for line in section.lines]
     else:

@@ -120,8 +120,9 @@ def with_changes(recording: Recording, elements: set, kept: list) -> list:
 def candidates(evidence: Evidence) -> list:
     """Projections that should have the verdict of the beginning that the evidence is on, the smallest first; the last one is all of it."""
     recording, elements = evidence.recording, set(evidence.elements)
-    gone = [delete for _, deletes in evidence.lost_neighbours for delete in deletes] if evidence.report["verdict"] in ("refused", "contents") else []
-    gone += [delete for pair in evidence.second_deletes[:1] for delete in pair]
+    gone = [delete for pair in evidence.second_deletes[:1] for delete in pair]
+    if evidence.report["verdict"] in ("refused", "contents"):
+        gone += [delete for _, deletes in evidence.lost_neighbours for delete in deletes]
     elements.update(delete.element for delete in gone)
     overtakings = [found for _, found in evidence.overtakings]
     late = tuple({found.own for found in overtakings if found.own})
@@ -149,8 +150,8 @@ def fewer(kept: list, named: list) -> list:
 
 
 def smallest(evidence: Evidence, judge: Callable) -> Small | None:
-    """The smallest of these traces whose report, by `judge`, has the verdict and the number of the one that the evidence is on. It should be the
-    first of them; but the program has the last word, and where it says otherwise more is kept."""
+    """The smallest of these traces whose report, by `judge`, has the verdict and the number of the one that the evidence is on. It should
+    be the first of them; but the program has the last word, and where it says otherwise more is kept."""
     wanted = [evidence.report.get(key) for key in ("verdict", "k")]
     for projection in candidates(evidence):
         small = projection.small()

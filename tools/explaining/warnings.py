@@ -156,8 +156,8 @@ def unheard(replicas: list) -> list:
         others = [str(author) for author, other in enumerate(replicas)
                   if other.changes and author != replica and other.changes[0] > one.has[author]]
         if one.pasts and others:
-            told.append(f"replica {replica} never hears of replica{'' if len(others) == 1 else 's'} {joined(others)}: no receipt brings it an "
-                        "insert or a delete from there, so nothing shows what it makes of these. At the end of a session let everyone "
+            told.append(f"replica {replica} never hears of replica{'' if len(others) == 1 else 's'} {joined(others)}: no receipt brings it "
+                        "an insert or a delete from there, so nothing shows what it makes of these. At the end of a session let everyone "
                         "receive everything, and read")
     return told
 

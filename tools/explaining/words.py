@@ -9,10 +9,10 @@ from typing import NamedTuple
 from . import debuggers
 from .causes import Cause, causes_of
 from .evidence import MOST_ARRIVED, Evidence
-from .recordings import Operation, Recording, place_asked
+from .recordings import Operation, Receipt, Recording, place_asked
 from .telling import FIRST_STEPS, at, counted, did, joined
 
-CODE, LOG, NOTED = "In your code", "In your log", "Noted"  # titles of the last sections: places of the user's code, or of a log; words of the user's
+CODE, LOG, NOTED = "In your code", "In your log", "Noted"  # titles of the last sections: places of code or of a log; the user's words
 HIDDEN = "What this verdict may hide"  # the title of the section of warnings, the first one
 MOST_NAMES = 24  # of a list that is shown whole
 AROUND = "each element before the next, and round again"
@@ -73,11 +73,12 @@ def when_it_went_wrong(evidence: Evidence, told: Evidence) -> list:
     """With which line the session went wrong, where that is not the last one that the verdict on the whole trace names, or is followed by
     others."""
     last = told.last_line
-    named = len(evidence.recording.lines) if told.report["verdict"] == "refused" else max((one.line for one in evidence.operations), default=0)
-    if told.report["verdict"] == "accepted" or last >= named:
+    named = max((operation.line for operation in evidence.operations), default=0)
+    if told.report["verdict"] == "accepted" or last >= (len(evidence.recording.lines) if told.report["verdict"] == "refused" else named):
         return []
     entry = evidence.recording.entries[last - evidence.recording.entries[0].line]
-    lines = [f"{did(entry, is_first=True)}: up to line {last - 1} the session is accepted, and with line {last} it is {verdict_of(told.report)}"]
+    verdict = verdict_of(told.report)
+    lines = [f"{did(entry, is_first=True)}: up to line {last - 1} the session is accepted, and with line {last} it is {verdict}"]
     if told.report["verdict"] == "refused":
         lines += [since(told, entry, "still fits"), *in_the_end(evidence.recording)]
     else:
@@ -173,7 +174,8 @@ def in_the_end(recording: Recording) -> list:
         return []
     told = joined([str(operation.replica) for operation in whole])
     is_one = len({tuple(operation.response) for operation in whole}) == 1
-    return [f"in the end replicas {told} have every change, and show {'the same list' if is_one else 'different lists, perhaps as one text'}"]
+    shown = "the same list" if is_one else "different lists, perhaps as one text"
+    return [f"in the end replicas {told} have every change, and show {shown}"]
 
 
 def life(recording: Recording, name: str) -> str:
@@ -199,9 +201,14 @@ def gone_before(evidence: Evidence) -> list:
 
 def beside_deleted(evidence: Evidence) -> list:
     """Which elements arrived where one beside which they had been put was deleted already."""
-    return [f"{insert.element} was put {beside(insert, [delete.element for delete in deletes])}. When it arrived at replica {receipt.replica} "
-            f"in line {receipt.line}, {joined([f'{delete.element} was deleted there by {at(delete)}' for delete in deletes])}"
+    return [f"{insert.element} was put {beside(insert, [delete.element for delete in deletes])}. {when_arrived(receipt, deletes)}"
             for (receipt, insert), deletes in evidence.lost_neighbours]
+
+
+def when_arrived(receipt: Receipt, deletes: list) -> str:
+    """What had been deleted where a receipt brought an element."""
+    gone = joined([f"{delete.element} was deleted there by {at(delete)}" for delete in deletes])
+    return f"When it arrived at replica {receipt.replica} in line {receipt.line}, {gone}"
 
 
 def beside_hidden(evidence: Evidence) -> list:
@@ -226,8 +233,8 @@ def where_arrived(evidence: Evidence) -> list:
 
 def doubled(evidence: Evidence) -> tuple:
     first, again = evidence.operations
-    return (f"doubled: {first.name} and {again.name} insert the same name, {first.element}. An element is known by its name, so nothing else was "
-            "judged.", [Section("The two inserts", [did(first, is_first=True), did(again)])])
+    return (f"doubled: {first.name} and {again.name} insert the same name, {first.element}. An element is known by its name, so nothing "
+            "else was judged.", [Section("The two inserts", [did(first, is_first=True), did(again)])])
 
 
 def contents(evidence: Evidence) -> tuple:
@@ -311,7 +318,8 @@ def overtaken(evidence: Evidence, change: Operation, operation: Operation) -> li
     if own is not None:
         of_author = f"{change.name}'s own receipt comes only in" if own.seen is change else "It is named only in"
         had = "" if own.seen.replica == brought.seen.replica else ", whose author had it,"
-        return [f"{of_author} line {own.line} ({own.text}); {brought.seen.name}{had} overtook it in line {brought.line}, so the exchange is not causal"]
+        return [f"{of_author} line {own.line} ({own.text}); {brought.seen.name}{had} overtook it in line {brought.line}, so the exchange is "
+                "not causal"]
     if change.replica == brought.seen.replica:
         return [f"no receipt at replica {replica} names {change.name} itself, as one does each other change of replica {change.replica}: "
                 f"{brought.seen.name} overtook it in line {brought.line}, or it was lost"]
@@ -327,11 +335,8 @@ def neighbours(evidence: Evidence, insert: Operation) -> list:
         return []
     receipt = arrival.receipt
     gone = next((deletes for other, deletes in evidence.lost_neighbours if other is arrival), [])
-    if gone:
-        told = joined([f"{delete.element} was deleted there by {at(delete)}" for delete in gone])
-    else:
-        told = "that was not deleted there" if len(names) == 1 else "neither was deleted there"
-    return [f"was put {beside(insert, names)}. When it arrived at replica {receipt.replica} in line {receipt.line}, {told}"]
+    told = when_arrived(receipt, gone) + (("that was not" if len(names) == 1 else "neither was") + " deleted there" if not gone else "")
+    return [f"was put {beside(insert, names)}. {told}"]
 
 
 def arrived(recording: Recording, seen: Operation, operation: Operation) -> str:
