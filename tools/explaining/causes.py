@@ -12,41 +12,42 @@ from .telling import at, joined, listed
 
 MOST_TOLD = 3  # deletes, or elements, that are told one by one
 
-ARRIVAL = ("Look at how operations reach a replica and are applied. Most often the recorder or the transport is at fault: `received` is called "
-           "before the change was applied, or not at all; or an operation arrives before what its author had. Else the editor loses an operation, "
-           f"applies it twice, or applies it to another element. {GUIDE} says where the calls go.")
-WRONG_DELETE = ("{delete} looks applied to {missing} in the place of {surplus}: look at how a delete finds its element where it is applied, and at "
-                "whether the recorder names the element that was deleted.{moved}")
+ARRIVAL = ("Look at how operations reach a replica and are applied. Most often the recorder or the transport is at fault: `received` is "
+           "called before the change was applied, or not at all; or an operation arrives before what its author had. Else the editor "
+           f"loses an operation, applies it twice, or applies it to another element. {GUIDE} says where the calls go.")
+WRONG_DELETE = ("{delete} looks applied to {missing} in the place of {surplus}: look at how a delete finds its element where it is "
+                "applied, and at whether the recorder names the element that was deleted.{moved}")
 MOVED_DELETE = " In an editor that sends positions, this one may not have been moved over {deletes}, which its author did not know."
-SECOND_DELETE = ("{again} deletes {element}, already deleted here by {first}: look at what the editor does with a delete whose element is gone. It "
-                 "may take another element ({missing}).")
-OVERTAKEN = ("Look at the order in which operations arrive: {name} was overtaken, as told above. Hold an operation back until all that its author "
-             "had is applied, or send that with it. If the editor itself holds it back, write its receipt only when it is applied. "
-             f"{GUIDE} has both ways.")
-LOST_NEIGHBOUR = ("Look at inserts beside deleted elements: {element} arrived where its neighbour was deleted, as told above. An editor that throws "
-                  "deleted elements away too early finds no place for it, and loses it or holds it back for ever.")
-MAPPING = ("Look at how the position that a user sees is mapped to a place in the editor's own list{deleted}; and at whether the recorder writes "
-           "the position that was asked for.")
-NUMBERS = ("Look at the numbers that order inserts at one place, if the editor has such (a clock, ids): {element} stands behind {passed}, which "
-           "replica {replica} had already, so its number may not exceed theirs. So it is where a clock does not advance with what arrives, or "
-           'where ids are compared as strings, and "10" comes before "9".')
-BESIDE_DELETED = ("Look at inserts beside deleted elements, if replicas throw these away: above stands which element {when}, and without the "
-                  "neighbour nothing tells the place.")
-SEVERAL_DELETED = ("Look at positions beside deleted elements: no two of {named} contradict each other, but an insert beside an element that another "
-                   "replica has deleted may have lost its place there. Above stands which elements are deleted for which of them.")
-SEVERAL_APART = ("Look at how a replica orders elements when it has only some of them: no two of {named} contradict each other, and none of the "
-                 "elements is deleted for any of them, so each replica still lacks some. Often what decides between concurrent inserts is not "
-                 "the same everywhere.")
-CONCURRENT = ("Look at the order of concurrent inserts: neither author of {first} and {then} had the other one yet, and two replicas, or one at two "
-              "times, have put them in different orders. What decides between two at one place must be the same everywhere (the replicas' "
-              "numbers, say), and not which arrives first.{moved}")
-SEEN = ("Look at where a replica places an incoming insert: {later} inserted {new} when it had {old}, so these are no concurrent inserts, and yet "
-        "the two are put in different orders. Often the number that orders inserts does not grow with what arrives, or the neighbour is not "
-        "found.{moved}")
-MOVED_INSERT = (" In an editor that sends positions, that of {element} may not have been moved over {deletes}, which replica {replica} had and its "
-                "author did not.")
-DOUBLED = ("Look at the recorder first: each inserted element needs a name of its own, for ever. Equal letters are different elements, each element "
-           "of a paste is a new one, and so is an undone delete where the editor makes a new one.")
+SECOND_DELETE = ("{again} deletes {element}, already deleted here by {first}: look at what the editor does with a delete whose element "
+                 "is gone. It may take another element ({missing}).")
+OVERTAKEN = ("Look at the order in which operations arrive: {name} was overtaken, as told above. Hold an operation back until all that "
+             "its author had is applied, or send that with it. If the editor itself holds it back, write its receipt only when it is "
+             f"applied. {GUIDE} has both ways.")
+LOST_NEIGHBOUR = ("Look at inserts beside deleted elements: {element} arrived where its neighbour was deleted, as told above. An editor "
+                  "that throws deleted elements away too early finds no place for it, and loses it or holds it back for ever.")
+MAPPING = ("Look at how the position that a user sees is mapped to a place in the editor's own list{deleted}; and at whether the "
+           "recorder writes the position that was asked for.")
+NUMBERS = ("Look at the numbers that order inserts at one place, if the editor has such (a clock, ids): {element} stands behind "
+           "{passed}, which replica {replica} had already, so its number may not exceed theirs. So it is where a clock does not advance "
+           'with what arrives, or where ids are compared as strings, and "10" comes before "9".')
+BESIDE_DELETED = ("Look at inserts beside deleted elements, if replicas throw these away: above stands which element {when}, and without "
+                  "the neighbour nothing tells the place.")
+SEVERAL_DELETED = ("Look at positions beside deleted elements: no two of {named} contradict each other, but an insert beside an element "
+                   "that another replica has deleted may have lost its place there. Above stands which elements are deleted for which of "
+                   "them.")
+SEVERAL_APART = ("Look at how a replica orders elements when it has only some of them: no two of {named} contradict each other, and none "
+                 "of the elements is deleted for any of them, so each replica still lacks some. Often what decides between concurrent "
+                 "inserts is not the same everywhere.")
+CONCURRENT = ("Look at the order of concurrent inserts: neither author of {first} and {then} had the other one yet, and two replicas, or "
+              "one at two times, have put them in different orders. What decides between two at one place must be the same everywhere "
+              "(the replicas' numbers, say), and not which arrives first.{moved}")
+SEEN = ("Look at where a replica places an incoming insert: {later} inserted {new} when it had {old}, so these are no concurrent "
+        "inserts, and yet the two are put in different orders. Often the number that orders inserts does not grow with what arrives, or "
+        "the neighbour is not found.{moved}")
+MOVED_INSERT = (" In an editor that sends positions, that of {element} may not have been moved over {deletes}, which replica {replica} "
+                "had and its author did not.")
+DOUBLED = ("Look at the recorder first: each inserted element needs a name of its own, for ever. Equal letters are different elements, "
+           "each element of a paste is a new one, and so is an undone delete where the editor makes a new one.")
 
 
 class Cause(NamedTuple):
