@@ -1,5 +1,5 @@
--- A core has the cycles of the whole: what is shortest or least there is so here. And what no order can begin
--- with is a core.
+-- A core has the cycles of the whole: what is shortest or least there is so here. And the elements through which
+-- a cycle leads are a core.
 use Rattle.std.proofs.Common.{◌≡◌, ◌≢◌, ℕ, zero, suc, ◌+◌, ◌<◌, ◌≤◌, ◌⊎◌, inl, inr, Some, List, [], ◌∷◌}
 use Rattle.std.proofs.Common.{length, map, get_or, refl, sym, ◌∙◌, ap, subst, arith}
 use Rattle.std.specs.Prelude.{All, AllPairs, Contains, IsTrue, slice_get, unwrap_or, nat_lt}
@@ -16,7 +16,7 @@ use Rattle.specification.specs.Conflict.{AreLeastSteps, HasConflictNumber, HasNo
 use Rattle.specification.specs.Conflict.{ring_from}
 use Rattle.specification.specs.LayerRule.{narrowed}
 use Rattle.specification.specs.Orders.{dictionary_lt}
-use Rattle.specification.specs.Search.{IsShortestLength}
+use Rattle.specification.specs.Search.{IsCycleThrough, IsShortestLength}
 use Rattle.specification.proofs.Members.{In, Before, In-from_Contains, Contains-from_In, In-from_place}
 use Rattle.specification.proofs.Members.{In-map, All-member, All-from_members, Before-cases}
 use Rattle.specification.proofs.Members.{Before-from_places, places_of_Before, place_of_In}
@@ -28,10 +28,9 @@ use Rattle.specification.proofs.Cycles.{IsShownPair, cycle-elements}
 use Rattle.specification.proofs.Narrowed.{narrowed-shows, narrowed_shows-from}
 use Rattle.order_graph.specs.Kept.{names_at}
 use Rattle.order_graph.specs.Lists.{lists_of, BeforeIn}
-use Rattle.witness_order.specs.Taken.{IsTakenInTurn}
 use Rattle.element_numbers.proofs.NameNumbers.{number-some}
 use Rattle.level_search.specs.Conflicts.{IsFound}
-use Rattle.level_search.specs.Cores.{IsCoreOf}
+use Rattle.level_search.specs.Cores.{IsCoreOf, LiesOnCycle}
 use Rattle.level_search.specs.declared.conflict.Found.{Found}
 use Rattle.list_search.specs.Graph as by_number
 use Rattle.level_search.specs.Team.{IsLeastLength}
@@ -234,71 +233,20 @@ module _ (v : Responses) (proper : AreProper v) (numbers : List ℕ) (core : IsC
             }));
       }
 
--- where what stands before a taken element was taken earlier, no cycle leads through a taken element
-module _ (rows : List (List ℕ)) (taken : List ℕ) (earlier : (l y x p : ℕ) → p < length taken
-    → get_or taken p 0 ≡ x → BeforeIn rows l y x → (q : ℕ) × (q < p) × (get_or taken q 0 ≡ y)) where
-  walk-back : (n s x p : ℕ) → p < length taken → get_or taken p 0 ≡ x → Walk rows s n x
-      → (q : ℕ) × (q + n ≤ p) × (get_or taken q 0 ≡ s)
-  walk-back zero s x p inside at walk = (p, omega arith, at ∙ walk)
-  walk-back (suc n) s x p inside at walk =
-      let last : by_number.Before rows walk.0 x = walk.2 in
-      let before =
-      earlier last.list walk.0 x p inside at (record {
-        place = last.place;
-        later = last.later;
-        in_order = last.in_order;
-        first = last.first;
-        second = last.second;
-      }) in
-      let back = walk-back n s walk.0 before.0 (omega (arith, before.1)) before.2 walk.1 in
-      (back.0, omega (arith, back.1, before.1), back.2)
-
-  no_cycle-taken : (b x n p : ℕ) → p < b → p < length taken → get_or taken p 0 ≡ x → HasCycle rows x n → ⊥
-  no_cycle-taken zero x n p low inside at cycle = omega arith
-  no_cycle-taken (suc b) x n p low inside at cycle =
-      let back = walk-back n x x p inside at cycle.1 in
-      no_cycle-taken b x n back.0 (omega (arith, back.1, cycle.0)) (omega (arith, back.1)) back.2 cycle
-
-  pub not_taken : (x n : ℕ) → HasCycle rows x n → Contains taken x → ⊥
-  not_taken x n cycle has =
-      let at : get_or taken has.0 0 ≡ x =
-      get_or_from_slice_get taken has.0 (get_or taken has.0 x) 0 (slice_get-get_or taken has.0 x has.1)
-      ∙ has.2 in
-      no_cycle-taken (suc has.0) x n has.0 (omega arith) has.1 at cycle
-
-taken-earlier : (rows : List (List ℕ)) (taken : List ℕ) → IsTakenInTurn rows taken → (l y x p : ℕ)
-    → p < length taken → get_or taken p 0 ≡ x → BeforeIn rows l y x
-    → (q : ℕ) × (q < p) × (get_or taken q 0 ≡ y)
-taken-earlier rows taken turn l y x p inside at before =
-    let found = turn.earlier l y x p before (slice_get-get_or taken p 0 inside ∙ ap Some at) in
-    (found.0, found.1, get_or_from_slice_get taken found.0 y 0 found.2)
-
--- so what is not taken is a core
-pub core_of_rest : (v : Responses) → AreProper v → (taken numbers : List ℕ)
-    → IsTakenInTurn (lists_of v) taken → AllPairs (λ x y. x < y) numbers
-    → All (λ x. x < length v.elements) numbers
-    → ((x : ℕ) → x < length v.elements → ¬ Contains taken x → Contains numbers x) → IsCoreOf v numbers
-core_of_rest v proper taken numbers turn rising known rest = record {
+-- the elements through which a cycle leads are a core
+pub core_of : (v : Responses) → AreProper v → (numbers : List ℕ) → AllPairs (λ x y. x < y) numbers
+    → All (λ x. x < length v.elements) numbers → All (LiesOnCycle v) numbers
+    → ((x : ℕ) → LiesOnCycle v x → Contains numbers x) → IsCoreOf v numbers
+core_of v proper numbers rising known lie all = record {
   rising = rising;
   known = known;
+  on_cycles = lie;
   whole = λ cycle is. All-from_members (λ a. Contains (names_at v.elements numbers) a) cycle (λ a i.
-      (let place = place_of_In cycle a i in
-      let round : List ℕ = numbers_in v.elements cycle in
-      let inside : place.0 < length round = omega (arith, place.1, length-map cycle (number v.elements)) in
-      let through : HasCycle (lists_of v) (get_or round place.0 0) (length round) =
-      ring_through (lists_of v) round place.0 (ring_of_cycle v proper cycle is) inside in
-      let numbered =
+      (let numbered =
       number-some v.elements a (elements-once v proper) (cycle-elements v proper cycle is a i) in
-      let at : get_or round place.0 0 ≡ numbered.0 =
-      get_or-map (number v.elements) cycle place.0 a 0 place.1
-      ∙ ap (number v.elements) (get_or_from_slice_get cycle place.0 a a place.2)
-      ∙ ap (λ n. unwrap_or n (length v.elements)) numbered.2 in
-      let walk : HasCycle (lists_of v) numbered.0 (length round) =
-      subst (λ x. HasCycle (lists_of v) x (length round)) at through in
-      let here : Contains numbers numbered.0 =
-      rest numbered.0 (slice_get_within v.elements numbered.0 a numbered.1)
-      (not_taken (lists_of v) taken (taken-earlier (lists_of v) taken turn) numbered.0
-      (length round) walk) in
+      let through : IsCycleThrough v numbered.0 cycle =
+      record { is_cycle = is; name = a; number = numbered.1; through = Contains-from_In cycle a i } in
+      let here : Contains numbers numbered.0 = all numbered.0 (cycle, through) in
       let named : name v numbered.0 ≡ a = get_or_from_slice_get v.elements numbered.0 a [] numbered.1 in
       Contains-from_In (names_at v.elements numbers) a (subst (λ z. In z (names_at v.elements numbers)) named
       (In-map (name v) numbered.0 numbers (In-from_Contains numbers numbered.0 here)))));

@@ -1,6 +1,5 @@
--- Lemmas on the table: sets of bits, and the places of lists that are noted.
+-- Lemmas on the table: the places of lists that are noted.
 pub mod Noting
-pub mod TableRows
 -- Lemmas on the search over it, and on counts of its looks.
 pub mod BallLemmas
 pub mod LayerSizes
@@ -8,6 +7,8 @@ pub mod Counts
 pub mod Placed
 -- Lemmas on cores and cycles.
 pub mod StepsRound
+pub mod OnRing
+pub mod OnCycles
 pub mod Cores
 pub mod ShortestFew
 pub mod Lengths

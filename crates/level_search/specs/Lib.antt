@@ -6,6 +6,7 @@ pub mod Balls
 pub mod LayerSizes
 pub mod Looks
 pub mod Steps
+pub mod StrongComponents
 pub mod Cores
 pub mod Conflicts
 pub mod Sources

@@ -58,9 +58,9 @@ fn search_core<H: Threads + Sync, G: Gate>(
 /// The conflict number: the least number of operations whose responses no order of the elements has all as
 /// subsequences; none where some order has the responses of all operations.
 ///
-/// It is the length of a shortest cycle. Cycles lead through elements alone that can't be taken in turn for
-/// an order: these are the core. A shortest cycle is searched for there by 1 to 64 workers in threads, which
-/// take the elements to search from one after the other and share the least length found. Where the core has
+/// It is the length of a shortest cycle. The elements through which a cycle leads are the core. A shortest
+/// cycle is searched for there by 1 to 64 workers in threads, which take the elements to search from one
+/// after the other and share the least length found. Where the core has
 /// at most 64 elements these are all. Where it has more they are those that stand out of place in some order
 /// of them: each cycle leads through one of these, since along a cycle no order rises all the way, and so a
 /// shortest cycle is found from there. The gate is called round each search, with the number that the element

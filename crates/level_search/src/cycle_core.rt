@@ -1,17 +1,14 @@
 //! The part of a graph in which all its cycles are.
 
-ghost use Rattle.std.specs.Prelude.{◌≡◌, ◌<◌, ◌≤◌, ℕ, All, Contains, IfOk, length};
-ghost use Rattle.level_search.specs.Sources.{IsRanked};
+ghost use Rattle.std.specs.Prelude.{◌≡◌, ◌≤◌, IfOk, length};
 
+use super::components::elements_on_cycles;
 use super::gate::Gate;
-use super::sources::{UNRANKED, unranked};
 use events::Memory;
 use order_graph::OrderGraph;
 use std::alloc::Global;
-use witness_order::taken;
 
-/// The elements of a graph that can't be taken in turn for an order, by their numbers, and the graph of these
-/// alone. All cycles are in it: an element that is taken stands after such alone as were taken before it.
+/// The elements of a graph through which a cycle leads, by their numbers, and the graph of these alone.
 #[derive(Drop)]
 pub struct Core {
     pub elements: Vec<u32>,
@@ -24,8 +21,7 @@ impl Core {
     ghost use Rattle.order_graph.specs.Kept.{names_at};
     ghost use Rattle.level_search.specs.Cores.{IsCoreOf};
 
-    /// The core of a graph. It takes time linear in the places, and each element goes once into and out of
-    /// an ordered set; memory is linear in the elements and in the places that are left.
+    /// The core of a graph. It takes time and memory linear in the elements and the places.
     pub fn of(alloc: Global, graph: &OrderGraph) -> Result<Core, Memory>
         ensures elements { IfOk result (λ c. IsCoreOf graph.now c.elements.items) }
         ensures graph { IfOk result (λ c. c.graph
@@ -33,9 +29,9 @@ impl Core {
         ensures few { IfOk result (λ c. (length c.elements.items ≤ length graph.now.elements)
             × (length c.elements.items ≤ place_count graph.now)) }
     {
-        let taken = taken(alloc, graph)?;
-        let ranks = ranks_of(alloc, graph.elements() as usize, &taken)?;
-        let elements = unranked(alloc, &ranks)?;
+        // Its contract has that the responses are proper.
+        let _ = graph.elements();
+        let elements = elements_on_cycles(alloc, graph)?;
         let part = graph.narrowed(alloc, &elements)?;
         Ok(Core {
             elements,
@@ -50,21 +46,6 @@ impl Core {
             gate,
         }
     }
-}
-
-/// A rank of 0 for each element that is taken, of so many, and `UNRANKED` for the others.
-fn ranks_of(alloc: Global, elements: usize, taken: &[u32]) -> Result<Vec<u32>, Memory>
-    requires { All (λ x. x < elements) taken.now }
-    ensures count { IfOk result (λ ranks. length ranks.items ≡ elements) }
-    ensures taken { IfOk result (λ ranks. (x : ℕ) → IsRanked ranks.items x → x < elements
-        → Contains taken.now x) }
-    ensures others { IfOk result (λ ranks. All (IsRanked ranks.items) taken.now) }
-{
-    let mut ranks = Vec::from_elem(alloc, UNRANKED, elements)?;
-    for x in taken {
-        ranks[*x as usize] = 0;
-    }
-    Ok(ranks)
 }
 
 /// A gate that tells another the numbers that the elements of a part have in the whole.

@@ -6,11 +6,10 @@ ghost use Rattle.specification.specs.Search.{IsShortestLength};
 ghost use Rattle.order_graph.specs.Lists.{lists_of};
 ghost use Rattle.level_search.specs.Tables.{IsBeforeTable};
 
-mod back;
 mod choose;
+mod distances_to;
 mod ring;
 mod steps;
-mod tables;
 
 use super::cycle_core::Core;
 use crate::before_table::BeforeTable;
@@ -24,10 +23,9 @@ use witnesses::Steps;
 /// The least cycle, where k is the length of a shortest: its elements are the first, in dictionary order of
 /// their numbers, of all cycles of k elements, and each step names the least operation that shows it.
 ///
-/// It leaves out what can be taken in turn for an order, through which no cycle leads. For the n elements
-/// that are left it makes the table of what stands before each, in time linear in the places and n * n / 8
-/// bytes, searches from each up to the cycle's first, and goes k times over all their places. It takes memory
-/// for k tables of one mark an element.
+/// It leaves out the elements through which no cycle leads. For the n elements that are left it makes the table of what stands before each, in time linear in the places and n * n / 8
+/// bytes, and searches from each up to the cycle's first. The rest is linear in the elements and places that
+/// are left: one search for the distances to the first, and what stands after each element of the cycle.
 pub fn least_cycle(alloc: Global, graph: &OrderGraph, k: u32) -> Result<Steps, Memory>
     requires { IsShortestLength graph.now k }
     ensures { IfOk result (λ steps. AreLeastSteps graph.now steps × (length steps ≡ k)) }

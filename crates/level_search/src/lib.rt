@@ -4,9 +4,9 @@
 //!
 //! `search` and `distances` of `list_search` are handed out too.
 //!
-//! - The search goes on in the core. What can be taken in turn for an order lies on no cycle. What is left,
-//!   the core, holds every cycle, and the answers there are those of the whole (proofs/Cores). Peeling from
-//!   the other end too would leave less, and need the lists turned.
+//! - The search goes on in the core: the elements through which a cycle leads. It holds every cycle, and the
+//!   answers there are those of the whole (proofs/Cores). These are the strongly connected components with more
+//!   than one element: they are guessed, and then tested (proofs/OnCycles).
 //! - It starts from few elements. An order of the core is guessed, and the elements out of place in it are
 //!   found. Each cycle leads through one of these, whatever the guess was. That they are few is not claimed:
 //!   the fewest are hard to find.
@@ -18,10 +18,12 @@
 #![tactic(auto)]
 
 mod before_table;
+mod components;
 mod conflict;
 mod cycle_core;
 mod cycles;
 mod gate;
+mod guesses;
 mod laws;
 mod search_fault;
 mod sources;

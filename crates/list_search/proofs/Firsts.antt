@@ -1,10 +1,9 @@
 -- The first of the cycles of least length, chosen element by element.
-use Rattle.std.proofs.Common.{◌≡◌, ℕ, zero, suc, ◌+◌, ◌-◌, ◌<◌, ◌≤◌, Bool, true, false, List, [], ◌∷◌, length}
-use Rattle.std.proofs.Common.{get_or, refl, sym, subst, arith, inl, inr, add-one}
+use Rattle.std.proofs.Common.{◌≡◌, ℕ, zero, suc, ◌-◌, ◌<◌, ◌≤◌, List, [], ◌∷◌, length, get_or, refl, sym}
+use Rattle.std.proofs.Common.{subst, arith, inl, inr}
 use Rattle.std.proofs.lemmas.Bool.{cases_lt}
 use Rattle.list_search.specs.Graph.{Graph, Before}
-use Rattle.list_search.specs.Rings.{IsFirstRing, IsLeastNext, IsLed, IsNotAfter, IsRing, IsTable, Leads}
-use Rattle.list_search.specs.Rings.{Reaches}
+use Rattle.list_search.specs.Rings.{IsFirstRing, IsLeastNext, IsNotAfter, IsRing, Leads, Reaches}
 use Rattle.list_search.specs.Walks.{HasCycle, Walk}
 
 -- a walk told from its first step, and from its last
@@ -104,15 +103,6 @@ first_ring rows k s path count cycle lowest least = record {
   count = count;
   first = λ other ring same. not_after rows k s path count lowest least other ring same;
 }
-
--- a table of one step more
-pub table_next : (rows : List (List ℕ)) (z n : ℕ) (from to : List Bool) → IsTable rows z n from
-    → ((x y : ℕ) → Before rows x y → get_or from y false ≡ true → get_or to x false ≡ true)
-    → ((x : ℕ) → get_or to x false ≡ true → IsLed rows from x) → IsTable rows z (n + 1) to
-table_next rows z n from to table marks only = subst (λ m. IsTable rows z m to) (sym (add-one n)) (record {
-  sound = λ x h. let led = only x h in (led.to, led.before, table.sound led.to led.is_marked);
-  whole = λ x walk. marks x walk.0 walk.1 (table.whole walk.0 walk.2);
-})
 
 -- the same told by places
 pub ring_is_first : (g : Graph) → ((t n : ℕ) → HasCycle g.rows t n → t < g.elements)

@@ -1,8 +1,6 @@
 -- Cycles as lists of elements, and the first of them in dictionary order.
-use Rattle.std.specs.Prelude.{◌≡◌, ℕ, zero, suc, ◌<◌, ◌≤◌, ◌⊎◌, Bool, true, false, List, [], ◌∷◌, length}
-use Rattle.std.specs.Prelude.{slice_index_or}
-use Rattle.order_graph.specs.Lists.{Stands}
-use Rattle.list_search.specs.Graph.{Graph, Before}
+use Rattle.std.specs.Prelude.{◌≡◌, ℕ, zero, suc, ◌<◌, ◌≤◌, ◌⊎◌, List, [], ◌∷◌, length, slice_index}
+use Rattle.list_search.specs.Graph.{Before}
 
 -- a stands before the first of these, each before the next, and the last before z
 abbrev pub Leads : List (List ℕ) → ℕ → List ℕ → ℕ → Type 0
@@ -37,25 +35,14 @@ pub record IsLeastNext (rows : List (List ℕ)) (z n a b : ℕ) : Type 0 where
   pub reaches : Reaches rows z n b
   pub least : (y : ℕ) → Before rows a y → Reaches rows z n y → b ≤ y
 
--- what is marked are the elements from which n steps lead to z
-pub record IsTable (rows : List (List ℕ)) (z n : ℕ) (table : List Bool) : Type 0 where
-  pub sound : (x : ℕ) → slice_index_or table x false ≡ true → Reaches rows z n x
-  pub whole : (x : ℕ) → Reaches rows z n x → slice_index_or table x false ≡ true
+-- d is the least number of steps from x to z, or the limit, where it takes as many steps or more, or no walk
+-- leads there
+pub record IsDistanceTo (rows : List (List ℕ)) (z limit x d : ℕ) : Type 0 where
+  pub within : d ≤ limit
+  pub walk : d < limit → Reaches rows z d x
+  pub least : (n : ℕ) → Reaches rows z n x → d ≤ n
 
--- x stands in this list before an element that is marked
-pub record IsLed (rows : List (List ℕ)) (marked : List Bool) (x : ℕ) : Type 0 where
-  pub to : ℕ
-  pub before : Before rows x to
-  pub is_marked : slice_index_or marked to false ≡ true
-
--- an element that is marked stands in this list at place j or later
-pub record IsMarkedFrom (rows : List (List ℕ)) (marked : List Bool) (l j : ℕ) : Type 0 where
-  pub at : ℕ
-  pub from : j ≤ at
-  pub element : ℕ
-  pub stands : Stands rows l at element
-  pub is_marked : slice_index_or marked element false ≡ true
-
-pub record IsTableOf (g : Graph) (z n : ℕ) (table : List Bool) : Type 0 where
-  pub count : length table ≡ g.elements
-  pub table_is : IsTable g.rows z n table
+-- of each element
+abbrev pub AreDistancesTo : List (List ℕ) → ℕ → ℕ → List ℕ → Type 0
+AreDistancesTo rows z limit depths = (x : ℕ) → x < length depths
+    → IsDistanceTo rows z limit x (slice_index depths x)

@@ -1,7 +1,8 @@
 //! The search by levels for a shortest cycle, and distances, over the lists of an order graph.
 //!
-//! A search looks at each place of a list once. The program does not call these searches: its own go over a
-//! table of bits (`level_search`), and tests compare them with these.
+//! A search looks at each place of a list once. The program calls `distances` for the ring of the least
+//! cycle. Its searches for a cycle go over a table of bits (`level_search`), and tests compare them with
+//! `search`.
 #![tactic(auto)]
 
 mod searching;

@@ -1,5 +1,5 @@
 -- Lemmas: on names read back from their numbers, on spots, on the limits, on responses
--- that cover others, on what is left where some elements alone are kept.
+-- that cover others, on what is left where some elements alone are kept, on responses in the other direction.
 pub mod ReadBack
 pub mod AllSpots
 pub mod Adding
@@ -12,3 +12,4 @@ pub mod Covers
 pub mod Renumbered
 pub mod NewNumbers
 pub mod OneSpot
+pub mod Turned

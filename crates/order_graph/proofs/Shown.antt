@@ -19,7 +19,7 @@ use Rattle.order_graph.specs.Lists.{lists_of, row, Stands, BeforeIn, IsLeastList
 use Rattle.order_graph.specs.Kept.{returned_of}
 use Rattle.element_numbers.proofs.NameNumbers.{number-at, number-some}
 
-abbrev number_or : List NameBytes → NameBytes → ℕ
+abbrev pub number_or : List NameBytes → NameBytes → ℕ
 number_or names a = unwrap_or (number_in names a) (length names)
 
 -- the operation of each list

@@ -11,6 +11,7 @@ mod order_graph;
 mod pairs;
 mod spot;
 mod spots;
+mod turning;
 
 pub use looked::Looked;
 pub use order_graph::OrderGraph;

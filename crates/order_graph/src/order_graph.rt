@@ -8,12 +8,14 @@ ghost use Rattle.specification.specs.Faults.{IsSound};
 ghost use Rattle.specification.specs.Elements.{elements, number_in};
 ghost use Rattle.specification.specs.LayerRule.{narrowed};
 ghost use Rattle.specification.specs.Responses.{responses_of, AreProper, IsLeastShowing};
+ghost use Rattle.order_graph.specs.Turned.{turned};
 
 use super::looked::Looked;
 use super::narrowing::{names_kept, new_numbers, number_of, places_left};
 use super::pairs::stands_behind;
 use super::spot::Spot;
 use super::spots::{all_spots, count_of_spots, spot_among, spot_at, spots_at};
+use super::turning::rows_turned;
 use element_numbers::{Covering, NumberedElements, Rows, inserted_names, numbers_of, places_of};
 use events::{Memory, Name, OpName, Recording};
 use std::alloc::Global;
@@ -26,9 +28,9 @@ use std::marker::Model;
 /// empty, and `of_covering` some that cover them. Lists and their places are numbered from 0. A spot of an
 /// element is a place where it stands.
 ///
-/// Its memory is linear in the places of the responses that are kept. Only `of` and `narrowed` take memory:
-/// they list the spots of each element, as the search for a cycle asks for them. `of_covering` doesn't, since
-/// an order is found without them. There each spot is looked for among all places.
+/// Its memory is linear in the places of the responses that are kept. Only `of`, `narrowed` and `turned` take
+/// memory: they list the spots of each element, as the search for a cycle asks for them. `of_covering`
+/// doesn't, since an order is found without them. There each spot is looked for among all places.
 #[derive(Drop)]
 pub struct OrderGraph {
     names: Vec<Name>,
@@ -146,6 +148,17 @@ impl OrderGraph {
         let anew = new_numbers(alloc, &self.names, kept)?;
         let places = places_left(alloc, &self.places, &anew)?;
         let shown = Vec::from_slice(alloc, self.shown.as_slice())?;
+        OrderGraph::with_spots(alloc, names, shown, places)
+    }
+
+    /// The graph of the same elements where each list goes the other way: an element stands there before those
+    /// that it stands after here. Time and memory are linear in the elements and the places.
+    pub fn turned(&self, alloc: Global) -> Result<OrderGraph, Memory>
+        ensures { IfOk result (λ g. g ≡ turned self.now) }
+    {
+        let names = Vec::from_slice(alloc, self.names.as_slice())?;
+        let shown = Vec::from_slice(alloc, self.shown.as_slice())?;
+        let places = rows_turned(alloc, &self.places)?;
         OrderGraph::with_spots(alloc, names, shown, places)
     }
 

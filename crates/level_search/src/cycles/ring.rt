@@ -8,10 +8,10 @@ ghost use Rattle.list_search.specs.Rings.{IsFirstRing, IsLeastNext};
 ghost use Rattle.level_search.specs.Tables.{IsBeforeTable};
 ghost use Rattle.level_search.specs.Balls.{FitsSets};
 ghost use Rattle.level_search.specs.Looks.{HaveLooked};
-ghost use Rattle.list_search.specs.Walks.{HasCycle};
+ghost use Rattle.list_search.specs.Walks.{HasCycle, NoneShorter};
 
 use super::choose::next_of_ring;
-use super::tables::tables;
+use super::distances_to::distances_to;
 use crate::before_table::BeforeTable;
 use crate::tabled::{Sets, search_by_table};
 use events::Memory;
@@ -48,30 +48,28 @@ fn first_source(
     unreachable!()
 }
 
-/// The least ring from an element on.
+/// The least ring from an element on, through which a shortest cycle leads.
 fn ring_from(alloc: Global, graph: &OrderGraph, element: u32, k: u32) -> Result<Vec<u32>, Memory>
     requires known { element < length graph.now.elements }
     requires cycle { HasCycle (lists_of graph.now) element k }
+    requires shortest { NoneShorter (lists_of graph.now) element k }
     ensures count { IfOk result (λ v. length v.items ≡ k) }
     ensures first { IfOk result (λ v. slice_index v.items 0 ≡ element) }
     ensures chosen { IfOk result (λ v. (j : ℕ) → 0 < j → j < k
         → IsLeastNext (lists_of graph.now) element (k - j) (slice_index v.items (j - 1))
         (slice_index v.items j)) }
 {
+    // Its contract has that the responses are proper.
+    let _ = graph.elements();
+    // The cycle is a shortest, so what its i-th element stands before and leads back in k - i steps has just
+    // this distance.
+    let depths = distances_to(alloc, graph, element, k)?;
     let mut looked = Looked::new();
-    let all = tables(alloc, graph, element, k, &mut looked)?;
     let mut ring = Vec::new(alloc);
     ring.push(element)?;
     let mut a = element;
     for i in 1..k {
-        a = next_of_ring(
-            graph,
-            element,
-            k - i,
-            a,
-            all[(k - i) as usize].as_slice(),
-            &mut looked,
-        );
+        a = next_of_ring(graph, element, k - i, a, &depths, &mut looked);
         ring.push(a)?;
     }
     Ok(ring)

@@ -4,13 +4,11 @@
 ghost use Rattle.std.specs.Prelude.{◌≡◌, length};
 
 use crate::before_table::BeforeTable;
+use crate::guesses::{NONE, at, put};
 use bit_tables::BitSet;
 use events::Memory;
 use order_graph::OrderGraph;
 use std::alloc::Global;
-
-/// No element, and the walk of an element that no walk has come to.
-const NONE: u32 = u32::MAX;
 
 /// What is left of the elements.
 #[derive(Drop)]
@@ -26,7 +24,7 @@ struct Peeling {
     next: Vec<u32>,
     /// Elements before which none that is left stands.
     free: Vec<u32>,
-    /// For each element the last walk that came to it.
+    /// For each element the last walk that came to it; `NONE` where none did.
     walked: Vec<u32>,
     /// No lesser element is left.
     least: u32,
@@ -54,21 +52,6 @@ pub fn order_taken(
         }
     }
     Ok(order)
-}
-
-/// What a list has at a place.
-fn at(list: &[u32], x: u32) -> u32 {
-    match list.get(x as usize) {
-        Some(value) => *value,
-        None => NONE,
-    }
-}
-
-/// Writes at a place of a list, where it has such a place.
-fn put(list: &mut Vec<u32>, x: u32, value: u32) {
-    if (x as usize) < list.len() {
-        list[x as usize] = value;
-    }
 }
 
 impl Peeling {

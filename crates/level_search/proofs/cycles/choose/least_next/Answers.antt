@@ -15,11 +15,11 @@ loop-i-preserved c =
     let i : ℕ = c.loop-i.i in
     let falls = after.falls in
     record {
-      least = λ k q y low get follows marked. elim (cases_eq k i) [
+      least = λ k q y low get follows deep. elim (cases_eq k i) [
         | inl same ↦
             after.least q y (subst (λ n. slice_get (spots_of rows c.args.a) n ≡ Some q) same get) follows
-            marked
-        | inr other ↦ let old = before.least k q y (omega arith) get follows marked in omega arith
+            deep
+        | inr other ↦ let old = before.least k q y (omega arith) get follows deep in omega arith
       ];
       first = elim after.first [
         | inl same ↦ rw same before.first
@@ -28,7 +28,7 @@ loop-i-preserved c =
     }
 
 pub returns-clause-least : goal.returns-clause-least
-returns-clause-least c = λ y leads marked.
+returns-clause-least c = λ y leads deep.
     let rows = (lists_of c.args.graph.now) in
     let among = spots_complete rows c.args.a leads.list leads.place leads.first in
     let within : among.at < length (spots_of rows c.args.a) =
@@ -41,4 +41,4 @@ returns-clause-least c = λ y leads marked.
       in_order = omega arith;
       stands = subst (λ l. Stands rows l leads.later y) (sym among.list_is) leads.second;
     })
-    marked
+    deep

@@ -1,4 +1,4 @@
-use Rattle.std.proofs.Common.{◌≡◌, ◌⊎◌, ℕ, ◌<◌, ◌≤◌, Some, true, false, length, slice_get, slice_index_or}
+use Rattle.std.proofs.Common.{◌≡◌, ◌⊎◌, ℕ, ◌<◌, ◌≤◌, Some, length, slice_get, slice_index}
 use Rattle.list_search.specs.Graph.{Before}
 use Rattle.order_graph.specs.Lists.{lists_of}
 use Rattle.list_search.specs.Progress.{IsAfter}
@@ -10,7 +10,7 @@ abbrev pub invariant-loop-i : goal.invariant-loop-i
 invariant-loop-i l = record {
   least : (k : ℕ) (q : Spot) (y : ℕ) → k < l.i → slice_get (spots_of (lists_of l.graph) l.a) k ≡ Some q
       → IsAfter (lists_of l.graph) q.list q.place y
-      → slice_index_or l.marked y false ≡ true → l.least ≤ y;
+      → slice_index l.depths y ≡ l.depth → l.least ≤ y;
   first : (l.least ≡ (length l.graph.elements))
-      ⊎ (Before (lists_of l.graph) l.a l.least × (slice_index_or l.marked l.least false ≡ true));
+      ⊎ (Before (lists_of l.graph) l.a l.least × (slice_index l.depths l.least ≡ l.depth));
 }

@@ -1,12 +1,15 @@
-use Rattle.std.proofs.Common.{◌≡◌, ℕ, ◌+◌, ◌-◌, ◌<◌, ◌≤◌, ◌++◌, [], ◌∷◌, List, length, get_or, map}
+use Rattle.std.proofs.Common.{◌≡◌, ℕ, suc, ◌+◌, ◌-◌, ◌<◌, ◌≤◌, ◌++◌, [], ◌∷◌, List, length, get_or, refl}
 use Rattle.std.proofs.Common.{subst, sym, ap, ◌∙◌, arith, inl, inr}
+use Rattle.std.specs.Prelude.{◌↔◌}
 use Rattle.std.proofs.lemmas.Bool.{cases_eq}
 use Rattle.std.proofs.lemmas.Grind.{common_steps}
 use Rattle.std.proofs.lemmas.List.{get_or_append_left, get_or_push, length_push}
 use Rattle.order_graph.specs.Lists.{lists_of}
 use Rattle.list_search.specs.Rings.{IsLeastNext, Reaches}
 use Rattle.list_search.proofs.Firsts.{reaches_walk}
-use Rattle.level_search.proofs.TableRows.{bits_of, table_at}
+use Rattle.list_search.proofs.Joining.{before-known}
+use Rattle.list_search.specs.Walks.{Walk}
+use Rattle.level_search.proofs.OnRing.{distance_on-ring}
 use Rattle.level_search.proofs.cycles.ring.ring_from.Goals as goal
 
 pub loop-i-init : goal.loop-i-init
@@ -21,22 +24,34 @@ loop-i-init c =
       count = ap length pushed;
       first = ap (λ (l : List ℕ). get_or l 0 0) pushed;
       last = ap (λ (l : List ℕ). get_or l 0 0) pushed;
+      walk = refl;
       on = subst (λ n. Reaches rows s n s) (let e : k ≡ k - 1 + 1 = omega arith in e)
           (reaches_walk rows s k s c.requires.cycle.1);
       chosen = λ j low high. absurd (omega arith);
     }
 
-pub next_of_ring-a-requires-clause-table : goal.next_of_ring-a-requires-clause-table
-next_of_ring-a-requires-clause-table c =
-    let n : ℕ = c.args.k - c.loop-i.i in
-    let low = c.loop-i.auto.i in
-    let high : c.loop-i.i < c.args.k = c.loop-i-test.true in
-    let below : n < c.args.k = omega arith in
-    let count = c.in_ok-all.ensures.count in
-    let is : get_or (map bits_of c.in_ok-all.all.items) n [] ≡ c.as_slice.result.now =
-    table_at c.in_ok-all.all.items n c.index.result.now (omega arith) c.index.ensures
-    ∙ sym c.as_slice.ensures.value in
-    rw is at (c.in_ok-all.ensures.tables n below)
+pub next_of_ring-a-requires-clause-depths : goal.next_of_ring-a-requires-clause-depths
+next_of_ring-a-requires-clause-depths c =
+    let v = c.args.graph.now in
+    let rows = (lists_of v) in
+    let k : ℕ = c.args.k in
+    let z : ℕ = c.args.element in
+    let i : ℕ = c.loop-i.i in
+    let a : ℕ = c.loop-i.a in
+    let depths : List ℕ = c.in_ok-depths.depths.items in
+    let low : 1 ≤ i = c.loop-i.auto.i in
+    let high : i < k = c.loop-i-test.true in
+    let same : suc (i - 1) ≡ i = omega arith in
+    let lent : c.deref.result.now ≡ depths = c.deref.ensures.value in
+    λ y step.
+    (let known = before-known v c.elements.ensures.proper a y step in
+    let within : y < length depths =
+    omega (arith, c.in_ok-depths.ensures.count, c.in_ok-depths.depths.ok, known.1) in
+    let is = c.in_ok-depths.ensures.distances y within in
+    let exact = distance_on-ring rows z k (i - 1) a y (get_or depths y 0) c.requires.shortest
+    (omega arith) c.loop-i.invariant.walk step is in
+    subst (λ (l : List ℕ). (get_or l y 0 ≡ k - i) ↔ Reaches rows z (k - i) y) (sym lent)
+    (subst (λ n. (get_or depths y 0 ≡ k - n) ↔ Reaches rows z (k - n) y) same exact))
 
 pub loop-i-preserved : goal.loop-i-preserved
 loop-i-preserved c =
@@ -63,6 +78,8 @@ loop-i-preserved c =
       count = let e = ap length pushed ∙ length_push ring b in omega arith;
       first = sym (old 0 (omega arith)) ∙ before.first;
       last = ap (λ j. get_or more j 0) (let e : i + 1 - 1 ≡ i = omega arith in e) ∙ sym last;
+      walk = subst (λ n. Walk rows s n b) (let e : suc (i - 1) ≡ i + 1 - 1 = omega arith in e)
+          (a, before.walk, chosen.behind);
       on = subst (λ n. Reaches rows s n b) (let e : k - i ≡ k - (i + 1) + 1 = omega arith in
           e) chosen.reaches;
       chosen = λ j from to. elim (cases_eq j i) [

@@ -1,0 +1,15 @@
+-- What does not fall from place to place falls along no list.
+use Rattle.std.proofs.Common.{subst}
+use Rattle.order_graph.specs.Lists.{lists_of}
+use Rattle.level_search.specs.StrongComponents.{HasValues, rank}
+use Rattle.level_search.proofs.OnCycles.{climbs}
+use Rattle.level_search.proofs.components.tested.is_right.Goals as goal
+
+pub returns : goal.returns
+returns c = λ right. record {
+  values = subst (λ n. HasValues n c.args.guess.now) c.elements-elements.ensures.value
+      (c.has_values.ensures c.if-not-has_values.false);
+  climbs = climbs (lists_of c.args.graph.now) (rank c.args.guess.now)
+      (c.note_lists.ensures.climbs c.if-not-note_lists.false);
+  tested = c.are_tested.ensures right;
+}

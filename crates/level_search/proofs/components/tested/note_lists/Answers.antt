@@ -1,0 +1,38 @@
+-- One list more, along which the components don't fall.
+use Rattle.std.proofs.Common.{◌≡◌, ℕ, ◌+◌, ◌<◌, ◌≤◌, List, [], length, map, get_or, subst, ap, arith, inl, inr}
+use Rattle.std.proofs.lemmas.Bool.{cases_eq, cases_lt}
+use Rattle.std.proofs.lemmas.List.{get_or_past, length-map}
+use Rattle.specification.specs.Responses.{Responses, Returned}
+use Rattle.specification.specs.Elements.{numbers_in}
+use Rattle.order_graph.specs.Lists.{lists_of, row, Stands}
+use Rattle.level_search.specs.StrongComponents.{rank}
+use Rattle.level_search.proofs.components.tested.note_lists.Goals as goal
+
+pub loop-list-preserved : goal.loop-list-preserved
+loop-list-preserved c =
+    let rows = (lists_of c.args.graph.now) in
+    let l : ℕ = c.loop-list.list in
+    record {
+      fits = c.note_list.ensures.fits;
+      links = c.note_list.ensures.links;
+      climbs = λ i j x y under first second. elim (cases_eq i l) [
+        | inl same ↦
+            c.note_list.ensures.climbs c.if-not-note_list.false j x y
+            (subst (λ k. Stands rows k j x) same first) (subst (λ k. Stands rows k (j + 1) y) same second)
+        | inr other ↦ c.loop-list.invariant.climbs i j x y (omega arith) first second
+      ];
+    }
+
+pub returns-clause-climbs : goal.returns-clause-climbs
+returns-clause-climbs c = λ true_is i j x y first second.
+    let v : Responses = c.args.graph.now in
+    let rows = (lists_of v) in
+    let count : length rows ≡ length v.returned =
+    length-map {B = List ℕ} v.returned (λ (r : Returned). numbers_in v.elements r.names) in
+    elim (cases_lt i (length rows)) [
+      | inl under ↦ c.loop-list.invariant.climbs i j x y (omega arith) first second
+      | inr past ↦
+          let none : row rows i ≡ [] = get_or_past rows i [] (omega arith) in
+          let within = first.within in
+          absurd (omega (arith, ap (λ (r : List ℕ). length r) none))
+    ]
