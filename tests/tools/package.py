@@ -117,10 +117,16 @@ def debian_has(tally: Tally, program: str, folder: str, archive: dict) -> None:
                      for part in ("ctrl", "fsys"))
     found = entries(tally, "package", data, is_dpkg=True)
     licences = {path: what for path, what in archive.items() if path.startswith("share/doc/domepeeler/LICENSE")}
-    wanted = {moved(path) for path in archive if path not in licences} | {"./usr/share/doc/domepeeler/copyright"}
+    wanted = {moved(path) for path in archive if path not in licences} | {
+        "./usr/share/doc/domepeeler/copyright", "./usr/share/doc/domepeeler/changelog.gz", "./usr/share/lintian/overrides/domepeeler"}
     tally.check("package: its files", set(found) == wanted, set(found) ^ wanted)
-    for text, _ in licences.values():
-        tally.check("package: licences", text in found["./usr/share/doc/domepeeler/copyright"][0])
+    copyright = found["./usr/share/doc/domepeeler/copyright"][0].decode()
+    told = [line.strip() for line in copyright.partition("License: Expat\n")[2].splitlines() if line.strip() != "."]
+    licence = [line.strip() for line in archive["share/doc/domepeeler/LICENSE-MIT"][0].decode().splitlines() if line.strip()]
+    tally.check("package: the MIT licence", told == licence, copyright)
+    tally.check("package: where Apache's licence is", "/usr/share/common-licenses/Apache-2.0" in copyright, copyright)
+    linted = subprocess.run(["lintian", "--fail-on", "error,warning", deb], capture_output=True, text=True)
+    tally.check("package: lintian finds nothing", linted.returncode == 0 and not linted.stdout.strip(), linted)
     for path, what in archive.items():
         got = found.get(moved(path))
         if "/man/" in path and path.endswith("/domepeeler.1"):
