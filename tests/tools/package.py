@@ -264,6 +264,7 @@ def main() -> None:
     need("/usr/bin/python3", "python3")
     need("man", "man-db")
     need("dpkg-shlibdeps", "dpkg-dev")
+    need("lintian", "lintian")
     tally = Tally()
     with tempfile.TemporaryDirectory() as folder, tempfile.TemporaryDirectory() as other, tempfile.TemporaryDirectory() as empty:
         Path(other, "one.trace").write_bytes(TRACE)

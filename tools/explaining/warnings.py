@@ -125,9 +125,9 @@ def different(replicas: list) -> list:
     for replica, one in enumerate(replicas):
         if one.shown is not None:
             lists.setdefault(frozenset(one.shown.split()), []).append(replica)
-    lacking = [(replica, lacked(replicas, replica)) for replica, one in enumerate(replicas) if one.pasts]
-    never = [f"{listed(changes)} never arrived at replica {replica}" for replica, changes in lacking if changes]
-    count = sum(len(changes) for _, changes in lacking)
+    lacking = [(replica, *lacked(replicas, replica)) for replica, one in enumerate(replicas) if one.pasts]
+    never = [f"{listed(first, count)} never arrived at replica {replica}" for replica, first, count in lacking if count]
+    count = sum(count for _, _, count in lacking)
     lost = "it was lost or is still held back" if count == 1 else "they were lost or are still held back"
     if len(lists) < 2:
         return [f"by this recording {joined(never)}. If everything was delivered, {lost}"] if never else []
@@ -137,16 +137,18 @@ def different(replicas: list) -> list:
     return [f"{told}: {joined(never)} by this recording. If everything was delivered, {lost}" if never else told]
 
 
-def lacked(replicas: list, replica: int) -> list:
-    """The changes that never arrived at the replica, in the order of the trace, as operations with their lines; none of an author
-    of which it never hears."""
+def lacked(replicas: list, replica: int) -> tuple:
+    """Of the changes that never arrived at the replica the first in the order of the trace, as operations with their lines, and how many
+    there are; none of an author of which it never hears."""
     has = replicas[replica].has
-    found = []
+    first, count = [], 0
     for author, other in enumerate(replicas):
         heard = bisect_right(other.changes, has[author])
         if heard and author != replica:
-            found += [(line, f"{author}.{n}") for n, line in zip(other.changes[heard:], other.lines[heard:])]
-    return [f"{name} (line {line})" for line, name in sorted(found)]
+            last = heard + MOST_CHANGES
+            first += [(line, f"{author}.{n}") for n, line in zip(other.changes[heard:last], other.lines[heard:last])]
+            count += len(other.changes) - heard
+    return [f"{name} (line {line})" for line, name in sorted(first)[:MOST_CHANGES]], count
 
 
 def unheard(replicas: list) -> list:
@@ -174,15 +176,15 @@ def unshown(replicas: list) -> list:
                 news.append(f"{author}.{n} (line {line})")
             has = after
         if one.pasts and news:
-            told.append(f"replica {replica} received {listed(news)} last, and nothing shows what it made of "
+            told.append(f"replica {replica} received {listed(news[:MOST_CHANGES], len(news))} last, and nothing shows what it made of "
                         f"{'that' if len(news) == 1 else 'them'}: let each replica read at the end")
     return told
 
 
-def listed(told: list) -> str:
-    """The first of them, and how many more there are."""
-    more = len(told) - MOST_CHANGES
-    return joined(told[:MOST_CHANGES] + ([f"{more} more"] if more > 0 else []))
+def listed(first: list, count: int) -> str:
+    """The first of so many, and how many more there are."""
+    more = count - len(first)
+    return joined(first + ([f"{more} more"] if more > 0 else []))
 
 
 def joined(words: list) -> str:
