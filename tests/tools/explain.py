@@ -403,6 +403,7 @@ NO_TRACES = [
 ]
 
 # What another program does, as a shell says it, and how it is told that it ended.
+KILLED = "kill -9 $$"
 OTHERS = [("echo hello", "0"), ("exit 0", "0"), ("echo '[]'", "0"), ("echo 5; exit 1", "1"), ("echo '{\"a\": 1}'", "0"),
           ("printf '\\377'", "0"), ("echo 'usage: other' >&2; echo 'or so' >&2; exit 2", "2: usage: other"), ("exit 3", "3")]
 
@@ -1059,6 +1060,18 @@ def planted_bugs(tally: Tally, program: str, folder: str) -> None:
                 (done, got))
 
 
+def scripts_end(tally: Tally) -> None:
+    """What nobody has thought of ends the scripts beside the tools with 2, since 1 is said of logs and Python's own."""
+    with tempfile.TemporaryDirectory() as copy:
+        shutil.copytree(ROOT / "recorders", copy, dirs_exist_ok=True)
+        for path, old, words in (("merge.py", "    paths = [path", ["log"]), ("engines/record.py", "    engine, answered = ", ["list_crdt", "PROGRAM"])):
+            script = Path(copy, path)
+            script.write_text(script.read_text().replace(old, f"    raise ValueError('not thought of')\n{old}").replace(
+                "    check_is_domepeeler(words.program)\n", ""))
+            done = subprocess.run([sys.executable, script, *words], capture_output=True, text=True)
+            tally.check(f"not thought of: {path}", done.returncode == 2 and done.stderr.endswith("ValueError: not thought of\n") and not done.stdout, done)
+
+
 def names_of_examples(tally: Tally) -> None:
     """The names of elements begin with a letter: another one may look like an operation's name."""
     for example in sorted(ROOT.glob("examples/**/*.trace")):
@@ -1103,6 +1116,15 @@ def finding(tally: Tally, program: str, folder: str) -> None:
     for name, asked, variables in ways:
         done = subprocess.run([EXPLAIN, *asked, str(good)], capture_output=True, text=True, env=here | variables)
         tally.check(f"the program asked: {name}", f"  a {name}\n" in done.stdout, done)
+
+
+def killed(tally: Tally, folder: str) -> None:
+    """A program that a signal ends gives no verdict."""
+    program = Path(folder, "killed")
+    program.write_text(f"#!/bin/sh\ncat > /dev/null\n{KILLED}\n")
+    program.chmod(0o755)
+    got = explain(str(program), ["-"], text_of(1, "0 ins a 0 : a").encode())
+    tally.same("a program that is killed", got, Ended(2, b"", f"domepeeler-explain: {program} was ended by signal 9 (SIGKILL)\n".encode()))
 
 
 def others(tally: Tally, folder: str) -> None:
@@ -1402,6 +1424,7 @@ def main() -> None:
     words(tally, program)
     said_first(tally, program)
     names_of_examples(tally)
+    scripts_end(tally)
     with tempfile.TemporaryDirectory() as folder:
         planted_bugs(tally, program, folder)
     with tempfile.TemporaryDirectory() as folder:
@@ -1415,6 +1438,7 @@ def main() -> None:
         files(tally, program, folder)
         finding(tally, program, folder)
         others(tally, folder)
+        killed(tally, folder)
         contradicted(tally, folder)
         pages(tally, program, folder)
         letters(tally, program, folder)

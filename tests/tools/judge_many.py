@@ -351,6 +351,9 @@ def elsewhere(tally: Tally, program: str, folder: str, other: str) -> None:
         rows = [json.loads(line) | {"seconds": 0} for line in done.stdout.decode().splitlines()]
         tally.check(f"{what}: the rows", rows == here and len(rows) == len(ROWS), (rows, done.stderr))
         tally.check(f"{what}: status 1", done.returncode == 1 and not done.stderr, done)
+    got = judge(program, ["--json", "--sshlogin", ":", folder])
+    rows = [json.loads(line) | {"seconds": 0} for line in got.out.decode().splitlines()]
+    tally.check("parallel on this machine: the rows", rows == here and got.status == 1 and not got.err, got)
     left = [str(path) for path in Path(other).rglob("*.trace")]
     tally.check("two machines: no trace is left there", not left, left)
 

@@ -1507,6 +1507,23 @@ MERGED_BESIDE = [
 ]
 
 
+def check_merge_hostile(tally: Tally, folder: Path) -> None:
+    """merge.py reads files alone, and no name or log sends bytes of its own to a terminal or writes a line of its own."""
+    place = folder / "hostile"
+    place.mkdir()
+    os.mkfifo(place / "pipe")
+    os.mkfifo(place / "0.log.lines")
+    (place / "0.log").write_text("trace 1\nreplicas 2\n0 read :\n")
+    (place / "odd.log").write_bytes(b"trace 1\nreplicas 2\n1 \x1b[31mread :\n")
+    (place / "x\n::error::y").write_text("trace 1\n")
+    os.symlink("/dev/zero", place / "endless")
+    for log, words in (("pipe", "cannot read pipe: it is no regular file"), ("endless", "cannot read endless: it is no regular file"),
+                       ("odd.log", "line 3 of odd.log is no entry: 1 \\x1b[31mread :"),
+                       ("x\n::error::y", "x\\n::error::y is no text of a recorder, or was cut off"), ("\udcff", "cannot read \\xff: No such file or directory")):
+        done = subprocess.run([sys.executable, ROOT / "recorders" / "merge.py", "0.log", log], cwd=place, capture_output=True, text=True, timeout=60)
+        tally.check(f"merge.py: {log!r}", done.returncode in (1, 2) and done.stderr == f"merge.py: {words}\n" and not done.stdout, done)
+
+
 def check_merged_beside(tally: Tally, folder: Path, name: str, besides: list, wanted: str, warned: str) -> None:
     """Of which code a line is stands beside the trace, where it stands beside the log; and a cut log is warned of."""
     for number, text in enumerate(besides):
@@ -2040,6 +2057,7 @@ def main() -> None:
         check_frames(tally, folder)
         check_limits_are_the_programs(tally, program, texts["py"])
         check_merge(tally, program, folder)
+        check_merge_hostile(tally, folder)
         check_guide(tally, program, folder)
         check_readme(tally, program, folder)
         check_hypothesis(tally, program, folder)
