@@ -666,7 +666,7 @@ def no_files(tally: Tally, program: str, folder: str) -> None:
                           text=True, timeout=60)
     rows = {Path(row["file"]).stem: (row["verdict"], row.get("error")) for row in map(json.loads, done.stdout.splitlines())}
     tally.check("no files: each is told of, and the rest is judged", done.returncode == 2 and rows == {"a": ("accepted", None)} | {
-        name: ("unread", f"{folder}/{name}.trace can't be read: {why}") for name, why in told.items()}, done)
+        name: ("unread", f"cannot be read: {why}") for name, why in told.items()}, done)
     tally.check("no files: a pipe beside a trace", f"{folder}/a.trace.lines can't be read (it is no regular file)" in done.stderr, done.stderr)
     for name, why in told.items():
         got = subprocess.run([str(ROOT / "tools" / "explain"), "--program", program, f"{folder}/{name}.trace"], capture_output=True, text=True, timeout=60)

@@ -7,7 +7,7 @@ import sys
 import tempfile
 from pathlib import Path
 
-from .files import Unread, read_file, shown
+from .files import Unread, opened, read_file
 from .judges import WORDS
 from .rows import Row, failed, row_of, unread
 
@@ -28,17 +28,17 @@ def needs_parallel() -> None:
 
 def judged_there(machines: str, jobs: str | None, program: str, files: list) -> list:
     """A row for each trace, judged on other machines."""
-    traces, rows = {}, {}
+    rows = {}
     for file in files:
         try:
-            traces[file] = read_file(file)
+            os.close(opened(file))
         except Unread as error:
-            rows[file] = unread(shown(file), str(error))._replace(file=file)
+            rows[file] = unread(file, str(error))
+    there = [file for file in files if file not in rows]
     with tempfile.TemporaryDirectory() as folder:
-        there = list(traces)
         if there:
             run_all(machines, jobs, program, there, folder)
-            rows |= dict(zip(there, rows_of(program, traces, folder)))
+            rows.update(zip(there, rows_of(program, there, folder)))
     return [rows[file] for file in files]
 
 
@@ -61,20 +61,24 @@ def run_all(machines: str, jobs: str | None, program: str, files: list, folder: 
         raise NoParallel("parallel could not run: " + (done.stderr or b"").decode(errors="replace").strip())
 
 
-def rows_of(program: str, traces: dict, folder: str) -> list:
+def rows_of(program: str, files: list, folder: str) -> list:
     """What the log and the jobs' output say of each trace."""
-    files, ended = list(traces), {}
+    ended = {}
     for line in Path(folder, "log").read_bytes().split(b"\n")[1:]:
         cells = line.decode(errors="replace").split("\t")
         if len(cells) < 9 or not cells[0].isdigit():
             continue  # the rest of a file's name that has a line feed
         number, _, _, seconds, _, _, status, signal = cells[:8]
         ended[int(number)] = float(seconds), int(status) if signal == "0" else 128 + int(signal)
-    return [row_in(program, file, traces[file], Path(folder, str(at)), *ended.get(at, (0.0, 255))) for at, file in enumerate(files, 1)]
+    return [row_in(program, file, Path(folder, str(at)), *ended.get(at, (0.0, 255))) for at, file in enumerate(files, 1)]
 
 
-def row_in(program: str, file: str, trace: bytes, printed: Path, seconds: float, status: int) -> Row:
+def row_in(program: str, file: str, printed: Path, seconds: float, status: int) -> Row:
     """The row of a job of parallel, which left what it printed."""
+    try:
+        trace = read_file(file)
+    except Unread as error:
+        return unread(file, str(error))
     errors = printed.with_name(printed.name + ".err")
     error = errors.read_text(errors="replace").strip() if errors.exists() else ""
     if not printed.exists() and not error:

@@ -10,6 +10,7 @@ import threading
 import time
 from collections.abc import Iterator
 from concurrent.futures import ProcessPoolExecutor, ThreadPoolExecutor, as_completed
+from concurrent.futures.process import BrokenProcessPool
 
 from .files import Unread, content, opened, shown
 from .rows import Row, failed, row_of, unread
@@ -55,7 +56,7 @@ class Judges:
         try:
             return self._judged(file, begin)
         except Unread as error:
-            return unread(shown(file), str(error))._replace(file=file)
+            return unread(file, str(error))
         except MemoryError:
             return failed(file, time.monotonic() - begin, 3, "out of memory")
 
@@ -76,7 +77,12 @@ class Judges:
             os.close(descriptor)
         status = process.returncode if process.returncode >= 0 else 128 - process.returncode
         answer = self.program, file, trace, time.monotonic() - begin, status, printed, errors.decode(errors="replace").strip()
-        return row_of(*answer) if len(trace) < BIG or self.jobs == 1 else self._looker().submit(row_of, *answer).result()
+        if len(trace) >= BIG and self.jobs > 1:
+            try:
+                return self._looker().submit(row_of, *answer).result()
+            except (BrokenProcessPool, OSError):  # no other process, or it was ended: it can be done here
+                pass
+        return row_of(*answer)
 
     def _looker(self) -> ProcessPoolExecutor:
         with self.lock:

@@ -43,7 +43,7 @@ class Row(NamedTuple):
 
 
 def unread(file: str, error: str) -> Row:
-    return Row(file, "unread", None, 0, 0.0, 2, None, f"{file} can't be read: {error}")
+    return Row(file, "unread", None, 0, 0.0, 2, None, f"cannot be read: {error}")
 
 
 def failed(file: str, seconds: float, status: int, error: str, lines: int = 0) -> Row:
