@@ -16,8 +16,10 @@ import tempfile
 import threading
 import time
 import weakref
+from collections import Counter
 from collections.abc import Iterator
 from enum import Enum
+from fractions import Fraction
 from pathlib import Path
 from random import Random
 from urllib.parse import unquote, unquote_to_bytes
@@ -1606,6 +1608,9 @@ def blocks(page: Path) -> list:
     return found
 
 
+SESSIONS_ANY_ORDER = 200
+
+
 def check_guide(tally: Tally, program: str, folder: Path) -> None:
     """The guide's editor and its window print what the guide says, in a folder that has what the guide's commands put there; its
     test leaves a file that can be explained; its traces have the verdicts beside them; and its line for the debugger stops once."""
@@ -1628,6 +1633,7 @@ def check_guide(tally: Tally, program: str, folder: Path) -> None:
     tally.check("guide: the editor", len(code) == 4 and [editor.stdout.decode()] == printed, editor)
     refused = [block for block in shown if block.startswith("not causal: ")]
     tally.check("guide: the clocks", [clocks.stdout.decode()] == refused, clocks)
+    check_any_order(tally, program, shown)
     judged = [block.split("\n\n") for block in traces if block not in printed]
     tally.check("guide: has traces with verdicts", len(judged) == 4, judged)
     tally.check("guide: the window", [trace + "\n" for trace, _ in judged if " view :" in trace] == [window.stdout.decode()], window)
@@ -1651,6 +1657,85 @@ def check_guide(tally: Tally, program: str, folder: Path) -> None:
 # How README's examples begin, what runs them in the folder of the one file that they import, and that file.
 README = {"from domepeeler import": ([sys.executable, "readme.py"], "domepeeler.py"),
           "import { Recording }": (["node", "readme.mjs"], "domepeeler.mjs")}
+
+
+class Places:
+    """A list whose elements have places between the fractions of their neighbours, so that each change can be applied whatever came before;
+    a deleted element may be deleted before it is inserted."""
+
+    def __init__(self, replica: int):
+        self.replica, self.elements, self.gone = replica, {}, set()
+
+    def names(self) -> list:
+        return sorted(self.elements.keys() - self.gone, key=self.elements.get)
+
+    def insert(self, name: str, position: int) -> tuple:
+        places = [Fraction(0), *(self.elements[one][0] for one in self.names()), Fraction(1)]
+        before, behind = places[position:position + 2]
+        message = name, (before + (behind - before) / (3, 5, 7)[self.replica], self.replica)  # no two replicas come to the same one
+        self.apply(message)
+        return message
+
+    def delete(self, name: str) -> tuple:
+        self.gone.add(name)
+        return name, None
+
+    def apply(self, message: tuple) -> None:
+        name, place = message
+        if place is None:
+            self.gone.add(name)
+        else:
+            self.elements[name] = place
+
+
+def check_any_order(tally: Tally, program: str, shown: list) -> None:
+    """The guide's code for a network that delivers in any order: by both ways hundreds of random sessions are accepted, which are not
+    where receipts are written as updates come."""
+    from domepeeler import NotCausal, Recording
+    take_text = [block for block in shown if block.startswith("def take(")]
+    later_text = [block for block in shown if block.startswith("engine.apply(message)\n")]
+    tally.check("guide: any order, its code", len(take_text) == len(later_text) == 1, (take_text, later_text))
+    code = {"NotCausal": NotCausal}
+    exec(take_text[0], code)
+    later = compile(later_text[0], "guide", "exec")
+    for way in "ask first", "record later", "as it comes":
+        verdicts = Counter()
+        for seed in range(SESSIONS_ANY_ORDER):
+            rnd, recording = Random(seed), Recording(3)
+            engines, waiting, network = [Places(replica) for replica in range(3)], [[] for _ in range(3)], []
+            for step in range(18):
+                replica = rnd.randrange(3)
+                engine, names = engines[replica], engines[replica].names()
+                if step < 12 and not waiting[replica] and rnd.random() < 0.6:
+                    if names and rnd.random() < 0.4:
+                        message = engine.delete(rnd.choice(names))
+                        n = recording.delete(replica, message[0], engine.names())
+                    else:
+                        place = rnd.randint(0, len(names))
+                        message = engine.insert(f"e{step}", place)
+                        n = recording.insert(replica, message[0], place, engine.names())
+                    network += [(other, replica, n, recording.clock(replica), message) for other in range(3) if other != replica]
+                for _ in range(1 if step < 12 else len(network)):
+                    if not network:
+                        break
+                    replica, author, n, clock, message = network.pop(rnd.randrange(len(network)))
+                    engine = engines[replica]
+                    if way == "as it comes":
+                        engine.apply(message)
+                        recording.received(replica, author, n)
+                        recording.read(replica, engine.names())
+                    elif way == "ask first":
+                        waiting[replica].append((author, clock, message))
+                        code["take"](recording, replica, waiting[replica], engine.apply)
+                        recording.read(replica, engine.names())
+                    else:
+                        exec(later, code | {"engine": engine, "message": message, "waiting": waiting[replica], "author": author, "clock": clock,
+                                            "recording": recording, "replica": replica})
+            recording.delivered([engine.names() for engine in engines])
+            report = recording.judge(program)
+            verdicts[report["verdict"], bool(report["warnings"])] += 1
+        is_right = set(verdicts) == {("accepted", False)} if way != "as it comes" else verdicts[("contents", False)] > SESSIONS_ANY_ORDER / 10
+        tally.check(f"guide: any order, {way}", is_right, verdicts)
 
 
 def check_readme(tally: Tally, program: str, folder: Path) -> None:
