@@ -1212,6 +1212,20 @@ def pages(tally: Tally, program: str, folder: str) -> None:
         tally.check(f"page of {example.name}: its cycle", len(by_class(tree, "path", "step")) == len(steps), len(steps))
 
 
+    for name in "a wrong response before the one that the program names", "a beginning that shows something else":
+        _, replicas, entries, wanted = next(case for case in WORDS if case[0] == name)
+        tree = page(tally, program, folder, "sooner.trace", text_of(replicas, entries))
+        red = {node.get("id") for node in by_class(tree, "li", "verdict")}
+        first = {"a wrong response before the one that the program names": {"line-4"}, "a beginning that shows something else": {"line-6", "line-7", "line-11"}}
+        tally.check(f"page of {name}: what the words begin with is red", red == first[name], red)
+        later = {node.get("id") for node in by_class(tree, "li", "matters")}
+        named = {f"line-{line}" for line in re.findall(r"\bline (\d+), ", wanted.partition("hat the whole trace")[2] or wanted.partition("program names of")[2])}
+        tally.check(f"page of {name}: what the whole trace names is marked", named and named <= later | red, (named, later))
+    got = explain(program, ["--html", f"{folder}/page.html", "-"], text_of(2, "0 ins a 0 : a|1 recv 0 1|0 ins b 1 : a b|1 read : a").encode())
+    tree = ElementTree.fromstring(Path(folder, "page.html").read_text())
+    first = next(node for node in tree.iter("h2"))
+    tally.check("page of a trace that ends unequal: no colour of what is well", "unsure" in tree.find("body").get("class").split() and
+                told(first) == "What this verdict may hide" and told(tree.find(".//h1")).startswith("accepted, with a warning: "), got)
     long = f"{BESIDE_DELETED}|0 recv 1 2|{'|'.join(['0 read : d c'] * 40)}"
     rows = [node.get("id") for node in by_class(page(tally, program, folder, "long.trace", text_of(2, long)), "li", "matters")]
     tally.check("page of a long session: the delete of a neighbour, and what came before the wrong response", {"line-8", "line-10"} <= set(rows), rows)
