@@ -737,7 +737,8 @@ def stopped(tally: Tally, folder: str, other: str) -> None:
         slow.chmod(0o755)
         for words in [TOOL, "--program", str(slow), "--jobs", "2", folder], [str(ROOT / "tools" / "explain"), "--program", str(slow), f"{folder}/lost.trace"]:
             begun.write_text("")
-            running = subprocess.Popen(words, stdout=subprocess.PIPE, stderr=subprocess.PIPE, start_new_session=True)
+            running = subprocess.Popen(words, stdout=subprocess.PIPE, stderr=subprocess.PIPE, start_new_session=True,
+                                       preexec_fn=lambda: signal.signal(stop, signal.SIG_DFL))  # which what runs in the background may ignore
             until = time.monotonic() + 60
             while not begun.read_text().endswith("\n") and time.monotonic() < until:
                 time.sleep(0.01)
