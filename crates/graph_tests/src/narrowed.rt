@@ -1,4 +1,4 @@
-//! Graphs of some elements alone.
+//! Graphs of some elements alone, and graphs whose lists go the other way.
 ghost use Rattle.std.specs.Prelude.{◌<◌, All, AllPairs, length};
 
 use super::graphs::{Kept, ask};
@@ -101,6 +101,57 @@ fn two_none_and_all_of_the_ring_of_four(rt: HostRuntime) -> Result<(), Fail> {
                 && keeps_none(alloc, graph)?
                 && keeps_all(alloc, recording, graph)?,
         )
+    })?;
+    assert!(rt; right);
+    Ok(())
+}
+
+/// The graph with its lists in the other direction. A call that finds no memory is made again.
+fn turned_of(alloc: Global, graph: &OrderGraph) -> Result<OrderGraph, Memory> {
+    match graph.turned(alloc) {
+        Ok(turned) => Ok(turned),
+        Err(Memory) => graph.turned(alloc),
+    }
+}
+
+/// Whether a list is another one from the last place to the first.
+fn is_turned(graph: &OrderGraph, turned: &OrderGraph, list: u32) -> bool {
+    let places = graph.list(list);
+    let back = turned.list(list);
+    for (x, y) in places.iter().zip(back.iter().rev()) {
+        if x != y {
+            return false;
+        }
+    }
+    places.len() == back.len()
+}
+
+/// Whether names and operations are the same, each list goes the other way, and so does each step.
+fn goes_the_other_way(graph: &OrderGraph, turned: &OrderGraph) -> bool {
+    for x in 0..graph.elements() {
+        if turned.name(x) != graph.name(x) || turned.spots(x) != graph.spots(x) {
+            return false;
+        }
+        for y in 0..graph.elements() {
+            if turned.before(x, y) != graph.before(y, x) {
+                return false;
+            }
+        }
+    }
+    for list in 0..graph.lists() {
+        if turned.shown_by(list) != graph.shown_by(list) || !is_turned(graph, turned, list) {
+            return false;
+        }
+    }
+    turned.elements() == graph.elements() && turned.lists() == graph.lists()
+}
+
+#[test]
+fn ring_of_four_turned(rt: HostRuntime) -> Result<(), Fail> {
+    let ring = recording(rt.alloc(), RING_OF_FOUR)?;
+    let alloc = rt.alloc();
+    let right = ask(&rt, rt.alloc(), ring, Kept::All, |_, graph| {
+        Ok(goes_the_other_way(graph, &turned_of(alloc, graph)?))
     })?;
     assert!(rt; right);
     Ok(())

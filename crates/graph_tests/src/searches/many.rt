@@ -3,7 +3,7 @@ ghost use Rattle.std.specs.Prelude.{◌<◌};
 
 use super::conflicts::number_of;
 use super::graphs::ask_of;
-use events::{Body, Name, Recording, Response};
+use events::{Body, Name, OpName, Recording, Response};
 use level_search::Gate;
 use sample_recordings::{THREE_WAY_CYCLE, add, push, recording};
 use std::alloc::Global;
@@ -14,6 +14,8 @@ use std::thread::Threads;
 const MANY: u8 = 70;
 
 const ONE_ELEMENT: &str = "trace 1\nreplicas 1\n0 ins x 0 : x\n";
+
+const ONE_OF_TWO: &str = "trace 1\nreplicas 2\n0 ins x 0 : x\n";
 
 /// Counts the searches.
 #[derive(Drop)]
@@ -60,6 +62,16 @@ fn put_behind(alloc: Global, recording: &mut Recording, seen: &[&str]) -> Result
     Ok(())
 }
 
+/// Lets replica 1 see all that replica 0 put, with x, which replica 0 has first, at the end.
+fn put_before(alloc: Global, recording: &mut Recording) -> Result<(), Fail> {
+    let seen = OpName::new(0, u32::from(MANY) + 1).ok_or("no operation")?;
+    add(recording, 1, Body::Recv { seen })?;
+    let mut response = shown(alloc, &[], MANY)?;
+    push(&mut response, Name::new(b"x")?)?;
+    add(recording, 1, Body::Read { response })?;
+    Ok(())
+}
+
 /// A recording with many elements after those that replica 0 sees at its end.
 fn recording_behind(alloc: Global, text: &str, seen: &[&str]) -> Result<Recording, Fail> {
     let mut recording = recording(alloc, text)?;
@@ -81,12 +93,34 @@ fn number_behind<G: Gate>(
     })
 }
 
+/// The conflict number where x stands before many elements, and after them.
+fn number_round<G: Gate>(
+    rt: &(impl Threads + Sync),
+    alloc: Global,
+    gate: &G,
+) -> Result<Option<u32>, Fail> {
+    let mut recording = recording_behind(alloc, ONE_OF_TWO, &["x"])?;
+    put_before(alloc, &mut recording)?;
+    ask_of(rt, alloc, &recording, |graph| {
+        Ok(number_of(rt, alloc, graph, 2, gate)?)
+    })
+}
+
 #[test]
 fn one_search_where_all_cycles_meet(rt: HostRuntime) -> Result<(), Fail> {
     let searches = Searches(AtomicU64::new(0));
+    let found = number_round(&rt, rt.alloc(), &searches)?;
+    assert_eq!(rt; found, Some(2));
+    assert_eq!(rt; searches.0.load(Ordering::SeqCst), 1);
+    Ok(())
+}
+
+#[test]
+fn no_search_from_what_stands_behind_a_cycle(rt: HostRuntime) -> Result<(), Fail> {
+    let searches = Searches(AtomicU64::new(0));
     let found = number_behind(&rt, rt.alloc(), THREE_WAY_CYCLE, &["b", "a"], &searches)?;
     assert_eq!(rt; found, Some(3));
-    assert_eq!(rt; searches.0.load(Ordering::SeqCst), 1);
+    assert_eq!(rt; searches.0.load(Ordering::SeqCst), 3);
     Ok(())
 }
 
