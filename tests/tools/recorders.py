@@ -595,7 +595,38 @@ def check_lines(tally: Tally, recorder: Recorder, folder: Path) -> None:
                 beside(full) in (f"2 {own}", f"102 {own}"), (got, beside(full)))
     tally.check(f"{recorder.language}: and nothing is left of it", left == ["full.trace", "full.trace.lines"] or
                 got[1].startswith("ended with -"), (got, left))
+    check_ranges(tally, recorder, place / "ranges.trace")
     check_replaced(tally, recorder, place / "replaced")
+
+
+# Calls, which lines of the trace `delivered` wrote in each of its calls, and how many lines there are.
+TWO_DELIVERIES = ["new 2", "insert 0 a 0 a", "delivered a / a", "note seed%2017", "delivered a", "read 0 a", "delivered a / a:b",
+                  "delivered a / a"]
+RANGES = [("of two calls, and none of one that is refused", TWO_DELIVERIES, [(4, 6), (8, 9)], 9),
+          ("of a call where nothing was recorded", ["new 3", "delivered / /"], [(3, 5)], 5),
+          ("of 102 calls", ["new 1", "read 0", *["delivered"] * 102], [(line, line) for line in range(4, 106)], 105),
+          ("where there is no such call", ["new 2", "insert 0 a 0 a", "received 1 0 1", "read 1 a"], [], 5),
+          ("where each is refused", ["new 2", "read 0", "delivered", "delivered a:b /", "delivered / / /"], [], 3),
+          ("in one replica's log", ["new 2 1", "read 1", "delivered /"], [], 3)]
+
+
+def check_ranges(tally: Tally, recorder: Recorder, trace: Path) -> None:
+    """Beside what is saved stand, behind the notes and before the places, the lines that each call of `delivered` wrote; and `explain`
+    tells the tool of the last hundred."""
+    teller = trace.parent / "teller"
+    teller.write_text("#!/bin/sh\ncat > /dev/null\necho \"asked: $*\"\n")
+    teller.chmod(0o755)
+    language = LANGUAGES[recorder.language]
+    for name, calls, ranges, count in RANGES:
+        got = recorder.answers([*map(fields, calls), f"save\t{trace}", "explain"], DOMEPEELER_EXPLAIN=str(teller))
+        lines = Path(f"{trace}.lines").read_text().splitlines()
+        noted = ["note seed 17"] * ("note seed%2017" in calls)
+        head = [str(count), f"language {language}", *noted, *(f"delivered {first} {last}" for first, last in ranges)]
+        tally.check(f"{recorder.language}: lines that delivered wrote, {name}", lines[:len(head)] == head and
+                    all(line.split(" ")[0].isdigit() for line in lines[len(head):]), lines)
+        told = " ".join(["| asked: --language", language, *(f"--delivered {first}-{last}" for first, last in ranges[-100:]), "-"])
+        wanted = ONE_LOG if calls[0] == "new 2 1" else told
+        tally.check(f"{recorder.language}: explain tells of them, {name}", any(line.endswith(wanted) for line in got[len(calls) + 1:]), got[-6:])
 
 
 def check_replaced(tally: Tally, recorder: Recorder, place: Path) -> None:
@@ -658,7 +689,7 @@ def check_places(tally: Tally, recorder: Recorder, folder: Path) -> None:
             is_call = found and f"recording.{kind}(" in source[int(found[1]) - 1]
             tally.check(f"{recorder.language}: the place of {kind}", is_call and (not found[2] or recorder.language != "rs"), line)
     recorder.answers(["new\t3", "insert\t0\ta\t0\ta", "delivered\ta\t/\ta\t/\ta", f"save\t{trace}"])
-    lines = Path(f"{trace}.lines").read_text().splitlines()[3:]
+    lines = Path(f"{trace}.lines").read_text().splitlines()[4:]
     places = {re.search(rf"driver\.{recorder.language}:(\d+)", line)[1] for line in lines}
     tally.check(f"{recorder.language}: the place of delivered", len(lines) == 5 and len(places) == 1 and
                 "recording.delivered(" in source[int(*places) - 1], lines)
