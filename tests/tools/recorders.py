@@ -1896,6 +1896,16 @@ mod inner {{
 }}
 
 #[test]
+fn an_insert_never_arrives() {{
+    let mut recording = session();
+    recording.read(1, &["a"]).unwrap();
+    if std::env::var_os("LOST").is_some() {{
+        recording.insert(0, "b", 1, &["a", "b"]).unwrap(); // hidden
+    }}
+    recording.assert_accepted();
+}}
+
+#[test]
 fn nothing_is_recorded() {{
     Recording::new(2).unwrap().assert_accepted();
 }}
@@ -1938,8 +1948,8 @@ fn verdicts() {{
 
 
 def check_rust_tests(tally: Tally, program: str, folder: Path) -> None:
-    """A verdict as a value; and `assert_accepted`, which explains, saves, and removes what an earlier run has saved. Its folder's name has
-    signs that JSON escapes, and a place is named with them. A copy of the recorder among tests gives clippy nothing to say."""
+    """A verdict as a value; and `assert_accepted`, which explains, saves, and removes what an earlier run has saved, and takes no recording
+    that is accepted with warnings. Its folder's name has signs that JSON escapes, and a place is named with them. A copy of the recorder among tests gives clippy nothing to say."""
     place = folder / 'a "user\'s" \\tests'
     place.mkdir()
     (place / "editor.rs").write_text(RUST_TESTS)
@@ -1949,16 +1959,27 @@ def check_rust_tests(tally: Tally, program: str, folder: Path) -> None:
     line = {word: next(number for number, text in enumerate(RUST_TESTS.splitlines(), 1) if f"// {word}" in text) for word in ("asks", "reads")}
     saved = place / "failed_traces" / "editor-inner-a_list_is_lost.trace"
     done = subprocess.run(["./editor-0123456789abcdef"], cwd=place, env={**surroundings, "LOST": "1"}, capture_output=True, text=True)
-    tally.check("Rust tests: counts", done.returncode != 0 and "test result: FAILED. 3 passed; 2 failed;" in done.stdout, done)
+    tally.check("Rust tests: counts", done.returncode != 0 and "test result: FAILED. 3 passed; 3 failed;" in done.stdout, done)
     tally.check("Rust tests: a lost list is explained", f"editor.rs:{line['asks']}:" in done.stdout and "contents 1.1: " in done.stdout and
                 f"\nIn your code\n  editor.rs:9: line 3\n  editor.rs:10: line 4\n  editor.rs:{line['reads']}: line 5\n" in done.stdout and
                 f"\nThe trace is saved: failed_traces/{saved.name}\n" in done.stdout, done)
     tally.check("Rust tests: nothing recorded", NOTHING in done.stdout, done)
+    warning = ("in the end replicas 0 and 1 show different lists: 0.2 (line 6, editor.rs:{}) never arrived at replica 1 by this recording. "
+               "{}").format(next(number for number, text in enumerate(RUST_TESTS.splitlines(), 1) if "// hidden" in text), LOST_ONE)
+    unsure = saved.with_name("editor-an_insert_never_arrives.trace")
+    tally.check("Rust tests: warnings of an accepted recording fail", f":\n{warning}\n\naccepted: " in done.stdout and
+                f"\nWhat this verdict may hide\n  {warning}\n" in done.stdout and
+                f"\nThe trace is saved: failed_traces/{unsure.name}\n" in done.stdout and
+                unsure.read_text().endswith("1 read : a\n0 ins b 1 : a b\n"), done)
     tally.check("Rust tests: what is saved", sorted(path.name for path in saved.parent.iterdir()) == [
-        ".gitignore", saved.name, f"{saved.name}.lines"] and saved.read_text().endswith("1 recv 0 1\n1 read :\n") and
-        (saved.parent / ".gitignore").read_text() == "*\n", done)
+        ".gitignore", unsure.name, f"{unsure.name}.lines", saved.name, f"{saved.name}.lines"] and
+        saved.read_text().endswith("1 recv 0 1\n1 read :\n") and (saved.parent / ".gitignore").read_text() == "*\n", done)
+    without = subprocess.run(["./editor-0123456789abcdef", "never"], cwd=place, capture_output=True, text=True,
+                             env={**surroundings, "LOST": "1", "DOMEPEELER_EXPLAIN": "/nowhere/explain"})
+    tally.check("Rust tests: warnings where no tool explains", without.returncode != 0 and
+                f":\n{warning}\n\naccepted\n/nowhere/explain cannot be run (" in without.stdout, without)
     done = subprocess.run(["./editor-0123456789abcdef"], cwd=place, env=surroundings, capture_output=True, text=True)
-    tally.check("Rust tests: one that passes removes what it saved before", "4 passed; 1 failed;" in done.stdout and
+    tally.check("Rust tests: one that passes removes what it saved before", "5 passed; 1 failed;" in done.stdout and
                 [path.name for path in saved.parent.iterdir()] == [".gitignore"], done)
     need("clippy-driver", "rust-clippy")
     (place / "tests/domepeeler").mkdir(parents=True)
