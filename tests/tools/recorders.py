@@ -1949,7 +1949,8 @@ fn verdicts() {{
 
 def check_rust_tests(tally: Tally, program: str, folder: Path) -> None:
     """A verdict as a value; and `assert_accepted`, which explains, saves, and removes what an earlier run has saved, and takes no recording
-    that is accepted with warnings. Its folder's name has signs that JSON escapes, and a place is named with them. A copy of the recorder among tests gives clippy nothing to say."""
+    that is accepted with warnings. Its folder's name has signs that JSON escapes, and a place is named with them. A copy of the recorder
+    among tests gives clippy nothing to say."""
     place = folder / 'a "user\'s" \\tests'
     place.mkdir()
     (place / "editor.rs").write_text(RUST_TESTS)
@@ -1967,7 +1968,7 @@ def check_rust_tests(tally: Tally, program: str, folder: Path) -> None:
     warning = ("in the end replicas 0 and 1 show different lists: 0.2 (line 6, editor.rs:{}) never arrived at replica 1 by this recording. "
                "{}").format(next(number for number, text in enumerate(RUST_TESTS.splitlines(), 1) if "// hidden" in text), LOST_ONE)
     unsure = saved.with_name("editor-an_insert_never_arrives.trace")
-    tally.check("Rust tests: warnings of an accepted recording fail", f":\n{warning}\n\naccepted: " in done.stdout and
+    tally.check("Rust tests: warnings of an accepted recording fail", f":\n{warning}\n\naccepted, with a warning: " in done.stdout and
                 f"\nWhat this verdict may hide\n  {warning}\n" in done.stdout and
                 f"\nThe trace is saved: failed_traces/{unsure.name}\n" in done.stdout and
                 unsure.read_text().endswith("1 read : a\n0 ins b 1 : a b\n"), done)
