@@ -33,6 +33,7 @@ const MOST_STACKS = 1000 // that are remembered
 const MOST_LINKS = 40 // that lead on from one to the next
 const HEAD_LINES = 2 // of a trace, before its entries
 const MOST_NOTES = 20, MOST_LETTERS = 200 // of a recording, and of a note
+const MOST_DELIVERED = 100 // calls of delivered() of which the tool is told
 // What is no part of a printable line.
 const NO_NOTE = /[\0-\x1f\x7f-\x9f\u2028-\u202e\u2066-\u2069]|[\ud800-\udbff](?![\udc00-\udfff])|(?<![\ud800-\udbff])[\udc00-\udfff]/
 const MOST_SHOWN = 40 // letters of a wrong value in an error
@@ -42,7 +43,7 @@ const LINE = /\bline (\d+)(?=[,):]| of the trace,| \(\d+ recv )/g // a line of t
 const WARNINGS = /^What this verdict may hide\n(?:  .*\n)*/m // a section there
 const NAMED = /\(line (\d+)\)/g // a line in a warning, whose place is put behind it
 // The statement for a debugger.
-const STATEMENT = /^(  stop before line (\d+), .*?) In [A-Z][A-Za-z ]*, where a change begins to be applied, local or remote: .*/gm
+const STATEMENT = /^(  stop before line (\d+), .*?) In [A-Z][A-Za-z ]*, where (?:a change begins to be applied, local or remote|the list is read): .*/gm
 // A line of a stack, with the path or the URL of a file, and the line in it.
 const FRAME = /^ +at (?:async |.*\()?((?:[a-z]{2,}:\/\/|\/|[A-Za-z]:[\\/]).*:\d+):\d+\)?$/
 const OWN = String(import.meta.url)
@@ -71,6 +72,7 @@ export class Recording {
   #short = new Map() // by id: its name, where that is a shorter one
   #changes = new Map() // by the id of a change: its operations, of one author
   #notes = []
+  #delivered = [] // of each call of `delivered`, the first and the last line of the trace that it wrote
 
   constructor(replicas, only = null) {
     if (!whole(replicas, 1, MOST_REPLICAS)) {
@@ -192,6 +194,7 @@ export class Recording {
       this.#backTo(before)
       throw why
     }
+    this.#delivered.push([before.lines + 1, this.#lines.length])
   }
 
   /** Keeps a word of yours for the whole recording, as "seed 17": one line of 1 to 200 printable characters. `save` writes it beside the
@@ -235,7 +238,8 @@ export class Recording {
     const name = path.href ? fileURLToPath(path) : path
     const text = this.text(), places = await this.#places()
     const notes = this.#notes.map((note) => `note ${note}`)
-    const beside = [this.#lines.length, "language javascript", ...notes, ...(this.#hasLog ? ["log"] : []),
+    const delivered = this.#delivered.map(([first, last]) => `delivered ${first} ${last}`)
+    const beside = [this.#lines.length, "language javascript", ...notes, ...delivered, ...(this.#hasLog ? ["log"] : []),
       ...places.map(([line, told]) => `${line} ${told}`)]
     const there = await stat(name).catch(() => null)
     if (there !== null && !there.isFile()) return await writeFile(name, text)
@@ -266,7 +270,9 @@ export class Recording {
    * or on the PATH. */
   async explain(explainer = null) {
     const command = await besideProgram("domepeeler-explain")
-    const { name, done } = await this.#ask(explainer, "DOMEPEELER_EXPLAIN", command, "the tool's", ["--language", "javascript", "-"])
+    const delivered = this.#delivered.slice(-MOST_DELIVERED).flatMap(([first, last]) => ["--delivered", `${first}-${last}`])
+    const { name, done } = await this.#ask(explainer, "DOMEPEELER_EXPLAIN", command, "the tool's",
+      ["--language", "javascript", ...delivered, "-"])
     if ((done.status !== 0 && done.status !== 1) || !done.stdout) throw ended(name, done, "words")
     const words = new Set(done.stdout.match(/[A-Za-z0-9]+/g))
     const named = [...this.ids()].filter(([short]) => words.has(short) && short.startsWith("long"))

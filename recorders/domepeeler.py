@@ -41,6 +41,7 @@ UUID = re.compile(r"[0-9A-Fa-f]{8}(-[0-9A-Fa-f]{4}){3}-[0-9A-Fa-f]{12}", re.ASCI
 __tracebackhide__ = True  # pytest shows a refused call where the test makes it
 ONE_LOG = "one replica's log is no recording: merge the logs first"
 MOST_NOTES, MOST_LETTERS = 20, 200  # of a recording, and of a note
+MOST_DELIVERED = 100  # calls of `delivered` of which the tool is told
 NO_NOTE = re.compile("[\0-\x1f\x7f-\x9f\u2028-\u202e\u2066-\u2069\ud800-\udfff]")  # what is no part of a printable line
 MOST_SHOWN = 40  # letters of a wrong value in an error
 MORE_CHANGES = "; if the update carried more than one change, say how many (`changes`)"
@@ -49,7 +50,7 @@ HEAD_LINES = 2  # of a trace, before its entries
 LINE = re.compile(r"\bline (\d+)(?=[,):]| of the trace,| \(\d+ recv )")  # a line of the trace in the explainer's words
 WARNINGS = re.compile(r"^What this verdict may hide\n(?:  .*\n)*", re.MULTILINE)  # a section there
 NAMED = re.compile(r"\(line (\d+)\)")  # a line in a warning, whose place is put behind it
-STATEMENT = re.compile(r"^(  stop before line (\d+), .*?) In [A-Z][A-Za-z ]*, where a change begins to be applied, local or remote: .*",
+STATEMENT = re.compile(r"^(  stop before line (\d+), .*?) In [A-Z][A-Za-z ]*, where (?:a change begins to be applied, local or remote|the list is read): .*",
                        re.MULTILINE)  # for a debugger
 MOST_WARNED = 5  # deletes, or inserts, that are warned of one by one
 MOST_CHANGES = 3  # that are warned of one by one of those that a replica lacks, or has made nothing of
@@ -113,6 +114,7 @@ class Recording:
         self._short: Dict[str, str] = {}  # by id: its name, where that is a shorter one
         self._changes: Dict[Hashable, List[Tuple[int, int]]] = {}  # by the id of a change: its operations
         self._notes: List[str] = []
+        self._delivered: List[Tuple[int, int]] = []  # of each call of `delivered`, the first and the last line of the trace that it wrote
         if only is not None:
             self._only = self._known(only)
 
@@ -222,6 +224,7 @@ class Recording:
         except BaseException:
             self._back_to(before)
             raise
+        self._delivered.append((before[0] + 1, len(self._lines)))
 
     @_alone
     def note(self, text: str) -> None:
@@ -266,7 +269,8 @@ class Recording:
             with open(name, "wb") as file:
                 file.write(text)
             return
-        marks = ["language python", *(f"note {note}" for note in self._notes), *(["log"] if self._has_log else [])]
+        marks = ["language python", *(f"note {note}" for note in self._notes), *(f"delivered {first} {last}" for first, last in self._delivered),
+                 *(["log"] if self._has_log else [])]
         beside = [str(len(self._lines)), *marks, *(f"{line} {places}" for line, places in self._places())]
         if not os.path.isdir(os.path.dirname(os.path.realpath(name))):
             raise FileNotFoundError(errno.ENOENT, os.strerror(errno.ENOENT), name)
@@ -297,7 +301,8 @@ class Recording:
         The tool is the words that are given, that of $DOMEPEELER_EXPLAIN, or `domepeeler-explain`, beside the program of $DOMEPEELER or on
         the PATH."""
         name, done = self._ask(explainer, "DOMEPEELER_EXPLAIN", _beside_program("domepeeler-explain"), "the tool's",
-                               ["--language", "python", "-"])
+                               ["--language", "python", *(word for first, last in self._delivered[-MOST_DELIVERED:]
+                                                          for word in ("--delivered", f"{first}-{last}")), "-"])
         if done.returncode not in (0, 1) or not done.stdout:
             _ended(name, done, "words")
         said = done.stdout.decode(errors="replace")

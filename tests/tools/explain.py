@@ -51,18 +51,19 @@ BESIDE_DELETED = "0 ins b 0 : b|1 recv 0 1|1 ins c 1 : b c|0 recv 1 1|0 read : b
 
 def stop(line: int, doing: str, *others: int) -> str:
     """The lines of an explanation that say where to stop a debugger."""
-    before = ", ".join(f"line {other}" for other in others)
-    doing += f"; if that goes right, where {'another' if len(others) == 1 else 'others'} arrived ({before})" if others else ""
+    before = " and ".join(filter(None, [", ".join(f"line {other}" for other in others[:-1]), *(f"line {other}" for other in others[-1:])]))
+    doing += f"; if nothing is wrong there, where {'another' if len(others) == 1 else 'others'} arrived ({before})" if others else ""
     asked = f"if recording.lines() == {line - 1}: breakpoint()"
-    return f"|In a debugger|stop before line {line}, where {doing}. In Python, where a change begins to be applied, local or remote: {asked}"
+    where = "where the list is read" if "reads the list" in doing else "where a change begins to be applied, local or remote"
+    return f"|In a debugger|stop before line {line}, where {doing}. In Python, {where}: {asked}"
 
 
 # By name: how many replicas, the entries, and lines that stand in the explanation one after the other, from the first.
 WORDS = [
     ("accepted", 2, "0 ins a 0 : a|1 recv 0 1|1 ins b 1 : a b|0 recv 1 1|0 read : a b",
-     "accepted: well done, all 3 responses fit one order of the elements.||The first order that they follow, deleted elements too|a b||"
+     "accepted: all 3 responses fit one order of the elements.||The first order that they follow, deleted elements too|a b||"
      "The list specifications|strong and weak hold"),
-    ("accepted, nothing", 1, "", "accepted, with a warning: all 0 responses fit one order of the elements.||What this verdict may hide|"
+    ("accepted, nothing", 1, "", "accepted, with a warning: there was no response to judge.||What this verdict may hide|"
      "nothing was recorded: the trace has no entry, so the verdict says nothing of an editor||The first order that they follow, deleted "
      "elements too|(there are no elements)||The list specifications|strong and weak hold"),
     ("two concurrent inserts", 2, "0 ins a 0 : a|1 ins b 0 : b|0 recv 1 1|1 recv 0 1|0 read : a b|1 read : b a",
@@ -71,41 +72,38 @@ WORDS = [
      "[b] before [a]: line 8, 1.2: replica 1 read the list, answered [b] [a]|"
      "a: inserted by 0.1 (line 3)|b: inserted by 1.1 (line 4)|"
      "b arrived at replica 0 in line 5, a at replica 1 in line 6|"
-     "Look at the order of concurrent inserts: neither author of a and b had the other one yet, and two replicas, or one at two times, have "
-     "put them in different orders. What decides between two at one place must be the same everywhere (the replicas' numbers, say), and not "
-     "which arrives first." + stop(6, "replica 1 applies 0.1", 5)),
+     "Look at the order of concurrent inserts: a and b were inserted without knowing of each other, and were shown in two different orders. "
+     "Use a rule that gives the same order everywhere (by the replicas' numbers, say), and not the order in which they arrive." + stop(6, "replica 1 applies 0.1", 5)),
     ("an insert that had seen the other", 2, "0 ins a 0 : a|1 recv 0 1|1 ins b 1 : a b|0 recv 1 1|0 read : b a",
      "refused 2: two responses can't be right together.|"
      "[a] before [b]: line 5 of the trace, 1.1: replica 1 inserted b at position 1, answered [a] [b]|"
      "[b] before [a]: line 7, 0.2: replica 0 read the list, answered [b] [a]|"
      "a arrived at replica 1 in line 4, b at replica 0 in line 6|"
-     "Look at where a replica places an incoming insert: 1.1 (line 5) inserted b when it had a, so these are no concurrent inserts, and yet "
-     "the two are put in different orders. Often the number that orders inserts does not grow with what arrives, or the neighbour is not "
-     "found." + stop(6, "replica 0 applies 1.1", 4)),
+     "Look at where a replica places an incoming insert: 1.1 (line 5) inserted b when it had a, so their order was known already, and still "
+     "it differs. Often the number that orders inserts does not grow when changes arrive, or the neighbour is not found." + stop(6, "replica 0 applies 1.1", 4)),
     ("three-way cycle", 3, THREE_WAY,
      "refused 3: three responses can't be right together. Any two of them can.|"
      "[x] before [b]: line 7 of the trace, 2.1: replica 2 inserted b at position 1, answered [x] [b]|"
      "[b] before [a]: line 11, 0.3: replica 0 read the list, answered [b] [a]|"
      "[a] before [x]: line 6, 1.1: replica 1 inserted a at position 0, answered [a] [x]|"
-     "x: inserted by 0.1 (line 3), deleted by 0.2 (line 8)|for 0.3 (line 11), x is deleted, by 0.2 (line 8)|"
+     "x: inserted by 0.1 (line 3), deleted by 0.2 (line 8)|at 0.3 (line 11), x was deleted already, by 0.2 (line 8)|"
      "a was put before x. When it arrived at replica 0 in line 9, x was deleted there by 0.2 (line 8)|"
      "b was put behind x. When it arrived at replica 0 in line 10, x was deleted there by 0.2 (line 8)|"
      "x arrived at replica 1 in line 4, x at replica 2 in line 5, a at replica 0 in line 9, b at replica 0 in line 10|"
-     "Look at positions beside deleted elements: no two of 2.1, 0.3 and 1.1 contradict each other, but an insert beside an element that "
-     "another replica has deleted may have lost its place there. Above stands which elements are deleted for which of them."
+     "Look at positions beside deleted elements: any two of 2.1, 0.3 and 1.1 fit together, but an insert beside an element that "
+     "another replica has deleted has perhaps lost its place. The lines above say which elements are deleted for which of them."
      + stop(10, "replica 0 applies 2.1", 9, 5, 4)),
     ("an insert that arrives beside a deleted element", 2, BESIDE_DELETED,
      "[d] before [c]: line 9 of the trace, 0.3: replica 0 inserted d at position 1, answered b [d] [c]|"
      "[c] before [d]: line 11, 1.3: replica 1 read the list, answered [c] [d]|"
      "d: inserted by 0.3 (line 9)|c: inserted by 1.1 (line 5)|"
      "d was put behind b. When it arrived at replica 1 in line 10, b was deleted there by 1.2 (line 8)|"
-     "c arrived at replica 0 in line 6, d at replica 1 in line 10||Where to look in the editor|"
-     "Look at inserts beside deleted elements, if replicas throw these away: above stands which element arrived where its neighbour was "
-     "deleted, and without the neighbour nothing tells the place.|"
-     "Look at where a replica places an incoming insert: 0.3 (line 9) inserted d when it had c, so these are no concurrent inserts, and "
-     "yet the two are put in different orders. Often the number that orders inserts does not grow with what arrives, or the neighbour is not "
-     "found. In an editor that sends positions, that of d may not have been moved over the delete 1.2 (line 8) of b, which replica 1 had and "
-     "its author did not." + stop(10, "replica 1 applies 0.3", 6)),
+     "c arrived at replica 0 in line 6, d at replica 1 in line 10||Where to look|"
+     "Look at inserts beside deleted elements, if replicas throw these away: the lines above name one that arrived where its neighbour "
+     "was deleted. Without its neighbour its place is lost.|"
+     "Look at where a replica places an incoming insert: 0.3 (line 9) inserted d when it had c, so their order was known already, and "
+     "still it differs. Often the number that orders inserts does not grow when changes arrive, or the neighbour is not found. In an editor "
+     "that sends positions, that of d was perhaps not adjusted for the delete 1.2 (line 8) of b, which replica 1 had and its author did not." + stop(10, "replica 1 applies 0.3", 6)),
     ("an insert between two that are deleted by others", 3, "0 ins a 0 : a|0 ins b 1 : a b|1 recv 0 2|2 recv 0 2|2 ins c 1 : a c b|1 del a : b|"
      "0 del b : a|1 recv 0 3|1 read :|1 ins d 0 : d|1 recv 2 1|1 read : c d|2 recv 1 3|2 read : d c",
      "[d] before [c]: line 16 of the trace, 2.2: replica 2 read the list, answered [d] [c]|"
@@ -120,13 +118,13 @@ WORDS = [
      "[d] before [c]: line 9, 0.3: replica 0 inserted d at position 1, answered b [d] [c]|"
      "[c] before [d]: line 11, 1.3: replica 1 read the list, answered [c] [d]||The elements|"
      "c arrived at replica 0 in line 6, d at replica 1 in line 10||"
-     "Where to look in the editor" + stop(10, "replica 1 applies 0.3", 6)),
+     "Where to look" + stop(10, "replica 1 applies 0.3", 6)),
     ("a session that goes on, with one list in the end", 2, f"{BESIDE_DELETED}|0 recv 1 2|0 read : c d",
      "When it went wrong|line 11 of the trace, 1.3: replica 1 read the list: up to line 10 the session is accepted, and with line 11 it is `refused 2`|"
      "before it: 1.2 (line 8) still fits; since then replica 1 received 0.3 (line 10)|"
-     "in the end replicas 0 and 1 have every change, and show the same list||Where to look in the editor" + stop(10, "replica 1 applies 0.3", 6)),
+     "in the end replicas 0 and 1 have every change, and show the same list||Where to look" + stop(10, "replica 1 applies 0.3", 6)),
     ("a beginning that shows something else", 3, f"{THREE_WAY}|1 recv 0 2|1 recv 2 1|1 read : a b",
-     "refused 3: three responses can't be right together. Any two of them can. The whole trace is `refused 2`.||"
+     "refused 3: three responses can't be right together. Any two of them can. Of the whole trace the program says `refused 2`.||"
      "When it went wrong|line 11 of the trace, 0.3: replica 0 read the list: up to line 10 the session is accepted, and with line 11 it is "
      "`refused 3`|"
      "before it: 0.2 (line 8) still fits; since then replica 0 received 1.1 (line 9), 2.1 (line 10)|"
@@ -135,17 +133,17 @@ WORDS = [
      "[x] before [b]: line 7, 2.1: replica 2 inserted b at position 1, answered [x] [b]|"
      "[b] before [a]: line 11, 0.3: replica 0 read the list, answered [b] [a]|"
      "[a] before [x]: line 6, 1.1: replica 1 inserted a at position 0, answered [a] [x]||The elements|"
-     "x: inserted by 0.1 (line 3), deleted by 0.2 (line 8)|for 0.3 (line 11), x is deleted, by 0.2 (line 8)|"
+     "x: inserted by 0.1 (line 3), deleted by 0.2 (line 8)|at 0.3 (line 11), x was deleted already, by 0.2 (line 8)|"
      "x arrived at replica 1 in line 4, x at replica 2 in line 5, a at replica 0 in line 9, b at replica 0 in line 10||"
-     "Where to look in the editor|"
-     "Of the whole trace: Look at the order of concurrent inserts: neither author of a and b had the other one yet, and two replicas, or one "
-     "at two times, have put them in different orders. What decides between two at one place must be the same everywhere (the replicas' "
-     "numbers, say), and not which arrives first. In an editor that sends positions, that of b may not have been moved over the delete 0.2 "
-     "(line 8) of x, which replica 1 had and its author did not.|"
-     "Of the whole trace: Look at inserts beside deleted elements, if replicas throw these away: above stands which element arrived where its "
-     "neighbour was deleted, and without the neighbour nothing tells the place.|"
-     "Look at positions beside deleted elements: no two of 2.1, 0.3 and 1.1 contradict each other, but an insert beside an element that "
-     "another replica has deleted may have lost its place there. Above stands which elements are deleted for which of them."
+     "Where to look|"
+     "Of the whole trace: Look at the order of concurrent inserts: a and b were inserted without knowing of each other, and were shown in two "
+     "different orders. Use a rule that gives the same order everywhere (by the replicas' numbers, say), and not the order in which they "
+     "arrive. In an editor that sends positions, that of b was perhaps not adjusted for the delete 0.2 (line 8) of x, which replica 1 had and "
+     "its author did not.|"
+     "Of the whole trace: Look at inserts beside deleted elements, if replicas throw these away: the lines above name one that arrived where "
+     "its neighbour was deleted. Without its neighbour its place is lost.|"
+     "Look at positions beside deleted elements: any two of 2.1, 0.3 and 1.1 fit together, but an insert beside an element that "
+     "another replica has deleted has perhaps lost its place. The lines above say which elements are deleted for which of them."
      + stop(10, "replica 0 applies 2.1", 9, 5, 4) + "||What the whole trace shows, each element before the next, and round again|"
      "[a] before [b]: line 14, 1.2: replica 1 read the list, answered [a] [b]|"
      "[b] before [a]: line 11, 0.3: replica 0 read the list, answered [b] [a]"),
@@ -163,72 +161,72 @@ WORDS = [
      "[b] before [c]: line 9, 1.2: replica 1 read the list, answered [b] [c]|"
      "[c] before [a]: line 11, 2.2: replica 2 read the list, answered [c] [a]|"
      "b arrived at replica 0 in line 6, c at replica 1 in line 8, a at replica 2 in line 10|"
-     "Look at how a replica orders elements when it has only some of them: no two of 0.2, 1.2 and 2.2 contradict each other, and none of the "
-     "elements is deleted for any of them, so each replica still lacks some. Often what decides between concurrent inserts is not the same "
-     "everywhere." + stop(10, "replica 2 applies 0.1", 8, 6)),
+     "Look at how a replica orders elements when it has only some of them: any two of 0.2, 1.2 and 2.2 fit together, and none of the elements "
+     "is deleted for any of them, so each replica still lacks some. Often the rule that orders concurrent inserts is not the same everywhere."
+     + stop(10, "replica 2 applies 0.1", 8, 6)),
     ("an element that came along with what had seen it", 3, "0 ins a 0 : a|1 recv 0 1|1 read : a|1 ins b 1 : a b|2 recv 1 1|2 recv 1 2|"
      "2 recv 0 1|2 read : b a",
      "[b] before [a]: line 10, 2.1: replica 2 read the list, answered [b] [a]|b: inserted by 1.2 (line 6)|"
      "a arrived at replica 1 in line 4, a at replica 2 in line 7, b at replica 2 in line 8"),
     ("one element that arrived", 2, "0 ins a 0 : a|1 recv 0 1|1 ins b 0 : b a|1 read : a b",
      "[a] before [b]: line 6 of the trace, 1.2: replica 1 read the list, answered [a] [b]|a: inserted by 0.1 (line 3)|"
-     "b: inserted by 1.1 (line 5)|a arrived at replica 1 in line 4||Where to look in the editor" + stop(4, "replica 1 applies 0.1")),
+     "b: inserted by 1.1 (line 5)|a arrived at replica 1 in line 4||Where to look" + stop(4, "replica 1 applies 0.1")),
     ("nothing that arrived", 1, "0 ins a 0 : a|0 ins b 1 : a b|0 read : b a", "a: inserted by 0.1 (line 3)|b: inserted by 0.2 (line 4)||"
-     "Where to look in the editor" + stop(5, "replica 0 reads the list")),
+     "Where to look" + stop(5, "replica 0 reads the list")),
     ("an element lost that came by way of another replica", 3,
      "0 ins a 0 : a|1 recv 0 1|1 ins b 1 : a b|2 recv 1 1|2 read : b",
      "contents 2.1: this response lacks one element that replica 2 had by then.|"
-     "line 7 of the trace, 2.1: replica 2 read the list|answered: b|what replica 2 had by then, in whatever order: b [a]|"
+     "line 7 of the trace, 2.1: replica 2 read the list|answered: b|it should hold, in any order: b [a]|"
      "before it: replica 2 did nothing, and received 1.1 (line 6)|Missing|"
      "[a] inserted by 0.1 (line 3), arrived at replica 1 in line 4 (1 recv 0 1), and from there arrived at replica 2 in line 6 "
-     "(2 recv 1 1)|[a] no receipt at replica 2 names it: it counts as arrived with 1.1 (line 5), whose author had it. Where each "
-     "operation travels by itself, it was missing, and the exchange is not causal|[a] nothing deletes it||Where to look in the editor|"
-     "Look at the order in which operations arrive: 0.1 was overtaken, as told above. Hold an operation back until all that its author had "
-     f"is applied, or send that with it. If the editor itself holds it back, write its receipt only when it is applied. {GUIDE} has both ways."),
+     "(2 recv 1 1)|[a] it has no receipt of its own at replica 2, and counts as arrived with 1.1 (line 5), whose author had it. If "
+     "each operation travels by itself, it was missing: that order is not causal|[a] no operation deletes it||Where to look|"
+     "Look at the order in which operations arrive: 0.1 was overtaken, as told above. Apply an operation only after everything that its "
+     f"author had, or send both together. If the editor itself holds it back, write its receipt only when it is applied. {GUIDE} has both ways."),
     ("an element lost that arrived after what had seen it", 3,
      "0 ins a 0 : a|1 recv 0 1|1 ins b 1 : a b|2 recv 1 1|2 recv 0 1|2 read : b",
-     "line 8 of the trace, 2.1: replica 2 read the list|[a] 0.1's own receipt comes only in line 7 (2 recv 0 1); 1.1, whose author had it, "
-     "overtook it in line 6, so the exchange is not causal|[a] nothing deletes it" + stop(6, "replica 2 applies 1.1")),
+     "line 8 of the trace, 2.1: replica 2 read the list|[a] 0.1's own receipt comes only in line 7 (2 recv 0 1). 1.1 overtook it in "
+     "line 6, though its author already had 0.1: that order is not causal|[a] no operation deletes it" + stop(6, "replica 2 applies 1.1")),
     ("an element lost that arrived by itself before", 3,
      "0 ins a 0 : a|2 recv 0 1|1 recv 0 1|1 ins b 1 : a b|2 recv 1 1|2 read : b",
-     "[a] inserted by 0.1 (line 3), arrived at replica 2 in line 4 (2 recv 0 1)|[a] nothing deletes it"),
+     "[a] inserted by 0.1 (line 3), arrived at replica 2 in line 4 (2 recv 0 1)|[a] no operation deletes it"),
     ("an element of one's own lost, whose delete has not arrived", 2, "0 ins a 0 : a|1 recv 0 1|1 del a :|0 read :|0 recv 1 1",
      "contents 0.2: this response lacks one element that replica 0 had by then.|"
-     "answered: (nothing)|what replica 0 had by then, in whatever order: [a]|"
+     "answered: (nothing)|it should hold, in any order: [a]|"
      "before it: 0.1 (line 3) is still right; since then replica 0 received nothing|"
      "[a] inserted by 0.1 (line 3), an earlier operation of replica 0|"
-     "[a] deleted by 1.1 (line 5), replica 0 did not have that by then: the first receipt that brings it is line 7 (0 recv 1 1), after this response" + stop(6, "replica 0 reads the list")),
+     "[a] deleted by 1.1 (line 5), and replica 0's first receipt of it is line 7 (0 recv 1 1), after this response" + stop(6, "replica 0 reads the list")),
     ("a deleted element shown", 2, "0 ins a 0 : a|0 del a :|1 recv 0 2|1 read : a",
-     "contents 1.1: this response has one element that replica 1 did not have by then.|"
-     "answered: [a]|what replica 1 had by then, in whatever order: (nothing)|Extra|"
+     "contents 1.1: this response has one element that should not be there.|"
+     "answered: [a]|it should hold, in any order: (nothing)|Extra|"
      "[a] inserted by 0.1 (line 3), arrived at replica 1 in line 5 (1 recv 0 2)|"
      "[a] deleted by 0.2 (line 4), arrived at replica 1 in line 5 (1 recv 0 2)"),
     ("an element shown that never arrived", 2, "0 ins a 0 : a|1 read : a",
-     "Extra|[a] inserted by 0.1 (line 3), replica 1 did not have that by then: no receipt in replica 1's log brings it"),
+     "Extra|[a] inserted by 0.1 (line 3), and replica 1 has no receipt of it"),
     ("an element shown before it is inserted", 1, "0 read : a|0 ins a 0 : a",
-     "Extra|[a] inserted by 0.2 (line 4), replica 0 did not have that by then: a later operation of replica 0"),
-    ("a name that nothing inserts", 1, "0 ins a 0 : a|0 read : a q", "answered: a [q]|what replica 0 had by then, in whatever order: a|Extra|"
+     "Extra|[a] inserted by 0.2 (line 4), a later operation of replica 0"),
+    ("a name that nothing inserts", 1, "0 ins a 0 : a|0 read : a q", "answered: a [q]|it should hold, in any order: a|Extra|"
      "[q] no operation of this trace inserts it"),
-    ("a name twice", 1, "0 ins a 0 : a|0 read : a a", "answered: [a] [a]|what replica 0 had by then, in whatever order: a|Named more than once|"
+    ("a name twice", 1, "0 ins a 0 : a|0 read : a a", "answered: [a] [a]|it should hold, in any order: a|Named more than once|"
      "[a] inserted by 0.1 (line 3), an earlier operation of replica 0"),
     ("its own delete", 1, "0 ins a 0 : a|0 del a : a", "[a] inserted by 0.1 (line 3), an earlier operation of replica 0|"
      "[a] deleted by 0.2 (line 4), this operation itself"),
     ("a deleted element in a view", 1, "0 ins a 0 : a|0 ins b 1 : a b|0 del a : b|0 view : a",
-     "contents 0.4: this view has one element that replica 0 did not have by then.|"
-     "line 6 of the trace, 0.4: replica 0 showed a part of the list|answered: [a]|what replica 0 had by then, of which a view may leave out some: b|"
+     "contents 0.4: this view has one element that should not be there.|"
+     "line 6 of the trace, 0.4: replica 0 showed a part of the list|answered: [a]|it may hold any part of what replica 0 had by then: b|"
      "before it: 0.3 (line 5) is still right; since then replica 0 received nothing|Extra|"
      "[a] inserted by 0.1 (line 3), an earlier operation of replica 0|[a] deleted by 0.3 (line 5), an earlier operation of replica 0"),
-    ("a name twice in a view", 1, "0 ins a 0 : a|0 view : a a", "answered: [a] [a]|what replica 0 had by then, of which a view may leave out some: a|"
+    ("a name twice in a view", 1, "0 ins a 0 : a|0 view : a a", "answered: [a] [a]|it may hold any part of what replica 0 had by then: a|"
      "Named more than once|[a] inserted by 0.1 (line 3), an earlier operation of replica 0"),
     ("a read after a view", 1, "0 ins a 0 : a|0 view :|0 read :",
      "contents 0.3: this response lacks one element that replica 0 had by then.|"
-     "answered: (nothing)|what replica 0 had by then, in whatever order: [a]|before it: 0.2 (line 4) is still right; since then replica 0 received nothing|Missing"),
+     "answered: (nothing)|it should hold, in any order: [a]|before it: 0.2 (line 4) is still right; since then replica 0 received nothing|Missing"),
     ("a view against an insert", 2, "0 ins a 0 : a|0 ins b 1 : a b|0 ins c 2 : a b c|1 recv 0 3|1 view : c a",
      "refused 2: two responses can't be right together.|"
      "[a] before [c]: line 5 of the trace, 0.3: replica 0 inserted c at position 2, answered [a] b [c]|"
      "[c] before [a]: line 7, 1.1: replica 1 showed a part of the list, answered [c] [a]"),
     ("accepted, with a view", 2, "0 ins a 0 : a|0 ins b 1 : a b|1 recv 0 2|1 view : b",
-     "accepted: well done, all 3 responses fit one order of the elements.||The first order that they follow, deleted elements too|a b"),
+     "accepted: all 3 responses fit one order of the elements.||The first order that they follow, deleted elements too|a b"),
     ("past the end, elsewhere", 1, "0 ins a 0 : a|0 ins b 4294967295 : b a",
      "position 0.2: b does not stand where it was asked for.|"
      "line 4 of the trace, 0.2: replica 0 inserted b at position 4294967295|answered: [b] [a]|"
@@ -241,69 +239,83 @@ WORDS = [
      "found at: no position, since 1.1 (line 3) deletes it, arrived at replica 0 in line 4 (0 recv 1 1)"),
     ("an insert whose number is not great enough", 2, "0 ins a 0 : a|0 ins b 0 : b a|1 recv 0 2|1 ins c 0 : b c a",
      "position 1.1: c does not stand where it was asked for.|asked for: position 0, where [b] stands|found at: position 1||"
-     "Where to look in the editor|"
+     "Where to look|"
      "Look at the numbers that order inserts at one place, if the editor has such (a clock, ids): c stands behind b, which replica 1 had "
-     "already, so its number may not exceed theirs. So it is where a clock does not advance with what arrives, or where ids are compared as "
-     'strings, and "10" comes before "9".|If the editor has no such numbers: look at how the position that a user sees is mapped to a place '
+     "already. Perhaps its number is not greater than theirs, as it must be. Usual causes: the clock does not advance when changes arrive; ids "
+     'are compared as text, so "10" comes before "9".|If the editor has no such numbers: look at how the position that a user sees is mapped to a place '
      "in the editor's own list; and at whether the recorder writes the position that was asked for." + stop(6, "replica 1 inserts c")),
     ("a position before the one that was asked for, beside a deleted element", 1, "0 ins a 0 : a|0 ins b 1 : a b|0 del a : b|0 ins c 1 : c b",
-     "asked for: position 1, where [b] stands|found at: position 0||Where to look in the editor|"
+     "asked for: position 1, where [b] stands|found at: position 0||Where to look|"
      "Look at how the position that a user sees is mapped to a place in the editor's own list, where deleted elements may still stand; and "
      "at whether the recorder writes the position that was asked for." + stop(6, "replica 0 inserts c")),
     ("a second delete of one element takes its neighbour", 2, "0 ins a 0 : a|0 ins b 1 : a b|1 recv 0 2|1 read : a b|0 del a : b|1 del a : b|"
      "1 recv 0 3|1 read :",
      "contents 1.3: this response lacks one element that replica 1 had by then.|answered: (nothing)|"
-     "what replica 1 had by then, in whatever order: [b]|before it: 1.2 (line 8) is still right; since then replica 1 received 0.3 (line 9)|"
+     "it should hold, in any order: [b]|before it: 1.2 (line 8) is still right; since then replica 1 received 0.3 (line 9)|"
      "Missing|[b] inserted by 0.2 (line 4), arrived at replica 1 in line 5 (1 recv 0 2)|"
-     "[b] was put behind a. When it arrived at replica 1 in line 5, that was not deleted there|[b] nothing deletes it||"
-     "Where to look in the editor|"
+     "[b] was put behind a, which was not deleted there when it arrived (line 5)|[b] no operation deletes it||"
+     "Where to look|"
      "0.3 (line 7) deletes a, already deleted here by 1.2 (line 8): look at what the editor does with a delete whose element is gone. It may "
-     "take another element (b)." + stop(9, "replica 1 applies 0.3")),
+     "have deleted b instead." + stop(9, "replica 1 applies 0.3")),
     ("a delete of one's own after another's", 2, "0 ins a 0 : a|0 ins b 1 : a b|1 recv 0 2|1 del a : b|0 recv 1 1|0 del a :",
      "contents 0.3: this response lacks one element that replica 0 had by then.|"
      "0.3 (line 8) deletes a, already deleted here by 1.1 (line 6): look at what the editor does with a delete whose element is gone. It may "
-     "take another element (b)." + stop(7, "replica 0 applies 1.1")),
+     "have deleted b instead." + stop(7, "replica 0 applies 1.1")),
     ("an element lost whose neighbour was deleted where it arrived", 2, "0 ins a 0 : a|0 ins b 1 : a b|1 recv 0 2|1 read : a b|0 ins c 1 : a c b|1 del a : b|"
      "1 recv 0 3|1 read : b",
      "contents 1.3: this response lacks one element that replica 1 had by then.|Missing|"
      "[c] inserted by 0.3 (line 7), arrived at replica 1 in line 9 (1 recv 0 3)|"
-     "[c] was put behind a and before b. When it arrived at replica 1 in line 9, a was deleted there by 1.2 (line 8)|[c] nothing deletes it||"
-     "Where to look in the editor|"
+     "[c] was put behind a and before b. When it arrived at replica 1 in line 9, a was deleted there by 1.2 (line 8)|[c] no operation deletes it||"
+     "Where to look|"
      "Look at inserts beside deleted elements: c arrived where its neighbour was deleted, as told above. An editor that throws deleted elements "
      "away too early finds no place for it, and loses it or holds it back for ever." + stop(9, "replica 1 applies 0.3")),
     ("an element lost beside two that are there", 2, "0 ins a 0 : a|0 ins b 1 : a b|0 ins c 1 : a c b|1 recv 0 3|1 read : a b",
-     "[c] was put behind a and before b. When it arrived at replica 1 in line 6, neither was deleted there"),
+     "[c] was put behind a and before b, which were not deleted there when it arrived (line 6)"),
     ("a change that a later one of its author overtook", 2, "0 ins a 0 : a|0 ins b 1 : a b|0 ins c 2 : a b c|1 recv 0 1|1 recv 0 3|1 read : a c|1 recv 0 2|"
      "1 read : a b c",
      "contents 1.1: this response lacks one element that replica 1 had by then.|Missing|"
      "[b] inserted by 0.2 (line 4), arrived at replica 1 in line 7 (1 recv 0 3)|"
-     "[b] 0.2's own receipt comes only in line 9 (1 recv 0 2); 0.3 overtook it in line 7, so the exchange is not causal|[b] nothing deletes it|"
-     "Look at the order in which operations arrive: 0.2 was overtaken, as told above. Hold an operation back until all that its author had is "
-     f"applied, or send that with it. If the editor itself holds it back, write its receipt only when it is applied. {GUIDE} has both ways."
+     "[b] 0.2's own receipt comes only in line 9 (1 recv 0 2). 0.3 overtook it in line 7: that order is not causal|[b] no operation deletes it|"
+     "Look at the order in which operations arrive: 0.2 was overtaken, as told above. Apply an operation only after everything that its "
+     f"author had, or send both together. If the editor itself holds it back, write its receipt only when it is applied. {GUIDE} has both ways."
      + stop(7, "replica 1 applies 0.3")),
     ("a change without a receipt, as each other of its author has one", 2, "0 ins a 0 : a|0 ins b 1 : a b|0 ins c 2 : a b c|0 ins d 3 : a b c d|1 recv 0 1|"
      "1 read : a|1 recv 0 3|1 read : a c|1 recv 0 4|1 read : a c d",
-     "[b] no receipt at replica 1 names 0.2 itself, as one does each other change of replica 0: 0.3 overtook it in line 9, or it was lost"),
+     "[b] 0.2 has no receipt of its own at replica 1, as each other change of replica 0 has. It was lost, or 0.3 overtook it in line 9"),
     ("one receipt for several changes of an author", 2, "0 ins a 0 : a|0 ins b 1 : a b|0 ins c 2 : a b c|1 recv 0 3|1 read : a c",
      "[b] inserted by 0.2 (line 4), arrived at replica 1 in line 6 (1 recv 0 3)|"
-     "[b] was put behind a. When it arrived at replica 1 in line 6, that was not deleted there|[b] nothing deletes it"),
+     "[b] was put behind a, which was not deleted there when it arrived (line 6)|[b] no operation deletes it"),
+    ("a receipt that comes before the change is applied", 2, "0 ins a 0 : a|1 recv 0 1|1 read : a|0 ins b 1 : a b|0 del a : b|1 recv 0 3|1 read : a",
+     "contents 1.2: this response lacks one element that replica 1 had by then and has one element that should not be there.||"
+     "Where to look|"
+     "It looks as if 0.2 (line 6) and 0.3 (line 7) were not applied at replica 1: lost, or held back, or `received` is called before the change "
+     "is applied." + stop(8, "replica 1 applies 0.3")),
+    ("a change that was applied without a receipt", 2, "0 ins a 0 : a|1 recv 0 1|1 read : a|0 ins b 1 : a b|0 del a : b|1 read : b",
+     "Missing|[a] deleted by 0.3 (line 7), and replica 1 has no receipt of it|Extra|[b] inserted by 0.2 (line 6), and replica 1 has no receipt of "
+     "it||Where to look|"
+     "It looks as if 0.2 (line 6) and 0.3 (line 7) were applied at replica 1 without a receipt: the call of `received` is missing, comes too "
+     "late, or names another operation." + stop(8, "replica 1 reads the list")),
+    ("an element lost that was there before, beside one that came", 2, "0 ins a 0 : a|1 recv 0 1|1 read : a|0 ins b 1 : a b|1 recv 0 2|1 read : b",
+     "Missing|[a] no operation deletes it||Where to look|"
+     "Look at the recorder first: `received` is called right after the change is applied. Then at the transport: nothing may arrive before what "
+     f"its author had. Then at the editor: does it lose a change, apply it twice, or apply it to another element? {GUIDE} says where the calls "
+     "go." + stop(7, "replica 1 applies 0.2")),
     ("a wrong response before the one that the program names", 2, "1 ins a 0 : a|1 read :|0 recv 1 1|0 read : a|0 read :|1 read : a",
-     "contents 1.2: this response lacks one element that replica 1 had by then. The whole trace is `contents 0.2`.||When it went wrong|"
+     "contents 1.2: this response lacks one element that replica 1 had by then. Of the whole trace the program says `contents 0.2`.||When it went wrong|"
      "line 4 of the trace, 1.2: replica 1 read the list: up to line 3 the session is accepted, and with line 4 it is `contents 1.2`|"
-     "`head -4` of the trace has no more than that||The response|line 4 of the trace, 1.2: replica 1 read the list|answered: (nothing)|"
+     "the first 4 lines are enough to show it (`head -4`)||The response|line 4 of the trace, 1.2: replica 1 read the list|answered: (nothing)|"
      "[a] inserted by 1.1 (line 3), an earlier operation of replica 1" + stop(4, "replica 1 reads the list")
      + "||What the program names of the whole trace|line 7, 0.2: replica 0 read the list, answered (nothing)||The list specifications|"
      "strong and weak fail"),
     ("a delete that meets an insert which did not know it", 2, "0 ins a 0 : a|0 ins b 1 : a b|0 ins c 2 : a b c|1 recv 0 3|1 read : a b c|1 del a : b c|"
      "0 ins d 2 : a b d c|1 recv 0 4|1 read : b c d",
-     "Look at where a replica places an incoming insert: 0.4 (line 9) inserted d when it had c, so these are no concurrent inserts, and yet "
-     "the two are put in different orders. Often the number that orders inserts does not grow with what arrives, or the neighbour is not "
-     "found. In an editor that sends positions, that of d may not have been moved over the delete 1.2 (line 8) of a, which replica 1 had and "
-     "its author did not." + stop(10, "replica 1 applies 0.4", 6)),
+     "Look at where a replica places an incoming insert: 0.4 (line 9) inserted d when it had c, so their order was known already, and "
+     "still it differs. Often the number that orders inserts does not grow when changes arrive, or the neighbour is not found. In an editor "
+     "that sends positions, that of d was perhaps not adjusted for the delete 1.2 (line 8) of a, which replica 1 had and its author did not." + stop(10, "replica 1 applies 0.4", 6)),
     ("doubled", 2, "0 ins a 0 : a|0 ins b 1 : a b|1 ins b 0 : b",
      "doubled: 0.2 and 1.1 insert the same name, b. An element is known by its name, so nothing else was judged.|"
      "line 4 of the trace, 0.2: replica 0 inserted b at position 1|line 5, 1.1: replica 1 inserted b at position 0||"
-     "Where to look in the editor|"
+     "Where to look|"
      "Look at the recorder first: each inserted element needs a name of its own, for ever. Equal letters are different elements, each element "
      "of a paste is a new one, and so is an undone delete where the editor makes a new one.||The list specifications|"
      "neither the strong nor the weak one was judged: both know an element by its name"),
@@ -410,10 +422,10 @@ OTHERS = [("echo hello", "0"), ("exit 0", "0"), ("echo '[]'", "0"), ("echo 5; ex
 # By planted bug: how many seeds, how many sessions fail at least, and what the words of a failing one must have one of.
 PLANTED = {
     "tombstone": (150, 50, ["beside deleted elements"]),
-    "tie": (100, 50, ["order of concurrent inserts", "decides between concurrent inserts"]),
+    "tie": (100, 50, ["order of concurrent inserts", "rule that orders concurrent inserts"]),
     "clock": (300, 20, ["numbers that order inserts", "number that orders inserts"]),
     "overtaking": (100, 50, ["overtook it in line"]),
-    "mapping": (150, 40, ["may not have been moved over the delete"]),
+    "mapping": (150, 40, ["perhaps not adjusted for the delete"]),
     "twice": (500, 10, ["already deleted here by"]),
     "none": (60, 0, []),
     "none_behind_server": (60, 0, []),
@@ -508,6 +520,26 @@ PLACES = [
     ("letters of all kinds", "7\n3 pages/[id] line 4, or (line 5)/\u00e4<b>&amp;\".py:1\n", "pages/[id] line 4, or (line 5)/\u00e4<b>&amp;\".py:1: line 3"),
 ]
 # By what stands beside a trace of seven lines: the statement for a debugger that stops before its last line, in that language.
+# A session whose end `delivered` wrote, in lines 9 to 11: replica 1 never applied 0.2 and 0.3, and shows nothing wrong before.
+UNDELIVERED = "0 ins a 0 : a|1 recv 0 1|1 read : a|0 ins b 1 : a b|0 del a : b|0 read : b|0 read : b|1 recv 0 3|1 read : a"
+UNDELIVERED_WORDS = """Missing
+[b] inserted by 0.2 (line 6), by `delivered` arrived at replica 1 in line 10 (1 recv 0 3)
+[b] no operation deletes it
+
+Extra
+[a] inserted by 0.1 (line 3), arrived at replica 1 in line 4 (1 recv 0 1)
+[a] deleted by 0.3 (line 7), by `delivered` arrived at replica 1 in line 10 (1 recv 0 3)
+
+Where to look
+Line 10 was written by `delivered`: before it nothing shows that 0.2 (line 6) and 0.3 (line 7) were applied at replica 1. They were lost, or are \
+held back for ever. Look at what keeps changes waiting.
+
+In a debugger
+stop before line 6, where replica 0 inserts b, and follow that to replica 1. In Python, where a change begins to be applied, local or remote: \
+if recording.lines() == 5: breakpoint()
+
+The list specifications
+"""
 STATEMENTS = [
     ("", "In Python, {}: if recording.lines() == 6: breakpoint()"),
     ("language python\n", "In Python, {}: if recording.lines() == 6: breakpoint()"),
@@ -518,7 +550,7 @@ STATEMENTS = [
     ("language cobol\n", "In Python, {}: if recording.lines() == 6: breakpoint()"),
     ("language rust\nlanguage c\n", 'In Rust, {}: if recording.lines() == 6 {{ eprintln!("here") }}, with a breakpoint on it'),
 ]
-WHERE = "where a change begins to be applied, local or remote"
+WHERE = "where the list is read"
 # What stands beside a trace, and the section of the user's notes.
 NOTES = [
     ("note seed 17\n", "seed 17"), ("note seed 17\nnote [b] line 5, of <b>\n", "seed 17|[b] line 5, of <b>"), ("note \n", ""), ("note\n", ""),
@@ -539,8 +571,8 @@ LETTERED = [
 
 # The recordings of the plain test of Yjs: what has its network hand on the newest first, and lines of the explanation.
 YJS_TOLD = [
-    ("page.trace", "", "accepted: well done, all 13 responses fit one order of the elements.|t0-2 h0-0 i0-1 s1-0"),
-    ("page_newest_first.trace", "1", "accepted: well done, all 13 responses fit one order of the elements.|t0-2 h0-0 i0-1 s1-0"),
+    ("page.trace", "", "accepted: all 13 responses fit one order of the elements.|t0-2 h0-0 i0-1 s1-0"),
+    ("page_newest_first.trace", "1", "accepted: all 13 responses fit one order of the elements.|t0-2 h0-0 i0-1 s1-0"),
 ]
 
 # A list in which of two concurrent inserts at one place the one that arrives later comes first.
@@ -703,8 +735,8 @@ def said_first(tally: Tally, program: str) -> None:
         tally.check(f"no receipts: {entries}", (lines[1:4] == ["", *FIRST]) == wanted and ("recv line" in got.out.decode()) == wanted, got)
     for replicas, entries, wanted in WRONG_DELETES:
         got = explain(program, ["-"], text_of(replicas, entries).encode())
-        first, *others = paragraph(got.out.decode(), "Where to look in the editor").splitlines()
-        is_said = bool(wanted) and first.startswith(f"  {wanted}") and bool(others) and others[-1].startswith("  If it was not so: ")
+        first, *others = paragraph(got.out.decode(), "Where to look").splitlines()
+        is_said = bool(wanted) and first.startswith(f"  {wanted}") and bool(others) and others[-1].startswith("  If that is not the cause: ")
         tally.check(f"wrong delete: {entries}", got.out.startswith(b"contents ") and is_said == bool(wanted)
                     and (is_said or "looks applied" not in got.out.decode()), got)
 
@@ -726,7 +758,7 @@ def beginning(tally: Tally, program: str, text: str, report: dict, said: str) ->
     tally.check("refused: what it showed then, and the whole trace", steps == wanted, f"{text}{report}\n{said}")
     titles = [line for line in front.splitlines() if line.startswith("What the")]
     tally.check("refused: under which title", titles == ["What they show, each element before the next, and round again"], said)
-    tally.check("refused: the whole trace's number", said.splitlines()[0].endswith(f" The whole trace is `refused {report['k']}`.") == bool(wanted[1:])
+    tally.check("refused: the whole trace's number", said.splitlines()[0].endswith(f" Of the whole trace the program says `refused {report['k']}`.") == bool(wanted[1:])
                 and said.startswith(f"refused {behind['k']}: "), said)
     return "".join(lines[:last]), behind
 
@@ -749,10 +781,10 @@ def sooner(tally: Tally, program: str, text: str, report: dict, said: str) -> tu
     told = paragraph(said, "When it went wrong").splitlines()
     wanted = count < max(named)
     is_right = bool(told) and told[0].startswith(f"  line {count} of the trace, ") and (
-        first["verdict"] == "refused" or told[1:] == [f"  `head -{count}` of the trace has no more than that"]) and told[0].endswith(f": up to line {count - 1} the session is accepted, and with line {count} it is `{of_first}`")
+        first["verdict"] == "refused" or told[1:] == [f"  the first {count} lines are enough to show it (`head -{count}`)"]) and told[0].endswith(f": up to line {count - 1} the session is accepted, and with line {count} it is `{of_first}`")
     tally.check("a fault: when it went wrong", is_right if wanted else not told, f"{text}{report}\n{said}")
     headline, is_other = said.splitlines()[0], of_whole != of_first
-    tally.check("a fault: its headline", headline.startswith(of_first.partition(" ")[0]) and headline.endswith(f" The whole trace is `{of_whole}`.") == is_other
+    tally.check("a fault: its headline", headline.startswith(of_first.partition(" ")[0]) and headline.endswith(f" Of the whole trace the program says `{of_whole}`.") == is_other
                 and ("The whole trace" in headline) == is_other, f"{text}{report}\n{said}")
     tally.check("a fault: what the whole trace names", bool(paragraph(said, "What the program names of the whole trace")) == is_other,
                 f"{text}{report}\n{said}")
@@ -778,7 +810,7 @@ def faults(tally: Tally, program: str, folder: str) -> None:
     good = f"{folder}/good"
     Path(good).write_text(text_of(1, "0 ins a 0 : a"))
     tally.same("no such program", run(EXPLAIN, ["--program", missing, good]),
-               Ended(2, b"", f"domepeeler-explain: {missing} of --program can't be run\n".encode()))
+               Ended(2, b"", f"domepeeler-explain: can't run {missing}, which --program names\n".encode()))
     tally.same("a program that answers nothing", run(EXPLAIN, ["--program", "/bin/false", good]),
                Ended(2, b"", b"domepeeler-explain: /bin/false printed no report that agrees with its status: is it domepeeler? It ended with status 1\n"))
     got = explain(program, ["--html", f"{folder}/no/such", good])
@@ -796,7 +828,7 @@ def warnings(tally: Tally, program: str, folder: str) -> None:
         trace = text_of(replicas, entries).encode()
         got = explain(program, ["-"], trace)
         tally.check(f"warnings: {name}", warned(got) == [line for line in wanted.split("|") if line], got)
-        begun = "accepted, with a warning: " if wanted and "|" not in wanted else "accepted, with " if wanted else "accepted: well done, "
+        begun = "accepted, with a warning: " if wanted and "|" not in wanted else "accepted, with " if wanted else "accepted: "
         is_first = got.out.decode().splitlines()[2] == "What this verdict may hide"
         tally.check(f"warnings: {name}, accepted", got.out.decode().startswith(begun) and is_first == bool(wanted) and got.status == 0
                     and not got.err, got)
@@ -901,6 +933,8 @@ def places(tally: Tally, program: str, folder: str) -> None:
         if name not in ("", "cobol"):
             got = explain(program, ["--language", name, "-"], path.read_bytes()).out.decode()
             tally.check(f"a debugger: {name}, asked for", paragraph(got, "In a debugger").endswith(f"reads the list. {wanted.format(WHERE)}"), got)
+    undelivered(tally, program, folder)
+    path.write_text(text_of(2, PLACED))
     for beside, wanted in NOTES:
         side.write_text(f"7\n{beside}7 a.py:1\n")
         got = explain(program, ["--small", str(smaller), "--html", str(page), str(path)]).out.decode()
@@ -912,6 +946,29 @@ def places(tally: Tally, program: str, folder: str) -> None:
         lists = [[told(node) for node in after.iter("li")] for head, after in zip(tree.iter(), by_next(tree)) if told(head) == "Noted"]
         tally.check(f"noted: {beside[:30]!r}, on the page", lists == [noted] * bool(noted), lists)
     side.unlink()
+
+
+def undelivered(tally: Tally, program: str, folder: str) -> None:
+    """Where `delivered` alone says that changes had arrived, nothing is said of how they did, and the debugger stops where they were made."""
+    path = Path(folder, "undelivered.trace")
+    path.write_text(text_of(2, UNDELIVERED))
+    Path(f"{path}.lines").write_text("11\ndelivered 9 11\n")
+    small = Path(folder, "small.trace")
+    got = explain(program, ["--small", str(small), str(path)]).out.decode()
+    by_words = explain(program, ["--language", "python", "--delivered", "9-11", "-"], path.read_bytes()).out.decode()
+    for name, said in ("beside the trace", got), ("by an option", by_words):
+        told = "".join(line.strip() + "\n" for line in said.splitlines())
+        tally.check(f"undelivered: {name}", UNDELIVERED_WORDS in told, said)
+    kept = small.read_text().splitlines()[2:], Path(f"{small}.lines").read_text().splitlines()
+    again = explain(program, [str(small)]).out.decode()
+    tally.check("undelivered: the small trace says the same", "written by `delivered`" in again and kept[1][0] == str(2 + len(kept[0])), (kept, again))
+    for beside in "11\n", "11\ndelivered 3 3\n", "11\ndelivered x\n":
+        Path(f"{path}.lines").write_text(beside)
+        said = explain(program, [str(path)]).out.decode()
+        tally.check(f"undelivered: {beside!r}", "It looks as if 0.2 (line 6) and 0.3 (line 7) were not applied at replica 1" in said and "`delivered`" not in said, said)
+    for word in "9", "9-", "a-b", "0-3", "9 11":
+        done = explain(program, ["--delivered", word, "-"], path.read_bytes())
+        tally.check(f"undelivered: {word!r} is no range", done.status == 2 and f"{word} is no range of lines, as 41-46".encode() in done.err, done)
 
 
 def by_next(tree: ElementTree.Element) -> list:

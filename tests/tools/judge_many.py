@@ -320,10 +320,10 @@ def errors(tally: Tally, program: str, folder: str) -> None:
     missing = os.path.join(folder, "missing")
     tally.same("no folder", judge(program, [missing]),
                Ended(2, b"", f"domepeeler-judge-many: cannot read {missing}: there is no such file or folder\n".encode()))
-    tally.same("no program", judge(missing, [folder]), Ended(2, b"", f"domepeeler-judge-many: {missing} of --program can't be run\n".encode()))
+    tally.same("no program", judge(missing, [folder]), Ended(2, b"", f"domepeeler-judge-many: can't run {missing}, which --program names\n".encode()))
     for jobs in "0", "-1", "2.5", "all", "":
         tally.same(f"jobs: {jobs!r}", judge(program, [f"--jobs={jobs}", folder]),
-                   Ended(2, b"", f"domepeeler-judge-many: --jobs {jobs} is no number from 1 on\n".encode()))
+                   Ended(2, b"", f"domepeeler-judge-many: --jobs is a number from 1 on, not {jobs or 'nothing'}\n".encode()))
     fault = b"domepeeler-judge-many: --sshlogin needs GNU parallel: on Debian, apt-get update and apt-get install parallel\n"
     words = [sys.executable, TOOL, "--program", program, "--sshlogin", "one", folder]
     got = subprocess.run(words, env={"PATH": empty}, capture_output=True)
@@ -462,7 +462,7 @@ def unequal(tally: Tally, program: str, folder: str) -> None:
     lines = got.out.decode().splitlines()
     tally.check("unequal: it fails where that is asked for", got.status == 1 and [cells(line)[:2] for line in lines[1:2]] == [(one, "accepted, unequal")]
                 and lines[2:] == ["2 traces: 2 accepted", "1 of those accepted is unequal: in the end replicas show different lists, or lack an insert or a "
-                                  "delete (and so failing)"], got)
+                                  "delete (counted as failing)"], got)
     faults = [(fault.tag, fault.get("type"), fault.get("message")) for case in xml.parse(junit_file).getroot().iter("testcase") for fault in case]
     tally.check("unequal: JUnit's failure", faults == [("failure", "unequal", "accepted, but unequal in the end: in the end replicas 0 and 1 show different "
                                                         "lists")], faults)

@@ -12,39 +12,46 @@ from .telling import at, joined, listed
 
 MOST_TOLD = 3  # deletes, or elements, that are told one by one
 
-ARRIVAL = ("Look at how operations reach a replica and are applied. Most often the recorder or the transport is at fault: `received` is "
-           "called before the change was applied, or not at all; or an operation arrives before what its author had. Else the editor "
-           f"loses an operation, applies it twice, or applies it to another element. {GUIDE} says where the calls go.")
+ARRIVAL = ("Look at the recorder first: `received` is called right after the change is applied. Then at the transport: nothing may "
+           "arrive before what its author had. Then at the editor: does it lose a change, apply it twice, or apply it to another "
+           f"element? {GUIDE} says where the calls go.")
+UNDELIVERED = ("{lines} by `delivered`: before it nothing shows that {changes} {were} applied at replica {replica}. {They} lost, or "
+               "{are} held back for ever. Look at what keeps changes waiting.")
+NOT_APPLIED = ("It looks as if {changes} {were} not applied at replica {replica}: lost, or held back, or `received` is called before the "
+               "change is applied.")
+NO_RECEIPT = ("It looks as if {changes} {were} applied at replica {replica} without a receipt: the call of `received` is missing, comes "
+              "too late, or names another operation.")
 WRONG_DELETE = ("{delete} looks applied to {missing} in the place of {surplus}: look at how a delete finds its element where it is "
                 "applied, and at whether the recorder names the element that was deleted.{moved}")
-MOVED_DELETE = " In an editor that sends positions, this one may not have been moved over {deletes}, which its author did not know."
+MOVED_DELETE = (" In an editor that sends positions, its position was perhaps not adjusted for {changes}, which its author had not seen."
+                " In an editor that sends positions, its position was perhaps not adjusted for {changes}, which its author had not seen.")
 SECOND_DELETE = ("{again} deletes {element}, already deleted here by {first}: look at what the editor does with a delete whose element "
-                 "is gone. It may take another element ({missing}).")
-OVERTAKEN = ("Look at the order in which operations arrive: {name} was overtaken, as told above. Hold an operation back until all that "
-             "its author had is applied, or send that with it. If the editor itself holds it back, write its receipt only when it is "
-             f"applied. {GUIDE} has both ways.")
+                 "is gone. It may have deleted {missing} instead.")
+OVERTAKEN = ("Look at the order in which operations arrive: {name} was overtaken, as told above. Apply an operation only after "
+             "everything that its author had, or send both together. If the editor itself holds it back, write its receipt only when it "
+             f"is applied. {GUIDE} has both ways.")
 LOST_NEIGHBOUR = ("Look at inserts beside deleted elements: {element} arrived where its neighbour was deleted, as told above. An editor "
                   "that throws deleted elements away too early finds no place for it, and loses it or holds it back for ever.")
 MAPPING = ("Look at how the position that a user sees is mapped to a place in the editor's own list{deleted}; and at whether the "
            "recorder writes the position that was asked for.")
 NUMBERS = ("Look at the numbers that order inserts at one place, if the editor has such (a clock, ids): {element} stands behind "
-           "{passed}, which replica {replica} had already, so its number may not exceed theirs. So it is where a clock does not advance "
-           'with what arrives, or where ids are compared as strings, and "10" comes before "9".')
-BESIDE_DELETED = ("Look at inserts beside deleted elements, if replicas throw these away: above stands which element {when}, and without "
-                  "the neighbour nothing tells the place.")
-SEVERAL_DELETED = ("Look at positions beside deleted elements: no two of {named} contradict each other, but an insert beside an element "
-                   "that another replica has deleted may have lost its place there. Above stands which elements are deleted for which of "
+           "{passed}, which replica {replica} had already. Perhaps its number is not greater than theirs, as it must be. Usual causes: "
+           'the clock does not advance when changes arrive; ids are compared as text, so "10" comes before "9".')
+BESIDE_DELETED = ("Look at inserts beside deleted elements, if replicas throw these away: the lines above name {which}. Without its "
+                  "neighbour its place is lost.")
+SEVERAL_DELETED = ("Look at positions beside deleted elements: any two of {named} fit together, but an insert beside an element that "
+                   "another replica has deleted has perhaps lost its place. The lines above say which elements are deleted for which of "
                    "them.")
-SEVERAL_APART = ("Look at how a replica orders elements when it has only some of them: no two of {named} contradict each other, and none "
-                 "of the elements is deleted for any of them, so each replica still lacks some. Often what decides between concurrent "
-                 "inserts is not the same everywhere.")
-CONCURRENT = ("Look at the order of concurrent inserts: neither author of {first} and {then} had the other one yet, and two replicas, or "
-              "one at two times, have put them in different orders. What decides between two at one place must be the same everywhere "
-              "(the replicas' numbers, say), and not which arrives first.{moved}")
-SEEN = ("Look at where a replica places an incoming insert: {later} inserted {new} when it had {old}, so these are no concurrent "
-        "inserts, and yet the two are put in different orders. Often the number that orders inserts does not grow with what arrives, or "
-        "the neighbour is not found.{moved}")
-MOVED_INSERT = (" In an editor that sends positions, that of {element} may not have been moved over {deletes}, which replica {replica} "
+SEVERAL_APART = ("Look at how a replica orders elements when it has only some of them: any two of {named} fit together, and none of the "
+                 "elements is deleted for any of them, so each replica still lacks some. Often the rule that orders concurrent inserts "
+                 "is not the same everywhere.")
+CONCURRENT = ("Look at the order of concurrent inserts: {first} and {then} were inserted without knowing of each other, and were shown "
+              "in two different orders. Use a rule that gives the same order everywhere (by the replicas' numbers, say), and not the "
+              "order in which they arrive.{moved}")
+SEEN = ("Look at where a replica places an incoming insert: {later} inserted {new} when it had {old}, so their order was known already, "
+        "and still it differs. Often the number that orders inserts does not grow when changes arrive, or the neighbour is not "
+        "found.{moved}")
+MOVED_INSERT = (" In an editor that sends positions, that of {element} was perhaps not adjusted for {changes}, which replica {replica} "
                 "had and its author did not.")
 DOUBLED = ("Look at the recorder first: each inserted element needs a name of its own, for ever. Equal letters are different elements, "
            "each element of a paste is a new one, and so is an undone delete where the editor makes a new one.")
@@ -67,30 +74,57 @@ def otherwise(condition: str, look: str) -> str:
 
 
 def of_contents(evidence: Evidence) -> list:
+    if evidence.undelivered:
+        return [undelivered(evidence)]
     found = [*wrong_delete(evidence, evidence.operations[0]), *second_delete(evidence), *overtaken(evidence), *lost_neighbour(evidence)]
-    return [*found, Cause("arrival", otherwise("If it was not so", ARRIVAL) if found else ARRIVAL)]
+    found = found or unlike_receipts(evidence)
+    return [*found, Cause("arrival", otherwise("If that is not the cause", ARRIVAL) if found else ARRIVAL)]
+
+
+def undelivered(evidence: Evidence) -> Cause:
+    """That changes had arrived is said by `delivered` alone."""
+    changes, replica = evidence.undelivered, evidence.operations[0].replica
+    lines = sorted({evidence.recording.arrival(change, replica).line for change in changes})
+    written = f"{'Line' if len(lines) == 1 else 'Lines'} {listed(list(map(str, lines)), MOST_TOLD)} {'was' if len(lines) == 1 else 'were'} written"
+    return Cause("not delivered", UNDELIVERED.format(lines=written, replica=replica, **changes_told(changes)))
+
+
+def unlike_receipts(evidence: Evidence) -> list:
+    """With which changes more or less the response would be right."""
+    left_out, added = evidence.otherwise
+    replica = evidence.operations[0].replica
+    return [Cause(name, look.format(replica=replica, **changes_told(changes)))
+            for name, look, changes in (("not applied", NOT_APPLIED, left_out), ("no receipt", NO_RECEIPT, added)) if changes]
+
+
+def changes_told(changes: list) -> dict:
+    """Changes for a sentence, and its words for one or several."""
+    is_one = len(changes) == 1
+    return {"changes": listed(list(map(at, changes)), MOST_TOLD), "were": "was" if is_one else "were",
+            "They": "It was" if is_one else "They were", "are": "is" if is_one else "are"}
 
 
 def wrong_delete(evidence: Evidence, operation: Operation) -> list:
-    """Of a response that lacks one element, which nothing deletes, and has one that was deleted for it since its replica's response
-    before, which was right; but views, which may leave out any."""
+    """Of a response that lacks one element, which nothing deletes and which was there before, and has one that was deleted for it since its
+    replica's response before, which was right; but views, which may leave out any."""
     if evidence.repeated or len(evidence.missing) != 1 or len(evidence.surplus) != 1:
         return []
     (missing,), (surplus,) = evidence.missing, evidence.surplus
     inserts, deletes = evidence.recording.inserts.get(surplus, []), evidence.recording.deletes.get(surplus, [])
     before = [one for one in evidence.recording.streams[operation.replica][:operation.n - 1] if one.kind != "view"][-1:]
     news = [delete for delete in deletes if operation.has_seen(delete) and not any(one.has_seen(delete) for one in before)]
-    if missing in evidence.recording.deletes or not news or not any(map(operation.has_seen, inserts)):
+    is_new = any(map(evidence.is_new, evidence.recording.inserts[missing])) and before
+    if missing in evidence.recording.deletes or not news or is_new or not any(map(operation.has_seen, inserts)):
         return []
-    unknown = [delete for deletes in evidence.recording.deletes.values() for delete in deletes
-               if delete.element != surplus and operation.has_seen(delete) and not news[0].has_seen(delete)]
-    moved = MOVED_DELETE.format(deletes=deletes_told(unknown)) if unknown else ""
+    unknown = [change for change in evidence.recording.changes() if change.element not in (surplus, missing) and operation.has_seen(change)
+               and not news[0].has_seen(change)]
+    moved = MOVED_DELETE.format(changes=named(unknown)) if unknown else ""
     return [Cause("wrong delete", WRONG_DELETE.format(delete=at(news[0]), missing=missing, surplus=surplus, moved=moved))]
 
 
 def second_delete(evidence: Evidence) -> list:
     return [Cause("second delete", SECOND_DELETE.format(again=at(again), element=again.element, first=at(first),
-                                                        missing=listed(evidence.missing, MOST_TOLD)))
+                                                        missing=listed(evidence.lost, MOST_TOLD)))
             for again, first in evidence.second_deletes[:1]]
 
 
@@ -133,27 +167,29 @@ def of_refusal(evidence: Evidence) -> list:
 def beside_deleted(evidence: Evidence) -> list:
     if not evidence.lost_neighbours and not evidence.hidden_neighbours:
         return []
-    when = "arrived where its neighbour was deleted" if evidence.lost_neighbours else "had been put beside one that was deleted later"
-    return [Cause("beside deleted", BESIDE_DELETED.format(when=when))]
+    which = "one that arrived where its neighbour was deleted" if evidence.lost_neighbours else "one whose neighbour was deleted later"
+    return [Cause("beside deleted", BESIDE_DELETED.format(which=which))]
 
 
 def of_several(evidence: Evidence) -> Cause:
-    named = joined([operation.name for _, operation in evidence.steps])
+    names = joined([operation.name for _, operation in evidence.steps])
     are_some_gone = any(operation.has_seen(delete) for _, operation in evidence.steps for name in evidence.elements
                         for delete in evidence.recording.deletes.get(name, []))
     if evidence.lost_neighbours or are_some_gone:
-        return Cause("several, deleted", SEVERAL_DELETED.format(named=named))
-    return Cause("several, apart", SEVERAL_APART.format(named=named))
+        return Cause("several, deleted", SEVERAL_DELETED.format(named=names))
+    return Cause("several, apart", SEVERAL_APART.format(named=names))
 
 
 def moved_over(evidence: Evidence) -> str:
-    """Which deletes an arriving insert may have met that its author did not know: some editors have to move its position over these."""
+    """Which deletes an arriving insert may have met that its author did not know: some editors have to adjust its position for these."""
     for arrival in reversed(evidence.arrivals):
         unknown = evidence.unknown_deletes(arrival)
         if unknown:
-            return MOVED_INSERT.format(element=arrival.insert.element, deletes=deletes_told(unknown), replica=arrival.receipt.replica)
+            return MOVED_INSERT.format(element=arrival.insert.element, changes=named(unknown), replica=arrival.receipt.replica)
     return ""
 
 
-def deletes_told(deletes: list) -> str:
-    return listed([f"the delete {at(delete)} of {delete.element}" for delete in deletes], MOST_TOLD)
+def named(changes: list) -> str:
+    """Changes with what they changed."""
+    what = {"ins": "insert", "del": "delete"}
+    return listed([f"the {what[change.kind]} {at(change)} of {change.element}" for change in changes], MOST_TOLD)

@@ -3,6 +3,7 @@ from __future__ import annotations
 
 from .evidence import Evidence
 from .recordings import Operation, Receipt
+from .telling import joined
 
 TITLE = "In a debugger"
 MOST_OTHERS = 8  # lines where others arrived that are told
@@ -15,7 +16,7 @@ LANGUAGES = {
     "emacs-lisp": ("Emacs Lisp", "(when (= (domepeeler-lines recording) {}) (debug))"),
 }
 USUAL = "python"  # of a trace of which nothing says who recorded it
-BEHIND = ", where a change begins to be applied, local or remote: "
+BEGINS, READS = "where a change begins to be applied, local or remote", "where the list is read"
 
 
 def stop_of(evidence: Evidence) -> tuple:
@@ -25,29 +26,38 @@ def stop_of(evidence: Evidence) -> tuple:
     if evidence.report["verdict"] not in ("refused", "contents", "position"):
         return None, []
     if evidence.report["verdict"] == "refused":
-        arrived = {arrival.receipt.line: arrival.receipt for arrival in evidence.arrivals}
+        arrived = {arrival.receipt.line: arrival.receipt for arrival in evidence.arrivals
+                   if not evidence.recording.is_delivered(arrival.receipt.line)}
         *others, entry = list(arrived.values()) or [max(evidence.operations, key=lambda operation: operation.line)]
         return entry, others[::-1]
     named = evidence.operations[0]
+    if evidence.report["verdict"] == "contents" and evidence.undelivered:
+        return evidence.undelivered[0], []
     if evidence.report["verdict"] == "contents":
         arrived = [again for again, _ in evidence.second_deletes if again.replica != named.replica]
         second = [evidence.recording.arrival(again, named.replica) for again in arrived]
         overtaking = [found.brought for _, found in evidence.overtakings]
-        return [*second, *overtaking, *evidence.before(named)[1], named][0], []
+        left_out, added = evidence.otherwise
+        not_applied = [evidence.recording.arrival(change, named.replica) for change in left_out]
+        received = [] if added else evidence.before(named)[1]  # where a receipt is missing, none of these is at fault
+        return [*second, *overtaking, *not_applied, *received, named][0], []
     return named, []
 
 
-def told(entry: Operation | Receipt, others: list) -> str:
+def told(evidence: Evidence, entry: Operation | Receipt, others: list) -> str:
     """Where to stop, in words."""
-    before = ", ".join(f"line {other.line}" for other in others[:MOST_OTHERS]) + (" and more" if others[MOST_OTHERS:] else "")
-    then = f"; if that goes right, where {'another' if len(others) == 1 else 'others'} arrived ({before})" if others else ""
+    before = joined([f"line {other.line}" for other in others[:MOST_OTHERS]])
+    then = f"; if nothing is wrong there, where {'another' if len(others) == 1 else 'others'} arrived ({before})" if others else ""
+    if evidence.report["verdict"] == "contents" and evidence.undelivered:
+        then = f", and follow that to replica {evidence.operations[0].replica}"
     return f"stop before line {entry.line}, where {doing(entry)}{then}."
 
 
-def statement(line: int, language: str) -> str:
-    """How to stop before this line, in the recorder's language."""
+def statement(entry: Operation | Receipt, language: str) -> str:
+    """How to stop before this entry, in the recorder's language."""
     name, words = LANGUAGES.get(language) or LANGUAGES[USUAL]
-    return f" In {name}{BEHIND}{words.format(line - 1)}"
+    is_read = isinstance(entry, Operation) and entry.kind in ("read", "view")
+    return f" In {name}, {READS if is_read else BEGINS}: {words.format(entry.line - 1)}"
 
 
 def doing(entry: Operation | Receipt) -> str:

@@ -185,6 +185,8 @@ class Evidence:
         the new one."""
         found = []
         for arrival in self.arrivals:
+            if self.recording.is_delivered(arrival.receipt.line):
+                continue
             gone = [self.recording.change_at(self.recording.deletes.get(name, []), arrival.receipt) for name in self.beside(arrival.insert)]
             if any(gone):
                 found.append((arrival, list(filter(None, gone))))
@@ -196,20 +198,60 @@ class Evidence:
         return [delete for deletes in self.recording.deletes.values() for delete in deletes
                 if clock[delete.replica] >= delete.n and not arrival.insert.has_seen(delete)]
 
+    def is_new(self, change: Operation) -> bool:
+        """Of wrong contents, whether a change of another replica came there since the response before."""
+        operation = self.operations[0]
+        before = self.before(operation)[0]
+        return change.replica != operation.replica and operation.has_seen(change) and not (before and before[0].has_seen(change))
+
+    @cached_property
+    def lost(self) -> list:
+        """What the response lacks and its replica's response before could have: no change brought it since."""
+        before = self.before(self.operations[0])[0] if self.report["verdict"] == "contents" else []
+        return [name for name in self.missing if any(map(before[0].has_seen, self.recording.inserts[name]))] if before else []
+
+    @cached_property
+    def otherwise(self) -> tuple:
+        """Of wrong contents, with which changes the response would be right: those that it has by its receipts and would not, and those that
+        it would have and has not; each in the order of the trace. Both empty where these don't tell it all."""
+        if self.report["verdict"] != "contents" or self.repeated:
+            return [], []
+        operation, left_out, added = self.operations[0], set(), set()
+        inserts, deletes = self.recording.inserts, self.recording.deletes
+        for changes, undone, names in (inserts, deletes, self.missing), (deletes, inserts, self.surplus):
+            for name in names:
+                came = [change for change in changes.get(name, []) if operation.has_seen(change)]
+                if came and all(map(self.is_new, came)) and (changes is inserts or any(map(operation.has_seen, inserts.get(name, [])))):
+                    left_out.update(came)
+                    continue
+                unseen = [change for change in undone.get(name, []) if change.line < operation.line and not operation.has_seen(change)]
+                if not unseen:
+                    return [], []
+                added.add(unseen[0])
+        return tuple(sorted(found, key=lambda change: change.line) for found in (left_out, added))
+
+    @cached_property
+    def undelivered(self) -> list:
+        """The changes of which `delivered` alone says that they had arrived, where the response is right without them."""
+        left_out, added = self.otherwise
+        replica = self.operations[0].replica if left_out else 0
+        is_said = all(self.recording.is_delivered(self.recording.arrival(change, replica).line) for change in left_out)
+        return left_out if is_said and not added else []
+
     @cached_property
     def second_deletes(self) -> list:
-        """Of wrong contents that lack something: each delete that is new to the response since the one before, and whose element had been
-        deleted for its replica already, with the delete that did."""
-        if self.report["verdict"] != "contents" or not self.missing:
+        """Of wrong contents that lack something which was there before: each delete that is new to the response since the one before, and
+        whose element had been deleted for its replica already, with the delete that did."""
+        if self.report["verdict"] != "contents" or not self.lost:
             return []
         operation = self.operations[0]
         before = self.before(operation)[0]
-        had = before[0].has_seen if before else lambda change: False
+        had = before[0].has_seen
         found = []
         for deletes in self.recording.deletes.values():
             seen = [delete for delete in deletes if operation.has_seen(delete)] if deletes[1:] else []
             seen.sort(key=lambda delete: self.line_at(delete, operation.replica))
-            found += [(again, seen[0]) for again in seen[1:] if not had(again)]
+            found += [(again, seen[0]) for again in seen[1:] if not had(again) and not self.recording.is_delivered(self.line_at(again, operation.replica))]
         return sorted(found, key=lambda pair: self.line_at(pair[0], operation.replica))
 
     def overtaking(self, change: Operation, operation: Operation) -> Overtaking | None:
@@ -217,7 +259,7 @@ class Evidence:
         which is what a new recorder meets first. That one receipt stands for several changes of an author is no sign of it, where none names the
         change and the author's others have not each their own."""
         way = self.recording.way(change, operation) if operation.has_seen(change) else []
-        if not way or way[-1].seen is change:
+        if not way or way[-1].seen is change or self.recording.is_delivered(way[-1].line):
             return None
         brought, replica = way[-1], operation.replica
         if change.replica != brought.seen.replica:

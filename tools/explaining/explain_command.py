@@ -3,6 +3,7 @@ from __future__ import annotations
 
 import argparse
 import os
+import re
 import sys
 from typing import NoReturn
 
@@ -36,8 +37,18 @@ def words_asked() -> argparse.Namespace:
     parser.add_argument("--svg", metavar="FILE", help="write the picture of the cycle of a refused recording")
     parser.add_argument("--language", choices=list(LANGUAGES), help="the language of the recorder, in which to say where to stop a debugger; "
                         f"by default what stands beside the trace, else {USUAL}")
+    parser.add_argument("--delivered", metavar="FROM-TO", action="append", default=[], type=lines_from, help="lines of the trace that a "
+                        "recorder's `delivered` wrote; by default what stands beside the trace")
     add_version(parser, NAME)
     return parser.parse_args()
+
+
+def lines_from(word: str) -> tuple:
+    """A range of lines."""
+    found = re.fullmatch(r"([1-9][0-9]{0,6})-([1-9][0-9]{0,6})", word)
+    if found is None:
+        raise argparse.ArgumentTypeError(f"{word} is no range of lines, as 41-46")
+    return int(found[1]), int(found[2])
 
 
 def fail(words: str) -> NoReturn:
@@ -91,10 +102,11 @@ def write_small(path: str, evidence: Evidence, told: Evidence, program: str, kno
     write(path, small.text)
     lines = small.text.splitlines()
     placed = [f"{number} {known.places[line]}" for number, line in enumerate(small.lines, FIRST_ENTRY) if line in known.places]
-    if known.marks() + placed or os.path.isfile(path + SIDE):  # of a trace that was in this file before
-        write(path + SIDE, "".join(f"{line}\n" for line in [len(lines), *known.marks(), *placed]))
-    print(f"\n{shown(path)} {same_as(evidence, told)} in {len(lines)} lines of {len(evidence.recording.lines)}; the editor need not answer "
-          "so again. Its operations in the whole trace:")
+    beside_it = [*known.marks(small.lines), *placed]
+    if beside_it or os.path.isfile(path + SIDE):  # of a trace that was in this file before
+        write(path + SIDE, "".join(f"{line}\n" for line in [len(lines), *beside_it]))
+    print(f"\n{shown(path)} {same_as(evidence, told)} in {len(lines)} lines of {len(evidence.recording.lines)}; your editor may answer "
+          "otherwise to these steps. Its operations in the whole trace:")
     named = [f"{name} = {operation.name} (line {operation.line})" for name, operation in small.operations]
     print("  " + ", ".join(named[:MOST_TOLD]) + (f", and {len(named) - MOST_TOLD} more" if len(named) > MOST_TOLD else ""))
 
@@ -109,8 +121,8 @@ def same_as(evidence: Evidence, told: Evidence) -> str:
 
 
 def explain(asked: argparse.Namespace, program: str, trace: bytes, judged: Judged) -> None:
-    evidence = Evidence(Recording(trace.decode()), judged.report)
     known = beside(trace, asked.trace)
+    evidence = Evidence(Recording(trace.decode(), tuple(asked.delivered) or known.delivered), judged.report)
     words, told = explained(evidence, report_of(program), asked.language or known.language or USUAL)
     warnings = placed_warnings(warnings_of(judged.report["verdict"], trace, asked.trace).all, known)
     words = with_places(with_warnings(words, warnings), known)

@@ -61,7 +61,7 @@ def explanation_of(row: Row, program: str) -> tuple:
     try:
         trace = read_file(row.file)
         known = beside(trace, row.file)
-        words, told = explained(Evidence(Recording(trace.decode()), row.report), report_of(program), known.language or USUAL)
+        words, told = explained(Evidence(Recording(trace.decode(), known.delivered), row.report), report_of(program), known.language or USUAL)
         warnings = placed_warnings(warnings_of(row.verdict, trace, row.file).all, known)
         about = listed(told.elements, MOST_STEPS) if told.report["verdict"] == "refused" else ""
         return text_of(with_places(with_warnings(words, warnings), known)), about

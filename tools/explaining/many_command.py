@@ -113,7 +113,7 @@ def jobs_of(asked: argparse.Namespace) -> int:
     if asked.jobs is None:
         return len(os.sched_getaffinity(0))
     if not asked.jobs.isdecimal() or int(asked.jobs) == 0:
-        fail(f"--jobs {shown(asked.jobs)} is no number from 1 on")
+        fail(f"--jobs is a number from 1 on, not {shown(asked.jobs) or 'nothing'}")
     return int(asked.jobs)
 
 
@@ -175,7 +175,7 @@ def told_verdict(row: Row) -> str:
 def print_unequal(rows: list, asked: argparse.Namespace) -> None:
     count = sum(bool(row.unequal) for row in rows)
     if count:
-        told = "and so failing" if asked.unequal else "--unequal lets these fail"
+        told = "counted as failing" if asked.unequal else "--unequal lets these fail"
         print(f"{count} of those accepted {'is' if count == 1 else 'are'} unequal: in the end replicas show different lists, or lack an "
               f"insert or a delete ({told})")
 

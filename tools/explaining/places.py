@@ -20,9 +20,10 @@ from .words import CODE, LINE, LOG, NOTED, Explanation, Section
 PLACES = re.compile(rb"([1-9][0-9]{0,6}) (.{1,4000})")
 LANGUAGE = re.compile(rb"language ([a-z-]{1,20})")
 NOTE = re.compile(rb"note (.{1,800})")
+DELIVERED = re.compile(rb"delivered ([1-9][0-9]{0,6}) ([1-9][0-9]{0,6})")
 OF_LOG = re.compile(r"[^,]*\.(log|txt|out|(nd)?jsonl?|[ct]sv|xml)(\.[0-9]+)?(:[0-9]+)?")  # one that was rotated too
 LOG_MARK, MERGED_MARK = b"log", b"merged"
-MOST_NOTES = 20
+MOST_NOTES, MOST_DELIVERED = 20, 100
 CALLED = ", called from "  # between two places of one line
 SHOWN_LINE = re.compile(r"\(line (\d+)\)")  # in a warning
 
@@ -35,16 +36,18 @@ class Beside(NamedTuple):
     notes: tuple = ()
     has_log: bool = False
     is_merged: bool = False
+    delivered: tuple = ()  # ranges of lines that `delivered` wrote
 
-    def marks(self) -> list:
-        """What the file beside a part of the trace says too, a line each."""
+    def marks(self, lines: list) -> list:
+        """What the file beside a part of the trace says too, a line each, where its entries come from these lines."""
+        told = [number for number, line in enumerate(lines, FIRST_ENTRY) if any(first <= line <= last for first, last in self.delivered)]
         return [*([f"language {self.language}"] if self.language else []), *(f"note {note}" for note in self.notes),
-                *(["merged"] if self.is_merged else []), *(["log"] if self.has_log else [])]
+                *(f"delivered {number} {number}" for number in told), *(["merged"] if self.is_merged else []), *(["log"] if self.has_log else [])]
 
 
 def beside(trace: bytes, name: str) -> Beside:
     """What is known of the trace in the file of this name; `-` is no file."""
-    places, language, notes, count = {}, "", [], trace.count(b"\n")
+    places, language, notes, delivered, count = {}, "", [], [], trace.count(b"\n")
     lines = lines_beside(trace, name) if name != "-" else []
     for line in lines:
         said = PLACES.fullmatch(line)
@@ -53,9 +56,11 @@ def beside(trace: bytes, name: str) -> Beside:
                 places.setdefault(int(said[1]), told)
         elif (said := LANGUAGE.fullmatch(line)) and said[1].decode() in debuggers.LANGUAGES:
             language = language or said[1].decode()
+        elif (said := DELIVERED.fullmatch(line)):
+            delivered.append((int(said[1]), int(said[2])))
         elif (said := NOTE.fullmatch(line)) and len(notes) < MOST_NOTES and (told := printable(said[1])):
             notes.append(told)
-    return Beside(places, language, tuple(notes), LOG_MARK in lines, MERGED_MARK in lines)
+    return Beside(places, language, tuple(notes), LOG_MARK in lines, MERGED_MARK in lines, tuple(delivered[-MOST_DELIVERED:]))
 
 
 def printable(text: bytes) -> str:
@@ -102,7 +107,7 @@ def without_statement(section: Section, places: dict) -> Section:
         return section
     (told,) = section.lines
     stop = int(LINE.search(told)[1])
-    return Section(section.title, [told.rpartition(" In ")[0] + (f" The editor then writes {places[stop]}." if stop in places else "")])
+    return Section(section.title, [told.partition(" In ")[0] + (f" The editor then writes {places[stop]}." if stop in places else "")])
 
 
 def placed_warnings(warnings: list, known: Beside) -> list:

@@ -44,7 +44,7 @@ def find_program(asked: str | None) -> str:
         if named:
             found = shutil.which(named)
             if found is None:
-                raise NoProgram(f"{shown(named)} of {way} can't be run")
+                raise NoProgram(f"can't run {shown(named)}, which {way} names")
             return os.path.abspath(found)
     found = shutil.which(COMMAND)
     if found is not None:

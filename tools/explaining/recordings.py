@@ -51,9 +51,11 @@ class Receipt(NamedTuple):
 
 
 class Recording:
-    """The entries of a trace in their order."""
+    """The entries of a trace in their order; those in the given ranges of lines were written by `delivered`, which says that by then
+    everything has arrived everywhere."""
 
-    def __init__(self, text: str):
+    def __init__(self, text: str, delivered: tuple = ()):
+        self.delivered = delivered
         self.lines = text.splitlines()
         self.replicas = int(self.lines[1].split()[1])
         self.streams = [[] for _ in range(self.replicas)]  # the operations of each replica
@@ -80,6 +82,14 @@ class Recording:
             if entry.element:
                 (self.inserts if entry.kind == "ins" else self.deletes)[entry.element].append(entry)
         self.entries.append(entry)
+
+    def is_delivered(self, line: int) -> bool:
+        """Whether a line says no more than that something ought to have happened by then."""
+        return any(first <= line <= last for first, last in self.delivered)
+
+    def changes(self) -> list:
+        """All inserts and deletes, in the order of the trace."""
+        return [entry for entry in self.entries if isinstance(entry, Operation) and entry.element]
 
     def operation(self, name: str) -> Operation:
         replica, n = map(int, name.split("."))

@@ -7,7 +7,7 @@ from typing import NamedTuple
 from .beginning import failing_beginning
 from .causes import causes_of
 from .evidence import Evidence, Unexplained
-from .places import beside, placed_warnings
+from .places import Beside, beside, placed_warnings
 from .programs import NoProgram, is_another, no_report, report_in, report_of
 from .recordings import FIRST_ENTRY, Recording
 from .warnings import Warnings, warnings_of
@@ -63,7 +63,7 @@ def row_of(program: str, file: str, trace: bytes, seconds: float, status: int, p
               placed_warnings(warnings.all, known) or None, bool(warnings.ends) or None, list(known.notes) or None)
     if warnings.is_cut and row.verdict == "accepted":
         return row._replace(verdict="failed", error=warnings.cut[0], unequal=None)
-    return placed(row, program, trace, known.places)
+    return placed(row, program, trace, known)
 
 
 def warned_of(verdict: str, trace: bytes, file: str) -> Warnings:
@@ -74,13 +74,13 @@ def warned_of(verdict: str, trace: bytes, file: str) -> Warnings:
         return Warnings([], [], [])
 
 
-def placed(row: Row, program: str, trace: bytes, places: dict) -> Row:
+def placed(row: Row, program: str, trace: bytes, known: Beside) -> Row:
     """The row with how many first lines fail already, of a long trace up to the last operation of its report, and what is likely the
     cause; without where the file has changed since it was judged."""
     if row.verdict == "accepted":
         return row
     try:
-        recording = Recording(trace.decode())
+        recording = Recording(trace.decode(), known.delivered)
         if row.lines > MOST_HALVED:
             named = [*(step["shown"] for step in row.report.get("steps", [])), *(row.report[key] for key in PLACES if key in row.report)]
             return row._replace(fails_at=max(recording.operation(name).line for name in named))
@@ -91,6 +91,6 @@ def placed(row: Row, program: str, trace: bytes, places: dict) -> Row:
         count, report = found
         causes = causes_of(whole if report == row.report else Evidence(recording, report, count))
         entry = recording.entries[count - FIRST_ENTRY]
-        return row._replace(fails_at=count, causes=[cause.name for cause in causes], place=places.get(entry.line))
+        return row._replace(fails_at=count, causes=[cause.name for cause in causes], place=known.places.get(entry.line))
     except (Unexplained, NoProgram, ValueError, LookupError):
         return row

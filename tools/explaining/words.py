@@ -35,9 +35,9 @@ def explanation(evidence: Evidence, told: Evidence, language: str = debuggers.US
     tell = {"accepted": accepted, "refused": refused, "doubled": doubled, "contents": contents, "position": position}
     headline, sections = tell[told.report["verdict"]](told)
     causes = causes_of(told)
-    where = [Section("Where to look in the editor", [cause.told for cause in of_whole(evidence, told) + causes])] if causes else []
+    where = [Section("Where to look", [cause.told for cause in of_whole(evidence, told) + causes])] if causes else []
     whole = whole_trace(evidence, told)
-    headline += f" The whole trace is {verdict_of(evidence.report)}." if whole else ""
+    headline += f" Of the whole trace the program says {verdict_of(evidence.report)}." if whole else ""
     return Explanation(headline, [*when_it_went_wrong(evidence, told), *without_receipts(told), *sections, *where,
                                   *in_a_debugger(told, language), *whole, specifications(evidence.report)],
                        tuple(cause.name for cause in causes))
@@ -82,7 +82,7 @@ def when_it_went_wrong(evidence: Evidence, told: Evidence) -> list:
     if told.report["verdict"] == "refused":
         lines += [since(told, entry, "still fits"), *in_the_end(evidence.recording)]
     else:
-        lines.append(f"`head -{last}` of the trace has no more than that")
+        lines.append(f"the first {last} lines are enough to show it (`head -{last}`)")
     return [Section("When it went wrong", lines)]
 
 
@@ -100,7 +100,7 @@ def whole_trace(evidence: Evidence, told: Evidence) -> list:
 
 def in_a_debugger(told: Evidence, language: str) -> list:
     entry, others = debuggers.stop_of(told)
-    return [Section(debuggers.TITLE, [debuggers.told(entry, others) + debuggers.statement(entry.line, language)])] if entry else []
+    return [Section(debuggers.TITLE, [debuggers.told(told, entry, others) + debuggers.statement(entry, language)])] if entry else []
 
 
 def without_receipts(evidence: Evidence) -> list:
@@ -112,11 +112,11 @@ def without_receipts(evidence: Evidence) -> list:
 
 
 def with_warnings(told: Explanation, warnings: list) -> Explanation:
-    """The explanation, and before all else what the verdict may hide, where there is something: then nothing is well done."""
+    """The explanation, and before all else what the verdict may hide, where there is something."""
     if not warnings:
         return told
     count = "a warning" if len(warnings) == 1 else f"{counted(len(warnings))} warnings"
-    headline = told.headline.replace("accepted: well done, ", f"accepted, with {count}: ", 1)
+    headline = told.headline.replace("accepted: ", f"accepted, with {count}: ", 1)
     return told._replace(headline=headline, sections=[Section(HIDDEN, warnings), *told.sections])
 
 
@@ -131,8 +131,8 @@ def text_of(told: Explanation) -> str:
 def accepted(evidence: Evidence) -> tuple:
     report = evidence.report
     order = " ".join(report["order"]) or "(there are no elements)"
-    said = "its one response fits" if report["operations"] == 1 else f"all {report['operations']} responses fit"
-    return (f"accepted: well done, {said} one order of the elements.",
+    said = {0: "there was no response to judge", 1: "its one response fits one order of the elements", 2: "both responses fit one order of the elements"}
+    return (f"accepted: {said.get(report['operations'], 'all ' + str(report['operations']) + ' responses fit one order of the elements')}.",
             [Section("The first order that they follow, deleted elements too", [order])])
 
 
@@ -195,7 +195,7 @@ def gone_before(evidence: Evidence) -> list:
             inserted = any(map(operation.has_seen, evidence.recording.inserts[name]))
             delete = next(filter(operation.has_seen, evidence.recording.deletes.get(name, [])), None)
             if inserted and delete is not None:
-                lines.append(f"for {at(operation)}, {name} is deleted, by {at(delete)}")
+                lines.append(f"at {at(operation)}, {name} was deleted already, by {at(delete)}")
     return lines
 
 
@@ -259,7 +259,7 @@ def what_is_wrong(evidence: Evidence, operation: Operation) -> str:
     if evidence.missing:
         told.append(f"lacks {elements_of(len(evidence.missing))} that replica {replica} had by then")
     if evidence.surplus:
-        told.append(f"has {elements_of(len(evidence.surplus))} that replica {replica} did not have by then")
+        told.append(f"has {elements_of(len(evidence.surplus))} that should not be there")
     if evidence.repeated:
         told.append(f"names {elements_of(len(evidence.repeated))} more than once")
     return f"this {'view' if operation.kind == 'view' else 'response'} {joined(told)}"
@@ -274,9 +274,9 @@ def expected(evidence: Evidence, operation: Operation) -> str:
     if operation.kind == "view":
         visible = evidence.recording.expected(operation)
         names = marked([a for a in evidence.recording.inserts if a in visible], set())
-        return f"what replica {operation.replica} had by then, of which a view may leave out some: {names}"
+        return f"it may hold any part of what replica {operation.replica} had by then: {names}"
     wanted = [name for name in dict.fromkeys(operation.response) if name not in evidence.surplus] + evidence.missing
-    return f"what replica {operation.replica} had by then, in whatever order: {marked(wanted, set(evidence.missing))}"
+    return f"it should hold, in any order: {marked(wanted, set(evidence.missing))}"
 
 
 def since(evidence: Evidence, operation: Operation, still: str = "is still right") -> str:
@@ -305,7 +305,7 @@ def facts(evidence: Evidence, name: str, operation: Operation) -> list:
             told = [line for one, found in evidence.overtakings if one.element == other for line in overtaken(evidence, one, operation)]
             lines += [f"{other}, beside which it was put: {line}" for line in told]
     if name in recording.inserts and name not in recording.deletes:
-        lines.append("nothing deletes it")
+        lines.append("no operation deletes it")
     return [f"[{name}] {line}" for line in lines]
 
 
@@ -317,26 +317,28 @@ def overtaken(evidence: Evidence, change: Operation, operation: Operation) -> li
     (brought, own), replica = found, operation.replica
     if own is not None:
         of_author = f"{change.name}'s own receipt comes only in" if own.seen is change else "It is named only in"
-        had = "" if own.seen.replica == brought.seen.replica else ", whose author had it,"
-        return [f"{of_author} line {own.line} ({own.text}); {brought.seen.name}{had} overtook it in line {brought.line}, so the exchange is "
-                "not causal"]
+        had = "" if own.seen.replica == brought.seen.replica else f", though its author already had {change.name}"
+        return [f"{of_author} line {own.line} ({own.text}). {brought.seen.name} overtook it in line {brought.line}{had}: that order is not "
+                "causal"]
     if change.replica == brought.seen.replica:
-        return [f"no receipt at replica {replica} names {change.name} itself, as one does each other change of replica {change.replica}: "
-                f"{brought.seen.name} overtook it in line {brought.line}, or it was lost"]
-    return [f"no receipt at replica {replica} names it: it counts as arrived with {at(brought.seen)}, whose author had it. Where each "
-            "operation travels by itself, it was missing, and the exchange is not causal"]
+        return [f"{change.name} has no receipt of its own at replica {replica}, as each other change of replica {change.replica} has. It was "
+                f"lost, or {brought.seen.name} overtook it in line {brought.line}"]
+    return [f"it has no receipt of its own at replica {replica}, and counts as arrived with {at(brought.seen)}, whose author had it. If each "
+            "operation travels by itself, it was missing: that order is not causal"]
 
 
 def neighbours(evidence: Evidence, insert: Operation) -> list:
     """Beside what an element was put that arrived, and whether that was deleted there by then."""
     arrival = next((arrival for arrival in evidence.arrivals if arrival.insert is insert), None)
     names = evidence.beside(insert)
-    if arrival is None or not names:
+    if arrival is None or not names or evidence.recording.is_delivered(arrival.receipt.line):
         return []
     receipt = arrival.receipt
     gone = next((deletes for other, deletes in evidence.lost_neighbours if other is arrival), [])
-    told = when_arrived(receipt, gone) + (("that was not" if len(names) == 1 else "neither was") + " deleted there" if not gone else "")
-    return [f"was put {beside(insert, names)}. {told}"]
+    if not gone:
+        was = "was not deleted there" if len(names) == 1 else "were not deleted there"
+        return [f"was put {beside(insert, names)}, which {was} when it arrived (line {receipt.line})"]
+    return [f"was put {beside(insert, names)}. {when_arrived(receipt, gone)}"]
 
 
 def arrived(recording: Recording, seen: Operation, operation: Operation) -> str:
@@ -344,11 +346,12 @@ def arrived(recording: Recording, seen: Operation, operation: Operation) -> str:
     if seen is operation:
         return "this operation itself"
     if not operation.has_seen(seen):
-        return f"replica {operation.replica} did not have that by then: {not_arrived(recording, seen, operation)}"
+        return not_arrived(recording, seen, operation)
     way = recording.way(seen, operation)
     if not way:
         return f"an earlier operation of replica {operation.replica}"
-    hops = [f"arrived at replica {receipt.replica} in line {receipt.line} ({receipt.text})" for receipt in way]
+    hops = [f"{'by `delivered` ' * recording.is_delivered(receipt.line)}arrived at replica {receipt.replica} in line {receipt.line} "
+            f"({receipt.text})" for receipt in way]
     return ", and from there ".join(hops)
 
 
@@ -357,8 +360,8 @@ def not_arrived(recording: Recording, seen: Operation, operation: Operation) -> 
         return f"a later operation of replica {operation.replica}"
     late = recording.arrival(seen, operation.replica)
     if late is None:
-        return f"no receipt in replica {operation.replica}'s log brings it"
-    return f"the first receipt that brings it is line {late.line} ({late.text}), after this response"
+        return f"and replica {operation.replica} has no receipt of it"
+    return f"and replica {operation.replica}'s first receipt of it is line {late.line} ({late.text}), after this response"
 
 
 def position(evidence: Evidence) -> tuple:
