@@ -1316,7 +1316,8 @@ def check_threads(tally: Tally) -> None:
 
 
 def check_explains_file(tally: Tally, recorder: Recorder, folder: Path) -> None:
-    """What `explain` says of an accepted recording that may hide something is what the tool says of the saved file."""
+    """What `explain` says of an accepted recording that may hide something is what the tool says of the saved file; so it is where
+    `delivered` alone says that a change has arrived, as the tool is told which lines that wrote."""
     trace = folder / f"unsure.{recorder.language}.trace"
     calls = ["new 2", "note seed%2017", "insert 0 a 0 a", "received 1 0 1", "insert 0 b 1 a b", "read 1 a"]
     got = recorder.answers([*map(fields, calls), f"save\t{trace}", "explain"], DOMEPEELER_EXPLAIN=EXPLAIN)
@@ -1326,6 +1327,13 @@ def check_explains_file(tally: Tally, recorder: Recorder, folder: Path) -> None:
     tally.check(f"{recorder.language}: explains a file with warnings", told.returncode == 0 and said == told.stdout.splitlines() and
                 said[-3:] == ["", "Noted", "  seed 17"] and re.search(rf": 0\.2 \(line 5(, .*{place})?\) never arrived at replica 1 ", told.stdout)
                 and ("(line 5, " in told.stdout) == (recorder.language in PLACING), (said, told))
+    lost = ["new 2", "insert 0 a 0 a", "delivered a /"]
+    got = recorder.answers([*map(fields, lost), f"save\t{trace}", "explain"], DOMEPEELER_EXPLAIN=EXPLAIN)
+    told = subprocess.run([EXPLAIN, trace], capture_output=True, text=True, env=recorder.surroundings)
+    said = [line[2:] for line in got[len(lost) + 1:-1]]
+    tally.check(f"{recorder.language}: explains a file of a session that ends with delivered", told.returncode == 1 and
+                said == told.stdout.splitlines() and "nothing shows that 0.1 (line 3) was applied at replica 1" in told.stdout and
+                "by `delivered` arrived at replica 1 in line 5 (1 recv 0 1)" in told.stdout, (said, told))
 
 
 def check_judge(tally: Tally, recorder: Recorder, folder: Path) -> None:
