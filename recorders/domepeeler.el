@@ -39,6 +39,8 @@
 (defconst domepeeler--head 2 "Lines of a trace, before its entries.")
 (defconst domepeeler--notes 20)
 (defconst domepeeler--letters 200 "Of a note.")
+(defconst domepeeler--delivered 100
+  "Calls of `domepeeler-delivered' that the explainer is told of, the last ones.")
 (defconst domepeeler--told 5 "Deletes, or inserts, that warnings tell one by one.")
 (defconst domepeeler--few 3
   "Changes that warnings tell one by one.
@@ -66,7 +68,8 @@ They are those that a replica lacks, or has made nothing of.")
   (ids (make-hash-table :test #'equal))    ; by name: the id that has it, where another might come to the same name
   (short (make-hash-table :test #'equal))  ; by id: its name, where that is a shorter one
   known     ; the names among the ids, the last one first
-  notes)    ; the last one first
+  notes     ; the last one first
+  deliveries)  ; of each call of `domepeeler-delivered' the first line that it wrote, and the last; the last call first
 
 (defun domepeeler--refuse (format &rest words)
   (signal 'domepeeler-refused (list (apply #'format format words))))
@@ -171,7 +174,8 @@ Writes the receipt, unless REPLICA has it already."
   "By now everything has arrived everywhere.
 Each replica, from 0 upward, shows its list of LISTS, a list or a vector.
 Writes for each replica the receipts that are missing, and a read.  So a
-change that an editor has lost, or still holds back, is `contents' there."
+change that an editor has lost, or still holds back, is `contents' there.
+RECORDING keeps which lines it wrote."
   (when (domepeeler-recording-only recording)
     (domepeeler--refuse "one replica's log can't say that everything has arrived: the others are recorded elsewhere"))
   (let* ((replicas (domepeeler-recording-replicas recording))
@@ -182,6 +186,7 @@ change that an editor has lost, or still holds back, is `contents' there."
       (domepeeler--refuse "%sof %d" wanted (length lists)))
     (let ((known (domepeeler-recording-known recording))
           (lines (domepeeler-recording-lines recording))
+          (first (1+ (domepeeler-lines recording)))
           (before (mapcar #'copy-sequence replicas)))
       (condition-case why
           (seq-do-indexed (lambda (list replica) (domepeeler--delivered-at recording replica list)) lists)
@@ -190,6 +195,7 @@ change that an editor has lost, or still holds back, is `contents' there."
          (domepeeler--forget recording known)
          (seq-do-indexed (lambda (own replica) (domepeeler--undo recording replica own)) before)
          (signal (car why) (cdr why))))
+      (push (cons first (domepeeler-lines recording)) (domepeeler-recording-deliveries recording))
       nil)))
 
 (defun domepeeler-note (recording text)
@@ -232,8 +238,9 @@ It is the vector clock of an update that REPLICA makes now."
 (defun domepeeler-save (recording file)
   "Write the text of RECORDING into FILE.
 First write into a file with `.lines' behind its name how many lines the
-text has, so that the tools notice where the end of FILE is lost, and the
-notes.  Each appears whole, or what stood there stays.
+text has, so that the tools notice where the end of FILE is lost, the
+notes, and which lines `domepeeler-delivered' wrote.  Each appears whole,
+or what stood there stays.
 A pipe or a device has no such file beside it."
   (let ((coding-system-for-write 'utf-8-unix)
         (beside (concat file ".lines")))
@@ -249,8 +256,10 @@ A pipe or a device has no such file beside it."
 
 (defun domepeeler--beside (recording)
   "What stands in the file beside the trace."
-  (format "%d\nlanguage emacs-lisp\n%s" (domepeeler-lines recording)
-          (mapconcat (lambda (note) (format "note %s\n" note)) (reverse (domepeeler-recording-notes recording)) "")))
+  (format "%d\nlanguage emacs-lisp\n%s%s" (domepeeler-lines recording)
+          (mapconcat (lambda (note) (format "note %s\n" note)) (reverse (domepeeler-recording-notes recording)) "")
+          (mapconcat (lambda (range) (format "delivered %d %d\n" (car range) (cdr range)))
+                     (reverse (domepeeler-recording-deliveries recording)) "")))
 
 (defmacro domepeeler--named (file &rest body)
   "Do BODY; an error of a file is told with FILE's name."
@@ -319,7 +328,10 @@ is by default that of the environment's DOMEPEELER_EXPLAIN, or
 \"domepeeler-explain\", beside the program of DOMEPEELER or where programs
 are found."
   (let* ((named (list explainer (getenv "DOMEPEELER_EXPLAIN") (domepeeler--beside-program "domepeeler-explain")))
-         (said (domepeeler--ask recording named "the tool's path in DOMEPEELER_EXPLAIN" "." "words" "--language" "emacs-lisp" "-"))
+         (delivered (cl-loop for (first . last) in (seq-take (domepeeler-recording-deliveries recording) domepeeler--delivered)
+                             collect (format "%d-%d" first last)))
+         (said (apply #'domepeeler--ask recording named "the tool's path in DOMEPEELER_EXPLAIN" "." "words" "--language" "emacs-lisp"
+                      (append (cl-loop for range in (reverse delivered) append (list "--delivered" range)) (list "-"))))
          (words (make-hash-table :test #'equal)))
     (dolist (word (split-string said "[^A-Za-z0-9]+"))
       (puthash word t words))

@@ -69,6 +69,8 @@ enum {
     DOMEPEELER_SHORT = 1000, /* lines of a session that is judged by one thread, as more would be slower to begin */
     DOMEPEELER_NOTES = 20,
     DOMEPEELER_LETTERS = 200, /* of a note */
+    DOMEPEELER_DELIVERED = 100, /* calls of domepeeler_delivered() that the explainer is told of, the last ones */
+    DOMEPEELER_WORDS = 5 + 2 * DOMEPEELER_DELIVERED, /* of a command, and a NULL behind them */
     DOMEPEELER_TOLD = 5,      /* deletes, or inserts, that warnings tell one by one */
     DOMEPEELER_CHANGES = 3    /* that warnings tell one by one of those that a replica lacks, or has made nothing of */
 };
@@ -103,6 +105,7 @@ struct domepeeler {
     size_t slots;                     /* half of the places; a power of two, or 0 */
     char *notes[DOMEPEELER_NOTES];
     size_t noted;
+    size_t (*deliveries)[2], delivered; /* of each call of domepeeler_delivered() its first and last line of the text */
     size_t refused; /* calls, but for limits and what is not causal, after which a session may well go on */
     int full;
     char why[512], first[512]; /* of the last call that answered 0, and of the first one that was refused so */
@@ -251,6 +254,7 @@ static inline void domepeeler_free(struct domepeeler *d) {
     }
     free(d->ids);
     free(d->places);
+    free(d->deliveries);
     free(d->text);
     free(d);
 }
@@ -448,8 +452,8 @@ static inline unsigned domepeeler_save_into(struct domepeeler *d, const char *pa
 }
 
 /* Writes the text into a file of this name; and first, into one with `.lines` behind the name, how many lines it has, so that the
- * tools notice where the end of the file is lost, and the notes. Each appears whole, or what stood there stays. A pipe or a device has
- * no such file beside it. Answers 1. */
+ * tools notice where the end of the file is lost, the notes, and which lines domepeeler_delivered() wrote. Each appears whole, or what
+ * stood there stays. A pipe or a device has no such file beside it. Answers 1. */
 DOMEPEELER_CHECKED static inline unsigned domepeeler_save(struct domepeeler *d, const char *path) {
     struct stat about;
     if (!stat(path, &about) && !S_ISREG(about.st_mode)) return domepeeler_save_into(d, path);
@@ -457,6 +461,7 @@ DOMEPEELER_CHECKED static inline unsigned domepeeler_save(struct domepeeler *d, 
     domepeeler_say(&beside, "%s.lines", path);
     domepeeler_say(&lines, "%zu\nlanguage c\n", domepeeler_lines(d));
     for (size_t i = 0; i < d->noted; i++) domepeeler_say(&lines, "note %s\n", d->notes[i]);
+    for (size_t i = 0; i < d->delivered; i++) domepeeler_say(&lines, "delivered %zu %zu\n", d->deliveries[i][0], d->deliveries[i][1]);
     int is_room = domepeeler_said(d, &beside) && domepeeler_said(d, &lines);
     unsigned is_saved = is_room && domepeeler_save_both(d, path, beside.text, lines.text);
     free(beside.text);
@@ -686,17 +691,26 @@ static inline unsigned domepeeler_delivered_at(struct domepeeler *d, int replica
     return domepeeler_line(d, replica, "read", 0, list, names);
 }
 
+/* Room for the lines of one more call of domepeeler_delivered(); it doubles where the calls so far are a power of two. */
+static inline int domepeeler_one_more_delivery(struct domepeeler *d) {
+    if (d->delivered & (d->delivered - 1)) return 1;
+    void *deliveries = realloc(d->deliveries, (d->delivered ? 2 * d->delivered : 1) * sizeof *d->deliveries);
+    if (deliveries) d->deliveries = (size_t(*)[2])deliveries;
+    return deliveries != NULL;
+}
+
 /* By now everything has arrived everywhere, and each replica, from 0 upward, shows its list of these, which has so many names; count is
  * the number of lists. Writes for each replica the receipts that are missing, and a read. So a change that an editor has lost, or still
- * holds back, is `contents` there. Answers 1. */
+ * holds back, is `contents` there. The recording keeps which lines it wrote. Answers 1. */
 DOMEPEELER_CHECKED static inline unsigned domepeeler_delivered(struct domepeeler *d, const char *const *const *lists,
                                                                const size_t *names, size_t count) {
     struct domepeeler_replica before[DOMEPEELER_REPLICAS];
-    size_t length = d->length, known = d->known;
+    size_t length = d->length, known = d->known, first = domepeeler_lines(d) + 1;
     if (d->only >= 0)
         return domepeeler_refuse(d, 0, "one replica's log can't say that everything has arrived: the others are recorded elsewhere");
     if (count != (size_t)d->replicas)
         return domepeeler_refuse(d, 0, "delivered wants the list of each of the %d replicas, not of %zu", d->replicas, count);
+    if (!domepeeler_one_more_delivery(d)) return domepeeler_refuse(d, 0, "no memory");
     memcpy(before, d->of, sizeof before);
     unsigned is_said = 1;
     for (int replica = 0; replica < d->replicas && is_said; replica++)
@@ -708,7 +722,11 @@ DOMEPEELER_CHECKED static inline unsigned domepeeler_delivered(struct domepeeler
         own->pasts = now.pasts;
         own->room = now.room;
     }
-    if (is_said) return 1;
+    if (is_said) {
+        d->deliveries[d->delivered][0] = first;
+        d->deliveries[d->delivered++][1] = domepeeler_lines(d);
+        return 1;
+    }
     d->text[d->length = length] = 0;
     domepeeler_forget(d, known);
     return 0;
@@ -1231,9 +1249,9 @@ static inline void domepeeler_refuse_end(struct domepeeler *d, const char *progr
 /* What the words print for this recording, with these files as the streams; NULL where that is not what is lacking then. */
 static inline char *domepeeler_answer(struct domepeeler *d, const char *const *words, const int *files, const char *named,
                                       const char *lacking, char first) {
-    char *given[8] = {NULL};
+    char *given[DOMEPEELER_WORDS] = {NULL};
     int status = 0;
-    for (size_t i = 0; words[i] && i < 7; i++) memcpy(&given[i], &words[i], sizeof *given); /* they are only read */
+    for (size_t i = 0; words[i] && i < DOMEPEELER_WORDS - 1; i++) memcpy(&given[i], &words[i], sizeof *given); /* they are only read */
     int why = domepeeler_run(given, files, &status);
     if (why > 0) domepeeler_fail(d, "%s cannot be run (%s): name %s", words[0], strerror(why), named);
     if (why < 0) domepeeler_fail(d, "how %s ended was not learned: %s", words[0], strerror(errno));
@@ -1349,10 +1367,17 @@ static inline char *domepeeler_with_ids(struct domepeeler *d, char *said) {
  * stands whether calls were refused. NULL where there is no answer. The tool is that of the environment's DOMEPEELER_EXPLAIN, or
  * domepeeler-explain, beside the program of DOMEPEELER or on the PATH, where NULL is given. */
 DOMEPEELER_CHECKED static inline char *domepeeler_explain(struct domepeeler *d, const char *explainer) {
-    char path[4096];
+    char path[4096], ranges[DOMEPEELER_DELIVERED][48];
     if (!explainer) explainer = getenv("DOMEPEELER_EXPLAIN");
     if (!explainer || !*explainer) explainer = domepeeler_beside_program(path, sizeof path);
-    const char *words[] = {explainer, "--language", "c", "-", NULL};
+    const char *words[DOMEPEELER_WORDS] = {explainer, "--language", "c"};
+    size_t count = 3, first = d->delivered > DOMEPEELER_DELIVERED ? d->delivered - DOMEPEELER_DELIVERED : 0;
+    for (size_t i = first; i < d->delivered; i++) {
+        snprintf(ranges[i - first], sizeof *ranges, "%zu-%zu", d->deliveries[i][0], d->deliveries[i][1]);
+        words[count++] = "--delivered";
+        words[count++] = ranges[i - first];
+    }
+    words[count] = "-";
     char *said = domepeeler_ask(d, words, "the tool's path in DOMEPEELER_EXPLAIN", "words", 0);
     return said ? domepeeler_with_ids(d, said) : NULL;
 }

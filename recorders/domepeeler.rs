@@ -13,7 +13,7 @@
 //! recording.read(0, &["a"])?;                   // replica 0 read its list
 //! recording.view(0, &["a"])?;                   // replica 0 showed this part of its list
 //! recording.delivered(&[none, none])?;          // by now all has arrived everywhere, and both lists are empty
-//! recording.assert_accepted();                  // in a test: asks the program, and panics with an explanation; or
+//! recording.assert_accepted();                  // in a test: asks the program, and panics with an explanation or warnings; or
 //! recording.save("session.trace")?;             // the trace as a file, for tools/explain
 //! println!("{}", recording.verdict().unwrap()); // asks the program: what it says, as an enum
 //! println!("{}", recording.judge().unwrap());   // its report as JSON, with warnings
@@ -54,6 +54,7 @@ const FAILED_TRACES: &str = "failed_traces"; // the folder of traces that were n
 const MOST_LINKS: usize = 40; // that are followed, one behind the other
 const MOST_NOTES: usize = 20;
 const MOST_LETTERS: usize = 200; // of a note
+const MOST_DELIVERED: usize = 100; // calls of `delivered` that the explainer is told of, the last ones
 const MOST_TOLD: usize = 5; // deletes, or inserts, that warnings tell one by one
 const MOST_CHANGES: usize = 3; // that warnings tell one by one of those that a replica lacks, or has made nothing of
 const MORE_CHANGES: &str = "; if the update carried more than one change, say how many (`changes`)";
@@ -271,6 +272,8 @@ pub struct Recording {
     only: Option<usize>,
     names: Names,
     notes: Vec<String>,
+    /// Of each call of `delivered` the first and the last line of the trace that it wrote.
+    deliveries: Vec<(usize, usize)>,
 }
 
 impl Recording {
@@ -283,7 +286,8 @@ impl Recording {
         let new = Replica { entries: 0, operations: 0, inserts: 0, places: 0, changes: vec![], others, pasts: vec![] };
         let callers = Vec::new();
         let names = Names::default();
-        Ok(Recording { lines, callers, replicas: vec![new; replicas], only: None, names, notes: vec![] })
+        let replicas = vec![new; replicas];
+        Ok(Recording { lines, callers, replicas, only: None, names, notes: vec![], deliveries: vec![] })
     }
 
     /// The log of one replica of so many, on its own machine.
@@ -384,7 +388,8 @@ impl Recording {
     }
 
     /// By now everything has arrived everywhere, and each replica, from 0 upward, shows its list of these. Writes for each replica
-    /// the receipts that are missing, and a read. So a change that an editor has lost, or still holds back, is `contents` there.
+    /// the receipts that are missing, and a read. So a change that an editor has lost, or still holds back, is `contents` there. The
+    /// recording keeps which lines it wrote.
     #[track_caller]
     pub fn delivered<L: AsRef<[N]>, N: AsRef<str>>(&mut self, lists: &[L]) -> Result<(), Refused> {
         if self.only.is_some() {
@@ -401,6 +406,7 @@ impl Recording {
                 return Err(why);
             }
         }
+        self.deliveries.push((before.entries + HEAD_LINES + 1, self.lines()));
         Ok(())
     }
 
@@ -445,8 +451,8 @@ impl Recording {
     }
 
     /// Writes the text into a file of this name; and first, into one with `.lines` behind the name, how many lines it has, so that
-    /// the tools notice where the end of the file is lost, the notes, and from where in your code each line was recorded. Each
-    /// appears whole, or what stood there stays. A pipe or a device has no such file beside it.
+    /// the tools notice where the end of the file is lost, the notes, which lines `delivered` wrote, and from where in your code each
+    /// line was recorded. Each appears whole, or what stood there stays. A pipe or a device has no such file beside it.
     pub fn save(&self, path: impl AsRef<Path>) -> io::Result<()> {
         let path = path.as_ref();
         if matches!(fs::metadata(path), Ok(about) if !about.is_file()) {
@@ -506,27 +512,24 @@ impl Recording {
         Ok(verdict)
     }
 
-    /// For a test: panics unless the program accepts the recording, with the words of `explain`. The trace is then saved below the folder
-    /// `failed_traces`, by the name of the test, and where no tool explains it, the verdict stands in the place of the words. What an
-    /// accepted verdict may hide goes to standard error; but a recording of nothing panics.
+    /// For a test: panics unless the program accepts the recording and no warning says what that may hide, with the warnings and the words
+    /// of `explain`. So it does because `cargo test` hides what a test that passes writes to standard error. The trace is then saved below
+    /// the folder `failed_traces`, by the name of the test, and where no tool explains it, the verdict stands in the place of the words.
+    /// Of a recording of nothing it panics with the warning alone, and saves no trace.
     #[track_caller]
     pub fn assert_accepted(&self) {
         let path = failed_trace(Location::caller());
-        match self.verdict() {
+        let (verdict, unsure) = match self.verdict() {
             Err(why) => panic!("{why}"),
             Ok(Verdict::Accepted { warnings, .. }) if self.callers.is_empty() => panic!("{}", warnings.join("\n")),
-            Ok(Verdict::Accepted { warnings, .. }) => {
-                for warning in warnings {
-                    eprintln!("domepeeler: {warning}");
-                }
-            }
-            Ok(verdict) => {
-                let said = self.explain().unwrap_or_else(|why| format!("{verdict}\n{why}\n"));
-                match self.save_failed(&path) {
-                    Ok(()) => panic!("{said}\nThe trace is saved: {}", path.display()),
-                    Err(why) => panic!("{said}\nThe trace can't be saved: {}: {why}", path.display()),
-                }
-            }
+            Ok(Verdict::Accepted { warnings, .. }) if warnings.is_empty() => return,
+            Ok(Verdict::Accepted { warnings, .. }) => ("accepted".to_string(), format!("{}\n\n", warnings.join("\n"))),
+            Ok(verdict) => (verdict.to_string(), String::new()),
+        };
+        let said = unsure + &self.explain().unwrap_or_else(|why| format!("{verdict}\n{why}\n"));
+        match self.save_failed(&path) {
+            Ok(()) => panic!("{said}\nThe trace is saved: {}", path.display()),
+            Err(why) => panic!("{said}\nThe trace can't be saved: {}: {why}", path.display()),
         }
     }
 
@@ -548,7 +551,11 @@ impl Recording {
 
     /// The words of the tool at this path.
     pub fn explain_by(&self, explainer: &str) -> Result<String, String> {
-        let words = ["--language", LANGUAGE, "-"];
+        let last = &self.deliveries[self.deliveries.len().saturating_sub(MOST_DELIVERED)..];
+        let ranges: Vec<String> = last.iter().map(|(from, to)| format!("{from}-{to}")).collect();
+        let mut words = vec!["--language", LANGUAGE];
+        words.extend(ranges.iter().flat_map(|range| ["--delivered", range]));
+        words.push("-");
         let done = self.ask(explainer, &words, "the tool's path in DOMEPEELER_EXPLAIN", "no words")?;
         if done.stdout.is_empty() {
             return Err(ended(explainer, &done, "no words"));
@@ -605,8 +612,9 @@ impl Recording {
     /// What stands in the file beside the trace.
     fn beside(&self) -> String {
         let notes: String = self.notes.iter().map(|note| format!("note {note}\n")).collect();
+        let deliveries: String = self.deliveries.iter().map(|(from, to)| format!("delivered {from} {to}\n")).collect();
         let places: String = self.places().map(|(line, place)| format!("{line} {place}\n")).collect();
-        format!("{}\nlanguage {LANGUAGE}\n{notes}{places}", self.lines())
+        format!("{}\nlanguage {LANGUAGE}\n{notes}{deliveries}{places}", self.lines())
     }
 
     /// How a program ended, by itself and with a status that says that it has answered, which is else lacking.

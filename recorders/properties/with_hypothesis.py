@@ -1,5 +1,5 @@
 #!/usr/bin/env python3
-"""A property-based test by Hypothesis: whatever is done at three replicas, the recording is accepted.
+"""A property-based test by Hypothesis: whatever is done at three replicas, the recording is accepted without warnings.
 
 Needs Debian's python3-hypothesis and python3-pytest, and the program's path in DOMEPEELER:
 
@@ -36,7 +36,7 @@ STEPS = st.lists(st.tuples(st.integers(0, REPLICAS - 1), st.sampled_from(["inser
 
 
 def session(engine: type, steps: list):
-    """The recording of these steps. At the end everyone takes from everyone, and reads."""
+    """The recording of these steps. At the end all that was done is delivered to everyone."""
     group = Group(REPLICAS, engine)
     has = [[] for _ in range(REPLICAS)]  # the operations of each replica, in the order in which they came
     for number, (replica, what, place) in enumerate(steps):
@@ -46,28 +46,30 @@ def session(engine: type, steps: list):
         elif what == "delete" and names:
             has[replica].append((replica, group.delete(replica, names[place % len(names)])))
         elif what == "take":
-            take(group, has, replica, place % REPLICAS)
+            for operation in taken(has, replica, place % REPLICAS):
+                group.take(replica, *operation)
     for replica in [*range(REPLICAS), *range(REPLICAS)]:
         for other in range(REPLICAS):
-            take(group, has, replica, other)
-    for replica in range(REPLICAS):
-        group.read(replica)
+            for operation in taken(has, replica, other):
+                group.lists[replica].apply(group.messages[operation])
+    group.recording.delivered([group.names(replica) for replica in range(REPLICAS)])  # writes the receipts of these, and reads
     return group.recording
 
 
-def take(group: Group, has: list, replica: int, other: int) -> None:
-    """The replica takes in what the other has, in the other's order: so exchange is causal."""
-    for operation in [one for one in has[other] if one not in has[replica]]:
-        group.take(replica, *operation)
-        has[replica].append(operation)
+def taken(has: list, replica: int, other: int) -> list:
+    """What the replica takes in of what the other has, in the other's order: so exchange is causal."""
+    operations = [one for one in has[other] if one not in has[replica]]
+    has[replica] += operations
+    return operations
 
 
 def check(engine: type, steps: list) -> None:
     recording = session(engine, steps)
     report = recording.judge()
-    if report["verdict"] != "accepted":
+    is_accepted = report["verdict"] == "accepted" and not report["warnings"]
+    if not is_accepted:
         recording.save("failed.trace")  # of the steps that fail the smallest are tried last
-    assert report["verdict"] == "accepted", f"{report}\n{recording.text()}"
+    assert is_accepted, f"{report}\n{recording.text()}"
 
 
 @settings(deadline=None, max_examples=200)

@@ -1,4 +1,5 @@
-// A property-based test by Node's own test runner: whatever is done at three replicas, the recording is accepted.
+// A property-based test by Node's own test runner: whatever is done at three replicas, the recording is accepted without
+// warnings.
 //
 // Debian 12 has no fast-check, so the random steps are made and made fewer here, by `failing`. Needs Debian's node-yjs,
 // and the program's path in DOMEPEELER:
@@ -82,17 +83,18 @@ class Fractions {
   }
 }
 
-// The recording of these steps. At the end everyone takes from everyone, and reads.
+// The recording of these steps. At the end all that was done is delivered to everyone.
 function session(Engine, steps) {
   const recording = new Recording(REPLICAS)
   const lists = Array.from({ length: REPLICAS }, (_, replica) => new Engine(replica))
   const has = lists.map(() => []) // the operations of each replica, in the order in which they came
   const take = (replica, other) => {
-    for (const one of has[other].filter((one) => !has[replica].includes(one))) {
+    const taken = has[other].filter((one) => !has[replica].includes(one))
+    for (const one of taken) {
       lists[replica].apply(one.message)
-      recording.received(replica, one.author, one.n) // after the remote change was applied
       has[replica].push(one)
     }
+    return taken
   }
   steps.forEach(([replica, what, place], number) => {
     const engine = lists[replica], names = engine.names()
@@ -105,12 +107,12 @@ function session(Engine, steps) {
       const message = engine.delete(name)
       has[replica].push({ author: replica, n: recording.delete(replica, name, engine.names()), message })
     } else if (what === 2 && place % REPLICAS !== replica) {
-      take(replica, place % REPLICAS)
+      for (const one of take(replica, place % REPLICAS)) recording.received(replica, one.author, one.n)
     }
   })
   const everyone = [...lists.keys()]
   for (const replica of [...everyone, ...everyone]) everyone.forEach((other) => take(replica, other))
-  for (const replica of everyone) recording.read(replica, lists[replica].names())
+  recording.delivered(lists.map((list) => list.names())) // writes the receipts of these, and reads
   return recording
 }
 
@@ -122,9 +124,12 @@ function numbers(seed) {
   }
 }
 
-// The first random steps that are not accepted, as few as leaving out one after the other makes them; or null.
+// The first random steps that fail, as few as leaving out one after the other makes them; or null.
 async function failing(Engine) {
-  const fails = async (steps) => (await session(Engine, steps).judge()).verdict !== "accepted"
+  const fails = async (steps) => {
+    const { verdict, warnings } = await session(Engine, steps).judge()
+    return verdict !== "accepted" || warnings.length > 0
+  }
   const random = numbers(1)
   for (let tried = 0; tried < SESSIONS; tried++) {
     let steps = Array.from({ length: random(MOST_STEPS) }, () => [random(REPLICAS), random(3), random(8)])

@@ -595,7 +595,38 @@ def check_lines(tally: Tally, recorder: Recorder, folder: Path) -> None:
                 beside(full) in (f"2 {own}", f"102 {own}"), (got, beside(full)))
     tally.check(f"{recorder.language}: and nothing is left of it", left == ["full.trace", "full.trace.lines"] or
                 got[1].startswith("ended with -"), (got, left))
+    check_ranges(tally, recorder, place / "ranges.trace")
     check_replaced(tally, recorder, place / "replaced")
+
+
+# Calls, which lines of the trace `delivered` wrote in each of its calls, and how many lines there are.
+TWO_DELIVERIES = ["new 2", "insert 0 a 0 a", "delivered a / a", "note seed%2017", "delivered a", "read 0 a", "delivered a / a:b",
+                  "delivered a / a"]
+RANGES = [("of two calls, and none of one that is refused", TWO_DELIVERIES, [(4, 6), (8, 9)], 9),
+          ("of a call where nothing was recorded", ["new 3", "delivered / /"], [(3, 5)], 5),
+          ("of 102 calls", ["new 1", "read 0", *["delivered"] * 102], [(line, line) for line in range(4, 106)], 105),
+          ("where there is no such call", ["new 2", "insert 0 a 0 a", "received 1 0 1", "read 1 a"], [], 5),
+          ("where each is refused", ["new 2", "read 0", "delivered", "delivered a:b /", "delivered / / /"], [], 3),
+          ("in one replica's log", ["new 2 1", "read 1", "delivered /"], [], 3)]
+
+
+def check_ranges(tally: Tally, recorder: Recorder, trace: Path) -> None:
+    """Beside what is saved stand, behind the notes and before the places, the lines that each call of `delivered` wrote; and `explain`
+    tells the tool of the last hundred."""
+    teller = trace.parent / "teller"
+    teller.write_text("#!/bin/sh\ncat > /dev/null\necho \"asked: $*\"\n")
+    teller.chmod(0o755)
+    language = LANGUAGES[recorder.language]
+    for name, calls, ranges, count in RANGES:
+        got = recorder.answers([*map(fields, calls), f"save\t{trace}", "explain"], DOMEPEELER_EXPLAIN=str(teller))
+        lines = Path(f"{trace}.lines").read_text().splitlines()
+        noted = ["note seed 17"] * ("note seed%2017" in calls)
+        head = [str(count), f"language {language}", *noted, *(f"delivered {first} {last}" for first, last in ranges)]
+        tally.check(f"{recorder.language}: lines that delivered wrote, {name}", lines[:len(head)] == head and
+                    all(line.split(" ")[0].isdigit() for line in lines[len(head):]), lines)
+        told = " ".join(["| asked: --language", language, *(f"--delivered {first}-{last}" for first, last in ranges[-100:]), "-"])
+        wanted = ONE_LOG if calls[0] == "new 2 1" else told
+        tally.check(f"{recorder.language}: explain tells of them, {name}", any(line.endswith(wanted) for line in got[len(calls) + 1:]), got[-6:])
 
 
 def check_replaced(tally: Tally, recorder: Recorder, place: Path) -> None:
@@ -658,7 +689,7 @@ def check_places(tally: Tally, recorder: Recorder, folder: Path) -> None:
             is_call = found and f"recording.{kind}(" in source[int(found[1]) - 1]
             tally.check(f"{recorder.language}: the place of {kind}", is_call and (not found[2] or recorder.language != "rs"), line)
     recorder.answers(["new\t3", "insert\t0\ta\t0\ta", "delivered\ta\t/\ta\t/\ta", f"save\t{trace}"])
-    lines = Path(f"{trace}.lines").read_text().splitlines()[3:]
+    lines = Path(f"{trace}.lines").read_text().splitlines()[4:]
     places = {re.search(rf"driver\.{recorder.language}:(\d+)", line)[1] for line in lines}
     tally.check(f"{recorder.language}: the place of delivered", len(lines) == 5 and len(places) == 1 and
                 "recording.delivered(" in source[int(*places) - 1], lines)
@@ -1285,7 +1316,8 @@ def check_threads(tally: Tally) -> None:
 
 
 def check_explains_file(tally: Tally, recorder: Recorder, folder: Path) -> None:
-    """What `explain` says of an accepted recording that may hide something is what the tool says of the saved file."""
+    """What `explain` says of an accepted recording that may hide something is what the tool says of the saved file; so it is where
+    `delivered` alone says that a change has arrived, as the tool is told which lines that wrote."""
     trace = folder / f"unsure.{recorder.language}.trace"
     calls = ["new 2", "note seed%2017", "insert 0 a 0 a", "received 1 0 1", "insert 0 b 1 a b", "read 1 a"]
     got = recorder.answers([*map(fields, calls), f"save\t{trace}", "explain"], DOMEPEELER_EXPLAIN=EXPLAIN)
@@ -1295,6 +1327,13 @@ def check_explains_file(tally: Tally, recorder: Recorder, folder: Path) -> None:
     tally.check(f"{recorder.language}: explains a file with warnings", told.returncode == 0 and said == told.stdout.splitlines() and
                 said[-3:] == ["", "Noted", "  seed 17"] and re.search(rf": 0\.2 \(line 5(, .*{place})?\) never arrived at replica 1 ", told.stdout)
                 and ("(line 5, " in told.stdout) == (recorder.language in PLACING), (said, told))
+    lost = ["new 2", "insert 0 a 0 a", "delivered a /"]
+    got = recorder.answers([*map(fields, lost), f"save\t{trace}", "explain"], DOMEPEELER_EXPLAIN=EXPLAIN)
+    told = subprocess.run([EXPLAIN, trace], capture_output=True, text=True, env=recorder.surroundings)
+    said = [line[2:] for line in got[len(lost) + 1:-1]]
+    tally.check(f"{recorder.language}: explains a file of a session that ends with delivered", told.returncode == 1 and
+                said == told.stdout.splitlines() and "nothing shows that 0.1 (line 3) was applied at replica 1" in told.stdout and
+                "by `delivered` arrived at replica 1 in line 5 (1 recv 0 1)" in told.stdout, (said, told))
 
 
 def check_judge(tally: Tally, recorder: Recorder, folder: Path) -> None:
@@ -1865,6 +1904,16 @@ mod inner {{
 }}
 
 #[test]
+fn an_insert_never_arrives() {{
+    let mut recording = session();
+    recording.read(1, &["a"]).unwrap();
+    if std::env::var_os("LOST").is_some() {{
+        recording.insert(0, "b", 1, &["a", "b"]).unwrap(); // hidden
+    }}
+    recording.assert_accepted();
+}}
+
+#[test]
 fn nothing_is_recorded() {{
     Recording::new(2).unwrap().assert_accepted();
 }}
@@ -1907,8 +1956,9 @@ fn verdicts() {{
 
 
 def check_rust_tests(tally: Tally, program: str, folder: Path) -> None:
-    """A verdict as a value; and `assert_accepted`, which explains, saves, and removes what an earlier run has saved. Its folder's name has
-    signs that JSON escapes, and a place is named with them. A copy of the recorder among tests gives clippy nothing to say."""
+    """A verdict as a value; and `assert_accepted`, which explains, saves, and removes what an earlier run has saved, and takes no recording
+    that is accepted with warnings. Its folder's name has signs that JSON escapes, and a place is named with them. A copy of the recorder
+    among tests gives clippy nothing to say."""
     place = folder / 'a "user\'s" \\tests'
     place.mkdir()
     (place / "editor.rs").write_text(RUST_TESTS)
@@ -1918,16 +1968,27 @@ def check_rust_tests(tally: Tally, program: str, folder: Path) -> None:
     line = {word: next(number for number, text in enumerate(RUST_TESTS.splitlines(), 1) if f"// {word}" in text) for word in ("asks", "reads")}
     saved = place / "failed_traces" / "editor-inner-a_list_is_lost.trace"
     done = subprocess.run(["./editor-0123456789abcdef"], cwd=place, env={**surroundings, "LOST": "1"}, capture_output=True, text=True)
-    tally.check("Rust tests: counts", done.returncode != 0 and "test result: FAILED. 3 passed; 2 failed;" in done.stdout, done)
+    tally.check("Rust tests: counts", done.returncode != 0 and "test result: FAILED. 3 passed; 3 failed;" in done.stdout, done)
     tally.check("Rust tests: a lost list is explained", f"editor.rs:{line['asks']}:" in done.stdout and "contents 1.1: " in done.stdout and
                 f"\nIn your code\n  editor.rs:9: line 3\n  editor.rs:10: line 4\n  editor.rs:{line['reads']}: line 5\n" in done.stdout and
                 f"\nThe trace is saved: failed_traces/{saved.name}\n" in done.stdout, done)
     tally.check("Rust tests: nothing recorded", NOTHING in done.stdout, done)
+    warning = ("in the end replicas 0 and 1 show different lists: 0.2 (line 6, editor.rs:{}) never arrived at replica 1 by this recording. "
+               "{}").format(next(number for number, text in enumerate(RUST_TESTS.splitlines(), 1) if "// hidden" in text), LOST_ONE)
+    unsure = saved.with_name("editor-an_insert_never_arrives.trace")
+    tally.check("Rust tests: warnings of an accepted recording fail", f":\n{warning}\n\naccepted, with a warning: " in done.stdout and
+                f"\nWhat this verdict may hide\n  {warning}\n" in done.stdout and
+                f"\nThe trace is saved: failed_traces/{unsure.name}\n" in done.stdout and
+                unsure.read_text().endswith("1 read : a\n0 ins b 1 : a b\n"), done)
     tally.check("Rust tests: what is saved", sorted(path.name for path in saved.parent.iterdir()) == [
-        ".gitignore", saved.name, f"{saved.name}.lines"] and saved.read_text().endswith("1 recv 0 1\n1 read :\n") and
-        (saved.parent / ".gitignore").read_text() == "*\n", done)
+        ".gitignore", unsure.name, f"{unsure.name}.lines", saved.name, f"{saved.name}.lines"] and
+        saved.read_text().endswith("1 recv 0 1\n1 read :\n") and (saved.parent / ".gitignore").read_text() == "*\n", done)
+    without = subprocess.run(["./editor-0123456789abcdef", "never"], cwd=place, capture_output=True, text=True,
+                             env={**surroundings, "LOST": "1", "DOMEPEELER_EXPLAIN": "/nowhere/explain"})
+    tally.check("Rust tests: warnings where no tool explains", without.returncode != 0 and
+                f":\n{warning}\n\naccepted\n/nowhere/explain cannot be run (" in without.stdout, without)
     done = subprocess.run(["./editor-0123456789abcdef"], cwd=place, env=surroundings, capture_output=True, text=True)
-    tally.check("Rust tests: one that passes removes what it saved before", "4 passed; 1 failed;" in done.stdout and
+    tally.check("Rust tests: one that passes removes what it saved before", "5 passed; 1 failed;" in done.stdout and
                 [path.name for path in saved.parent.iterdir()] == [".gitignore"], done)
     need("clippy-driver", "rust-clippy")
     (place / "tests/domepeeler").mkdir(parents=True)
