@@ -142,8 +142,8 @@ def statuses(tally: Tally, program: str, folder: str, other: str) -> None:
     tally.check("a trace that does not read: JSON", json.loads(got.out)["verdict"] == "unread" and got.status == 2
                 and json.loads(got.out)["error"].endswith("line 3: shape"), got)
     got = judge("/bin/false", [good[0]])
-    fault = "domepeeler-judge-many: /bin/false is not domepeeler: asked for its version it ended with status 1\n"
-    tally.same("a program that answers nothing", got, Ended(2, b"", fault.encode()))
+    fault = b"domepeeler-judge-many: /bin/false is not domepeeler: asked for its version it ended with status 1"
+    tally.check("a program that answers nothing", got.status == 2 and not got.out and got.err.startswith(fault), got)
 
 
 def failing(tally: Tally, program: str, folder: str) -> None:
@@ -258,7 +258,7 @@ def jobs_of_ci(tally: Tally, program: str, folder: str) -> None:
     told = "judge_recordings: domepeeler-judge-many can't be run: No such file or directory. Is Domepeeler installed?\n"
     tally.check("CI: nothing installed", (done.returncode, done.stdout, done.stderr) == (2, "", told), done)
     done = in_ci(project_of(folder, ACCEPTED), path, "python3 ci/judge_recordings.py", {})
-    tally.check("CI: no folder named", done.returncode == 2 and done.stderr == "usage: judge_recordings.py FOLDER\n", done)
+    tally.check("CI: no folder named", done.returncode == 2 and done.stderr == "usage: judge_recordings.py FOLDER [OPTION..]\n", done)
 
 
 def in_github(tally: Tally, project: str, path: str, step: str) -> None:
