@@ -134,7 +134,7 @@ class Client:
 
 def moved(change, over, bug):
     """The change as it is behind another one that was made at the same time."""
-    if change is None or over is None:
+    if change is None or over is None or over[0] is None:
         return change
     kind, place, name, author, n = change
     if over[0] == "ins":

@@ -285,6 +285,9 @@ def show(words: argparse.Namespace, kind: sessions.Kind, verdict_word: str, trac
 if __name__ == "__main__":
     try:
         main()
+    except BrokenPipeError:  # the reader has enough
+        os.dup2(os.open(os.devnull, os.O_WRONLY), sys.stdout.fileno())
+        sys.exit(2)
     except Exception:  # which nobody has thought of
         traceback.print_exc()
         sys.exit(2)

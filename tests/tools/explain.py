@@ -1098,7 +1098,7 @@ def planted_bugs(tally: Tally, program: str, folder: str) -> None:
             text = planted.session(bug, seed, 16).text()
             report = report_of(program)(text.encode())
             tally.check(f"planted: {bug} {seed}: judged", report is not None and (phrases or report["weak"] and (report["strong"] or "server" in bug)), text)
-            if not phrases or report["verdict"] == "accepted":
+            if not phrases or report["weak"]:  # accepted; or refused as an engine behind a server is without a bug too
                 continue
             words, told = explained(Evidence(Recording(text), report), report_of(program))
             said = text_of_words(words)

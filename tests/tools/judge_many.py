@@ -74,7 +74,7 @@ WARNINGS = {
     "ends": re.compile(r"(in the end replicas [\d, and]+ show different lists|by this recording )"),
     "unshown": re.compile(r"replica (\d+) received .* last, and nothing shows what it made of (?:that|them): "),
 }
-LACKED = re.compile(r"((?:\d+\.\d+ \(line \d+\)(?:, | and )?|\d+ more )+)never arrived at replica (\d+)")
+LACKED = re.compile(r"((?:\d+\.\d+ \(line \d+\)(?:, | and )?|\d+ more )+) ?never arrived at replica (\d+)")
 NAMED = re.compile(r"(\d+)\.(\d+) \(line (\d+)\)")
 
 KINDS_EXCHANGED = [exchanged.SMALL_PEERS, exchanged.SMALL_STAR, exchanged.SMALL_MIDDLE]
@@ -501,7 +501,7 @@ def grouped(tally: Tally, program: str, folder: str) -> None:
     got = judge(program, ["--junit", f"{folder}/junit.xml", folder])
     rows = [cells(line) for line in got.out.decode().splitlines()]
     tally.check("grouped: the rows", [(Path(row[0]).stem, row[6]) for row in rows[:-1]] == [
-        ("file", "alike"), ("a", "2"), ("c", "0"), ("e", "0")] and rows[-1] == ("5 traces: 5 contents",), rows)
+        ("file", "alike"), ("a", "1"), ("c", "0"), ("d", "0"), ("e", "0")] and rows[-1] == ("5 traces: 5 contents",), rows)
     tally.check("grouped: JUnit has each", len(list(xml.parse(f"{folder}/junit.xml").getroot().iter("failure"))) == 5)
     objects = [json.loads(line) for line in judge(program, ["--json", folder]).out.decode().splitlines()]
     tally.check("grouped: JSON has each", sorted((Path(row["file"]).stem, row["causes"][-1], row.get("place")) for row in objects) == [
