@@ -425,7 +425,7 @@ PLANTED = {
     "tie": (100, 50, ["order of concurrent inserts", "rule that orders concurrent inserts"]),
     "clock": (300, 20, ["numbers that order inserts", "number that orders inserts"]),
     "overtaking": (100, 50, ["overtook it in line"]),
-    "mapping": (150, 40, ["perhaps not adjusted for the delete"]),
+    "mapping": (150, 40, ["perhaps not adjusted for the delete", "perhaps not adjusted for the insert"]),
     "twice": (500, 10, ["already deleted here by"]),
     "none": (60, 0, []),
     "none_behind_server": (60, 0, []),

@@ -90,8 +90,10 @@ def undelivered(evidence: Evidence) -> Cause:
 
 
 def unlike_receipts(evidence: Evidence) -> list:
-    """With which changes more or less the response would be right."""
+    """With which changes more or less the response would be right; but not with both, which is no single fault."""
     left_out, added = evidence.otherwise
+    if left_out and added:
+        return []
     replica = evidence.operations[0].replica
     return [Cause(name, look.format(replica=replica, **changes_told(changes)))
             for name, look, changes in (("not applied", NOT_APPLIED, left_out), ("no receipt", NO_RECEIPT, added)) if changes]
@@ -114,7 +116,8 @@ def wrong_delete(evidence: Evidence, operation: Operation) -> list:
     before = [one for one in evidence.recording.streams[operation.replica][:operation.n - 1] if one.kind != "view"][-1:]
     news = [delete for delete in deletes if operation.has_seen(delete) and not any(one.has_seen(delete) for one in before)]
     is_new = any(map(evidence.is_new, evidence.recording.inserts[missing])) and before
-    if missing in evidence.recording.deletes or not news or is_new or not any(map(operation.has_seen, inserts)):
+    is_deleted = missing in evidence.recording.deletes and not all(evidence.otherwise)  # by what no receipt brings, and that alone tells it
+    if is_deleted or not news or is_new or not any(map(operation.has_seen, inserts)):
         return []
     unknown = [change for change in evidence.recording.changes() if change.element not in (surplus, missing) and operation.has_seen(change)
                and not news[0].has_seen(change)]

@@ -39,7 +39,7 @@ def stop_of(evidence: Evidence) -> tuple:
         overtaking = [found.brought for _, found in evidence.overtakings]
         left_out, added = evidence.otherwise
         not_applied = [evidence.recording.arrival(change, named.replica) for change in left_out]
-        received = [] if added else evidence.before(named)[1]  # where a receipt is missing, none of these is at fault
+        received = [] if added and not left_out else evidence.before(named)[1]  # where a receipt is missing, none of these is at fault
         return [*second, *overtaking, *not_applied, *received, named][0], []
     return named, []
 
