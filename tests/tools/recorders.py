@@ -1550,7 +1550,7 @@ MERGED_BESIDE = [
 
 def check_merge_hostile(tally: Tally, folder: Path) -> None:
     """merge.py reads files alone, and no name or log sends bytes of its own to a terminal or writes a line of its own."""
-    place = folder / "hostile"
+    place = folder / "hostile logs"
     place.mkdir()
     os.mkfifo(place / "pipe")
     os.mkfifo(place / "0.log.lines")
@@ -1778,16 +1778,16 @@ def check_any_order(tally: Tally, program: str, shown: list) -> None:
 
 
 def check_readme(tally: Tally, program: str, folder: Path) -> None:
-    """README's examples are accepted; and if replica 0 has lost the element in its last answer, each ends with the explanation."""
+    """README's examples are accepted; and if replica 0 has lost the delete in its last answer, each ends with the explanation."""
     place = folder / "readme"
     place.mkdir()
     surroundings = {**os.environ, "DOMEPEELER": program, "DOMEPEELER_EXPLAIN": EXPLAIN, "PYTHONDONTWRITEBYTECODE": "1"}
     for begin, (words, recorder) in README.items():
         found = [block for block in blocks(ROOT / "README.md") if block.startswith(begin)]
-        tally.check(f"README: {begin}", len(found) == 1 and found[0].count('read(0, ["a"])') == 1, found)
+        tally.check(f"README: {begin}", len(found) == 1 and found[0].count("delivered([[], []])") == 1, found)
         shutil.copy(ROOT / "recorders" / recorder, place)
         text = "".join(found)
-        for code, wanted in (text, ""), (text.replace('read(0, ["a"])', "read(0, [])"), "contents 0.2: "):
+        for code, wanted in (text, ""), (text.replace("delivered([[],", 'delivered([["a"],'), "contents 0.2: "):
             Path(place, words[-1]).write_text(code)
             done = subprocess.run(words, cwd=place, capture_output=True, text=True, env=surroundings)
             tally.check(f"README: {begin}, {wanted or 'accepted'}", done.returncode == int(wanted != "") and wanted in done.stderr and
