@@ -751,7 +751,7 @@ def stopped(tally: Tally, folder: str, other: str) -> None:
 
 def is_running(pid: str) -> bool:
     """Whether a process does anything; one that has just been killed may not have been waited for yet."""
-    for _ in range(100):
+    for _ in range(1000):
         try:
             if Path(f"/proc/{pid}/stat").read_text().rpartition(")")[2].split()[0] == "Z":
                 return False
