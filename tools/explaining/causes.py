@@ -185,11 +185,10 @@ def of_several(evidence: Evidence) -> Cause:
 
 def moved_over(evidence: Evidence) -> str:
     """Which deletes an arriving insert may have met that its author did not know: some editors have to adjust its position for these."""
-    for arrival in reversed(evidence.arrivals):
-        unknown = evidence.unknown_deletes(arrival)
-        if unknown:
-            return MOVED_INSERT.format(element=arrival.insert.element, changes=named(unknown), replica=arrival.receipt.replica)
-    return ""
+    arrival, unknown = evidence.met
+    if not unknown:
+        return ""
+    return MOVED_INSERT.format(element=arrival.insert.element, changes=named(unknown), replica=arrival.receipt.replica)
 
 
 def named(changes: list) -> str:

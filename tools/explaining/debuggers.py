@@ -3,7 +3,6 @@ from __future__ import annotations
 
 from .evidence import Evidence
 from .recordings import Operation, Receipt
-from .telling import joined
 
 TITLE = "In a debugger"
 MOST_OTHERS = 8  # lines where others arrived that are told
@@ -46,7 +45,7 @@ def stop_of(evidence: Evidence) -> tuple:
 
 def told(evidence: Evidence, entry: Operation | Receipt, others: list) -> str:
     """Where to stop, in words."""
-    before = joined([f"line {other.line}" for other in others[:MOST_OTHERS]])
+    before = ", ".join(f"line {other.line}" for other in others[:MOST_OTHERS])
     then = f"; if nothing is wrong there, where {'another' if len(others) == 1 else 'others'} arrived ({before})" if others else ""
     if evidence.report["verdict"] == "contents" and evidence.undelivered:
         then = f", and follow that to replica {evidence.operations[0].replica}"

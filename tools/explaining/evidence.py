@@ -198,6 +198,15 @@ class Evidence:
         return [delete for deletes in self.recording.deletes.values() for delete in deletes
                 if clock[delete.replica] >= delete.n and not arrival.insert.has_seen(delete)]
 
+    @cached_property
+    def met(self) -> tuple:
+        """Of a refusal of two, the last arrival that met deletes which its insert's author did not know, and these."""
+        for arrival in reversed(self.arrivals) if self.report.get("k") == 2 else []:
+            unknown = self.unknown_deletes(arrival)
+            if unknown:
+                return arrival, unknown
+        return None, []
+
     def is_new(self, change: Operation) -> bool:
         """Of wrong contents, whether a change of another replica came there since the response before."""
         operation = self.operations[0]

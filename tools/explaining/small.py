@@ -14,6 +14,8 @@ from typing import NamedTuple
 from .evidence import Evidence
 from .recordings import Operation, Recording, place_asked
 
+MOST_MET = 3  # deletes that an insert met
+
 
 class Small(NamedTuple):
     """The small trace, for each of its operations the name there and the operation of the whole trace, and for each of its entries the
@@ -123,11 +125,14 @@ def candidates(evidence: Evidence) -> list:
     gone = [delete for pair in evidence.second_deletes[:1] for delete in pair]
     if evidence.report["verdict"] in ("refused", "contents"):
         gone += [delete for _, deletes in evidence.lost_neighbours for delete in deletes]
+    gone += evidence.met[1][:MOST_MET]
     elements.update(delete.element for delete in gone)
     overtakings = [found for _, found in evidence.overtakings]
     late = tuple({found.own for found in overtakings if found.own})
     misplaced = evidence.operations[0] if evidence.report["verdict"] == "position" else None
     told = [*evidence.operations, *(receipt.seen for found in overtakings for receipt in filter(None, found))]
+    if evidence.second_deletes:  # the response before shows what was there
+        told += evidence.before(evidence.operations[0])[0]
     if evidence.report["verdict"] == "contents":  # what has not arrived there may be what should have
         told += [change for element in evidence.elements for change in evidence.changes(element, evidence.operations[0])]
     if evidence.report["verdict"] != "doubled":
