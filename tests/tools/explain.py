@@ -422,7 +422,7 @@ OTHERS = [("echo hello", "0"), ("exit 0", "0"), ("echo '[]'", "0"), ("echo 5; ex
 # By planted bug: how many seeds, how many sessions fail at least, and what the words of a failing one must have one of.
 PLANTED = {
     "tombstone": (150, 50, ["beside deleted elements"]),
-    "tie": (100, 50, ["order of concurrent inserts", "rule that orders concurrent inserts"]),
+    "tie": (100, 50, ["order of concurrent inserts", "rule that orders concurrent inserts", "where a replica places an incoming insert"]),
     "clock": (300, 20, ["numbers that order inserts", "number that orders inserts"]),
     "overtaking": (100, 50, ["overtook it in line"]),
     "mapping": (150, 40, ["perhaps not adjusted for the delete", "perhaps not adjusted for the insert"]),
