@@ -30,7 +30,7 @@ COMPLETED = [
     (["domepeeler", "verdict", "--workers", "1"], {"1", "16"}),
     (["domepeeler", "live", "--"], {"--workers", "--help"}),
     (["domepeeler-explain", "--s"], {"--small", "--svg"}),
-    (["domepeeler-explain", "--"], {"--html", "--small", "--svg", "--language", "--program", "--version", "--help"}),
+    (["domepeeler-explain", "--"], {"--html", "--small", "--svg", "--language", "--delivered", "--program", "--version", "--help"}),
     (["domepeeler-explain", "--language", "r"], {"rust"}),
     (["domepeeler-judge-many", "--j"], {"--json", "--junit", "--jobs"}),
     (["domepeeler-judge-many", "--"], {"--json", "--failing", "--unequal", "--junit", "--jobs", "--sshlogin", "--program", "--version", "--help"}),
@@ -140,7 +140,7 @@ def recorders(tally: Tally, folder: str) -> None:
     guides = []
     for tool in f"{folder}/bin/domepeeler-explain", str(ROOT / "tools" / "explain"):
         said = run(tool, ["--program", f"{folder}/bin/domepeeler", EXAMPLE]).out.decode()
-        found = re.search(r"applies it to another element\. (.*) says where the calls go\.", said)
+        found = re.search(r"apply it to another element\? (.*) says where the calls go\.", said)
         guides.append(Path(found[1]) if found else None)
     share = Path(folder, "share/domepeeler")
     wanted = [share / "docs/recording.md", ROOT / "docs/recording.md"]

@@ -14,6 +14,7 @@ complete -c domepeeler -n '__fish_seen_subcommand_from verdict' -l json -d 'prin
 complete -c domepeeler-explain -l html -r -d 'write a page with the session drawn'
 complete -c domepeeler-explain -l small -r -d 'write the small trace that shows the same'
 complete -c domepeeler-explain -l svg -r -d 'write the picture of the cycle'
+complete -c domepeeler-explain -l delivered -x -d 'lines that delivered wrote'
 complete -c domepeeler-explain -l language -x -a 'python javascript rust c emacs-lisp' -d 'of the recorder'
 complete -c domepeeler-explain -l program -r -d 'the program that judges'
 

@@ -7,6 +7,7 @@ _domepeeler() {
             _arguments '--html[write a page with the session drawn]:file:_files' \
                 '--small[write the small trace that shows the same]:file:_files' \
                 '--svg[write the picture of the cycle]:file:_files' \
+                '*--delivered[lines that delivered wrote]:range:' \
                 '--language[of the recorder]:language:(python javascript rust c emacs-lisp)' \
                 '--program[the program that judges]:program:_files' \
                 '--version[show the version]' '--help[show the help]' '1:trace:_files'
