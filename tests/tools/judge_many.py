@@ -854,9 +854,9 @@ def script_of_ci(tally: Tally, program: str, folder: str) -> None:
 
 def big_traces(tally: Tally, program: str, folder: str) -> None:
     """What is told of a big trace beside its verdict is found by other processes, with the same words."""
-    names = [f"e{i}" for i in range(1500)]
-    inserts = [f"0 ins {name} {place} : {' '.join(names[:place + 1])}" for place, name in enumerate(names[:750])]
-    write(folder, {f"{i}.trace": "|".join([*inserts, "1 recv 0 750", f"1 read : {' '.join(names[:750 - i])}"]) for i in range(3)})
+    names = [f"element{i}" for i in range(600)]
+    inserts = [f"0 ins {name} {place} : {' '.join(names[:place + 1])}" for place, name in enumerate(names)]
+    write(folder, {f"{i}.trace": "|".join([*inserts, "1 recv 0 600", f"1 read : {' '.join(names[:600 - i])}"]) for i in range(3)})
     rows = [json.loads(line) | {"seconds": 0} for line in judge(program, ["--json", "--jobs", "3", folder]).out.decode().splitlines()]
     alone = [json.loads(line) | {"seconds": 0} for line in judge(program, ["--json", "--jobs", "1", folder]).out.decode().splitlines()]
     sizes = [path.stat().st_size for path in Path(folder).glob("*.trace")]

@@ -66,8 +66,23 @@ def run_command(name: str, module: str) -> None:
         unknown(name)
 
 
-def be_stopped(stop: int, _: object) -> NoReturn:
-    raise Stopped(stop)
+class Starting:
+    """While a process is started here, a signal waits: whoever is stopped then would leave it running."""
+
+    is_on, stop = False, 0
+
+    def __enter__(self) -> None:
+        Starting.is_on = True
+
+    def __exit__(self, *_: object) -> None:
+        Starting.is_on = False
+
+
+def be_stopped(stop: int, _: object) -> None:
+    if Starting.is_on:
+        Starting.stop = stop
+    else:
+        raise Stopped(stop)
 
 
 def end_by(stop: int) -> None:

@@ -10,6 +10,7 @@ from collections.abc import Callable
 from pathlib import Path
 from typing import NamedTuple
 
+from .commands import Starting, Stopped
 from .files import shown
 
 VARIABLE = "DOMEPEELER"
@@ -57,7 +58,17 @@ def find_program(asked: str | None) -> str:
 
 def run(program: str, words: list, trace: bytes) -> subprocess.CompletedProcess:
     try:
-        return subprocess.run([program, *words], input=trace, capture_output=True)
+        with Starting():
+            process = subprocess.Popen([program, *words], stdin=subprocess.PIPE, stdout=subprocess.PIPE, stderr=subprocess.PIPE)
+        with process:
+            try:
+                if Starting.stop:
+                    raise Stopped(Starting.stop)
+                printed, errors = process.communicate(trace)
+            except BaseException:
+                process.kill()
+                raise
+        return subprocess.CompletedProcess(process.args, process.returncode, printed, errors)
     except OSError as error:
         raise NoProgram(f"{shown(program)} can't be run: {error.strerror}") from error
 
