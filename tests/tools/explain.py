@@ -785,7 +785,7 @@ def sooner(tally: Tally, program: str, text: str, report: dict, said: str) -> tu
     tally.check("a fault: when it went wrong", is_right if wanted else not told, f"{text}{report}\n{said}")
     headline, is_other = said.splitlines()[0], of_whole != of_first
     tally.check("a fault: its headline", headline.startswith(of_first.partition(" ")[0]) and headline.endswith(f" Of the whole trace the program says `{of_whole}`.") == is_other
-                and ("The whole trace" in headline) == is_other, f"{text}{report}\n{said}")
+                and ("the whole trace" in headline) == is_other, f"{text}{report}\n{said}")
     tally.check("a fault: what the whole trace names", bool(paragraph(said, "What the program names of the whole trace")) == is_other,
                 f"{text}{report}\n{said}")
     return first, wanted
