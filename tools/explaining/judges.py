@@ -9,13 +9,15 @@ import sys
 import threading
 import time
 from collections.abc import Iterator
-from concurrent.futures import ProcessPoolExecutor, ThreadPoolExecutor, as_completed
+from concurrent.futures import ProcessPoolExecutor, ThreadPoolExecutor
 from concurrent.futures.process import BrokenProcessPool
+from queue import Empty, SimpleQueue
 
 from .files import Unread, content, opened, shown
 from .rows import Row, failed, row_of, unread
 
 WORDS = ["verdict", "--json", "--workers", "1"]  # for the program, before a trace
+SECONDS = 0.2  # between two looks for a signal
 BIG = 1 << 20  # bytes of a trace for whose row it pays to ask another process
 
 
@@ -29,7 +31,7 @@ def judged_here(program: str, files: list, jobs: int) -> list:
     with ThreadPoolExecutor(jobs) as pool:
         try:
             waiting = [pool.submit(judges.judged, file) for file in files]
-            for _ in with_progress(as_completed(waiting), len(files)):
+            for _ in with_progress(as_they_end(waiting), len(files)):
                 pass
             return [row.result() for row in waiting]
         except BaseException as error:
@@ -40,6 +42,20 @@ def judged_here(program: str, files: list, jobs: int) -> list:
             raise
         finally:
             judges.close()
+
+
+def as_they_end(waiting: list) -> Iterator:
+    """The futures, each when it has ended. It looks up now and then: a signal that another thread has got is heard only then."""
+    ended: SimpleQueue = SimpleQueue()
+    for row in waiting:
+        row.add_done_callback(ended.put)
+    for _ in waiting:
+        while True:
+            try:
+                yield ended.get(timeout=SECONDS)
+                break
+            except Empty:
+                continue
 
 
 class Judges:
