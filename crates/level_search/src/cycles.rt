@@ -26,10 +26,11 @@ use witnesses::Steps;
 /// The least cycle, where k is the length of a shortest: its elements are the first, in dictionary order of
 /// their numbers, of all cycles of k elements, and each step names the least operation that shows it.
 ///
-/// It leaves out the elements through which no cycle leads. For the n elements that are left it makes the table of what stands before each, in time linear in the places and n * n / 8
-/// bytes, and searches from elements up to the cycle's first and from few through which all cycles lead, by
-/// turns. The rest is linear in the elements and places that are left, for each of these few on a shortest cycle
-/// and for the first: searches for distances, and what stands after each element of the cycle.
+/// It leaves out the elements through which no cycle leads. For the n elements that are left it makes the
+/// table of what stands before each, in time linear in the places and n * n / 8 bytes. It searches from
+/// elements up to the cycle's first, and from few through which all cycles lead, by turns. The rest is linear
+/// in the elements and places that are left, for each of these few that is on a shortest cycle and for the
+/// first: searches for distances, and what stands after each element of the cycle.
 pub fn least_cycle(alloc: Global, graph: &OrderGraph, k: u32) -> Result<Steps, Memory>
     requires { IsShortestLength graph.now k }
     ensures { IfOk result (λ steps. AreLeastSteps graph.now steps × (length steps ≡ k)) }

@@ -38,8 +38,8 @@ fn is_on_ring(
     search_by_table(graph, table, element, sets, looked, &mut bound).is_some()
 }
 
-/// Whether an element is on a cycle of k steps through that from and to which these distances are; no cycle is
-/// shorter.
+/// Whether an element is on a cycle of k steps through that from and to which these distances are; no cycle
+/// is shorter.
 fn is_between(to: &[u32], from: &[u32], k: u32, x: u32) -> bool
     requires to { x < length to.now }
     requires from { x < length from.now }
@@ -118,8 +118,8 @@ fn least_of_source(
 /// Each such cycle leads through one of the sources. So elements from 0 on and sources are searched from by
 /// turns, under a bound of one more than the length. The first element that is on such a cycle is the one, or
 /// where the elements come so far, the least on such a cycle through a source. It takes at most two searches
-/// for each element up to the one, or for each source; and two for distances from each source that is on such a
-/// cycle.
+/// for each element up to the one, or for each source; and two for distances from each source that is on such
+/// a cycle.
 pub fn first_on_ring(
     graph: &OrderGraph,
     table: &BeforeTable,

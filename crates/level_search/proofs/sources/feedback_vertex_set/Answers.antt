@@ -41,6 +41,10 @@ returns-clause-met c =
 pub returns-then-elements-le-FEW-clause-met : goal.returns-then-elements-le-FEW-clause-met
 returns-then-elements-le-FEW-clause-met c =
     IfOk-weaker c.all_elements.result _ _
-    (λ sources all. λ s n known cycle.
-    (s, all s known, cycle, (0, n, omega arith, refl, reaches_walk (lists_of c.args.graph.now) s n s cycle.1)))
+    (λ sources all. λ s n known cycle. (
+      s,
+      all s known,
+      cycle,
+      (0, n, omega arith, refl, reaches_walk (lists_of c.args.graph.now) s n s cycle.1),
+    ))
     c.all_elements.ensures.all

@@ -1,5 +1,6 @@
 -- One element and one source more; and at the end the least that was found is the one.
-use Rattle.std.proofs.Common.{◌≡◌, ℕ, ◌+◌, ◌*◌, ◌<◌, ◌≤◌, ◌⊎◌, inl, inr, true, false, length, get_or, sym, ◌∙◌}
+use Rattle.std.proofs.Common.{◌≡◌, ℕ, ◌+◌, ◌*◌, ◌<◌, ◌≤◌, ◌⊎◌, inl, inr, true, false, length, get_or, sym}
+use Rattle.std.proofs.Common.{◌∙◌}
 use Rattle.std.proofs.Common.{subst, arith}
 use Rattle.std.proofs.lemmas.Bool.{cases_eq, false≢true}
 use Rattle.std.proofs.Math.Nat.{add-mul}
@@ -65,7 +66,8 @@ loop-i-preserved c =
       round = λ j t low round. elim (cases_eq j i)
           as (λ _. c.least_of_source-least.result ≤ t) [
             | inl same ↦
-                more.round t (subst (λ x. IsRoundOf (lists_of v) (get_or c.args.sources.now x 0) c.args.k t) same
+                more.round t
+                (subst (λ x. IsRoundOf (lists_of v) (get_or c.args.sources.now x 0) c.args.k t) same
                 round)
             | inr other ↦ let old = inv.round j t (omega arith) round in omega arith
           ];
@@ -79,7 +81,8 @@ returns-clause-known c =
     let v : Responses = c.args.graph.now in
     let past = c.loop-i-test.false in
     let all : (t : ℕ) → t < length v.elements → HasCycle (lists_of v) t c.args.k → c.loop-i.least ≤ t =
-    λ t known cycle. absurd (c.loop-i.invariant.none t (omega (arith, c.elements-i-end.ensures.value)) cycle) in
+    λ t known cycle. absurd
+    (c.loop-i.invariant.none t (omega (arith, c.elements-i-end.ensures.value)) cycle) in
     (least-one v c.elements-least.ensures.proper c.args.k c.loop-i.least c.requires.shortest all
     c.loop-i.invariant.found).0
 
@@ -88,6 +91,7 @@ returns-clause-cycle c =
     let v : Responses = c.args.graph.now in
     let past = c.loop-i-test.false in
     let all : (t : ℕ) → t < length v.elements → HasCycle (lists_of v) t c.args.k → c.loop-i.least ≤ t =
-    λ t known cycle. absurd (c.loop-i.invariant.none t (omega (arith, c.elements-i-end.ensures.value)) cycle) in
+    λ t known cycle. absurd
+    (c.loop-i.invariant.none t (omega (arith, c.elements-i-end.ensures.value)) cycle) in
     (least-one v c.elements-least.ensures.proper c.args.k c.loop-i.least c.requires.shortest all
     c.loop-i.invariant.found).1

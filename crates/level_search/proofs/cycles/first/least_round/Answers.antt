@@ -14,9 +14,11 @@ use Rattle.level_search.proofs.cycles.first.least_round.Goals as goal
 away : (c : After-first_between) → (x : ℕ) → x < length c.args.graph.now.elements
     → IsDistanceBelow (lists_of c.args.graph.now) c.args.element c.args.k x (get_or c.deref-2.result.now x 0)
 away c x known =
-    subst (λ (l : List ℕ). IsDistanceBelow (lists_of c.args.graph.now) c.args.element c.args.k x (get_or l x 0))
+    subst (λ (l : List ℕ). IsDistanceBelow (lists_of c.args.graph.now) c.args.element c.args.k x
+    (get_or l x 0))
     (sym c.deref-2.ensures.value)
-    (c.find_from.ensures.from x (omega (arith, c.find_from.ensures.fits.from, c.find_from.new.self.from.ok, known)))
+    (c.find_from.ensures.from x
+    (omega (arith, c.find_from.ensures.fits.from, c.find_from.new.self.from.ok, known)))
 
 back : (c : After-first_between) → (x : ℕ) → x < length c.args.graph.now.elements
     → IsDistanceTo (lists_of c.args.graph.now) c.args.element c.args.k x (get_or c.deref.result.now x 0)

@@ -13,6 +13,7 @@ pub returns-clause-first : goal.returns-clause-first
 returns-clause-first c =
     let source = c.first_on_ring-element.ensures in
     let ring = c.in_ok-ring.ensures in
-    ring_is_first (graph_of c.args.graph.now) (cycle-known c.args.graph.now c.elements.ensures.proper) c.args.k
+    ring_is_first (graph_of c.args.graph.now)
+    (cycle-known c.args.graph.now c.elements.ensures.proper) c.args.k
     c.first_on_ring-element.result c.in_ok-ring.ring.items
     source.cycle source.lowest ring.count ring.first ring.chosen
