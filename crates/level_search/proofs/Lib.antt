@@ -8,6 +8,7 @@ pub mod Placed
 -- Lemmas on cores and cycles.
 pub mod StepsRound
 pub mod OnRing
+pub mod Rounds
 pub mod OnCycles
 pub mod Cores
 pub mod ShortestFew

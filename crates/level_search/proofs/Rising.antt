@@ -1,20 +1,23 @@
 -- An order of elements that each list follows: each cycle leads through an element that it leaves out.
-use Rattle.std.proofs.Common.{◌≡◌, ◌≢◌, ℕ, suc, ◌+◌, ◌<◌, ◌⊎◌, inl, inr, List, [], ◌∷◌, ◌++◌, length}
+use Rattle.std.proofs.Common.{◌≡◌, ◌≢◌, ℕ, zero, suc, ◌+◌, ◌-◌, ◌<◌, ◌⊎◌, inl, inr, List, [], ◌∷◌, ◌++◌}
+use Rattle.std.proofs.Common.{length}
 use Rattle.std.proofs.Common.{get_or, set, get_or-set_same, get_or-set_other, length-set, slice_index}
-use Rattle.std.proofs.Common.{ap, ◌∙◌, subst, arith}
+use Rattle.std.proofs.Common.{refl, ap, ◌∙◌, subst, arith}
 use Rattle.std.specs.Prelude.{◌↔◌, Contains}
 use Rattle.std.proofs.lemmas.Bool.{cases_lt, cases_eq}
 use Rattle.std.proofs.lemmas.List.Elements.{Contains-append_left, Contains-append_right}
 use Rattle.specification.proofs.Members.{Contains-from_In}
 use Rattle.list_search.specs.Graph.{Before}
 use Rattle.list_search.specs.Walks.{HasCycle}
-use Rattle.list_search.specs.Rings.{IsRing, Leads}
+use Rattle.list_search.specs.Rings.{IsRing, Leads, Reaches}
 use Rattle.level_search.specs.Sources.{UNRANKED, IsRanked, AreRanked, Rises}
 use Rattle.bit_tables.specs.Sets.{Has}
 use Rattle.bit_tables.specs.Lists.{row_of}
 use Rattle.level_search.specs.Tables.{IsBeforeTable}
 use Rattle.level_search.proofs.BallLemmas.{before_shown}
-use Rattle.list_search.proofs.RingWalks.{ring_through, cycle_ring}
+use Rattle.level_search.specs.Rounds.{IsRoundOf}
+use Rattle.list_search.proofs.Firsts.{leads_reaches}
+use Rattle.list_search.proofs.RingWalks.{ring_through, cycle_ring, leads_cut}
 
 -- nothing is ranked where all have no rank
 pub ranked-none : (table : List (List ℕ)) (taken ranks : List ℕ)
@@ -100,6 +103,16 @@ ranked-rise rows table n next taken ranks is long known are l = record {
       ((is.shown x y low.1).1 (before_shown rows x y before));
 }
 
+-- a cycle goes round through each of its elements
+pub round_at : (rows : List (List ℕ)) (s n : ℕ) (rest : List ℕ) (j : ℕ) → IsRing rows (s ∷ rest)
+    → suc (length rest) ≡ n → j < length (s ∷ rest)
+    → IsRoundOf rows (get_or (s ∷ rest) j 0) n s
+round_at rows s n rest zero ring count inside =
+    (0, n, omega arith, refl, subst (λ k. Reaches rows s k s) count (leads_reaches rows s rest s ring))
+round_at rows s n rest (suc j) ring count inside =
+    let cut = leads_cut rows s rest s j ring (omega arith) in
+    (length rest - j, suc j, omega arith, cut.on, cut.to)
+
 module _ (rows : List (List ℕ)) (ranks : List ℕ) (rise : (l : ℕ) → Rises rows ranks l) where
   before-rises : (a b : ℕ) → Before rows a b → IsRanked ranks a → IsRanked ranks b
       → slice_index ranks a < slice_index ranks b
@@ -135,7 +148,7 @@ module _ (rows : List (List ℕ)) (ranks : List ℕ) (rise : (l : ℕ) → Rises
 
   -- a cycle leads through an element that is left out
   pub cycle-leaves_out : (s n : ℕ) → HasCycle rows s n → (t : ℕ) × (slice_index ranks t ≡ UNRANKED)
-      × HasCycle rows t n
+      × HasCycle rows t n × IsRoundOf rows t n s
   cycle-leaves_out s n cycle =
       let ring = cycle_ring rows s n cycle in
       let found : LeavesOut (s ∷ ring.rest) = ring-leaves_out (s ∷ ring.rest) ring.is_ring in (
@@ -143,6 +156,7 @@ module _ (rows : List (List ℕ)) (ranks : List ℕ) (rise : (l : ℕ) → Rises
         found.2,
         subst (λ k. HasCycle rows (get_or (s ∷ ring.rest) found.0 0) k) ring.count
             (ring_through rows (s ∷ ring.rest) found.0 ring.is_ring found.1),
+        round_at rows s n ring.rest found.0 ring.is_ring ring.count found.1,
       )
 
 -- a list of all numbers below n that P holds of, with n where P holds of it

@@ -9,6 +9,7 @@ pub mod Steps
 pub mod StrongComponents
 pub mod Cores
 pub mod Conflicts
+pub mod Rounds
 pub mod Sources
 pub mod Team
 pub mod BoundLaw

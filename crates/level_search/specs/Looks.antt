@@ -41,12 +41,6 @@ abbrev pub HasLooked : ℕ → List (List ℕ) → ℕ → ℕ → Sets → Opti
 HasLooked n rows s low sets answer old new =
     (count : ℕ) × IsCountOf n rows s low sets answer count × (new ≡ counted count old)
 
--- searches from each element below a number, one after the other
-abbrev pub HaveLooked : ℕ → List (List ℕ) → ℕ → ℕ → ℕ → ℕ → Type 0
-HaveLooked n rows low zero old new = new ≡ old
-HaveLooked n rows low (suc s) old new = (was : ℕ) × HaveLooked n rows low s old was × (sets : Sets)
-    × (answer : Option ℕ) × HasLooked n rows s low sets answer was new
-
 -- the looks of a search from the element at each of these places of a list, together
 abbrev pub AreCountsAt : ℕ → List (List ℕ) → ℕ → List ℕ → List ℕ → ℕ → Type 0
 AreCountsAt n rows low sources [] count = count ≡ 0

@@ -4,6 +4,7 @@ use Rattle.bit_tables.specs.Sets.{Has}
 use Rattle.bit_tables.specs.Lists.{row_of}
 use Rattle.order_graph.specs.Lists.{Stands}
 use Rattle.list_search.specs.Walks.{HasCycle}
+use Rattle.level_search.specs.Rounds.{IsRoundOf}
 
 -- the rank of an element that is left out of the order
 abbrev pub UNRANKED : ℕ
@@ -30,4 +31,4 @@ pub record Rises (rows : List (List ℕ)) (ranks : List ℕ) (l : ℕ) : Type 0 
 -- each cycle leads through one of these
 abbrev pub MeetsCycles : List (List ℕ) → ℕ → List ℕ → Type 0
 MeetsCycles rows elements sources = (s n : ℕ) → s < elements → HasCycle rows s n
-    → (t : ℕ) × Contains sources t × HasCycle rows t n
+    → (t : ℕ) × Contains sources t × HasCycle rows t n × IsRoundOf rows t n s

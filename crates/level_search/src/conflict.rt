@@ -18,13 +18,14 @@ use std::thread::Threads;
 use witnesses::Steps;
 
 /// What the workers have found: the core, its table, and the length of a shortest cycle, or `NO_OFFER` where
-/// there is none; and how many steps they have taken.
+/// there is none; how many steps they have taken; and the elements from which they searched.
 #[derive(Drop)]
 struct Found {
     core: Core,
     table: BeforeTable,
     least: u32,
     looked: u64,
+    sources: Vec<u32>,
 }
 
 /// Searches the core of a graph.
@@ -52,6 +53,7 @@ fn search_core<H: Threads + Sync, G: Gate>(
         table,
         least: searched.least,
         looked: searched.looked,
+        sources: searched.sources,
     })
 }
 
@@ -118,7 +120,13 @@ pub fn least_conflict<H: Threads + Sync, G: Gate>(
     if found.least == NO_OFFER {
         return Ok(None);
     }
-    let steps = least_cycle_by_table(alloc, &found.core.graph, &found.table, found.least)?;
+    let steps = least_cycle_by_table(
+        alloc,
+        &found.core.graph,
+        &found.table,
+        &found.sources,
+        found.least,
+    )?;
     Ok(Some(Conflict {
         k: found.least,
         steps,

@@ -5,8 +5,8 @@
 //! `search` and `distances` of `list_search` are handed out too.
 //!
 //! - The search goes on in the core: the elements through which a cycle leads. It holds every cycle, and the
-//!   answers there are those of the whole (proofs/Cores). These are the strongly connected components with more
-//!   than one element: they are guessed, and then tested (proofs/OnCycles).
+//!   answers there are those of the whole (proofs/Cores). These are the strongly connected components with
+//!   more than one element: they are guessed, and then tested (proofs/OnCycles).
 //! - It starts from few elements. An order of the core is guessed, and the elements out of place in it are
 //!   found. Each cycle leads through one of these, whatever the guess was. That they are few is not claimed:
 //!   the fewest are hard to find.

@@ -124,12 +124,13 @@ fn closed(bound: Bound, graph: &OrderGraph, sources: &[u32], first: Seat) -> u32
     bound.close(first)
 }
 
-/// What all searches have found: the length of a shortest cycle, or `NO_OFFER` where there is none; and how
-/// many steps they have taken, up to 18446744073709551615.
+/// What all searches have found: the length of a shortest cycle, or `NO_OFFER` where there is none; how many
+/// steps they have taken, up to 18446744073709551615; and from which elements they were.
 #[derive(Drop)]
 pub struct Searched {
     pub least: u32,
     pub looked: u64,
+    pub sources: Vec<u32>,
 }
 
 /// The length of a shortest cycle by a search from each of few elements. All memory is taken before a worker
@@ -148,6 +149,9 @@ pub fn least_length<H: Threads + Sync, G: Gate>(
     ensures least { IfOk result (λ s. IsLeastLength graph.now s.least) }
     ensures looked { IfOk result (λ s. AreLooksOf (length graph.now.elements) (lists_of graph.now) s.least
         s.looked) }
+    ensures known { IfOk result (λ s. All (λ x. x < length graph.now.elements) s.sources.items) }
+    ensures met { IfOk result (λ s. MeetsCycles (lists_of graph.now) (length graph.now.elements)
+        s.sources.items) }
 {
     let sources = feedback_vertex_set(alloc, graph, table)?;
     let (bound, first) = Bound::new(alloc, sources.len() as u32, workers)?;
@@ -158,8 +162,10 @@ pub fn least_length<H: Threads + Sync, G: Gate>(
     };
     let (first, looked) = last.into_seat();
     let (first, looked) = gathered(&bound, graph, &sources, first, looked, team);
+    let least = closed(bound, graph, &sources, first);
     Ok(Searched {
-        least: closed(bound, graph, &sources, first),
+        least,
         looked,
+        sources,
     })
 }

@@ -24,4 +24,6 @@ returns-clause-least g c =
       looked = c.in_ok-searched.ensures.looked;
       few = within-searches v _ _ _ _ (rw size core.few.0) (rw size core.few.1)
           c.in_ok-searched.ensures.looked;
+      known = c.in_ok-searched.ensures.known;
+      met = c.in_ok-searched.ensures.met;
     }

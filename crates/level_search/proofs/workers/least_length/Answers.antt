@@ -32,9 +32,9 @@ returns-clause-looked g c =
       few = found.count;
       met = found.met;
       places = c.gathered-first.result.0.claimed;
-      once = rw c.deref-4.ensures.value at c.closed.ensures.claimed;
+      once = rw c.deref-4.ensures.value at c.closed-least.ensures.claimed;
       count = looks.0;
       counts =
-          counts-lower _ _ _ _ _ _ looks.0 c.closed.ensures.low (rw c.deref-3.ensures.value at looks.1);
+          counts-lower _ _ _ _ _ _ looks.0 c.closed-least.ensures.low (rw c.deref-3.ensures.value at looks.1);
       looked_is = looks.2;
     }
