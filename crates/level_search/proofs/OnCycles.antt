@@ -144,7 +144,7 @@ module _ (n : ℕ) (rows : List (List ℕ)) (g : Guess) (right : IsRight n rows 
           absurd (apart x (subst (λ z. Before rows x z) (sym yours ∙ same ∙ mine) step))
 
 module _ (v : Responses) (proper : AreProper v) where
-  apart-in : (x : ℕ) → Before (lists_of v) x x → ⊥
+  pub apart-in : (x : ℕ) → Before (lists_of v) x x → ⊥
   apart-in x step = none_before_itself v proper (name v x) (stands-names v proper x x step)
 
   pub cycle-lies : (x m : ℕ) → HasCycle (lists_of v) x m → LiesOnCycle v x

@@ -5,7 +5,7 @@ use Rattle.specification.specs.Conflict.{AreLeastSteps, HasConflictNumber, HasNo
 use Rattle.specification.specs.LayerRule.{narrowed}
 use Rattle.order_graph.specs.Kept.{names_at}
 use Rattle.order_graph.specs.Lists.{lists_of}
-use Rattle.level_search.specs.Tables.{IsBeforeTable}
+use Rattle.level_search.specs.Ways.{IsWay}
 use Rattle.level_search.specs.Cores.{IsCoreOf}
 use Rattle.level_search.specs.Sources.{MeetsCycles}
 use Rattle.level_search.specs.Team.{AreLooksOf, IsLeastLength}
@@ -25,13 +25,13 @@ pub record AreLooksIn (v : Responses) (least looked : ℕ) : Type 0 where
   pub is_part : part ≡ narrowed v (names_at v.elements numbers)
   pub looks : AreLooksOf (length part.elements) (lists_of part) least looked
 
--- the core is one of these responses, the table is the core's, and the length that of a shortest cycle there
+-- the core is one of these responses, the way is the core's, and the length that of a shortest cycle there
 pub record IsFound (v : Responses) (s : Found) : Type 0 where
   pub proper : AreProper v
   pub core : IsCoreOf v s.core.elements.items
   pub part : s.core.graph ≡ narrowed v (names_at v.elements s.core.elements.items)
   pub part_proper : AreProper s.core.graph
-  pub table : IsBeforeTable (length s.core.graph.elements) (lists_of s.core.graph) s.table
+  pub way : IsWay s.core.graph s.way
   pub least : IsLeastLength s.core.graph s.least
   pub looked : AreLooksOf (length s.core.graph.elements) (lists_of s.core.graph) s.least s.looked
   pub few : IsWithinSearches v s.looked

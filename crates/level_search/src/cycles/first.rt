@@ -1,41 +1,40 @@
 //! The least element through which a shortest cycle leads.
 
 ghost use Rattle.std.specs.Prelude.{◌≡◌, ◌⊎◌, ◌↔◌, ℕ, ◌+◌, ◌*◌, ◌<◌, ◌≤◌, All, true, length};
+ghost use Rattle.specification.specs.Responses.{place_count};
 ghost use Rattle.specification.specs.Search.{IsShortestLength};
 ghost use Rattle.order_graph.specs.Lists.{lists_of};
 ghost use Rattle.list_search.specs.Walks.{HasCycle, NoneShorter};
-ghost use Rattle.level_search.specs.Tables.{IsBeforeTable};
-ghost use Rattle.level_search.specs.Balls.{FitsSets};
 ghost use Rattle.level_search.specs.Rounds.{FitsDistances, IsBetween, IsRoundOf};
 ghost use Rattle.level_search.specs.Sources.{MeetsCycles};
+ghost use Rattle.level_search.specs.Ways.{FitsRoom, IsWay};
 
 use super::distances::Distances;
-use crate::before_table::BeforeTable;
-use crate::tabled::{Sets, search_by_table};
+use crate::ways::{Room, Way, search_through};
 use list_search::PlainBound;
 use order_graph::{Looked, OrderGraph};
 
 /// Whether a cycle of the shortest length leads through an element.
 fn is_on_ring(
     graph: &OrderGraph,
-    table: &BeforeTable,
+    way: &Way,
     element: u32,
     k: u32,
-    sets: &mut Sets,
+    room: &mut Room,
     looked: &mut Looked,
 ) -> bool
     requires known { element < length graph.now.elements }
-    requires table { IsBeforeTable (length graph.now.elements) (lists_of graph.now) table.now }
-    requires fits { FitsSets (length graph.now.elements) sets.old }
+    requires way { IsWay graph.now way.now }
+    requires fits { FitsRoom graph.now room.old }
     requires least { IsShortestLength graph.now k }
-    ensures fits { FitsSets (length graph.now.elements) sets.new }
+    ensures fits { FitsRoom graph.now room.new }
     ensures answer { (result ≡ true) ↔ HasCycle (lists_of graph.now) element k }
-    ensures looked { looked.new ≤ looked.old + 2 * length graph.now.elements }
+    ensures looked { looked.new ≤ looked.old + 2 * (place_count graph.now + length graph.now.elements) }
 {
     // Its contract has that the responses are proper.
     let _ = graph.elements();
     let mut bound = PlainBound { least: k + 1 };
-    search_by_table(graph, table, element, sets, looked, &mut bound).is_some()
+    search_through(graph, way, element, room, looked, &mut bound).is_some()
 }
 
 /// Whether an element is on a cycle of k steps through that from and to which these distances are; no cycle
@@ -85,29 +84,29 @@ fn least_round(graph: &OrderGraph, element: u32, k: u32, distances: &mut Distanc
 /// The lesser of the least so far and the least element of all shortest cycles through a source.
 fn least_of_source(
     graph: &OrderGraph,
-    table: &BeforeTable,
+    way: &Way,
     source: u32,
     k: u32,
     least: u32,
-    sets: &mut Sets,
+    room: &mut Room,
     distances: &mut Distances,
     looked: &mut Looked,
 ) -> u32
     requires known { source < length graph.now.elements }
-    requires table { IsBeforeTable (length graph.now.elements) (lists_of graph.now) table.now }
-    requires fits { FitsSets (length graph.now.elements) sets.old }
-    requires room { FitsDistances graph.now distances.old }
+    requires way { IsWay graph.now way.now }
+    requires fits { FitsRoom graph.now room.old }
+    requires distances { FitsDistances graph.now distances.old }
     requires shortest { IsShortestLength graph.now k }
-    ensures fits { FitsSets (length graph.now.elements) sets.new }
-    ensures room { FitsDistances graph.now distances.new }
+    ensures fits { FitsRoom graph.now room.new }
+    ensures distances { FitsDistances graph.now distances.new }
     ensures falls { result ≤ least }
     ensures found { (result ≡ least) ⊎ HasCycle (lists_of graph.now) result k }
     ensures round { (t : ℕ) → IsRoundOf (lists_of graph.now) source k t → result ≤ t }
-    ensures looked { looked.new ≤ looked.old + 2 * length graph.now.elements }
+    ensures looked { looked.new ≤ looked.old + 2 * (place_count graph.now + length graph.now.elements) }
 {
     // Its contract has that the responses are proper.
     let _ = graph.elements();
-    if !is_on_ring(graph, table, source, k, sets, looked) {
+    if !is_on_ring(graph, way, source, k, room, looked) {
         return least;
     }
     least.min(least_round(graph, source, k, distances))
@@ -122,42 +121,44 @@ fn least_of_source(
 /// a cycle.
 pub fn first_on_ring(
     graph: &OrderGraph,
-    table: &BeforeTable,
+    way: &Way,
     sources: &[u32],
     k: u32,
-    sets: &mut Sets,
+    room: &mut Room,
     distances: &mut Distances,
     looked: &mut Looked,
 ) -> u32
-    requires table { IsBeforeTable (length graph.now.elements) (lists_of graph.now) table.now }
+    requires way { IsWay graph.now way.now }
     requires known { All (λ s. s < length graph.now.elements) sources.now }
     requires met { MeetsCycles (lists_of graph.now) (length graph.now.elements) sources.now }
-    requires fits { FitsSets (length graph.now.elements) sets.old }
-    requires room { FitsDistances graph.now distances.old }
+    requires fits { FitsRoom graph.now room.old }
+    requires distances { FitsDistances graph.now distances.old }
     requires shortest { IsShortestLength graph.now k }
-    ensures room { FitsDistances graph.now distances.new }
+    ensures distances { FitsDistances graph.now distances.new }
     ensures known { result < length graph.now.elements }
     ensures cycle { HasCycle (lists_of graph.now) result k }
     ensures lowest { (t : ℕ) → t < length graph.now.elements → HasCycle (lists_of graph.now) t k
         → result ≤ t }
-    ensures looked { looked.new ≤ looked.old + (result + 1) * (4 * length graph.now.elements) }
-    ensures few { looked.new ≤ looked.old + (length sources.now + 1) * (4 * length graph.now.elements) }
+    ensures looked { looked.new ≤ looked.old + (result + 1) * (4 * (place_count graph.now
+        + length graph.now.elements)) }
+    ensures few { looked.new ≤ looked.old + (length sources.now + 1) * (4 * (place_count graph.now
+        + length graph.now.elements)) }
 {
     let mut least = graph.elements();
     for i in 0..graph.elements() {
         if least <= i || i as usize >= sources.len() {
             return least;
         }
-        if is_on_ring(graph, table, i, k, sets, looked) {
+        if is_on_ring(graph, way, i, k, room, looked) {
             return i;
         }
         least = least_of_source(
             graph,
-            table,
+            way,
             sources[i as usize],
             k,
             least,
-            sets,
+            room,
             distances,
             looked,
         );

@@ -5,16 +5,15 @@ ghost use Rattle.specification.specs.Responses.{AreProper};
 ghost use Rattle.specification.specs.Search.{IsShortestLength};
 ghost use Rattle.order_graph.specs.Lists.{lists_of};
 ghost use Rattle.list_search.specs.Rings.{IsFirstRing, IsLeastNext};
-ghost use Rattle.level_search.specs.Tables.{IsBeforeTable};
 ghost use Rattle.level_search.specs.Rounds.{FitsDistances};
 ghost use Rattle.level_search.specs.Sources.{MeetsCycles};
+ghost use Rattle.level_search.specs.Ways.{IsWay};
 ghost use Rattle.list_search.specs.Walks.{HasCycle, NoneShorter};
 
 use super::choose::next_of_ring;
 use super::distances::Distances;
 use super::first::first_on_ring;
-use crate::before_table::BeforeTable;
-use crate::tabled::Sets;
+use crate::ways::{Room, Way};
 use events::Memory;
 use order_graph::{Looked, OrderGraph};
 use std::alloc::Global;
@@ -57,11 +56,11 @@ fn ring_from(
 pub fn least_ring(
     alloc: Global,
     graph: &OrderGraph,
-    table: &BeforeTable,
+    way: &Way,
     sources: &[u32],
     k: u32,
 ) -> Result<Vec<u32>, Memory>
-    requires table { IsBeforeTable (length graph.now.elements) (lists_of graph.now) table.now }
+    requires way { IsWay graph.now way.now }
     requires known { All (λ s. s < length graph.now.elements) sources.now }
     requires met { MeetsCycles (lists_of graph.now) (length graph.now.elements) sources.now }
     requires least { IsShortestLength graph.now k }
@@ -70,15 +69,15 @@ pub fn least_ring(
 {
     // Its contract has that the responses are proper.
     let _ = graph.elements();
-    let mut sets = Sets::new(alloc, graph)?;
+    let mut room = Room::new(alloc, graph)?;
     let mut looked = Looked::new();
     let mut distances = Distances::new(alloc, graph)?;
     let element = first_on_ring(
         graph,
-        table,
+        way,
         sources,
         k,
-        &mut sets,
+        &mut room,
         &mut distances,
         &mut looked,
     );

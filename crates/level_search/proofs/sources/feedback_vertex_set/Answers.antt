@@ -1,5 +1,6 @@
 -- Each cycle leads through an element that the order leaves out.
 use Rattle.std.proofs.Common.{◌≡◌, ℕ, ◌<◌, inl, inr, List, length, slice_index, refl, sym, subst, arith}
+use Rattle.std.proofs.Common.{◌∙◌, ap}
 use Rattle.std.specs.Prelude.{Contains}
 use Rattle.std.proofs.lemmas.Bool.{cases_lt}
 use Rattle.std.proofs.lemmas.List.{get_or_past}
@@ -9,6 +10,7 @@ use Rattle.order_graph.specs.Lists.{lists_of}
 use Rattle.level_search.specs.Sources.{UNRANKED, MeetsCycles, Rises}
 use Rattle.list_search.proofs.Firsts.{reaches_walk}
 use Rattle.level_search.proofs.Rising.{cycle-leaves_out}
+use Rattle.level_search.proofs.Teams.{written}
 use Rattle.level_search.proofs.sources.feedback_vertex_set.Goals as goal
 
 -- an element without a rank is one of them
@@ -31,10 +33,15 @@ left-out_meet rows made ranks sources elements same rise all = λ s n known cycl
 pub returns-clause-met : goal.returns-clause-met
 returns-clause-met c =
     let v : Responses = c.args.graph.now in
+    let risen : List ℕ = c.rise_along.new.ranks in
+    let many : length risen ≡ length c.in_ok-ranks.ranks.items =
+    c.rise_along.ensures.count ∙ ap length c.as_mut_slice.ensures.value in
+    let same = c.deref-2.ensures.value
+    ∙ written c.in_ok-ranks.ranks.len c.in_ok-ranks.ranks.items risen many
+    (omega (arith, c.in_ok-ranks.ranks.ok.0)) in
     IfOk-weaker c.unranked.result _ _
-    (λ sources all. left-out_meet (lists_of v) c.in_ok-ranks.ranks.items c.deref-2.result.now sources.items
-    (length v.elements)
-    c.deref-2.ensures.value c.in_ok-ranks.ensures.rise all)
+    (λ sources all. left-out_meet (lists_of v) risen c.deref-2.result.now sources.items (length v.elements)
+    same c.rise_along.ensures.rise all)
     c.unranked.ensures.all
 
 -- where all elements are sources, each is its own

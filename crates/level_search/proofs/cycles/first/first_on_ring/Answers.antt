@@ -4,7 +4,7 @@ use Rattle.std.proofs.Common.{◌∙◌}
 use Rattle.std.proofs.Common.{subst, arith}
 use Rattle.std.proofs.lemmas.Bool.{cases_eq, false≢true}
 use Rattle.std.proofs.Math.Nat.{add-mul}
-use Rattle.specification.specs.Responses.{Responses}
+use Rattle.specification.specs.Responses.{Responses, place_count}
 use Rattle.order_graph.specs.Lists.{lists_of}
 use Rattle.list_search.specs.Walks.{HasCycle}
 use Rattle.level_search.specs.Rounds.{IsRoundOf}
@@ -49,7 +49,7 @@ loop-i-preserved c =
     let falls = more.falls in
     record {
       fits = more.fits;
-      room = more.room;
+      distances = more.distances;
       none = λ t low cycle. elim (cases_eq t i) [
         | inl same ↦
             absurd (false≢true (sym c.if-is_on_ring.false
@@ -73,7 +73,7 @@ loop-i-preserved c =
           ];
       turns = (let few = c.if-i-sources.false in omega arith);
       looked = (let one = c.is_on_ring.ensures.looked in let two = more.looked in let was = inv.looked in
-          omega (arith, add-mul i 1 (4 * n)));
+          omega (arith, add-mul i 1 (4 * (place_count v + n))));
     }
 
 pub returns-clause-known : goal.returns-clause-known

@@ -18,5 +18,5 @@ returns-clause-answer c =
     subst (λ (b : Bool). (b ≡ true) ↔ HasCycle (lists_of c.args.graph.now) c.args.element c.args.k)
     (sym c.is_some.ensures)
     (ring-told c.args.graph.now c.elements.ensures.proper c.args.k c.args.element
-    c.search_by_table.new.bound.least c.search_by_table.result c.requires.least c.requires.known
-    c.search_by_table.ensures.reads c.search_by_table.ensures.answer)
+    c.search_through.new.bound.least c.search_through.result c.requires.least c.requires.known
+    c.search_through.ensures.reads c.search_through.ensures.answer)
