@@ -9,6 +9,7 @@ editor failed, 2 where the recordings or the setting are at fault. Words behind 
 import json
 import os
 import re
+import signal
 import subprocess
 import sys
 import traceback
@@ -24,9 +25,24 @@ class Failed(Exception):
     """What keeps it from judging."""
 
 
+class Stopped(BaseException):
+    """A signal that stops it."""
+
+
+def be_stopped(stop, _):
+    raise Stopped(stop)
+
+
 def ended(*words):
     try:
-        return subprocess.run([str(word) for word in words], capture_output=True, text=True, errors="surrogateescape")
+        with subprocess.Popen([str(word) for word in words], stdout=subprocess.PIPE, stderr=subprocess.PIPE, text=True,
+                              errors="surrogateescape") as tool:
+            try:
+                printed = tool.communicate()
+            except BaseException:
+                tool.terminate()  # it ends what it began
+                raise
+        return subprocess.CompletedProcess(words, tool.returncode, *printed)
     except OSError as error:
         raise Failed(f"{words[0]} can't be run: {error.strerror}. Is Domepeeler installed?") from None
 
@@ -78,6 +94,13 @@ def print_explanations(rows, told):
                                                     f"{' and others' * (more > 1)}" if more else "") + "\n", flush=True)
 
 
+def say(words):
+    try:
+        print(f"judge_recordings: {words}", file=sys.stderr)
+    except OSError:  # nobody can be told
+        pass
+
+
 def prepare():
     """Makes the folder, or takes away what an earlier run has left in it."""
     JUDGED.mkdir(exist_ok=True)
@@ -112,19 +135,35 @@ def judge(folder, options):
 
 
 def main():
+    if sys.version_info < (3, 9):
+        sys.stderr.write("judge_recordings: this needs Python 3.9 or later, and is run by %d.%d\n" % sys.version_info[:2])
+        return 2
+    for stop in signal.SIGINT, signal.SIGTERM, signal.SIGHUP:
+        if signal.getsignal(stop) != signal.SIG_IGN:
+            signal.signal(stop, be_stopped)
     if len(sys.argv) < 2 or sys.argv[1].startswith("--"):
         print("usage: judge_recordings.py FOLDER [OPTION..]", file=sys.stderr)
         return 2
-    for stream in sys.stdout, sys.stderr:
-        stream.reconfigure(errors="surrogateescape")
     try:
-        return judge(sys.argv[1], sys.argv[2:])
+        for stream in sys.stdout, sys.stderr:
+            if stream is None:
+                raise Failed("standard output or standard error is closed")
+            stream.reconfigure(errors="surrogateescape")
+        status = judge(sys.argv[1], sys.argv[2:])
+        sys.stdout.flush()
+        return status
     except Failed as error:
-        print(f"judge_recordings: {error}", file=sys.stderr)
+        say(error)
+    except BrokenPipeError:  # the reader has enough
+        os.dup2(os.open(os.devnull, os.O_WRONLY), sys.stdout.fileno())
     except OSError as error:
-        print(f"judge_recordings: cannot write {error.filename}: {error.strerror}", file=sys.stderr)
+        say(f"cannot write {error.filename or 'what is told'}: {error.strerror}")
+        os.dup2(os.open(os.devnull, os.O_WRONLY), sys.stdout.fileno())
+    except Stopped as stopped:
+        signal.signal(stopped.args[0], signal.SIG_DFL)
+        os.kill(os.getpid(), stopped.args[0])
     except Exception:  # which nobody has thought of: no verdict
-        traceback.print_exc()
+        say(f"a fault of this script, so nothing is judged:\n{traceback.format_exc()}")
     return 2
 
 

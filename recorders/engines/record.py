@@ -15,12 +15,11 @@ some were not accepted it makes the shortest of each verdict smaller, as long as
 with --keep it writes these traces into the folder, and of each kind the accepted one with most receipts as it is. By
 default it runs within a minute, with Debian's cargo, whose build of crdts is slower, in a minute and a half. It ends with
 status 0 where sessions were judged, and 2 where none gave an answer, or something else is wrong."""
-from __future__ import annotations
-
 import argparse
 import os
 import random
 import shutil
+import signal
 import subprocess
 import sys
 import tempfile
@@ -30,6 +29,10 @@ from collections import Counter
 from concurrent.futures import ThreadPoolExecutor
 from pathlib import Path
 from typing import NoReturn
+
+if sys.version_info < (3, 9):
+    sys.stderr.write("record.py: this needs Python 3.9 or later, and is run by %d.%d\n" % sys.version_info[:2])
+    sys.exit(2)
 
 import sessions
 from sessions import Plan, Session, smaller
@@ -46,6 +49,19 @@ ALL = [*SMALL, sessions.LARGE_PEERS, sessions.LARGE_STAR, sessions.LARGE_MIDDLE]
 def fail(words: str) -> NoReturn:
     print(f"record.py: {words}", file=sys.stderr)
     sys.exit(2)
+
+
+class Stopped(BaseException):
+    """A signal that stops it, and the programs that judge meanwhile."""
+
+    by, judging = 0, set()
+
+
+def be_stopped(stop: int, _: object) -> None:
+    Stopped.by = stop
+    for process in list(Stopped.judging):
+        process.kill()
+    raise Stopped(stop)
 
 
 class Engine:
@@ -187,10 +203,17 @@ def verdict(program: str, trace: str) -> str:
     """What the program says, in its own word, with k."""
     if not trace:
         return STOPPED
-    done = subprocess.run([program, "verdict", "--workers", "1", "-"], input=trace.encode(), capture_output=True)
-    word, *rest = (done.stdout.decode(errors="replace").split("\n") + [""])[1].split(" ")
-    if done.returncode not in (0, 1) or (word == "accepted") != (done.returncode == 0):
-        fail(f"{program} ended with status {done.returncode}, and with no verdict that agrees: {done.stderr.decode(errors='replace').strip()}")
+    with subprocess.Popen([program, "verdict", "--workers", "1", "-"], stdin=subprocess.PIPE, stdout=subprocess.PIPE, stderr=subprocess.PIPE) as process:
+        Stopped.judging.add(process)
+        if Stopped.by:  # meanwhile: nobody else ends this one
+            process.kill()
+        printed, errors = process.communicate(trace.encode())
+    Stopped.judging.discard(process)
+    if Stopped.by:
+        return STOPPED
+    word, *rest = (printed.decode(errors="replace").split("\n") + [""])[1].split(" ")
+    if process.returncode not in (0, 1) or (word == "accepted") != (process.returncode == 0):
+        fail(f"{program} ended with status {process.returncode}, and with no verdict that agrees: {errors.decode(errors='replace').strip()}")
     return f"{word} {rest[0]}" if word == "refused" else word
 
 
@@ -216,7 +239,11 @@ def tried(kind: sessions.Kind, count: int, rnd: random.Random, driver: Driver, p
     found = [sessions.session(kind, rnd) for _ in range(count)]
     traces = [driver.trace(Plan(one).text()) for one in found]
     with ThreadPoolExecutor(JUDGES) as pool:
-        verdicts = list(pool.map(lambda trace: verdict(program, trace), traces))
+        try:
+            verdicts = list(pool.map(lambda trace: verdict(program, trace), traces))
+        except BaseException:
+            pool.shutdown(wait=False, cancel_futures=True)
+            raise
     sizes = [sum(" : " in line or line.endswith(":") for line in trace.split("\n")) for trace in traces if trace]
     said = ", ".join(f"{word}: {times}" for word, times in sorted(Counter(verdicts).items()))
     between = f"{min(sizes)} to {max(sizes)} operations" if sizes else "no recording"
@@ -256,18 +283,22 @@ def main() -> None:
     parser.add_argument("--seed", type=int, default=1)
     parser.add_argument("--keep", type=Path, help="a folder for the smallest traces that were not accepted")
     words = parser.parse_args()
+    if sys.stdout is None:
+        fail("cannot write: standard output is closed")
     check_is_domepeeler(words.program)
     engine, answered = engine_of(words.engine), 0
     with tempfile.TemporaryDirectory() as folder:
         driver = Driver(engine, Path(folder))
-        for kind in engine.kinds:
-            count = max(1, (words.sessions or engine.count) // kind.share)
-            firsts = tried(kind, count, random.Random(f"{words.seed} {kind.name}"), driver, words.program)
-            answered += len(firsts)
-            for word, one in firsts.items():
-                kept = one if word == "accepted" else smallest(driver, words.program, one, word)
-                show(words, kind, word, driver.trace(Plan(kept).text()))
-        driver.close()
+        try:
+            for kind in engine.kinds:
+                count = max(1, (words.sessions or engine.count) // kind.share)
+                firsts = tried(kind, count, random.Random(f"{words.seed} {kind.name}"), driver, words.program)
+                answered += len(firsts)
+                for word, one in firsts.items():
+                    kept = one if word == "accepted" else smallest(driver, words.program, one, word)
+                    show(words, kind, word, driver.trace(Plan(kept).text()))
+        finally:
+            driver.close()
     if not answered:
         fail("no session gave an answer, so nothing was judged")
 
@@ -277,17 +308,28 @@ def show(words: argparse.Namespace, kind: sessions.Kind, verdict_word: str, trac
     if verdict_word != "accepted":
         print(f"the smallest found of {kind.name}, {verdict_word}:\n{trace}", flush=True)
     if words.keep:
-        words.keep.mkdir(parents=True, exist_ok=True)
         name = "_".join([Path(words.engine).stem, *kind.name.replace(",", "").split(), *verdict_word.split()])
-        (words.keep / f"{name}.trace").write_text(trace)
+        try:
+            words.keep.mkdir(parents=True, exist_ok=True)
+            (words.keep / f"{name}.trace").write_text(trace)
+        except OSError as why:
+            fail(f"cannot write {why.filename}: {why.strerror}")
 
 
 if __name__ == "__main__":
+    for stop in signal.SIGINT, signal.SIGTERM, signal.SIGHUP:
+        if signal.getsignal(stop) != signal.SIG_IGN:
+            signal.signal(stop, be_stopped)
     try:
         main()
-    except BrokenPipeError:  # the reader has enough
+    except Stopped as stopped:  # the engine was ended, and nothing is said
+        signal.signal(stopped.args[0], signal.SIG_DFL)
+        os.kill(os.getpid(), stopped.args[0])
+    except Exception as why:
+        if not isinstance(why, OSError) or why.filename is not None:
+            traceback.print_exc()  # nobody has thought of it
+            sys.exit(2)
         os.dup2(os.open(os.devnull, os.O_WRONLY), sys.stdout.fileno())
-        sys.exit(2)
-    except Exception:  # which nobody has thought of
-        traceback.print_exc()
-        sys.exit(2)
+        if isinstance(why, BrokenPipeError):  # the reader has enough
+            sys.exit(2)
+        fail(f"cannot write: {why.strerror}")
