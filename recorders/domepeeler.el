@@ -376,8 +376,21 @@ else LACKING, and NAMED says what another program is named by."
             (unless (and (memq status '(0 1)) (looking-at begin))
               (domepeeler--ended program status lacking
                                  (with-temp-buffer (insert-file-contents errors) (string-trim (buffer-string)))))
+            (when (equal begin "{")
+              (domepeeler--check-agrees recording program status (buffer-string)))
             (buffer-string)))
       (delete-file errors))))
+
+(defun domepeeler--check-agrees (recording program status report)
+  "Refuse a REPORT of PROGRAM that can't be on RECORDING.
+One that accepts comes with STATUS 0 and counts the operations, any other
+has status 1."
+  (let ((accepts (string-match-p "\"verdict\":\"accepted\"" report))
+        (operations (cl-reduce #'+ (domepeeler-recording-replicas recording) :key #'domepeeler--replica-operations)))
+    (unless (cond (accepts (and (eql status 0) (string-match-p (format "\"operations\":%d," operations) report)))
+                  ((string-match-p "\"verdict\":\"" report) (eql status 1))
+                  (t t))
+      (error "%s ended with status %d and printed a report that is not on this recording" program status))))
 
 (defun domepeeler--ended (program status lacking why)
   "Say how PROGRAM ended, which printed LACKING not, and WHY as its error.

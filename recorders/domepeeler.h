@@ -1246,6 +1246,17 @@ static inline void domepeeler_refuse_end(struct domepeeler *d, const char *progr
     else domepeeler_fail(d, "%s ended with status %d: %.160s", program, WEXITSTATUS(status), why);
 }
 
+/* Whether what is printed may be a report on this recording: one that accepts comes with status 0 and counts its operations, any other
+ * has status 1. */
+static inline int domepeeler_agrees(struct domepeeler *d, const char *report, int status) {
+    char counted[40];
+    unsigned operations = 0;
+    if (!strstr(report, "\"verdict\":\"accepted\"")) return status == 1 || !strstr(report, "\"verdict\":\"");
+    for (int i = 0; i < d->replicas; i++) operations += d->of[i].operations;
+    snprintf(counted, sizeof counted, "\"operations\":%u,", operations);
+    return status == 0 && strstr(report, counted);
+}
+
 /* What the words print for this recording, with these files as the streams; NULL where that is not what is lacking then. */
 static inline char *domepeeler_answer(struct domepeeler *d, const char *const *words, const int *files, const char *named,
                                       const char *lacking, char first) {
@@ -1257,7 +1268,12 @@ static inline char *domepeeler_answer(struct domepeeler *d, const char *const *w
     if (why < 0) domepeeler_fail(d, "how %s ended was not learned: %s", words[0], strerror(errno));
     if (why) return NULL;
     char *printed = WIFEXITED(status) && WEXITSTATUS(status) < 2 ? domepeeler_whole(files[1]) : NULL;
-    if (printed && *printed && (!first || *printed == first)) return printed;
+    if (printed && *printed && (!first || *printed == first)) {
+        if (first != '{' || domepeeler_agrees(d, printed, WEXITSTATUS(status))) return printed;
+        domepeeler_fail(d, "%s ended with status %d and printed a report that is not on this recording", words[0], WEXITSTATUS(status));
+        free(printed);
+        return NULL;
+    }
     free(printed);
     char *said = domepeeler_whole(files[2]);
     if (said) said[strcspn(said, "\n")] = 0;

@@ -292,6 +292,9 @@ class Recording:
         if done.returncode not in (0, 1) or not done.stdout.startswith(b"{"):
             _ended(name, done, "report")
         report = _report_in(name, done.stdout)
+        is_accepted, operations = report["verdict"] == "accepted", sum(one.operations for one in self._replicas)
+        if is_accepted != (done.returncode == 0) or is_accepted and report.get("operations") != operations:
+            raise RuntimeError(f"{name} ended with status {done.returncode} and printed a report that is not on this recording")
         report["warnings"] = self.warnings() if report.get("verdict") == "accepted" else []
         return report
 
