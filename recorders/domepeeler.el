@@ -388,7 +388,7 @@ has status 1."
   (let ((accepts (string-match-p "\"verdict\":\"accepted\"" report))
         (operations (cl-reduce #'+ (domepeeler-recording-replicas recording) :key #'domepeeler--replica-operations)))
     (unless (cond (accepts (and (eql status 0) (string-match-p (format "\"operations\":%d," operations) report)))
-                  ((string-match-p "\"verdict\":\"" report) (eql status 1))
+                  ((string-match-p "\"verdict\":\"[a-z]+\"" report) (eql status 1))
                   (t t))
       (error "%s ended with status %d and printed a report that is not on this recording" program status))))
 

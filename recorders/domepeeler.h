@@ -1251,7 +1251,7 @@ static inline void domepeeler_refuse_end(struct domepeeler *d, const char *progr
 static inline int domepeeler_agrees(struct domepeeler *d, const char *report, int status) {
     char counted[40];
     unsigned operations = 0;
-    if (!strstr(report, "\"verdict\":\"accepted\"")) return status == 1 || !strstr(report, "\"verdict\":\"");
+    if (!strstr(report, "\"verdict\":\"accepted\"")) return status == 1 || !strrchr(report, '}') || !strstr(report, "\"verdict\":\"");
     for (int i = 0; i < d->replicas; i++) operations += d->of[i].operations;
     snprintf(counted, sizeof counted, "\"operations\":%u,", operations);
     return status == 0 && strstr(report, counted);

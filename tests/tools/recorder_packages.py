@@ -276,6 +276,30 @@ test("fails and is right", recorded(1, (recording) => {
 }))
 '''}
 
+# Tests of Node whose hooks, or timers, record behind the body: LATE loses an element.
+LATE = '''
+import { afterEach, describe, test } from "node:test"
+import { recorded } from "domepeeler/node_test"
+
+const names = "LATE" in process.env ? [] : ["a"]
+let last
+test("hook", recorded(1, (recording, context) => {
+  context.after(() => recording.read(0, names))
+  recording.insert(0, "a", 0, ["a"])
+}))
+describe("suite", () => {
+  afterEach(() => last.read(0, names))
+  test("hook of the suite", recorded(1, (recording) => {
+    last = recording
+    recording.insert(0, "a", 0, ["a"])
+  }))
+})
+if ("TIMER" in process.env) test("timer", recorded(1, (recording) => {
+  recording.insert(0, "a", 0, ["a"])
+  setTimeout(() => recording.read(0, []), 300)
+}))
+'''
+
 # What an accepted recording of one replica's insert and another's read may hide.
 UNSURE = ["in the end replicas 0 and 1 show different lists",
           "replica 1 never hears of replica 0: no receipt brings it an insert or a delete from there, so nothing shows what it makes of "
@@ -719,6 +743,16 @@ def check_ends_of_node(tally: Tally, place: Place) -> None:
     tally.check("node --test: an accepted recording of a test that fails by itself", begins and "Noted" in told and "seed 17" in told and
                 f"The trace is saved: {path}" in told and path.is_file() and path.read_text() == "trace 1\nreplicas 1\n0 read :\n", told)
     tally.check("node --test: Git passes over the folder", (path.parent / ".gitignore").read_text() == "*\n")
+    place.make("packed/late.test.mjs", LATE)
+    words_late = [*words[:-1], "late.test.mjs"]
+    done = place.run(words_late, "packed")
+    tally.check("node --test: hooks that record what is right", done.returncode == 0 and "# fail 0\n" in done.stdout, done.stdout)
+    done = place.run(words_late, "packed", LATE="1")
+    tally.check("node --test: what hooks record is judged", done.returncode == 1 and "not ok 1 - hook\n" in done.stdout and
+                "not ok 1 - hook of the suite\n" in done.stdout and done.stdout.count("contents 0.2: ") >= 2, done.stdout)
+    done = place.run(words_late, "packed", TIMER="1")
+    tally.check("node --test: what is recorded later still is told of", done.returncode == 1 and "ok 3 - timer" in done.stdout and
+                "timer: something was recorded when the test had ended, so it was not judged" in done.stdout, done.stdout)
     broken = str(place.folder / "broken")
     for script, why in BROKEN:
         place.make("broken", f"#!/bin/sh\n{script}\n", 0o755)

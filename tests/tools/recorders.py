@@ -8,8 +8,10 @@ import json
 import os
 import pickle
 import re
+import select
 import shlex
 import shutil
+import signal
 import subprocess
 import sys
 import tempfile
@@ -1366,6 +1368,15 @@ def check_judge(tally: Tally, recorder: Recorder, folder: Path) -> None:
         got = recorder.answers(["new\t1", "judge", "explain"], DOMEPEELER=str(killed), DOMEPEELER_EXPLAIN=str(killed))
         wanted = [f"failed {killed} {why.format(lacking)}" for lacking in ("report", "words")]
         tally.check(f"{recorder.language}: judge by what {script}", got == ["ok", *wanted], got)
+    report = '{"at":"0.1","inserts":%d,"operations":%d,"order":[],"replicas":1,"strong":true,"verdict":"%s","weak":true}'
+    for operations, verdict, status in (0, "accepted", 1), (1, "accepted", 0), (10, "accepted", 0), (0, "contents", 0):
+        killed.write_text(f"#!/bin/sh\ncat > /dev/null\necho '{report % (0, operations, verdict)}'\nexit {status}\n")
+        got = recorder.answers(["new\t1", "judge"], DOMEPEELER=str(killed))
+        wanted = f"failed {killed} ended with status {status} and printed a report that is not on this recording"
+        tally.check(f"{recorder.language}: judge by what says {verdict} of {operations} operations with status {status}", got == ["ok", wanted], got)
+    killed.write_text(f"#!/bin/sh\ncat > /dev/null\necho '{report % (0, 0, 'accepted')}'\n")
+    got = recorder.answers(["new\t1", "judge"], DOMEPEELER=str(killed))
+    tally.check(f"{recorder.language}: judge by what agrees", got[1].startswith("report {"), got)
     got = recorder.answers(["new\t1", "judge"], DOMEPEELER="", PATH=f"{folder / 'path'}:{os.environ['PATH']}")
     tally.check(f"{recorder.language}: judge by domepeeler on the PATH", got[1:] and got[1].startswith("report {"), got)
 
@@ -1563,6 +1574,40 @@ def check_merge_hostile(tally: Tally, folder: Path) -> None:
                        ("x\n::error::y", "x\\n::error::y is no text of a recorder, or was cut off"), ("\udcff", "cannot read \\xff: No such file or directory")):
         done = subprocess.run([sys.executable, ROOT / "recorders" / "merge.py", "0.log", log], cwd=place, capture_output=True, text=True, timeout=60)
         tally.check(f"merge.py: {log!r}", done.returncode in (1, 2) and done.stderr == f"merge.py: {words}\n" and not done.stdout, done)
+    check_merge_stopped(tally, place)
+
+
+def check_merge_stopped(tally: Tally, place: Path) -> None:
+    """A signal ends merge.py, and it says nothing; what it writes appears whole or not at all, once, and an older Python is told which one
+    is needed."""
+    (place / "0.log.lines").unlink()
+    tool = [sys.executable, str(ROOT / "recorders" / "merge.py")]
+    old, long = place / "old.trace", place / "long.log"
+    long.write_text("trace 1\nreplicas 2\n" + "0 read :\n" * 16000)  # more than a pipe holds
+    for stop in signal.SIGINT, signal.SIGTERM, signal.SIGHUP:
+        reader = os.open(place / "pipe", os.O_RDONLY | os.O_NONBLOCK)
+        running = subprocess.Popen([*tool, "--output", "pipe", "long.log"], cwd=place, stdout=subprocess.PIPE, stderr=subprocess.PIPE,
+                                   preexec_fn=lambda: signal.signal(stop, signal.SIG_DFL))  # which what runs in the background may ignore
+        select.select([reader], [], [], 30)  # it writes
+        running.send_signal(stop)
+        out, err = running.communicate(timeout=30)
+        os.close(reader)
+        tally.check(f"merge.py: stopped by {stop.name}", (running.returncode, out, err) == (-stop, b"", b""), (running.returncode, out, err))
+    for text in None, "old\n":
+        if text:
+            old.write_text(text)
+            old.chmod(0o640)
+        limited = subprocess.run(["sh", "-c", 'ulimit -f 1; trap "" XFSZ; exec "$@"', "sh", *tool, "--output", "old.trace", "long.log"], cwd=place,
+                                 capture_output=True, text=True)
+        left = sorted(path.name for path in place.iterdir() if path.name.startswith((".", "old.trace")) and path.name != "old.trace.lines")
+        tally.check(f"merge.py: what can't be written whole, over {text!r}", (limited.returncode, limited.stderr) == (
+            2, "merge.py: cannot write old.trace: File too large\n") and left == ["old.trace"] * bool(text) and (not text or old.read_text() == text),
+            (limited, left))
+    done = subprocess.run([*tool, "--output", "old.trace", "long.log"], cwd=place, capture_output=True)
+    tally.check("merge.py: the file's mode stays", done.returncode == 0 and old.read_text() == long.read_text() and old.stat().st_mode & 0o777 == 0o640, done)
+    done = subprocess.run([*tool, "--output", "a", "--output", "b", "0.log"], cwd=place, capture_output=True, text=True)
+    tally.check("merge.py: two outputs", done.returncode == 2 and done.stderr.endswith("merge.py: error: argument --output: it is given twice\n")
+                and not (place / "b").exists(), done)
 
 
 def check_merged_beside(tally: Tally, folder: Path, name: str, besides: list, wanted: str, warned: str) -> None:
