@@ -22,7 +22,7 @@ from pathlib import Path
 ROOT = Path(__file__).resolve().parents[2]
 sys.path.insert(0, str(ROOT / "tests"))
 from reference import verdicts  # noqa: E402
-from shared.program import Ended, Tally, need, program_of, run  # noqa: E402
+from shared.program import Ended, Tally, is_running, need, program_of, run  # noqa: E402
 from shared.sessions import session  # noqa: E402
 
 sys.path.insert(0, str(ROOT / "recorders" / "engines"))
@@ -812,18 +812,6 @@ def stopped(tally: Tally, folder: str, other: str) -> None:
             tally.check(f"stopped: {stop.name}, {Path(words[0]).name}: nothing runs on", not left, left)
 
 
-def is_running(pid: str) -> bool:
-    """Whether a process does anything; one that has just been killed may not have been waited for yet."""
-    for _ in range(1000):
-        try:
-            if Path(f"/proc/{pid}/stat").read_text().rpartition(")")[2].split()[0] == "Z":
-                return False
-        except OSError:
-            return False
-        time.sleep(0.01)
-    return True
-
-
 def unknown_faults(tally: Tally, program: str, folder: str) -> None:
     """What nobody has thought of ends with 2, and not with Python's 1, which is a verdict: also while the tool is loaded. An older Python
     is told which one is needed."""
@@ -995,10 +983,40 @@ def script_of_ci(tally: Tally, program: str, folder: str) -> None:
     Path(place, "judged", "mine.txt").unlink()
     done = in_ci(str(place), path, f"{script} judged", {})
     tally.check("script of CI: its own folder", done.returncode == 2 and "is where the pages go" in done.stderr, done)
+    script_ended(tally, str(place), path, script, folder)
     write(str(place), {"apart/a.trace": "0 ins a 0 : a|1 ins b 0 : b"})
     done = in_ci(str(place), path, f"{script} apart --unequal", {"GITHUB_ACTIONS": "true"})
     tally.check("script of CI: unequal, where that fails", done.returncode == 1 and done.stdout.startswith(
         "::error file=apart/a.trace,title=apart/a.trace%3A accepted::accepted, but unequal in the end: in the end replicas 0 and 1 show different lists\n"), done)
+
+
+def script_ended(tally: Tally, place: str, path: str, script: str, folder: str) -> None:
+    """A signal ends the script, and what judges for it; where it can't say what came out, it does not end as if the editor had failed, or had
+    not."""
+    write(place, {"good/a.trace": "0 ins a 0 : a"})
+    for what in "good", ".":
+        for redirected, told in (">&-", "judge_recordings: standard output or standard error is closed\n"), (
+                "> /dev/full", "judge_recordings: cannot write what is told: No space left on device\n"):
+            for unbuffered in "", "1":
+                done = in_ci(place, path, f"{script} {what} {redirected}", {"PYTHONUNBUFFERED": unbuffered})
+                tally.check(f"script of CI: {what} {redirected} {unbuffered}", (done.returncode, done.stdout, done.stderr) == (2, "", told), done)
+        done = in_ci(place, path, f"{script} {what} 2>&-", {})
+        tally.check(f"script of CI: {what}, closed standard error", done.returncode in (2, int(what == ".")), done)
+    slow, begun = Path(folder, "slow"), Path(folder, "begun")
+    slow.write_text(f"#!/bin/sh\n{VERSION}echo $$ >> '{begun}'\nexec sleep 60\n")
+    slow.chmod(0o755)
+    for stop in signal.SIGINT, signal.SIGTERM, signal.SIGHUP:
+        begun.write_text("")
+        running = subprocess.Popen([*script.split(), "good"], cwd=place, stdout=subprocess.PIPE, stderr=subprocess.PIPE,
+                                   env={"PATH": path, "DOMEPEELER": str(slow)}, preexec_fn=lambda: signal.signal(stop, signal.SIG_DFL))
+        until = time.monotonic() + 60
+        while not begun.read_text().endswith("\n") and time.monotonic() < until:
+            time.sleep(0.01)
+        running.send_signal(stop)
+        out, err = running.communicate(timeout=30)
+        left = [pid for pid in begun.read_text().split() if is_running(pid)]
+        tally.check(f"script of CI: stopped by {stop.name}", (running.returncode, out, err, left) == (-stop, b"", b"", []),
+                    (running.returncode, out, err, left))
 
 
 def some_big(folder: Path, count: int = 2) -> None:
