@@ -19,6 +19,7 @@ JUDGED = Path("judged")
 OWN = re.compile(r"junit\.xml|annotations\.json|[1-9][0-9]*\.(html|trace|trace\.lines)")  # files that it leaves there
 IN_MESSAGES, IN_PROPERTIES = "%\r\n", "%\r\n:,"  # marks that GitHub wants escaped
 MOST_LEFT = 3  # names of other files that are told
+MOST_SHOWN = 120  # letters of what the tool printed otherwise
 
 
 class Failed(Exception):
@@ -118,7 +119,10 @@ def judge(folder, options):
         raise Failed(f"{JUDGED} is where the pages go, so its traces are not judged")
     prepare()
     done = ended("domepeeler-judge-many", "--failing", "--json", "--junit", JUDGED / "junit.xml", *options, "--", folder)
-    rows = [json.loads(line) for line in done.stdout.splitlines()]
+    try:
+        rows = [json.loads(line) for line in done.stdout.splitlines()]
+    except ValueError:
+        raise Failed(f"domepeeler-judge-many ended with status {done.returncode}, and printed no recordings: {shown(done.stdout[:MOST_SHOWN])}") from None
     rows = [row for row in rows if JUDGED.resolve() not in Path(row["file"]).resolve().parents]
     explained = [explain(number, row) for number, row in enumerate(rows, 1)]
     print_explanations(rows, [told for told, _ in explained])

@@ -263,7 +263,10 @@ def check_is_domepeeler(program: str) -> None:
     """A program that does not answer its version as domepeeler does is another one."""
     if not shutil.which(program):
         fail(f"{program} is no program")
-    done = subprocess.run([program, "--version"], stdin=subprocess.DEVNULL, capture_output=True)
+    try:
+        done = subprocess.run([program, "--version"], stdin=subprocess.DEVNULL, capture_output=True)
+    except OSError as why:
+        fail(f"{program} can't be run: {why.strerror}")
     if done.returncode or not done.stdout.startswith(b"domepeeler "):
         fail(f"{program} is not domepeeler: asked for its version it ended with status {done.returncode}")
 

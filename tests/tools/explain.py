@@ -1116,6 +1116,9 @@ def record_ended(tally: Tally, program: str, folder: str) -> None:
             tally.check(f"record.py: {stop.name} while {what} works", (running.returncode, out, err) == (-stop, b"", b""), (running.returncode, out, err))
             left = [pid for pid in begun.read_text().split() if is_running(pid)]
             tally.check(f"record.py: {stop.name} while {what} works: nothing is left", not left and not os.listdir(temporary), (left, os.listdir(temporary)))
+    slow.write_text("")
+    done = subprocess.run([RECORD, "list_crdt", str(slow)], capture_output=True, text=True)
+    tally.check("record.py: an empty program", (done.returncode, done.stderr) == (2, f"record.py: {slow} can't be run: Exec format error\n"), done)
     usual = [RECORD, "list_crdt", program, "--sessions", "1"]
     reader, closed = os.pipe()
     os.close(reader)

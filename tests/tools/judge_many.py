@@ -644,6 +644,17 @@ def anywhere(tally: Tally, program: str, folder: str) -> None:
     tally.same("too long a name", judge(program, [long]), Ended(2, b"", f"domepeeler-judge-many: cannot read {long}: File name too long\n".encode()))
 
 
+def little_memory(tally: Tally, program: str, folder: str) -> None:
+    """Where memory is short, an accepted trace is no failure, and nothing is half told."""
+    write(folder, {"a.trace": "0 ins a 0 : a"})
+    for tool in TOOL, str(ROOT / "tools" / "explain"):
+        for kilobytes in 22_000, 28_000, 34_000, 1_000_000:
+            got = subprocess.run(["sh", "-c", f'ulimit -v {kilobytes}; exec "$@"', "sh", sys.executable, tool, "--program", program, f"{folder}/a.trace"],
+                                 capture_output=True, text=True)
+            is_told = got.returncode == 0 and "accepted" in got.stdout or got.returncode in (2, 3) and got.stderr.startswith(f"{name_of(tool)}: ")
+            tally.check(f"little memory: {name_of(tool)} in {kilobytes} KB", is_told and (kilobytes < 1_000_000 or not got.returncode), got)
+
+
 def which_traces(tally: Tally, program: str, folder: str, other: str) -> None:
     """Behind links, in each real folder once, and with the ending in any case; of several folders one without a trace is told of."""
     write(folder, {"a.trace": "0 ins a 0 : a", "deep/BAD.TRACE": "0 ins a 0 : a|0 read :"})
@@ -831,8 +842,8 @@ def unknown_faults(tally: Tally, program: str, folder: str) -> None:
             os.makedirs(f"{tools}/alone", exist_ok=True)
             shutil.copy(ROOT / "tools" / tool, f"{tools}/alone")
             got = run(f"{tools}/alone/{tool}", ["--program", program, what])
-            tally.same(f"not whole: {tool}", got, Ended(
-                2, b"", f"{name_of(tool)}: it is not installed whole, so nothing is judged: No module named 'explaining'\n".encode()))
+            tally.same(f"not installed whole: {tool}", got, Ended(
+                2, b"", f"{name_of(tool)}: it can't be loaded, so nothing is judged: No module named 'explaining'\n".encode()))
         for tool in "judge_many", "explain":
             old = "import sys; sys.version_info = (3, 6, 8); sys.argv = ['x']; exec(compile(open(%r).read(), 'x', 'exec'))" % f"{tools}/{tool}"
             got = subprocess.run([sys.executable, "-c", old], capture_output=True, text=True)
@@ -1002,6 +1013,10 @@ def script_ended(tally: Tally, place: str, path: str, script: str, folder: str) 
                 tally.check(f"script of CI: {what} {redirected} {unbuffered}", (done.returncode, done.stdout, done.stderr) == (2, "", told), done)
         done = in_ci(place, path, f"{script} {what} 2>&-", {})
         tally.check(f"script of CI: {what}, closed standard error", done.returncode in (2, int(what == ".")), done)
+    for option, status in ("--version", 0), ("--junit=x.xml", 2):
+        done = in_ci(place, path, f"{script} good {option}", {})
+        tally.check(f"script of CI: {option}", done.returncode == 2 and "accepted" not in done.stdout and ("is given twice" in done.stderr if status else
+                    done.stderr.startswith("judge_recordings: domepeeler-judge-many ended with status 0, and printed no recordings: ")), done)
     slow, begun = Path(folder, "slow"), Path(folder, "begun")
     slow.write_text(f"#!/bin/sh\n{VERSION}echo $$ >> '{begun}'\nexec sleep 60\n")
     slow.chmod(0o755)
@@ -1061,7 +1076,7 @@ def main() -> None:
         fails_at(tally, program, third)
         warnings(tally, program, folder)
         warnings_of_sessions(tally, program, other)
-    for check in pythons, not_looked_at, changing, known_as_cut, grouped, no_files, overwriting, odd_names, tasks, script_of_ci, big_traces:
+    for check in pythons, little_memory, not_looked_at, changing, known_as_cut, grouped, no_files, overwriting, odd_names, tasks, script_of_ci, big_traces:
         with tempfile.TemporaryDirectory() as folder:
             check(tally, program, folder)
     with tempfile.TemporaryDirectory() as folder, tempfile.TemporaryDirectory() as other, tempfile.TemporaryDirectory() as third:
