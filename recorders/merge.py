@@ -32,7 +32,8 @@ MOST_NOTES = 20  # as many as a recording takes
 RECEIPT = "recv [0-9]{1,7} [0-9]{1,7}"
 ENTRIES = {"trace 1": re.compile(f"[0-9]+ ({RECEIPT}|(ins|del|read) .*)", re.ASCII),
            "trace 2": re.compile(f"[0-9]+ ({RECEIPT}|(ins|del|read|view) .*)", re.ASCII)}
-STATUSES = "It ends with status 0, 1 where the logs can't be merged, and 2 where one can't be read or the trace can't be written."
+STATUSES = ("It ends with status 0, 1 where the logs can't be merged, 2 where one can't be read or the trace can't be written, and 3 where "
+            "memory ran out.")
 
 
 class Unmerged(ValueError):
@@ -283,6 +284,8 @@ if __name__ == "__main__":
     except Stopped as stopped:  # what was begun is taken away, and nothing said
         signal.signal(stopped.args[0], signal.SIG_DFL)
         os.kill(os.getpid(), stopped.args[0])
+    except MemoryError:
+        fail(3, "out of memory")
     except Exception:  # which nobody has thought of: no status that says something of the logs
         traceback.print_exc()
         sys.exit(2)

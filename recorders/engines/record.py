@@ -46,8 +46,17 @@ SMALL = [sessions.SMALL_PEERS, sessions.SMALL_STAR, sessions.SMALL_MIDDLE]
 ALL = [*SMALL, sessions.LARGE_PEERS, sessions.LARGE_STAR, sessions.LARGE_MIDDLE]
 
 
+def shown(text: str) -> str:
+    """A name, or what an engine says, for a message: what can't be printed stands as `\\x1b` and the like."""
+    return "".join(letter if letter.isprintable() else f"\\x{ord(letter) - 0xdc00:02x}" if "\udc80" <= letter <= "\udcff" else ascii(letter)[1:-1]
+                   for letter in text)
+
+
 def fail(words: str) -> NoReturn:
-    print(f"record.py: {words}", file=sys.stderr)
+    try:
+        print(f"record.py: {shown(words)}", file=sys.stderr)
+    except OSError:  # nobody can be told
+        os.dup2(os.open(os.devnull, os.O_WRONLY), sys.stderr.fileno())
     sys.exit(2)
 
 
@@ -124,6 +133,7 @@ ENGINES = {
 }
 
 
+BEGIN = 60  # seconds in which a module of one's own is loaded
 OWN_COUNT = 300  # small sessions of each kind of an engine of one's own
 
 
@@ -134,9 +144,13 @@ def engine_of(word: str) -> Engine:
     if not word.endswith(".py"):
         fail(f"{word} is none of {', '.join(sorted(ENGINES))}, and no path of a Python module, which ends with .py")
     module = os.path.abspath(word)
-    tried = subprocess.run([sys.executable, HERE / "own_engine.py", module], stdin=subprocess.DEVNULL, capture_output=True, text=True)
+    try:
+        tried = subprocess.run([sys.executable, HERE / "own_engine.py", module], stdin=subprocess.DEVNULL, capture_output=True, text=True,
+                               errors="surrogateescape", timeout=BEGIN)
+    except subprocess.TimeoutExpired:
+        fail(f"{word} was not loaded within {BEGIN} seconds")
     if tried.returncode:
-        fail(tried.stderr.strip().splitlines()[-1])
+        fail((tried.stderr.strip().splitlines() or [f"{word} ended with status {tried.returncode}"])[-1])
     return Engine([], [sys.executable, "{here}/own_engine.py", module.replace("{", "{{").replace("}", "}}")], ALL, OWN_COUNT)
 
 
@@ -249,8 +263,8 @@ def tried(kind: sessions.Kind, count: int, rnd: random.Random, driver: Driver, p
     between = f"{min(sizes)} to {max(sizes)} operations" if sizes else "no recording"
     print(f"{kind.name}: {count} sessions, {between}: {said}", flush=True)
     if STOPPED in verdicts:
-        words = [f"none within {driver.engine.seconds} seconds"] if driver.late else driver.said.read_text().splitlines()
-        print("the engine's last words: " + (words or ["none"])[-1], flush=True)
+        words = [f"none within {driver.engine.seconds} seconds"] if driver.late else driver.said.read_text(errors="surrogateescape").splitlines()
+        print("the engine's last words: " + shown((words or ["none"])[-1]), flush=True)
     firsts = {}
     for one, word in sorted(zip(found, verdicts), key=lambda both: len(both[0].steps)):
         if word not in ("accepted", STOPPED):

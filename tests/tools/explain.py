@@ -1116,6 +1116,19 @@ def record_ended(tally: Tally, program: str, folder: str) -> None:
             tally.check(f"record.py: {stop.name} while {what} works", (running.returncode, out, err) == (-stop, b"", b""), (running.returncode, out, err))
             left = [pid for pid in begun.read_text().split() if is_running(pid)]
             tally.check(f"record.py: {stop.name} while {what} works: nothing is left", not left and not os.listdir(temporary), (left, os.listdir(temporary)))
+    for name, told in ("x\n::error::y", "x\\n::error::y"), ("\x1b[31m", "\\x1b[31m"), ("\udcff", "\\xff"):
+        done = subprocess.run([RECORD, name, program], capture_output=True, text=True)
+        tally.check(f"record.py: {told}", done.returncode == 2 and done.stderr.startswith(f"record.py: {told} is none of "), done)
+        done = subprocess.run([RECORD, "list_crdt", name], capture_output=True, text=True)
+        tally.check(f"record.py: no program {told}", (done.returncode, done.stderr) == (2, f"record.py: {told} is no program\n"), done)
+    engine.write_text("import sys\n\nclass Engine:\n    def __init__(self, replica):\n        sys.exit('\\x1b[31mno')\n"
+                      "    names = insert = delete = apply = len\n")
+    done = subprocess.run([RECORD, str(engine), program, "--sessions", "1"], capture_output=True, text=True)
+    tally.check("record.py: an engine's last words", done.returncode == 2 and "the engine's last words: \\x1b[31mno\n" in done.stdout
+                and "\x1b" not in done.stdout, done)
+    engine.write_text("import os\nos._exit(7)\n")
+    done = subprocess.run([RECORD, str(engine), program], capture_output=True, text=True)
+    tally.check("record.py: a module that ends and says nothing", (done.returncode, done.stderr) == (2, f"record.py: {engine} ended with status 7\n"), done)
     slow.write_text("")
     done = subprocess.run([RECORD, "list_crdt", str(slow)], capture_output=True, text=True)
     tally.check("record.py: an empty program", (done.returncode, done.stderr) == (2, f"record.py: {slow} can't be run: Exec format error\n"), done)
@@ -1131,6 +1144,20 @@ def record_ended(tally: Tally, program: str, folder: str) -> None:
     tally.check("record.py: no standard output", (done.returncode, done.stderr) == (2, b"record.py: cannot write: standard output is closed\n"), done)
     done = subprocess.run([*usual, "--keep", f"{slow}/kept"], capture_output=True, text=True)
     tally.check("record.py: a folder that can't be made", (done.returncode, done.stderr) == (2, f"record.py: cannot write {slow}/kept: Not a directory\n"), done)
+
+
+def arguments(tally: Tally, program: str, folder: str) -> None:
+    """Wrong words are no verdict, and nothing is judged or written."""
+    Path(folder, "right.trace").write_text(text_of(1, "0 ins a 0 : a"))
+    for words, told in (([], "the following arguments are required: TRACE"), (["right.trace", "right.trace"], "unrecognized arguments: right.trace"),
+                        (["--page", "right.trace"], "unrecognized arguments: --page"), (["--html"], "argument --html: expected one argument"),
+                        (["--language", "cobol", "right.trace"], "argument --language: invalid choice: 'cobol'"),
+                        (["--delivered", "6", "right.trace"], "argument --delivered: 6 is no range of lines, as 41-46"),
+                        (["--html", "1", "--html", "2", "right.trace"], "argument --html: it is given twice"),
+                        (["--small", "1", "--small=1", "right.trace"], "argument --small: it is given twice")):
+        done = subprocess.run([EXPLAIN, "--program", program, *words], cwd=folder, capture_output=True, text=True)
+        tally.check(f"arguments: {words}", done.returncode == 2 and not done.stdout and f"domepeeler-explain: error: {told}" in done.stderr
+                    and not Path(folder, "1").exists() and not Path(folder, "2").exists(), done)
 
 
 def drawn(tally: Tally, program: str) -> None:
@@ -1575,6 +1602,7 @@ def main() -> None:
         from_own_engine(tally, program, folder)
         from_no_answer(tally, program, folder)
         record_ended(tally, program, folder)
+        arguments(tally, program, folder)
         files(tally, program, folder)
         finding(tally, program, folder)
         others(tally, folder)

@@ -327,6 +327,10 @@ def errors(tally: Tally, program: str, folder: str) -> None:
     tally.same("no folder", judge(program, [missing]),
                Ended(2, b"", f"domepeeler-judge-many: cannot read {missing}: there is no such file or folder\n".encode()))
     tally.same("no program", judge(missing, [folder]), Ended(2, b"", f"domepeeler-judge-many: can't run {missing}, which --program names\n".encode()))
+    for words, told in ([], "the following arguments are required: DIR"), (["--fast", empty], "unrecognized arguments: --fast"), (
+            [empty, "--json", empty], f"unrecognized arguments: {empty}"), ([""], "cannot read : there is no such file or folder"):
+        got = judge(program, words)
+        tally.check(f"arguments: {words}", got.status == 2 and not got.out and got.err.endswith(f": {told}\n".encode()), got)
     for words in ["--junit", f"{folder}/a.xml", "--junit", f"{folder}/b.xml"], ["--jobs", "2", "--jobs=3"], ["--program", program, "--program=x"]:
         got = run(TOOL, [*words, folder])
         tally.check(f"given twice: {words[0]}", got.status == 2 and not got.out and got.err.endswith(f": error: argument {words[0]}: it is given twice\n".encode())
@@ -361,6 +365,15 @@ def elsewhere(tally: Tally, program: str, folder: str, other: str) -> None:
         rows = [json.loads(line) | {"seconds": 0} for line in done.stdout.decode().splitlines()]
         tally.check(f"{what}: the rows", rows == here and len(rows) == len(ROWS), (rows, done.stderr))
         tally.check(f"{what}: status 1", done.returncode == 1 and not done.stderr, done)
+    for path, status in ((f"{folder}/deep", 0), (f"{folder}/none", 1)):  # the command of the guide, for folders
+        shown = re.search(r"^    (parallel .*\n.*)", (ROOT / "docs" / "many.md").read_text(), re.MULTILINE)[1]
+        shown = shown.replace("/opt/domepeeler/bin/domepeeler-judge-many", f"{sys.executable} {TOOL} --program {program}")
+        shown = shown.replace("night/part1 night/part2", os.path.relpath(path, "/")).replace("night.jsonl", f"{other}/night.jsonl")
+        os.makedirs(f"{folder}/none", exist_ok=True)
+        done = subprocess.run(["sh", "-c", shown], cwd="/", env=os.environ | {"PARALLEL_SSH": str(stand_in), "HOME": other}, capture_output=True, text=True)
+        rows = [json.loads(line) for line in Path(other, "night.jsonl").read_text().splitlines()]
+        tally.check(f"two machines, by folders: {path}", done.returncode == status and [row["verdict"] for row in rows] == ["accepted"] * (1 - status), done)
+    os.rmdir(f"{folder}/none")
     got = judge(program, ["--json", "--sshlogin", ":", folder])
     rows = [json.loads(line) | {"seconds": 0} for line in got.out.decode().splitlines()]
     tally.check("parallel on this machine: the rows", rows == here and got.status == 1 and not got.err, got)

@@ -1605,6 +1605,10 @@ def check_merge_stopped(tally: Tally, place: Path) -> None:
             (limited, left))
     done = subprocess.run([*tool, "--output", "old.trace", "long.log"], cwd=place, capture_output=True)
     tally.check("merge.py: the file's mode stays", done.returncode == 0 and old.read_text() == long.read_text() and old.stat().st_mode & 0o777 == 0o640, done)
+    with open(place / "huge.log", "wb") as file:
+        file.truncate(120_000_000)
+    done = subprocess.run(["sh", "-c", 'ulimit -v 200000; exec "$@"', "sh", *tool, "huge.log"], cwd=place, capture_output=True, text=True)
+    tally.check("merge.py: out of memory", (done.returncode, done.stdout, done.stderr) == (3, "", "merge.py: out of memory\n"), done)
     done = subprocess.run([*tool, "--output", "a", "--output", "b", "0.log"], cwd=place, capture_output=True, text=True)
     tally.check("merge.py: two outputs", done.returncode == 2 and done.stderr.endswith("merge.py: error: argument --output: it is given twice\n")
                 and not (place / "b").exists(), done)
