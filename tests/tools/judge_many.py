@@ -25,8 +25,9 @@ from reference import verdicts  # noqa: E402
 from shared.program import Ended, Tally, is_running, need, program_of, run  # noqa: E402
 from shared.sessions import session  # noqa: E402
 
-sys.path.insert(0, str(ROOT / "recorders" / "engines"))
+sys.path[:0] = [str(ROOT / "recorders" / "engines"), str(ROOT / "tools")]
 import sessions as exchanged  # noqa: E402
+from explaining import judges  # noqa: E402
 from list_crdt import Group, play  # noqa: E402
 
 TOOL = str(ROOT / "tools" / "judge_many")
@@ -1059,6 +1060,17 @@ def big_traces(tally: Tally, program: str, folder: str) -> None:
     some_big(Path(folder), 3)
     rows = [json.loads(line) | {"seconds": 0} for line in judge(program, ["--json", "--jobs", "3", folder]).out.decode().splitlines()]
     alone = [json.loads(line) | {"seconds": 0} for line in judge(program, ["--json", "--jobs", "1", folder]).out.decode().splitlines()]
+    asked = []
+
+    class Counted(judges.ProcessPoolExecutor):
+        def submit(self, *words: object) -> object:
+            asked.append(words)
+            return super().submit(*words)
+
+    usual, judges.ProcessPoolExecutor = judges.ProcessPoolExecutor, Counted
+    judges.judged_here(program, sorted(map(str, Path(folder).glob("*.trace"))), 3)
+    judges.ProcessPoolExecutor = usual
+    tally.check("big traces: by other processes", len(asked) == 3, len(asked))
     sizes = [path.stat().st_size for path in Path(folder).glob("*.trace")]
     tally.check("big traces: the same rows", rows == alone and [row["verdict"] for row in rows] == ["contents", "contents", "accepted"]
                 and min(sizes) > 1 << 20, (rows and rows[0].get("fails_at"), sizes))

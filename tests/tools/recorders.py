@@ -1593,6 +1593,16 @@ def check_merge_stopped(tally: Tally, place: Path) -> None:
         out, err = running.communicate(timeout=30)
         os.close(reader)
         tally.check(f"merge.py: stopped by {stop.name}", (running.returncode, out, err) == (-stop, b"", b""), (running.returncode, out, err))
+    slow = "import os, runpy, sys, time; os.replace = lambda *_: time.sleep(60); sys.argv = sys.argv[1:]; runpy.run_path(sys.argv[0], run_name='__main__')"
+    for stop in signal.SIGINT, signal.SIGTERM, signal.SIGHUP:
+        running = subprocess.Popen([sys.executable, "-c", slow, tool[1], "--output", "new.trace", "long.log"], cwd=place,
+                                   preexec_fn=lambda: signal.signal(stop, signal.SIG_DFL))
+        until = time.monotonic() + 30
+        while not any(path.name.startswith(".merge-") for path in place.iterdir()) and time.monotonic() < until:
+            time.sleep(0.01)
+        running.send_signal(stop)
+        left = running.wait(timeout=30), sorted(path.name for path in place.iterdir() if path.name.startswith((".", "new.trace")))
+        tally.check(f"merge.py: stopped by {stop.name} before the file is there", left == (-stop, []), left)
     for text in None, "old\n":
         if text:
             old.write_text(text)
