@@ -867,7 +867,7 @@ def unknown_faults(tally: Tally, program: str, folder: str) -> None:
 
 SCRIPTS = {"tools/judge_many": "domepeeler-judge-many", "tools/explain": "domepeeler-explain", "tools/draw_cycle.py": "draw_cycle.py",
            "recorders/merge.py": "merge.py", "recorders/engines/record.py": "record.py", "examples/ci/judge_recordings.py": "judge_recordings"}
-IMPORTED = ["tools/explaining/*.py", "recorders/*.py", "recorders/engines/*.py", "recorders/python/domepeeler/*.py"]
+IMPORTED = ["tools/package", "tools/explaining/*.py", "recorders/*.py", "recorders/engines/*.py", "recorders/python/domepeeler/*.py"]
 # Commands that the oldest Python that is named runs as this one does.
 MAIN_WAYS = [
     "{tools}/judge_many --json --junit junit.xml traces", "{tools}/judge_many --json --jobs 2 big; cat junit.xml | sed 's/ time=\"[0-9.]*\"//g'",

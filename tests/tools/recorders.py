@@ -2046,6 +2046,15 @@ def check_rust_tests(tally: Tally, program: str, folder: Path) -> None:
                              env={**surroundings, "LOST": "1", "DOMEPEELER_EXPLAIN": "/nowhere/explain"})
     tally.check("Rust tests: warnings where no tool explains", without.returncode != 0 and
                 f":\n{warning}\n\naccepted\n/nowhere/explain cannot be run (" in without.stdout, without)
+    liar = place / "liar"
+    for operations, status in (3, 1), (9, 0), (31, 0):
+        liar.write_text(f"#!/bin/sh\ncat > /dev/null\nprintf 'replicas 2 operations {operations} inserts 1\\naccepted\\nstrong yes\\nweak yes\\norder : a\\n'\n"
+                        f"exit {status}\n")
+        liar.chmod(0o755)
+        done = subprocess.run(["./editor-0123456789abcdef", "all_is_delivered"], cwd=place, capture_output=True, text=True,
+                              env={**surroundings, "DOMEPEELER": "./liar"})
+        tally.check(f"Rust tests: a report of {operations} operations with status {status}", "0 passed; 1 failed;" in done.stdout and
+                    f"./liar ended with status {status} and printed a report that is not on this recording" in done.stdout, done)
     done = subprocess.run(["./editor-0123456789abcdef"], cwd=place, env=surroundings, capture_output=True, text=True)
     tally.check("Rust tests: one that passes removes what it saved before", "5 passed; 1 failed;" in done.stdout and
                 [path.name for path in saved.parent.iterdir()] == [".gitignore"], done)
