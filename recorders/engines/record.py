@@ -14,7 +14,7 @@ Prints, for each kind of session, how many were tried, how large they were, and 
 some were not accepted it makes the shortest of each verdict smaller, as long as the verdict stays, and prints that trace;
 with --keep it writes these traces into the folder, and of each kind the accepted one with most receipts as it is. By
 default it runs within a minute, with Debian's cargo, whose build of crdts is slower, in a minute and a half. It ends with
-status 0 where sessions were judged, and 2 where none gave an answer, or something else is wrong."""
+status 0 where all sessions are accepted, 1 where some are not, and 2 where one gave no answer, or something else is wrong."""
 import argparse
 import os
 import random
@@ -26,7 +26,7 @@ import tempfile
 import threading
 import traceback
 from collections import Counter
-from concurrent.futures import ThreadPoolExecutor
+from concurrent.futures import FIRST_EXCEPTION, ThreadPoolExecutor, wait
 from pathlib import Path
 from typing import NoReturn
 
@@ -41,6 +41,8 @@ HERE = Path(__file__).parent
 STOPPED = "no answer of the engine"
 COMMANDS = {"cargo": "cargo", "emacs-nox": "emacs", "gcc": "gcc", "nodejs": "node", "pkg-config": "pkg-config"}
 JUDGES = 3  # how many programs run at the same time
+SECONDS = 0.2  # between two looks for a signal
+STOPS = [signal.SIGINT, signal.SIGTERM, signal.SIGHUP]
 NODE = {"NODE_PATH": "/usr/share/nodejs"}
 SMALL = [sessions.SMALL_PEERS, sessions.SMALL_STAR, sessions.SMALL_MIDDLE]
 ALL = [*SMALL, sessions.LARGE_PEERS, sessions.LARGE_STAR, sessions.LARGE_MIDDLE]
@@ -186,7 +188,9 @@ class Driver:
                                                 env=self.engine.surroundings)
         lines = []
         late = threading.Timer(self.engine.seconds, self.stop)
+        signal.pthread_sigmask(signal.SIG_BLOCK, STOPS)  # which that thread would keep
         late.start()
+        signal.pthread_sigmask(signal.SIG_UNBLOCK, STOPS)
         try:
             self.process.stdin.write(plan.encode())
             self.process.stdin.flush()
@@ -247,14 +251,17 @@ def smallest(driver: Driver, program: str, session: Session, wanted: str) -> Ses
     return session
 
 
-def tried(kind: sessions.Kind, count: int, rnd: random.Random, driver: Driver, program: str) -> dict:
-    """Records so many sessions of a kind and prints what came out; answers the accepted one with most receipts, and of
-    each other verdict the shortest."""
+def tried(kind: sessions.Kind, count: int, rnd: random.Random, driver: Driver, program: str) -> tuple:
+    """Records so many sessions of a kind and prints what came out; answers the accepted one with most receipts and of
+    each other verdict the shortest, by verdict, and how many gave no answer."""
     found = [sessions.session(kind, rnd) for _ in range(count)]
     traces = [driver.trace(Plan(one).text()) for one in found]
     with ThreadPoolExecutor(JUDGES) as pool:
         try:
-            verdicts = list(pool.map(lambda trace: verdict(program, trace), traces))
+            waiting = [pool.submit(verdict, program, trace) for trace in traces]
+            while wait(waiting, SECONDS, FIRST_EXCEPTION).not_done and not any(one.done() and one.exception() for one in waiting):
+                pass  # a signal that another thread has got is heard now
+            verdicts = [one.result() for one in waiting]
         except BaseException:
             pool.shutdown(wait=False, cancel_futures=True)
             raise
@@ -270,7 +277,7 @@ def tried(kind: sessions.Kind, count: int, rnd: random.Random, driver: Driver, p
         if word not in ("accepted", STOPPED):
             firsts.setdefault(word, one)
     accepted = [(trace.count(" recv "), place) for place, trace in enumerate(traces) if verdicts[place] == "accepted"]
-    return {**firsts, **({"accepted": found[max(accepted)[1]]} if accepted else {})}
+    return {**firsts, **({"accepted": found[max(accepted)[1]]} if accepted else {})}, verdicts.count(STOPPED)
 
 
 def check_is_domepeeler(program: str) -> None:
@@ -303,21 +310,25 @@ def main() -> None:
     if sys.stdout is None:
         fail("cannot write: standard output is closed")
     check_is_domepeeler(words.program)
-    engine, answered = engine_of(words.engine), 0
+    engine, seen, unanswered = engine_of(words.engine), set(), 0
     with tempfile.TemporaryDirectory() as folder:
         driver = Driver(engine, Path(folder))
         try:
             for kind in engine.kinds:
                 count = max(1, (words.sessions or engine.count) // kind.share)
-                firsts = tried(kind, count, random.Random(f"{words.seed} {kind.name}"), driver, words.program)
-                answered += len(firsts)
+                firsts, lost = tried(kind, count, random.Random(f"{words.seed} {kind.name}"), driver, words.program)
+                unanswered += lost
+                seen.update(firsts)
                 for word, one in firsts.items():
                     kept = one if word == "accepted" else smallest(driver, words.program, one, word)
                     show(words, kind, word, driver.trace(Plan(kept).text()))
         finally:
             driver.close()
-    if not answered:
+    if not seen:
         fail("no session gave an answer, so nothing was judged")
+    if unanswered:
+        fail(f"sessions that gave no answer, so were not judged: {unanswered}")
+    sys.exit(1 if seen != {"accepted"} else 0)
 
 
 def show(words: argparse.Namespace, kind: sessions.Kind, verdict_word: str, trace: str) -> None:
@@ -334,7 +345,7 @@ def show(words: argparse.Namespace, kind: sessions.Kind, verdict_word: str, trac
 
 
 if __name__ == "__main__":
-    for stop in signal.SIGINT, signal.SIGTERM, signal.SIGHUP:
+    for stop in STOPS:
         if signal.getsignal(stop) != signal.SIG_IGN:
             signal.signal(stop, be_stopped)
     try:

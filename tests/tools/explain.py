@@ -1055,7 +1055,7 @@ def from_own_engine(tally: Tally, program: str, folder: str) -> None:
     mine.write_text(OWN_ENGINE)
     done = record(mine, "--keep", str(kept))
     traces = sorted(kept.glob("mine {0}_*_refused_2.trace"))
-    tally.check("own engine: recorded, judged and kept", done.returncode == 0 and not done.stderr and len(traces) > 1, done)
+    tally.check("own engine: recorded, judged and kept", done.returncode == 1 and not done.stderr and len(traces) > 1, done)
     ended = [explain(program, [str(path)]) for path in traces]
     tally.check("own engine: explained", all(got.out.startswith(b"refused 2: ") and got.status == 1 for got in ended)
                 and any(b"Look at the order of concurrent inserts: " in got.out for got in ended), ended)
@@ -1083,6 +1083,13 @@ def from_no_answer(tally: Tally, program: str, folder: str) -> None:
     mine = Path(folder, "mine.py")
     mine.write_text("class Engine:\n    def __init__(self, replica):\n        raise SystemExit(5)\n    names = insert = delete = apply = len\n")
     done = subprocess.run([RECORD, str(mine), program, "--sessions", "1"], capture_output=True, text=True)
+    some = Path(folder, "some.py")
+    some.write_text("import os\nfrom list_crdt import ListCrdt\n\nclass Engine(ListCrdt):\n    def delete(self, name):\n"
+                    "        os._exit(5) if len(self.names()) == 1 else None\n        return super().delete(name)\n")
+    ended = subprocess.run([RECORD, str(some), program, "--sessions", "20"], capture_output=True, text=True)
+    stopped = sum(map(int, re.findall(r"no answer of the engine: (\d+)", ended.stdout)))
+    tally.check("record.py: some gave no answer", ended.returncode == 2 and stopped > 0 and "accepted: " in ended.stdout and
+                ended.stderr == f"record.py: sessions that gave no answer, so were not judged: {stopped}\n", ended)
     tally.check("record.py: no answer", done.returncode == 2 and done.stderr == "record.py: no session gave an answer, so nothing was judged\n"
                 and "accepted" not in done.stdout, done)
     for words, wanted in ((["list_crdt", "/bin/true"], "record.py: /bin/true is not domepeeler: asked for its version it ended with status 0\n"),
@@ -1207,7 +1214,7 @@ def scripts_end(tally: Tally) -> None:
     """What nobody has thought of ends the scripts beside the tools with 2, since 1 is said of logs and Python's own."""
     with tempfile.TemporaryDirectory() as copy:
         shutil.copytree(ROOT / "recorders", copy, dirs_exist_ok=True)
-        for path, old, words in (("merge.py", "    paths = [path", ["log"]), ("engines/record.py", "    engine, answered = ", ["list_crdt", "PROGRAM"])):
+        for path, old, words in (("merge.py", "    paths = [path", ["log"]), ("engines/record.py", "    engine, seen, unanswered = ", ["list_crdt", "PROGRAM"])):
             script = Path(copy, path)
             script.write_text(script.read_text().replace(old, f"    raise ValueError('not thought of')\n{old}").replace(
                 "    check_is_domepeeler(words.program)\n", ""))
