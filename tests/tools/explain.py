@@ -1293,7 +1293,7 @@ def others(tally: Tally, folder: str) -> None:
 
 
 def contradicted(tally: Tally, folder: str) -> None:
-    """A program whose verdict can't be: the tool says that it can't explain it, shows the report, and takes its status."""
+    """A program whose verdict can't be: the tool says that it can't explain it, shows the report, and takes its status, unless it accepts."""
     liar = Path(folder, "liar")
     trace = text_of(1, "0 ins a 0 : a|0 ins b 1 : a b").encode()
     steps = [{"from": "a", "to": "b", "shown": "0.2", "response": ["a", "b"]}, {"from": "b", "to": "a", "shown": "0.1", "response": ["a"]}]
@@ -1311,7 +1311,8 @@ def contradicted(tally: Tally, folder: str) -> None:
             liar.write_text(liar.read_text().replace("exit 1", "exit 0"))
             passed = explain(str(liar), ["-"], trace)
             tally.check("a contradiction: no known verdict, and status 0", passed.status == 2 and not passed.out and b"agrees with its status" in passed.err, passed)
-        tally.check(f"a contradiction: {lie['verdict']}", got.status == int(lie["verdict"] != "accepted") and not got.out and b"can't explain" in got.err, got)
+        tally.check(f"a contradiction: {lie['verdict']}", got.status == (2 if lie["verdict"] == "accepted" else 1) and not got.out and
+                    b"can't explain" in got.err, got)
     for lie in {"verdict": "accepted"}, {"verdict": "accepted", "operations": 3, "order": ["a", "b"]}:
         liar.write_text(f"#!/bin/sh\ncat > /dev/null\necho '{json.dumps(lie)}'\n")
         told = f"domepeeler-explain: {liar} accepted, by a report that is not on this trace: is it domepeeler?\n"

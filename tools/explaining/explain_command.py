@@ -153,6 +153,7 @@ def main() -> None:
         try:
             explain(asked, program, trace, judged)
         except Unexplained as error:
-            told = f"can't explain this verdict: {error}. The program's word counts; its report:"
-            print(f"{NAME}: {told}\n{report_text(program, trace)}", end="", file=sys.stderr)
+            told = "Is it domepeeler? Its" if judged.status == 0 else "The program's word counts; its"
+            print(f"{NAME}: can't explain this verdict: {error}. {told} report:\n{report_text(program, trace)}", end="", file=sys.stderr)
+            sys.exit(judged.status or 2)  # what may be wrong is no pass
     sys.exit(judged.status)
