@@ -122,7 +122,8 @@ def judge(folder, options):
     try:
         rows = [json.loads(line) for line in done.stdout.splitlines()]
     except ValueError:
-        raise Failed(f"domepeeler-judge-many ended with status {done.returncode}, and printed no recordings: {shown(done.stdout[:MOST_SHOWN])}") from None
+        printed = shown(done.stdout[:MOST_SHOWN])
+        raise Failed(f"domepeeler-judge-many ended with status {done.returncode}, and printed no recordings: {printed}") from None
     rows = [row for row in rows if JUDGED.resolve() not in Path(row["file"]).resolve().parents]
     explained = [explain(number, row) for number, row in enumerate(rows, 1)]
     print_explanations(rows, [told for told, _ in explained])

@@ -50,7 +50,8 @@ ALL = [*SMALL, sessions.LARGE_PEERS, sessions.LARGE_STAR, sessions.LARGE_MIDDLE]
 
 def shown(text: str) -> str:
     """A name, or what an engine says, for a message: what can't be printed stands as `\\x1b` and the like."""
-    return "".join(letter if letter.isprintable() else f"\\x{ord(letter) - 0xdc00:02x}" if "\udc80" <= letter <= "\udcff" else ascii(letter)[1:-1]
+    return "".join(letter if letter.isprintable() else f"\\x{ord(letter) - 0xdc00:02x}"
+                   if "\udc80" <= letter <= "\udcff" else ascii(letter)[1:-1]
                    for letter in text)
 
 
@@ -221,7 +222,8 @@ def verdict(program: str, trace: str) -> str:
     """What the program says, in its own word, with k."""
     if not trace:
         return STOPPED
-    with subprocess.Popen([program, "verdict", "--workers", "1", "-"], stdin=subprocess.PIPE, stdout=subprocess.PIPE, stderr=subprocess.PIPE) as process:
+    with subprocess.Popen([program, "verdict", "--workers", "1", "-"], stdin=subprocess.PIPE, stdout=subprocess.PIPE,
+                          stderr=subprocess.PIPE) as process:
         Stopped.judging.add(process)
         if Stopped.by:  # meanwhile: nobody else ends this one
             process.kill()
@@ -231,7 +233,8 @@ def verdict(program: str, trace: str) -> str:
         return STOPPED
     word, *rest = (printed.decode(errors="replace").split("\n") + [""])[1].split(" ")
     if process.returncode not in (0, 1) or (word == "accepted") != (process.returncode == 0):
-        fail(f"{program} ended with status {process.returncode}, and with no verdict that agrees: {errors.decode(errors='replace').strip()}")
+        said = errors.decode(errors="replace").strip()
+        fail(f"{program} ended with status {process.returncode}, and with no verdict that agrees: {said}")
     return f"{word} {rest[0]}" if word == "refused" else word
 
 
@@ -270,7 +273,8 @@ def tried(kind: sessions.Kind, count: int, rnd: random.Random, driver: Driver, p
     between = f"{min(sizes)} to {max(sizes)} operations" if sizes else "no recording"
     print(f"{kind.name}: {count} sessions, {between}: {said}", flush=True)
     if STOPPED in verdicts:
-        words = [f"none within {driver.engine.seconds} seconds"] if driver.late else driver.said.read_text(errors="surrogateescape").splitlines()
+        said = driver.said.read_text(errors="surrogateescape").splitlines()
+        words = [f"none within {driver.engine.seconds} seconds"] if driver.late else said
         print("the engine's last words: " + shown((words or ["none"])[-1]), flush=True)
     firsts = {}
     for one, word in sorted(zip(found, verdicts), key=lambda both: len(both[0].steps)):

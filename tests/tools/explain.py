@@ -1113,16 +1113,19 @@ def record_ended(tally: Tally, program: str, folder: str) -> None:
     for words, what in (["list_crdt", str(slow)], "the program"), ([str(engine), program], "the engine"):
         for stop in signal.SIGINT, signal.SIGTERM, signal.SIGHUP:
             begun.write_text("")
-            running = subprocess.Popen([RECORD, *words, "--sessions", "20"], stdout=subprocess.PIPE, stderr=subprocess.PIPE, env=os.environ | {
-                "TMPDIR": str(temporary)}, preexec_fn=lambda: signal.signal(stop, signal.SIG_DFL))  # which what runs in the background may ignore
+            running = subprocess.Popen([RECORD, *words, "--sessions", "20"], stdout=subprocess.PIPE, stderr=subprocess.PIPE,
+                                       env=os.environ | {"TMPDIR": str(temporary)},
+                                       preexec_fn=lambda: signal.signal(stop, signal.SIG_DFL))  # which a job in the background may ignore
             until = time.monotonic() + 60
             while not begun.read_text().endswith("\n") and time.monotonic() < until:
                 time.sleep(0.01)
             running.send_signal(stop)
             out, err = running.communicate(timeout=30)
-            tally.check(f"record.py: {stop.name} while {what} works", (running.returncode, out, err) == (-stop, b"", b""), (running.returncode, out, err))
+            tally.check(f"record.py: {stop.name} while {what} works", (running.returncode, out, err) == (-stop, b"", b""),
+                        (running.returncode, out, err))
             left = [pid for pid in begun.read_text().split() if is_running(pid)]
-            tally.check(f"record.py: {stop.name} while {what} works: nothing is left", not left and not os.listdir(temporary), (left, os.listdir(temporary)))
+            tally.check(f"record.py: {stop.name} while {what} works: nothing is left", not left and not os.listdir(temporary),
+                        (left, os.listdir(temporary)))
     for name, told in ("x\n::error::y", "x\\n::error::y"), ("\x1b[31m", "\\x1b[31m"), ("\udcff", "\\xff"):
         done = subprocess.run([RECORD, name, program], capture_output=True, text=True)
         tally.check(f"record.py: {told}", done.returncode == 2 and done.stderr.startswith(f"record.py: {told} is none of "), done)
@@ -1135,10 +1138,12 @@ def record_ended(tally: Tally, program: str, folder: str) -> None:
                 and "\x1b" not in done.stdout, done)
     engine.write_text("import os\nos._exit(7)\n")
     done = subprocess.run([RECORD, str(engine), program], capture_output=True, text=True)
-    tally.check("record.py: a module that ends and says nothing", (done.returncode, done.stderr) == (2, f"record.py: {engine} ended with status 7\n"), done)
+    tally.check("record.py: a module that ends and says nothing",
+                (done.returncode, done.stderr) == (2, f"record.py: {engine} ended with status 7\n"), done)
     slow.write_text("")
     done = subprocess.run([RECORD, "list_crdt", str(slow)], capture_output=True, text=True)
-    tally.check("record.py: an empty program", (done.returncode, done.stderr) == (2, f"record.py: {slow} can't be run: Exec format error\n"), done)
+    tally.check("record.py: an empty program",
+                (done.returncode, done.stderr) == (2, f"record.py: {slow} can't be run: Exec format error\n"), done)
     usual = [RECORD, "list_crdt", program, "--sessions", "1"]
     reader, closed = os.pipe()
     os.close(reader)
@@ -1148,16 +1153,20 @@ def record_ended(tally: Tally, program: str, folder: str) -> None:
             tally.check(f"record.py: {told or 'a closed pipe'}", (done.returncode, done.stderr) == (2, told), done)
     os.close(closed)
     done = subprocess.run(["sh", "-c", 'exec "$@" >&-', "sh", *usual], capture_output=True)
-    tally.check("record.py: no standard output", (done.returncode, done.stderr) == (2, b"record.py: cannot write: standard output is closed\n"), done)
+    tally.check("record.py: no standard output",
+                (done.returncode, done.stderr) == (2, b"record.py: cannot write: standard output is closed\n"), done)
     done = subprocess.run([*usual, "--keep", f"{slow}/kept"], capture_output=True, text=True)
-    tally.check("record.py: a folder that can't be made", (done.returncode, done.stderr) == (2, f"record.py: cannot write {slow}/kept: Not a directory\n"), done)
+    tally.check("record.py: a folder that can't be made",
+                (done.returncode, done.stderr) == (2, f"record.py: cannot write {slow}/kept: Not a directory\n"), done)
 
 
 def arguments(tally: Tally, program: str, folder: str) -> None:
     """Wrong words are no verdict, and nothing is judged or written."""
     Path(folder, "right.trace").write_text(text_of(1, "0 ins a 0 : a"))
-    for words, told in (([], "the following arguments are required: TRACE"), (["right.trace", "right.trace"], "unrecognized arguments: right.trace"),
-                        (["--page", "right.trace"], "unrecognized arguments: --page"), (["--html"], "argument --html: expected one argument"),
+    for words, told in (([], "the following arguments are required: TRACE"),
+                        (["right.trace", "right.trace"], "unrecognized arguments: right.trace"),
+                        (["--page", "right.trace"], "unrecognized arguments: --page"),
+                        (["--html"], "argument --html: expected one argument"),
                         (["--language", "cobol", "right.trace"], "argument --language: invalid choice: 'cobol'"),
                         (["--delivered", "6", "right.trace"], "argument --delivered: 6 is no range of lines, as 41-46"),
                         (["--html", "1", "--html", "2", "right.trace"], "argument --html: it is given twice"),
@@ -1176,10 +1185,12 @@ def drawn(tally: Tally, program: str) -> None:
     for text, status, told in ((accepted, 1, b"draw_cycle.py: the report has no cycle\n"), (b"", 2, no_report), (b"[]", 2, no_report),
                                (b"\xff", 2, no_report), (b'{"verdict": "refused", "steps": [5]}', 2, b"draw_cycle.py: TypeError(")):
         got = run(draw, [], text)
-        tally.check(f"draw_cycle.py: {text}", got.status == status and not got.out and got.err.startswith(told) and got.err.count(b"\n") == 1, got)
+        tally.check(f"draw_cycle.py: {text}", got.status == status and not got.out and got.err.startswith(told)
+                    and got.err.count(b"\n") == 1, got)
     with open("/dev/full", "wb") as full:
         got = run(draw, [], report, out=full)
-        tally.check("draw_cycle.py: a full disk", got.status == 2 and got.err == b"draw_cycle.py: [Errno 28] No space left on device\n", got)
+        tally.check("draw_cycle.py: a full disk", got.status == 2 and got.err == b"draw_cycle.py: [Errno 28] No space left on device\n",
+                    got)
 
 
 def planted_bugs(tally: Tally, program: str, folder: str) -> None:
@@ -1214,7 +1225,8 @@ def scripts_end(tally: Tally) -> None:
     """What nobody has thought of ends the scripts beside the tools with 2, since 1 is said of logs and Python's own."""
     with tempfile.TemporaryDirectory() as copy:
         shutil.copytree(ROOT / "recorders", copy, dirs_exist_ok=True)
-        for path, old, words in (("merge.py", "    paths = [path", ["log"]), ("engines/record.py", "    engine, seen, unanswered = ", ["list_crdt", "PROGRAM"])):
+        for path, old, words in (("merge.py", "    paths = [path", ["log"]),
+                                 ("engines/record.py", "    engine, seen, unanswered = ", ["list_crdt", "PROGRAM"])):
             script = Path(copy, path)
             script.write_text(script.read_text().replace(old, f"    raise ValueError('not thought of')\n{old}").replace(
                 "    check_is_domepeeler(words.program)\n", ""))
@@ -1293,7 +1305,8 @@ def others(tally: Tally, folder: str) -> None:
 
 
 def contradicted(tally: Tally, folder: str) -> None:
-    """A program whose verdict can't be: the tool says that it can't explain it, shows the report, and takes its status, unless it accepts."""
+    """A program whose verdict can't be: the tool says that it can't explain it, shows the report, and takes its status,
+    unless it accepts."""
     liar = Path(folder, "liar")
     trace = text_of(1, "0 ins a 0 : a|0 ins b 1 : a b").encode()
     steps = [{"from": "a", "to": "b", "shown": "0.2", "response": ["a", "b"]}, {"from": "b", "to": "a", "shown": "0.1", "response": ["a"]}]
@@ -1310,7 +1323,8 @@ def contradicted(tally: Tally, folder: str) -> None:
         if lie["verdict"] == "guessed":
             liar.write_text(liar.read_text().replace("exit 1", "exit 0"))
             passed = explain(str(liar), ["-"], trace)
-            tally.check("a contradiction: no known verdict, and status 0", passed.status == 2 and not passed.out and b"agrees with its status" in passed.err, passed)
+            tally.check("a contradiction: no known verdict, and status 0", passed.status == 2 and not passed.out
+                        and b"agrees with its status" in passed.err, passed)
         tally.check(f"a contradiction: {lie['verdict']}", got.status == (2 if lie["verdict"] == "accepted" else 1) and not got.out and
                     b"can't explain" in got.err, got)
     for lie in {"verdict": "accepted"}, {"verdict": "accepted", "operations": 3, "order": ["a", "b"]}:

@@ -59,7 +59,8 @@ OTHER_TRACE = "{} accepted, by a report that is not on this trace: is it domepee
 OTHERS = [("echo hello", f"{NO_REPORT}0"), ("echo '[]'", f"{NO_REPORT}0"), ("echo '{\"a\": 1}'; exit 1", f"{NO_REPORT}1"),
           ("echo '{\"verdict\":\"accepted\"}'; exit 1", f"{NO_REPORT}1"), ("echo '{\"verdict\":\"contents\",\"at\":\"0.1\"}'; exit 0", f"{NO_REPORT}0"),
           ("printf '\\033[31musage\\n' >&2; exit 2", f"{NO_REPORT}2: \\x1b[31musage"),
-          ("echo '{\"verdict\":\"accepted\"}'; exit 0", OTHER_TRACE), ("echo '{\"verdict\":\"accepted\",\"operations\":99}'; exit 0", OTHER_TRACE),
+          ("echo '{\"verdict\":\"accepted\"}'; exit 0", OTHER_TRACE),
+          ("echo '{\"verdict\":\"accepted\",\"operations\":99}'; exit 0", OTHER_TRACE),
           ("echo '{\"verdict\":\"great\"}'; exit 0", f"{NO_REPORT}0"),
           ("echo 'usage: other' >&2; exit 2", f"{NO_REPORT}2: usage: other"), ("kill -9 $$", "{} was ended by signal 9 (SIGKILL)")]
 # Programs that don't answer their version as domepeeler does, and what is said of them: nothing is judged.
@@ -332,9 +333,11 @@ def errors(tally: Tally, program: str, folder: str) -> None:
             [empty, "--json", empty], f"unrecognized arguments: {empty}"), ([""], "cannot read : there is no such file or folder"):
         got = judge(program, words)
         tally.check(f"arguments: {words}", got.status == 2 and not got.out and got.err.endswith(f": {told}\n".encode()), got)
-    for words in ["--junit", f"{folder}/a.xml", "--junit", f"{folder}/b.xml"], ["--jobs", "2", "--jobs=3"], ["--program", program, "--program=x"]:
+    for words in (["--junit", f"{folder}/a.xml", "--junit", f"{folder}/b.xml"], ["--jobs", "2", "--jobs=3"],
+                  ["--program", program, "--program=x"]):
         got = run(TOOL, [*words, folder])
-        tally.check(f"given twice: {words[0]}", got.status == 2 and not got.out and got.err.endswith(f": error: argument {words[0]}: it is given twice\n".encode())
+        tally.check(f"given twice: {words[0]}", got.status == 2 and not got.out
+                    and got.err.endswith(f": error: argument {words[0]}: it is given twice\n".encode())
                     and not os.path.exists(f"{folder}/b.xml"), got)
     for jobs in "0", "-1", "2.5", "all", "":
         tally.same(f"jobs: {jobs!r}", judge(program, [f"--jobs={jobs}", folder]),
@@ -371,9 +374,11 @@ def elsewhere(tally: Tally, program: str, folder: str, other: str) -> None:
         shown = shown.replace("/opt/domepeeler/bin/domepeeler-judge-many", f"{sys.executable} {TOOL} --program {program}")
         shown = shown.replace("night/part1 night/part2", os.path.relpath(path, "/")).replace("night.jsonl", f"{other}/night.jsonl")
         os.makedirs(f"{folder}/none", exist_ok=True)
-        done = subprocess.run(["sh", "-c", shown], cwd="/", env=os.environ | {"PARALLEL_SSH": str(stand_in), "HOME": other}, capture_output=True, text=True)
+        done = subprocess.run(["sh", "-c", shown], cwd="/", env=os.environ | {"PARALLEL_SSH": str(stand_in), "HOME": other},
+                              capture_output=True, text=True)
         rows = [json.loads(line) for line in Path(other, "night.jsonl").read_text().splitlines()]
-        tally.check(f"two machines, by folders: {path}", done.returncode == status and [row["verdict"] for row in rows] == ["accepted"] * (1 - status), done)
+        tally.check(f"two machines, by folders: {path}", done.returncode == status
+                    and [row["verdict"] for row in rows] == ["accepted"] * (1 - status), done)
     os.rmdir(f"{folder}/none")
     got = judge(program, ["--json", "--sshlogin", ":", folder])
     rows = [json.loads(line) | {"seconds": 0} for line in got.out.decode().splitlines()]
@@ -663,9 +668,11 @@ def little_memory(tally: Tally, program: str, folder: str) -> None:
     write(folder, {"a.trace": "0 ins a 0 : a"})
     for tool in TOOL, str(ROOT / "tools" / "explain"):
         for kilobytes in 22_000, 28_000, 34_000, 1_000_000:
-            got = subprocess.run(["sh", "-c", f'ulimit -v {kilobytes}; exec "$@"', "sh", sys.executable, tool, "--program", program, f"{folder}/a.trace"],
+            got = subprocess.run(["sh", "-c", f'ulimit -v {kilobytes}; exec "$@"', "sh", sys.executable, tool, "--program", program,
+                                  f"{folder}/a.trace"],
                                  capture_output=True, text=True)
-            is_told = got.returncode == 0 and "accepted" in got.stdout or got.returncode in (2, 3) and got.stderr.startswith(f"{name_of(tool)}: ")
+            is_told = "accepted" in got.stdout if got.returncode == 0 else got.stderr.startswith(f"{name_of(tool)}: ")
+            is_told = is_told and got.returncode in (0, 2, 3)
             tally.check(f"little memory: {name_of(tool)} in {kilobytes} KB", is_told and (kilobytes < 1_000_000 or not got.returncode), got)
 
 
@@ -696,7 +703,8 @@ def not_looked_at(tally: Tally, program: str, folder: str) -> None:
     try:
         for way, mode in (("listed", 0o444), ("closed", 0)):
             Path(folder, "locked").chmod(mode)
-            done = subprocess.run([*AS_USERS, TOOL, "--program", program, f"{folder}/a.trace", f"{folder}/locked"], capture_output=True, text=True)
+            done = subprocess.run([*AS_USERS, TOOL, "--program", program, f"{folder}/a.trace", f"{folder}/locked"], capture_output=True,
+                                  text=True)
             place = f"{folder}/locked/deep" if mode else f"{folder}/locked"
             tally.check(f"not looked at: a folder that is {way}", (done.returncode, done.stdout, done.stderr) == (
                 2, "", f"domepeeler-judge-many: cannot read {place}: Permission denied\n"), done)
@@ -707,7 +715,8 @@ def not_looked_at(tally: Tally, program: str, folder: str) -> None:
         tally.check("not looked at: a link into such a folder", (done.returncode, done.stdout, done.stderr) == (
             2, "", f"domepeeler-judge-many: cannot read {folder}/linked/more: Permission denied\n"), done)
         done = subprocess.run([*AS_USERS, TOOL, "--program", program, "--json", f"{folder}/unread"], capture_output=True, text=True)
-        tally.check("not looked at: a file", done.returncode == 2 and json.loads(done.stdout)["error"] == "cannot be read: Permission denied", done)
+        tally.check("not looked at: a file", done.returncode == 2
+                    and json.loads(done.stdout)["error"] == "cannot be read: Permission denied", done)
     finally:
         Path(folder, "locked").chmod(0o755)
     packed = Path(folder, "packed")
@@ -727,7 +736,8 @@ def not_looked_at(tally: Tally, program: str, folder: str) -> None:
 def changing(tally: Tally, program: str, folder: str) -> None:
     """A trace that changes while it is judged is not accepted: nobody knows what the verdict is of."""
     path, judge_it = Path(folder, "a.trace"), Path(folder, "slow")
-    for what, change in (("grows", f"echo '0 read : b' >> '{path}'"), ("is written over", f"printf 'trace 1\\nreplicas 1\\n0 ins b 0 : b\\n' > '{path}'"),
+    for what, change in (("grows", f"echo '0 read : b' >> '{path}'"),
+                         ("is written over", f"printf 'trace 1\\nreplicas 1\\n0 ins b 0 : b\\n' > '{path}'"),
                          ("is cut", f": > '{path}'")):
         judge_it.write_text(f"#!/bin/sh\n{VERSION}'{program}' \"$@\"\nstatus=$?\nsleep 0.02\n{change}\nexit $status\n")
         judge_it.chmod(0o755)
@@ -735,7 +745,8 @@ def changing(tally: Tally, program: str, folder: str) -> None:
             write(folder, {"a.trace": "0 ins a 0 : a"})
             got = judge(str(judge_it), ["--json", *more, str(path)])
             row = json.loads(got.out)
-            tally.check(f"changing: one that {what} {more}", got.status == 2 and (row["verdict"], row["error"]) == ("failed", "it changed while it was judged"),
+            tally.check(f"changing: one that {what} {more}", got.status == 2
+                        and (row["verdict"], row["error"]) == ("failed", "it changed while it was judged"),
                         got)
 
 
@@ -866,11 +877,13 @@ def unknown_faults(tally: Tally, program: str, folder: str) -> None:
 
 
 SCRIPTS = {"tools/judge_many": "domepeeler-judge-many", "tools/explain": "domepeeler-explain", "tools/draw_cycle.py": "draw_cycle.py",
-           "recorders/merge.py": "merge.py", "recorders/engines/record.py": "record.py", "examples/ci/judge_recordings.py": "judge_recordings"}
+           "recorders/merge.py": "merge.py", "recorders/engines/record.py": "record.py",
+           "examples/ci/judge_recordings.py": "judge_recordings"}
 IMPORTED = ["tools/package", "tools/explaining/*.py", "recorders/*.py", "recorders/engines/*.py", "recorders/python/domepeeler/*.py"]
 # Commands that the oldest Python that is named runs as this one does.
 MAIN_WAYS = [
-    "{tools}/judge_many --json --junit junit.xml traces", "{tools}/judge_many --json --jobs 2 big; cat junit.xml | sed 's/ time=\"[0-9.]*\"//g'",
+    "{tools}/judge_many --json --junit junit.xml traces",
+    "{tools}/judge_many --json --jobs 2 big; cat junit.xml | sed 's/ time=\"[0-9.]*\"//g'",
     "{tools}/explain --html 1.html --svg 1.svg --small 1.trace traces/long.trace; cat 1.html 1.svg 1.trace",
     "{tools}/explain traces/lost.trace", "{program} verdict --json traces/long.trace | {tools}/draw_cycle.py",
     "{recorders}/merge.py --output merged.trace 0.log 1.log; cat merged.trace merged.trace.lines",
@@ -898,7 +911,8 @@ recording.save("session.trace")
 
 def pythons_here() -> dict:
     """Other versions of Python on this machine, by their numbers."""
-    paths = [shutil.which(f"python3.{number}") for number in range(6, 10)] + sorted(map(str, Path.home().glob(".pyenv/versions/3.*/bin/python3")))
+    paths = [shutil.which(f"python3.{number}") for number in range(6, 10)]
+    paths += sorted(map(str, Path.home().glob(".pyenv/versions/3.*/bin/python3")))
     found = {}
     for path in filter(None, paths):
         done = subprocess.run([path, "-c", "import sys; print(*sys.version_info[:2])"], capture_output=True, text=True)
@@ -920,7 +934,8 @@ def pythons(tally: Tally, program: str, folder: str) -> None:
     tally.check("Python 3.9: files", len(names) > 35, names)
     for path in names:
         tree = ast.parse(path.read_text(), feature_version=(3, 9))
-        annotated = [note for node in ast.walk(tree) for note in (getattr(node, "annotation", None), getattr(node, "returns", None)) if note]
+        annotated = [note for node in ast.walk(tree) for note in (getattr(node, "annotation", None), getattr(node, "returns", None))
+                     if note]
         has_either = any(isinstance(part, ast.BinOp) for note in annotated for part in ast.walk(note))  # as `int | None`
         later = any(isinstance(node, ast.ImportFrom) and node.module == "__future__" for node in tree.body)
         tally.check(f"Python 3.9: {path.name}", later or not has_either, path)
@@ -944,7 +959,8 @@ def pythons(tally: Tally, program: str, folder: str) -> None:
         ended[version] = []
         for way in MAIN_WAYS:
             command = way.format(tools=ROOT / "tools", recorders=ROOT / "recorders", root=ROOT, program=program)
-            done = subprocess.run(["sh", "-c", command], cwd=place, capture_output=True, text=True, stdin=subprocess.DEVNULL, env=os.environ | {
+            done = subprocess.run(["sh", "-c", command], cwd=place, capture_output=True, text=True, stdin=subprocess.DEVNULL,
+                                  env=os.environ | {
                 "PATH": f"{place}/bin:{os.environ['PATH']}", "DOMEPEELER": program, "PYTHONDONTWRITEBYTECODE": "1"})
             ended[version].append((done.returncode, re.sub(r'"seconds": [-\d.e]+', "", done.stdout), done.stderr))
     for way, old, now in zip(MAIN_WAYS, *ended.values()):
@@ -1016,21 +1032,22 @@ def script_of_ci(tally: Tally, program: str, folder: str) -> None:
 
 
 def script_ended(tally: Tally, place: str, path: str, script: str, folder: str) -> None:
-    """A signal ends the script, and what judges for it; where it can't say what came out, it does not end as if the editor had failed, or had
-    not."""
+    """A signal ends the script, and what judges for it; where it can't say what came out, it does not end as if the editor had failed,
+    or had not."""
     write(place, {"good/a.trace": "0 ins a 0 : a"})
     for what in "good", ".":
         for redirected, told in (">&-", "judge_recordings: standard output or standard error is closed\n"), (
                 "> /dev/full", "judge_recordings: cannot write what is told: No space left on device\n"):
             for unbuffered in "", "1":
                 done = in_ci(place, path, f"{script} {what} {redirected}", {"PYTHONUNBUFFERED": unbuffered})
-                tally.check(f"script of CI: {what} {redirected} {unbuffered}", (done.returncode, done.stdout, done.stderr) == (2, "", told), done)
+                tally.check(f"script of CI: {what} {redirected} {unbuffered}",
+                            (done.returncode, done.stdout, done.stderr) == (2, "", told), done)
         done = in_ci(place, path, f"{script} {what} 2>&-", {})
         tally.check(f"script of CI: {what}, closed standard error", done.returncode in (2, int(what == ".")), done)
-    for option, status in ("--version", 0), ("--junit=x.xml", 2):
+    for option, told in (("--version", "domepeeler-judge-many ended with status 0, and printed no recordings: "),
+                         ("--junit=x.xml", "is given twice")):
         done = in_ci(place, path, f"{script} good {option}", {})
-        tally.check(f"script of CI: {option}", done.returncode == 2 and "accepted" not in done.stdout and ("is given twice" in done.stderr if status else
-                    done.stderr.startswith("judge_recordings: domepeeler-judge-many ended with status 0, and printed no recordings: ")), done)
+        tally.check(f"script of CI: {option}", done.returncode == 2 and "accepted" not in done.stdout and told in done.stderr, done)
     slow, begun = Path(folder, "slow"), Path(folder, "begun")
     slow.write_text(f"#!/bin/sh\n{VERSION}echo $$ >> '{begun}'\nexec sleep 60\n")
     slow.chmod(0o755)
@@ -1101,7 +1118,8 @@ def main() -> None:
         fails_at(tally, program, third)
         warnings(tally, program, folder)
         warnings_of_sessions(tally, program, other)
-    for check in pythons, little_memory, not_looked_at, changing, known_as_cut, grouped, no_files, overwriting, odd_names, tasks, script_of_ci, big_traces:
+    for check in (pythons, little_memory, not_looked_at, changing, known_as_cut, grouped, no_files, overwriting, odd_names, tasks,
+                  script_of_ci, big_traces):
         with tempfile.TemporaryDirectory() as folder:
             check(tally, program, folder)
     with tempfile.TemporaryDirectory() as folder, tempfile.TemporaryDirectory() as other, tempfile.TemporaryDirectory() as third:

@@ -1373,7 +1373,8 @@ def check_judge(tally: Tally, recorder: Recorder, folder: Path) -> None:
         killed.write_text(f"#!/bin/sh\ncat > /dev/null\necho '{report % (0, operations, verdict)}'\nexit {status}\n")
         got = recorder.answers(["new\t1", "judge"], DOMEPEELER=str(killed))
         wanted = f"failed {killed} ended with status {status} and printed a report that is not on this recording"
-        tally.check(f"{recorder.language}: judge by what says {verdict} of {operations} operations with status {status}", got == ["ok", wanted], got)
+        tally.check(f"{recorder.language}: judge by what says {verdict} of {operations} operations with status {status}",
+                    got == ["ok", wanted], got)
     killed.write_text(f"#!/bin/sh\ncat > /dev/null\necho '{report % (0, 0, 'accepted')}'\n")
     got = recorder.answers(["new\t1", "judge"], DOMEPEELER=str(killed))
     tally.check(f"{recorder.language}: judge by what agrees", got[1].startswith("report {"), got)
@@ -1592,8 +1593,10 @@ def check_merge_stopped(tally: Tally, place: Path) -> None:
         running.send_signal(stop)
         out, err = running.communicate(timeout=30)
         os.close(reader)
-        tally.check(f"merge.py: stopped by {stop.name}", (running.returncode, out, err) == (-stop, b"", b""), (running.returncode, out, err))
-    slow = "import os, runpy, sys, time; os.replace = lambda *_: time.sleep(60); sys.argv = sys.argv[1:]; runpy.run_path(sys.argv[0], run_name='__main__')"
+        tally.check(f"merge.py: stopped by {stop.name}", (running.returncode, out, err) == (-stop, b"", b""),
+                    (running.returncode, out, err))
+    slow = ("import os, runpy, sys, time; os.replace = lambda *_: time.sleep(60); sys.argv = sys.argv[1:]; "
+            "runpy.run_path(sys.argv[0], run_name='__main__')")
     for stop in signal.SIGINT, signal.SIGTERM, signal.SIGHUP:
         running = subprocess.Popen([sys.executable, "-c", slow, tool[1], "--output", "new.trace", "long.log"], cwd=place,
                                    preexec_fn=lambda: signal.signal(stop, signal.SIG_DFL))
@@ -1607,20 +1610,24 @@ def check_merge_stopped(tally: Tally, place: Path) -> None:
         if text:
             old.write_text(text)
             old.chmod(0o640)
-        limited = subprocess.run(["sh", "-c", 'ulimit -f 1; trap "" XFSZ; exec "$@"', "sh", *tool, "--output", "old.trace", "long.log"], cwd=place,
+        limited = subprocess.run(["sh", "-c", 'ulimit -f 1; trap "" XFSZ; exec "$@"', "sh", *tool, "--output", "old.trace", "long.log"],
+                                 cwd=place,
                                  capture_output=True, text=True)
         left = sorted(path.name for path in place.iterdir() if path.name.startswith((".", "old.trace")) and path.name != "old.trace.lines")
         tally.check(f"merge.py: what can't be written whole, over {text!r}", (limited.returncode, limited.stderr) == (
-            2, "merge.py: cannot write old.trace: File too large\n") and left == ["old.trace"] * bool(text) and (not text or old.read_text() == text),
+            2, "merge.py: cannot write old.trace: File too large\n") and left == ["old.trace"] * bool(text)
+            and (not text or old.read_text() == text),
             (limited, left))
     done = subprocess.run([*tool, "--output", "old.trace", "long.log"], cwd=place, capture_output=True)
-    tally.check("merge.py: the file's mode stays", done.returncode == 0 and old.read_text() == long.read_text() and old.stat().st_mode & 0o777 == 0o640, done)
+    tally.check("merge.py: the file's mode stays", done.returncode == 0 and old.read_text() == long.read_text()
+                and old.stat().st_mode & 0o777 == 0o640, done)
     with open(place / "huge.log", "wb") as file:
         file.truncate(120_000_000)
     done = subprocess.run(["sh", "-c", 'ulimit -v 200000; exec "$@"', "sh", *tool, "huge.log"], cwd=place, capture_output=True, text=True)
     tally.check("merge.py: out of memory", (done.returncode, done.stdout, done.stderr) == (3, "", "merge.py: out of memory\n"), done)
     done = subprocess.run([*tool, "--output", "a", "--output", "b", "0.log"], cwd=place, capture_output=True, text=True)
-    tally.check("merge.py: two outputs", done.returncode == 2 and done.stderr.endswith("merge.py: error: argument --output: it is given twice\n")
+    tally.check("merge.py: two outputs", done.returncode == 2
+                and done.stderr.endswith("merge.py: error: argument --output: it is given twice\n")
                 and not (place / "b").exists(), done)
 
 
@@ -2048,8 +2055,8 @@ def check_rust_tests(tally: Tally, program: str, folder: Path) -> None:
                 f":\n{warning}\n\naccepted\n/nowhere/explain cannot be run (" in without.stdout, without)
     liar = place / "liar"
     for operations, status in (3, 1), (9, 0), (31, 0):
-        liar.write_text(f"#!/bin/sh\ncat > /dev/null\nprintf 'replicas 2 operations {operations} inserts 1\\naccepted\\nstrong yes\\nweak yes\\norder : a\\n'\n"
-                        f"exit {status}\n")
+        liar.write_text(f"#!/bin/sh\ncat > /dev/null\nprintf 'replicas 2 operations {operations} inserts 1\\naccepted\\nstrong yes\\n"
+                        f"weak yes\\norder : a\\n'\nexit {status}\n")
         liar.chmod(0o755)
         done = subprocess.run(["./editor-0123456789abcdef", "all_is_delivered"], cwd=place, capture_output=True, text=True,
                               env={**surroundings, "DOMEPEELER": "./liar"})
