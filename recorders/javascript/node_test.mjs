@@ -21,6 +21,7 @@ import { Recording } from "./domepeeler.mjs"
 const FOLDER = "failed_traces", MOST_LETTERS = 150
 const FIRST_LINES = 2 // of each trace: its version, and how many replicas there are
 const named = new Map() // by name of a file: how many tests of this process have had it
+const warned = new Set() // paths of properties of which a recording has hidden something
 const ended = new Map() // by recording: its test, and how many lines it had when it was judged
 
 process.on("exit", () => {
@@ -68,10 +69,14 @@ export function recorded(replicas, body, { folder = FOLDER } = {}) {
   }
 }
 
-/** A promise that is kept where the recording is accepted; else it is saved, and the error says what is wrong with it. */
+/** A promise that is kept where the recording is accepted; else it is saved, and the error says what is wrong with it. Of the first one by
+ * this path that may hide something Node warns. */
 export async function accepted(recording, path) {
-  const { told } = await judged(recording, path)
+  const { told, warnings } = await judged(recording, path)
   if (told) throw new NotAccepted(told)
+  if (!warnings.length || warned.has(path)) return
+  warned.add(path)
+  process.emitWarning(`a recording of ${path} is accepted, and may hide something: ${warnings[0]}`)
 }
 
 // The verdict on a recording in words, which is then saved; nothing where it is accepted, unless its test has failed by itself. And of

@@ -111,6 +111,7 @@ test("awaited", async () => {
   const why = await accepted(recording, "own/awaited.trace").catch((why) => why)
   if (!(why instanceof NotAccepted) || !why.message.startsWith("contents 1.1: ")) throw new Error(`not so: ${why}`)
   await accepted(new Recording(1), "own/right.trace")
+  await accepted(new Recording(1), "own/right.trace")
   const clocked = new Recording(3)
   clocked.insert(2, "a", 0, ["a"])
   clocked.receivedClock(1, 2, new Map([[2, 1]]))
@@ -703,6 +704,8 @@ def check_javascript(tally: Tally, place: Place) -> None:
               if path.name not in [*kept, ".gitignore"]}
     tally.check("node --test: and the number of lines beside each", beside == {f"{name}.lines": "5" for name in kept}, beside)
     own = sorted(path.name for path in (place.folder / "packed/own").iterdir())
+    hidden = f"Warning: a recording of own/right.trace is accepted, and may hide something: {NOTHING}"
+    tally.check("node --test: of a property what may hide something is warned of once", done.stdout.count(hidden) == 1, done.stdout)
     tally.check("node --test: a path of its own", own == [".gitignore", "awaited.trace", "awaited.trace.lines"], own)
     check_ends_of_node(tally, place)
     place.make("folder/editor.test.mjs", NODE_TEST)
