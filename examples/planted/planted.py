@@ -6,6 +6,8 @@
     clock       a list CRDT whose clock does not advance with what arrives
     overtaking  a list CRDT whose deletes do not wait for what their author had
     mapping     operational transformation behind a server: an insert is not moved over a concurrent delete
+    unmoved     the same: a delete is not moved over a concurrent insert
+    behind      the same: of two inserts at one place the one that arrives goes behind
     twice       the same: the second delete of one element takes its neighbour
     none, none_behind_server   the two engines without a bug
 
@@ -18,6 +20,7 @@ sys.path.insert(0, str(Path(__file__).resolve().parents[2] / "recorders"))
 from domepeeler import Recording  # noqa: E402
 
 USERS = 3
+BEHIND_SERVER = "mapping", "unmoved", "behind", "twice", "none_behind_server"
 
 
 class Rga:
@@ -138,7 +141,9 @@ def moved(change, over, bug):
         return change
     kind, place, name, author, n = change
     if over[0] == "ins":
-        is_behind = over[1] < place or over[1] == place and (kind == "del" or over[3] < author)
+        if bug == "unmoved" and kind == "del":  # THE BUG
+            return change
+        is_behind = over[1] < place or over[1] == place and (kind == "del" or bug == "behind" or over[3] < author)  # THE BUG: `behind`
         return kind, place + is_behind, name, author, n
     if kind == "del" and over[1] == place and over[2] == name:
         return change if bug == "twice" else None  # THE BUG: else it deletes what stands there now
@@ -225,7 +230,7 @@ def session(bug, seed, steps=24):
     """The recording of a random session."""
     recording = Recording(USERS)
     recording.note(f"planted.py {bug} {seed}")
-    play = behind_server if bug in ("mapping", "twice", "none_behind_server") else peers
+    play = behind_server if bug in BEHIND_SERVER else peers
     play(bug, Random(seed), recording, steps)
     return recording
 

@@ -142,7 +142,7 @@ WORDS = [
      "Of the whole trace: Look at the order of concurrent inserts: a and b were inserted without knowing of each other, and were shown in two "
      "different orders. Use a rule that gives the same order everywhere (by the replicas' numbers, say), and not the order in which they "
      "arrive. In an editor that sends positions, that of b was perhaps not adjusted for the delete 0.2 (line 8) of x, which replica 1 had and "
-     "its author did not.|"
+     "its author did not; or that of the delete was not adjusted for an insert.|"
      "Of the whole trace: Look at inserts beside deleted elements, if replicas throw these away: the lines above name one that arrived where "
      "its neighbour was deleted. Without its neighbour its place is lost.|"
      "Look at positions beside deleted elements: any two of 2.1, 0.3 and 1.1 fit together, but an insert beside an element that "
@@ -315,6 +315,14 @@ WORDS = [
      "Look at where a replica places an incoming insert: 0.4 (line 9) inserted d when it had c, so their order was known already, and "
      "still it differs. Often the number that orders inserts does not grow when changes arrive, or the neighbour is not found. In an editor "
      "that sends positions, that of d was perhaps not adjusted for the delete 1.2 (line 8) of a, which replica 1 had and its author did not." + stop(10, "replica 1 applies 0.4", 6)),
+    ("a delete that becomes nothing beside an insert that its author did not know", 2, "0 ins a 0 : a|1 recv 0 1|1 read : a|0 del a :|"
+     "1 ins b 0 : b a|1 recv 0 2|1 read : b a",
+     "It looks as if 0.2 (line 6) was not applied at replica 1: lost, or held back, or `received` is called before the change is applied. "
+     "In an editor that sends positions, its position was perhaps not adjusted for the insert 1.2 (line 7) of b, which its author had not seen."),
+    ("a delete of one of two that were inserted at one place", 2, "0 ins a 0 : a|0 del a :|1 ins b 0 : b|1 recv 0 1|1 read : a b|1 recv 0 2|1 read : a",
+     "0.2 (line 4) looks applied to b in the place of a: look at how a delete finds its element where it is applied, and at whether the recorder "
+     "names the element that was deleted. In an editor that sends positions, its position was perhaps not adjusted for the insert 1.1 (line 5) of "
+     "b, which its author had not seen. b was inserted at the place of a, neither author knowing of the other: look also at which comes first there."),
     ("doubled", 2, "0 ins a 0 : a|0 ins b 1 : a b|1 ins b 0 : b",
      "doubled: 0.2 and 1.1 insert the same name, b. An element is known by its name, so nothing else was judged.|"
      "line 4 of the trace, 0.2: replica 0 inserted b at position 1|line 5, 1.1: replica 1 inserted b at position 0||"
@@ -430,6 +438,8 @@ PLANTED = {
     "clock": (300, 20, ["numbers that order inserts", "number that orders inserts"]),
     "overtaking": (100, 50, ["overtook it in line"]),
     "mapping": (150, 40, ["perhaps not adjusted for the delete", "perhaps not adjusted for the insert"]),
+    "unmoved": (80, 40, ["its position was perhaps not adjusted for", "not adjusted for an insert", "not adjusted for inserts"]),
+    "behind": (80, 40, ["order of concurrent inserts", "neither author knowing of the other"]),
     "twice": (500, 10, ["already deleted here by"]),
     "none": (60, 0, []),
     "none_behind_server": (60, 0, []),
@@ -1205,6 +1215,8 @@ def planted_bugs(tally: Tally, program: str, folder: str) -> None:
             if not phrases or report["weak"]:  # accepted; or refused as an engine behind a server is without a bug too
                 continue
             words, told = explained(Evidence(Recording(text), report), report_of(program))
+            if told.report["weak"] and bug in planted.BEHIND_SERVER:  # its beginning is as without a bug
+                continue
             said = text_of_words(words)
             is_named = any(phrase in said for phrase in phrases)
             tally.check(f"planted: {bug} {seed}: named", is_named, f"{text}{said}")

@@ -6,6 +6,7 @@ from __future__ import annotations
 from typing import NamedTuple
 
 from .evidence import Evidence
+from .positions import are_put_at_once, elements_before, met, met_inserts, put_there_at_once
 from .programs import GUIDE
 from .recordings import Operation, place_asked
 from .telling import at, joined, listed
@@ -18,15 +19,16 @@ ARRIVAL = ("Look at the recorder first: `received` is called right after the cha
 UNDELIVERED = ("{lines} by `delivered`: before it nothing shows that {changes} {were} applied at replica {replica}. {They} lost, or "
                "{are} held back for ever. Look at what keeps changes waiting.")
 NOT_APPLIED = ("It looks as if {changes} {were} not applied at replica {replica}: lost, or held back, or `received` is called before the "
-               "change is applied.")
+               "change is applied.{moved}")
 NO_RECEIPT = ("It looks as if {changes} {were} applied at replica {replica} without a receipt: the call of `received` is missing, comes "
               "too late, or names another operation.")
 WRONG_DELETE = ("{delete} looks applied to {missing} in the place of {surplus}: look at how a delete finds its element where it is "
                 "applied, and at whether the recorder names the element that was deleted.{moved}")
-MOVED_DELETE = (" In an editor that sends positions, its position was perhaps not adjusted for {changes}, which its author had not seen."
-                " In an editor that sends positions, its position was perhaps not adjusted for {changes}, which its author had not seen.")
+MOVED_DELETE = " In an editor that sends positions, its position was perhaps not adjusted for {changes}, which its author had not seen.{tie}"
+PUT_AT_ONCE = (" {others} {were} inserted at the place of {element}, neither author knowing of the other: look also at which comes first "
+               "there.")
 SECOND_DELETE = ("{again} deletes {element}, already deleted here by {first}: look at what the editor does with a delete whose element "
-                 "is gone. It may have deleted {missing} instead.")
+                 "is gone. It may have deleted {missing} instead.{moved}")
 OVERTAKEN = ("Look at the order in which operations arrive: {name} was overtaken, as told above. Apply an operation only after "
              "everything that its author had, or send both together. If the editor itself holds it back, write its receipt only when it "
              f"is applied. {GUIDE} has both ways.")
@@ -52,7 +54,8 @@ SEEN = ("Look at where a replica places an incoming insert: {later} inserted {ne
         "and still it differs. Often the number that orders inserts does not grow when changes arrive, or the neighbour is not "
         "found.{moved}")
 MOVED_INSERT = (" In an editor that sends positions, that of {element} was perhaps not adjusted for {changes}, which replica {replica} "
-                "had and its author did not.")
+                "had and its author did not{back}.")
+MOVED_BACK = {True: "; or that of the delete was not adjusted for an insert", False: "; or those of the deletes were not adjusted for inserts"}
 DOUBLED = ("Look at the recorder first: each inserted element needs a name of its own, for ever. Equal letters are different elements, "
            "each element of a paste is a new one, and so is an undone delete where the editor makes a new one.")
 
@@ -95,8 +98,22 @@ def unlike_receipts(evidence: Evidence) -> list:
     if left_out and added:
         return []
     replica = evidence.operations[0].replica
-    return [Cause(name, look.format(replica=replica, **changes_told(changes)))
+    moved = moved_delete(evidence, left_out[0]) if len(left_out) == 1 else ""
+    return [Cause(name, look.format(replica=replica, moved=moved, **changes_told(changes)))
             for name, look, changes in (("not applied", NOT_APPLIED, left_out), ("no receipt", NO_RECEIPT, added)) if changes]
+
+
+def moved_delete(evidence: Evidence, delete: Operation) -> str:
+    """Over which changes a delete has to be moved that arrived for wrong contents; and, of its element, over which insert that one was."""
+    receipt = evidence.recording.arrival(delete, evidence.operations[0].replica)
+    if delete.kind != "del" or receipt is None:
+        return ""
+    unknown = met(evidence.recording, delete, receipt)
+    if not unknown:
+        return ""
+    others = [other.element for insert in evidence.recording.inserts.get(delete.element, [])[:1]
+              for other in put_there_at_once(evidence.recording, insert, receipt)]
+    return MOVED_DELETE.format(changes=named(unknown), tie=at_once(delete.element, others) if others else "")
 
 
 def changes_told(changes: list) -> dict:
@@ -119,15 +136,13 @@ def wrong_delete(evidence: Evidence, operation: Operation) -> list:
     is_deleted = missing in evidence.recording.deletes and not all(evidence.otherwise)  # by what no receipt brings, and that alone tells it
     if is_deleted or not news or is_new or not any(map(operation.has_seen, inserts)):
         return []
-    unknown = [change for change in evidence.recording.changes() if change.element not in (surplus, missing) and operation.has_seen(change)
-               and not news[0].has_seen(change)]
-    moved = MOVED_DELETE.format(changes=named(unknown)) if unknown else ""
+    moved = moved_delete(evidence, news[0])
     return [Cause("wrong delete", WRONG_DELETE.format(delete=at(news[0]), missing=missing, surplus=surplus, moved=moved))]
 
 
 def second_delete(evidence: Evidence) -> list:
     return [Cause("second delete", SECOND_DELETE.format(again=at(again), element=again.element, first=at(first),
-                                                        missing=listed(evidence.lost, MOST_TOLD)))
+                                                        missing=listed(evidence.lost, MOST_TOLD), moved=moved_delete(evidence, again)))
             for again, first in evidence.second_deletes[:1]]
 
 
@@ -179,16 +194,34 @@ def of_several(evidence: Evidence) -> Cause:
     are_some_gone = any(operation.has_seen(delete) for _, operation in evidence.steps for name in evidence.elements
                         for delete in evidence.recording.deletes.get(name, []))
     if evidence.lost_neighbours or are_some_gone:
-        return Cause("several, deleted", SEVERAL_DELETED.format(named=names))
+        return Cause("several, deleted", SEVERAL_DELETED.format(named=names) + put_at_once(evidence))
     return Cause("several, apart", SEVERAL_APART.format(named=names))
 
 
+def put_at_once(evidence: Evidence) -> str:
+    """Which elements of a cycle were inserted at one place by authors who did not know of each other's."""
+    inserts = [evidence.recording.inserts[step["from"]][0] for step, _ in evidence.steps]
+    for insert in inserts:
+        others = [other.element for other in inserts if other is not insert and are_put_at_once(insert, other)]
+        if others:
+            return at_once(insert.element, others)
+    return ""
+
+
+def at_once(element: str, others: list) -> str:
+    return PUT_AT_ONCE.format(element=element, others=listed(others, MOST_TOLD), were="were" if others[1:] else "was")
+
+
 def moved_over(evidence: Evidence) -> str:
-    """Which deletes an arriving insert may have met that its author did not know: some editors have to adjust its position for these."""
+    """Which deletes an arriving insert may have met that its author did not know: some editors have to adjust its position for these, and
+    theirs for the inserts that came meanwhile."""
     arrival, unknown = evidence.met
     if not unknown:
         return ""
-    return MOVED_INSERT.format(element=arrival.insert.element, changes=named(unknown), replica=arrival.receipt.replica)
+    before = elements_before(evidence.recording, arrival.insert, arrival.receipt)
+    unknown = [delete for delete in unknown if delete.element in before] or unknown
+    back = MOVED_BACK[len(unknown) == 1] if any(met_inserts(evidence.recording, delete, arrival) for delete in unknown) else ""
+    return MOVED_INSERT.format(element=arrival.insert.element, changes=named(unknown), replica=arrival.receipt.replica, back=back)
 
 
 def named(changes: list) -> str:

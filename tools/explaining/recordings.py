@@ -127,6 +127,11 @@ class Recording:
                 clock = [max(pair) for pair in zip(clock, other.seen.clock)]
         return clock
 
+    def shown_before(self, receipt: Receipt) -> list:
+        """The list that the receipt's replica showed last before it; views left out."""
+        shown = self.streams[receipt.replica][:receipt.before]
+        return next((operation.response for operation in reversed(shown) if operation.kind != "view"), [])
+
     def own_receipt(self, operation: Operation, replica: int) -> Receipt | None:
         """The first receipt in a replica's log that names just this operation, if one does."""
         return next((receipt for receipt in self.receipts[replica] if receipt.seen is operation), None)

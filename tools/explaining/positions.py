@@ -1,0 +1,60 @@
+"""What an editor that sends positions has to do where a change arrives: it moves the change over those that its author had not seen."""
+from __future__ import annotations
+
+from itertools import takewhile
+
+from .evidence import Arrival
+from .recordings import Operation, Receipt, Recording
+
+
+def met(recording: Recording, change: Operation, receipt: Receipt) -> list:
+    """The changes that the receipt's replica had before it and that the change's author had not seen: those of elements that stood before
+    the place of the change, on either side; where there is none, of all others."""
+    had = recording.clock_before(receipt)
+    unknown = [other for other in recording.changes()
+               if had[other.replica] >= other.n and not change.has_seen(other) and other.element != change.element]
+    before = elements_before(recording, change, receipt)
+    return [other for other in unknown if other.element in before] or unknown
+
+
+def met_inserts(recording: Recording, delete: Operation, arrival: Arrival) -> list:
+    """The inserts but the arriving one that its receipt's replica had before it, where these and the delete did not know of each other."""
+    had = recording.clock_before(arrival.receipt)
+    return [insert for inserts in recording.inserts.values() for insert in inserts
+            if had[insert.replica] >= insert.n and not delete.has_seen(insert) and not insert.has_seen(delete) and insert is not arrival.insert]
+
+
+def elements_before(recording: Recording, change: Operation, receipt: Receipt) -> set:
+    """The elements that stood before the place of the change: for its author when it was made, and for the replica when it arrived."""
+    own = list_of(recording, change)
+    place = own.index(change.element) if change.element in own else len(own)
+    behind = set(own[place:])
+    there = recording.shown_before(receipt)
+    return {*own[:place], *takewhile(lambda name: name not in behind, there)}
+
+
+def list_of(recording: Recording, change: Operation) -> list:
+    """Its author's list with the element: of an insert the response, of a delete what the author answered before."""
+    if change.kind == "ins":
+        return change.response
+    return next((before.response for before in reversed(recording.streams[change.replica][:change.n - 1]) if before.kind != "view"), [])
+
+
+def put_there_at_once(recording: Recording, insert: Operation, receipt: Receipt) -> list:
+    """The inserts that the receipt's replica had before it, which were made at the place of this one, neither author knowing of the other's."""
+    had = recording.clock_before(receipt)
+    return [other for inserts in recording.inserts.values() for other in inserts
+            if had[other.replica] >= other.n and are_put_at_once(insert, other)]
+
+
+def are_put_at_once(insert: Operation, other: Operation) -> bool:
+    """Whether two inserts were made at one place, by authors who did not know of each other's."""
+    is_known = insert.has_seen(other) or other.has_seen(insert)
+    return not is_known and any(one == another for one, another in zip(neighbours(insert), neighbours(other)))
+
+
+def neighbours(insert: Operation) -> tuple:
+    """The elements beside which an insert put its own: none at an end of the list."""
+    shown = insert.response
+    place = shown.index(insert.element) if insert.element in shown else len(shown)
+    return (shown[place - 1] if 0 < place else None), (shown[place + 1] if place + 1 < len(shown) else None)
