@@ -27,6 +27,9 @@ WAYS = (f"The program is the one that --program names; else that of the variable
         "else the one that was built in this repository, or installed beside this tool.")
 
 
+WEAK_ALONE = "weak holds, strong doesn't"  # of a trace that passes where the weak list specification alone is asked for
+
+
 class NoProgram(Exception):
     """There is no program to ask."""
 
@@ -105,6 +108,16 @@ def report_in(status: int, printed: bytes) -> dict | None:
         return None
     verdict = report.get("verdict") if isinstance(report, dict) else None
     return report if isinstance(verdict, str) and VERDICTS.get(verdict, status) == status else None
+
+
+def passes(report: dict, weak: bool = False) -> bool:
+    """Whether a trace with this report passes; with `weak`, where the weak list specification alone is asked for."""
+    return report["verdict"] == "accepted" or weak and is_weak_alone(report)
+
+
+def is_weak_alone(report: dict) -> bool:
+    """Whether weak holds, and strong doesn't."""
+    return report["verdict"] == "refused" and report.get("weak") is True
 
 
 def is_another(status: int, error: str) -> bool:
