@@ -341,7 +341,8 @@ are found.  With WEAK the weak list specification alone is asked for."
          (delivered (cl-loop for (first . last) in (seq-take (domepeeler-recording-deliveries recording) domepeeler--delivered)
                              collect (format "%d-%d" first last)))
          (said (apply #'domepeeler--ask recording named "the tool's path in DOMEPEELER_EXPLAIN" "." "words" "--language" "emacs-lisp"
-                      (append (and weak '("--weak")) (cl-loop for range in (reverse delivered) append (list "--delivered" range)) (list "-"))))
+                      (append (and weak '("--weak"))
+                              (cl-loop for range in (reverse delivered) append (list "--delivered" range)) (list "-"))))
          (words (make-hash-table :test #'equal)))
     (dolist (word (split-string said "[^A-Za-z0-9]+"))
       (puthash word t words))

@@ -294,8 +294,8 @@ class Recording:
 
     @_alone
     def judge(self, program: Optional[Words] = None, weak: bool = False) -> Dict[str, Any]:
-        """The program's report on this recording, and as `warnings` what it may hide where it says `accepted`; with `weak`, where weak holds.
-        The program is the words that are given, that of $DOMEPEELER, or `domepeeler`."""
+        """The program's report on this recording, and as `warnings` what it may hide where it says `accepted`; with `weak`, where weak
+        holds. The program is the words that are given, that of $DOMEPEELER, or `domepeeler`."""
         name, done = self._ask(program, "DOMEPEELER", "domepeeler", "the program's", ["verdict", "--json", "-"])
         if done.returncode not in (0, 1) or not done.stdout.startswith(b"{"):
             _ended(name, done, "report")
@@ -309,9 +309,9 @@ class Recording:
         """What the report means, in words, and behind them the lines of your code or log, the ids of the numbered names, and your notes.
         With `weak`, where the weak list specification alone is asked for. The tool is the words that are given, that of
         $DOMEPEELER_EXPLAIN, or `domepeeler-explain`, beside the program of $DOMEPEELER or on the PATH."""
+        delivered = [word for first, last in self._delivered[-MOST_DELIVERED:] for word in ("--delivered", f"{first}-{last}")]
         name, done = self._ask(explainer, "DOMEPEELER_EXPLAIN", _beside_program("domepeeler-explain"), "the tool's",
-                               [*(["--weak"] if weak else []), "--language", "python", *(word for first, last in self._delivered[-MOST_DELIVERED:]
-                                                          for word in ("--delivered", f"{first}-{last}")), "-"])
+                               [*(["--weak"] if weak else []), "--language", "python", *delivered, "-"])
         if done.returncode not in (0, 1) or not done.stdout:
             _ended(name, done, "words")
         said = done.stdout.decode(errors="replace")

@@ -541,18 +541,17 @@ impl Recording {
     #[track_caller]
     fn assert_right(&self, is_right: fn(&Verdict) -> bool, goal: &[&str]) {
         let path = failed_trace(Location::caller());
-        let verdict = self.verdict().unwrap_or_else(|why| panic!("{why}"));
-        let mut unsure = String::new();
-        if is_right(&verdict) {
-            let warnings = self.warnings().unwrap_or_else(|why| panic!("{why}"));
-            match warnings.is_empty() {
-                true => return,
-                false if self.callers.is_empty() => panic!("{}", warnings.join("\n")),
-                false => unsure = format!("{}\n\n", warnings.join("\n")),
-            }
-        }
-        let said = self.explained(&explainer(), goal).unwrap_or_else(|why| format!("{verdict}\n{why}\n"));
-        let said = unsure + &said;
+        let (verdict, warnings) = match (self.verdict(), self.warnings()) {
+            (Err(why), _) | (_, Err(why)) => panic!("{why}"),
+            (Ok(verdict), Ok(warnings)) => (verdict, warnings.join("\n")),
+        };
+        let unsure = match is_right(&verdict) {
+            false => String::new(),
+            true if warnings.is_empty() => return,
+            true if self.callers.is_empty() => panic!("{warnings}"),
+            true => format!("{warnings}\n\n"),
+        };
+        let said = unsure + &self.explained(&explainer(), goal).unwrap_or_else(|why| format!("{verdict}\n{why}\n"));
         match self.save_failed(&path) {
             Ok(()) => panic!("{said}\nThe trace is saved: {}", path.display()),
             Err(why) => panic!("{said}\nThe trace can't be saved: {}: {why}", path.display()),

@@ -89,8 +89,8 @@ export class Recording {
   /** What an accepted verdict on this recording may hide: that replicas end differently, say, or that nothing was recorded. */
   warnings(): Promise<string[]>
 
-  /** The program's report on this recording, and as `warnings` what it may hide where it says `accepted`; with `weak`, where weak holds. The
-   * program is the words that are given, that of $DOMEPEELER, or `domepeeler`. */
+  /** The program's report on this recording, and as `warnings` what it may hide where it says `accepted`; with `weak`, where weak holds.
+   * The program is the words that are given, that of $DOMEPEELER, or `domepeeler`. */
   judge(program?: string | readonly string[] | null, options?: Goal): Promise<Report>
 
   /** What the report means, in words, with the lines of your code or log, and your notes. With `weak`, where the weak list specification

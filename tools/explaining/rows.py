@@ -68,7 +68,8 @@ def row_of(program: str, file: str, trace: bytes, seconds: float, status: int, p
     is_alone = weak and is_weak_alone(report)
     warnings = warned_of(report["verdict"], trace, file, is_alone)
     row = Row(file, report["verdict"], report.get("k"), lines, seconds, status, report, "",
-              placed_warnings(warnings.all, known) or None, bool(warnings.ends) or None, list(known.notes) or None, weak_alone=is_alone or None)
+              placed_warnings(warnings.all, known) or None, bool(warnings.ends) or None, list(known.notes) or None,
+              weak_alone=is_alone or None)
     if warnings.is_cut and row.passes:
         return row._replace(verdict="failed", error=warnings.cut[0], unequal=None, weak_alone=None)
     return placed(row, program, trace, known, weak)
