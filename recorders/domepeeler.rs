@@ -574,6 +574,11 @@ impl Recording {
         self.explain_by(&explainer())
     }
 
+    /// The same where the editor promises the weak list specification alone: it says first where that holds, and what comes with it.
+    pub fn explain_weak(&self) -> Result<String, String> {
+        self.explained(&explainer(), &["--weak"])
+    }
+
     /// The words of the tool at this path.
     pub fn explain_by(&self, explainer: &str) -> Result<String, String> {
         self.explained(explainer, &[])
