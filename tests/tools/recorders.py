@@ -1955,6 +1955,53 @@ def check_heads(tally: Tally, program: str, folder: Path) -> None:
         trace.unlink(missing_ok=True)
 
 
+# Of the heads: what stands before each line, how a script begins that has the lines where weak is enough, and the words that run it.
+WEAK_HEADS = {
+    "domepeeler.py": ("    ", "from domepeeler import Recording\nrecording = Recording(3)\n", [sys.executable]),
+    "domepeeler.mjs": ("//     ", 'import {{ Recording }} from "{}"\nconst recording = new Recording(3)\n', ["node"]),
+    "domepeeler.h": (" *     ", "#include \"{}\"\nint main(void) {{\nstruct domepeeler *recording = domepeeler_new(3);\n"
+                     "#define DONE(call) if (!(call)) return 1\n", ["sh", "-c", 'gcc -std=c99 -Wall -Wextra -Werror -o weak "$0" && ./weak']),
+    "domepeeler.el": (";;   ", '(load "{}" nil t)\n(let ((recording (domepeeler-new 3)))\n', ["emacs", "-Q", "--batch", "-l"])}
+
+
+def call_in(name: str, call: str) -> str:
+    """A call of a session, as a line of the recorder's language."""
+    kind, replica, *rest = call.split(" ")
+    numbers = {"insert": 2, "received": 2, "delete": 1, "read": 0}[kind]
+    given, shown = [word if word.isdigit() else f'"{word}"' for word in rest[:numbers]], [f'"{word}"' for word in rest[numbers:]]
+    if name.endswith(".el"):
+        return f"(domepeeler-{kind} recording {replica} {' '.join(given)}{'' if kind == 'received' else f' (list ' + ' '.join(shown) + ')'})\n"
+    words = [replica, *given] + ([] if kind == "received" else [f"[{', '.join(shown)}]"])
+    if name.endswith(".h"):
+        last = [] if kind == "received" else [f"(const char *[]){{{', '.join(shown) or 'NULL'}}}, {len(shown)}"]
+        return f"DONE(domepeeler_{kind}(recording, {', '.join([replica, *given, *last])}));\n"
+    return f"recording.{kind}({', '.join(words)})\n"
+
+
+def check_weak_heads(tally: Tally, program: str, folder: Path) -> None:
+    """What the head of a recorder says of weak runs as it stands there: at the end of a session in which weak alone holds, and of one in
+    which a delete did not arrive everywhere, and which does not pass."""
+    place = folder / "weak_heads"
+    place.mkdir()
+    at_end = ["received 1 0 2", "received 1 2 1", "read 1 b a", "received 2 0 2", "received 2 1 1", "read 2 b a"]
+    for name, (mark, before, words) in WEAK_HEADS.items():
+        recorder = ROOT / "recorders" / name
+        lines = recorder.read_text().split("\n")
+        begin = next(at for at, line in enumerate(lines) if "For such a one" in line)
+        block = [line[len(mark):] for line in lines[begin:begin + 7] if line.startswith(mark)]
+        tally.check(f"{name}: its head says how where weak is enough", 1 <= len(block) <= 3, block)
+        end = {".el": ")\n", ".h": "domepeeler_free(recording);\nreturn 0;\n}\n"}.get(recorder.suffix, "")
+        for ends, is_passing in (at_end, True), ([], False):
+            source = place / f"weak{recorder.suffix.replace('.h', '.c')}"
+            source.write_text(before.format(recorder) + "".join(call_in(name, call) for call in CYCLE_CALLS[1:] + ends) + "\n".join([*block, end]))
+            done = subprocess.run([*words, source], cwd=place, capture_output=True, text=True, env={
+                **os.environ, "DOMEPEELER": program, "DOMEPEELER_EXPLAIN": EXPLAIN, "LC_ALL": "C.UTF-8", "PYTHONPATH": str(ROOT / "recorders")})
+            said = done.stdout + done.stderr
+            told = not said and done.returncode == 0 if is_passing else any(words in said for words in (
+                "in the end replicas 0, 1 and 2 show different lists", "weak holds, strong doesn't, with three warnings"))
+            tally.check(f"{name}: what its head says of weak, {'passing' if is_passing else 'with a warning'}", told, done)
+
+
 # A user's tests in Rust: of one the list is lost where the variable says so.
 RUST_TESTS = f"""#[path = "{ROOT / 'recorders'}/domepeeler.rs"]
 mod domepeeler;
@@ -2144,7 +2191,8 @@ COMPILERS = {"gcc": ["c99", "c11", "c17"], "clang": ["c99", "c11", "c17"],
 HEADERS = ["", "#include <stdio.h>\n#include <string.h>\n", "#include <unistd.h>\n#include <sys/stat.h>\n#include <stdlib.h>\n"]
 STRICT = ["-Wall", "-Wextra", "-Wconversion", "-Wcast-qual", "-pedantic", "-Werror", "-fsyntax-only"]
 CHECKED = ['insert(d, 0, "a", 0, list, 1)', 'delete(d, 0, "a", list, 1)', "read(d, 0, list, 1)", "view(d, 0, list, 1)", "received(d, 1, 0, 1)",
-           "received_clock(d, 1, 0, clock, 2, 1)", "clock(d, 0, clock)", "delivered(d, lists, names, 2)", 'note(d, "seed 17")', 'save(d, "x")']
+           "received_clock(d, 1, 0, clock, 2, 1)", "clock(d, 0, clock)", "delivered(d, lists, names, 2)", 'note(d, "seed 17")', 'save(d, "x")',
+           "passes_weak(d, NULL)"]
 USES_C = """{}#include "{}"
 int main(void) {{
     const char *list[] = {{"a"}};
@@ -2335,6 +2383,7 @@ def main() -> None:
         for language in "rs", "c", "el":
             check_no_verdict(tally, Recorder(language, drivers[language], program), folder)
         check_heads(tally, program, folder)
+        check_weak_heads(tally, program, folder)
         check_rust_tests(tally, program, folder)
         check_compilers(tally, folder)
         check_hostile_c(tally, Recorder("c", drivers["c"], program), folder)
