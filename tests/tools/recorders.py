@@ -1969,13 +1969,12 @@ def call_in(name: str, call: str) -> str:
     kind, replica, *rest = call.split(" ")
     numbers = {"insert": 2, "received": 2, "delete": 1, "read": 0}[kind]
     given, shown = [word if word.isdigit() else f'"{word}"' for word in rest[:numbers]], [f'"{word}"' for word in rest[numbers:]]
+    as_list = {".el": f"(list {' '.join(shown)})", ".h": f"(const char *[]){{{', '.join(shown) or 'NULL'}}}, {len(shown)}"}
+    words = [replica, *given, *([] if kind == "received" else [as_list.get(Path(name).suffix, f"[{', '.join(shown)}]")])]
     if name.endswith(".el"):
-        return f"(domepeeler-{kind} recording {replica} {' '.join(given)}{'' if kind == 'received' else f' (list ' + ' '.join(shown) + ')'})\n"
-    words = [replica, *given] + ([] if kind == "received" else [f"[{', '.join(shown)}]"])
-    if name.endswith(".h"):
-        last = [] if kind == "received" else [f"(const char *[]){{{', '.join(shown) or 'NULL'}}}, {len(shown)}"]
-        return f"DONE(domepeeler_{kind}(recording, {', '.join([replica, *given, *last])}));\n"
-    return f"recording.{kind}({', '.join(words)})\n"
+        return f"(domepeeler-{kind} recording {' '.join(words)})\n"
+    call = f"{kind}({', '.join(words)})"
+    return f"DONE(domepeeler_{call.replace('(', '(recording, ', 1)});\n" if name.endswith(".h") else f"recording.{call}\n"
 
 
 def check_weak_heads(tally: Tally, program: str, folder: Path) -> None:
