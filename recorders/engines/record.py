@@ -5,6 +5,7 @@ ENGINE is one of these; what each needs is installed from Debian 12 by apt-get w
 
     list_crdt     the Python list CRDT in list_crdt.py; nothing
     yjs           Yjs, recorded by yjs.mjs; nodejs, node-yjs
+    prosemirror   ProseMirror, by way of its collab plugin, recorded by prosemirror.mjs; nodejs, node-prosemirror-transform
     crdts         the list of the Rust crate crdts, recorded by crdts.rs; cargo, librust-crdts-dev
     libinfinity   libinfinity, recorded by libinfinity.c; gcc, pkg-config, libinfinity-0.7-dev
     crdt_el       crdt.el, recorded by crdt_el.el; emacs-nox, elpa-crdt
@@ -100,6 +101,8 @@ gcc -Wall -Wextra -O1 -o "$OUT/recorded" "$HERE/libinfinity.c" \\
 ENGINES = {
     "list_crdt": Engine([], [sys.executable, "{here}/list_crdt.py"], ALL, 1500),
     "yjs": Engine(["nodejs", "node-yjs"], ["node", "{here}/yjs.mjs"], [*ALL, sessions.UNCAUSAL], 1000, surroundings=NODE),
+    "prosemirror": Engine(["nodejs", "node-prosemirror-model", "node-prosemirror-transform"], ["node", "{here}/prosemirror.mjs"],
+                          [sessions.SMALL_STAR, sessions.MIDDLING_STAR, sessions.LARGE_STAR], 1000, surroundings=NODE),
     "crdts": Engine(["cargo", "librust-crdts-dev"], ["{out}/target/debug/recorded"], [*ALL, sessions.UNCAUSAL], 1000, RUST),
     "libinfinity": Engine(["gcc", "pkg-config", "libinfinity-0.7-dev"], ["{out}/recorded"],
                           [*SMALL, sessions.MIDDLING_STAR], 1200, C),

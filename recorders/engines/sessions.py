@@ -165,7 +165,8 @@ def smaller(session: Session) -> list:
     """The session without some of its steps, halves first and single steps last, and without a replica that does nothing."""
     steps = session.steps
     found, width = [], len(steps) // 2
-    for idle in set(range(session.replicas)) - {r for step in steps for r in (step.replica, step.other)}:
+    busy = {step.replica for step in steps} | {step.other for step in steps if step.kind == TAKE}
+    for idle in set(range(session.replicas)) - busy:
         found.append(Session(session.replicas - 1, session.causal, [moved(step, idle) for step in steps]))
     while width:
         found += [session._replace(steps=steps[:at] + steps[at + width:]) for at in range(0, len(steps), width)]
