@@ -120,6 +120,10 @@ class Plan:
     def text(self) -> str:
         return "\n".join([*self.lines, "end"]) + "\n"
 
+    def is_last_a_server(self) -> bool:
+        """Whether the last replica neither inserts nor deletes: it may be a server that keeps no list."""
+        return all(kind == READ for (author, _), (kind, _) in self.changes.items() if author == self.session.replicas - 1)
+
     def take(self, step: Step) -> None:
         had = set(self.has[step.replica])
         new = [one for one in self.has[step.other] if one not in had]
