@@ -46,7 +46,7 @@ LINE_FAULT = re.compile(rb"finder: line ([0-9]+): (.*)\n")
 COMMANDS = {"cargo": "cargo", "emacs-nox": "emacs", "gcc": "gcc", "nodejs": "node", "pkg-config": "pkg-config"}
 UNEQUAL = "accepted, unequal"  # of a whole session: in the end its replicas show different lists
 JUDGES = 3  # how many programs run at the same time
-MOST_LINE, MOST_BYTES = 1 << 18, 1 << 27  # of an answer
+MOST_LINE, MOST_BYTES = 1 << 18, 1 << 24  # of an answer; those of right engines have two megabytes at most
 MOST_SHOWN = 60  # letters of a faulty line
 NODE = {"NODE_PATH": "/usr/share/nodejs"}
 SMALL = [sessions.SMALL_PEERS, sessions.SMALL_STAR, sessions.SMALL_MIDDLE]
@@ -68,7 +68,7 @@ class NoAnswer(Exception):
         self.cause, self.session = cause, None
 
 
-LATE, ENDED, NONSENSE = f"{STOPPED}: late", f"{STOPPED}: ended", f"{STOPPED}: nonsense"
+LATE, LONG, ENDED, NONSENSE = (f"{STOPPED}: {cause}" for cause in ("late", "too long", "ended", "nonsense"))
 
 
 class Engine:
@@ -77,7 +77,7 @@ class Engine:
     that it doesn't answer is an error."""
 
     def __init__(self, packages: list, run: list, kinds: list, count: int, build: str = "", surroundings: dict = None,
-                 seconds: float = 20, must_answer: bool = False):
+                 seconds: int = 20, must_answer: bool = False):
         self.packages, self.run, self.kinds, self.count = packages, run, kinds, count
         self.build, self.seconds, self.must_answer = build, seconds, must_answer
         self.surroundings = {**os.environ, "LC_ALL": "C.UTF-8", **(surroundings or {})}
@@ -191,14 +191,14 @@ class Driver:
         self.engine, self.words, self.said, self.process = engine, engine.prepare(folder), folder / "said", None
         self.late = self.was_late = False  # this one, one of those before
 
-    def trace(self, plan: str) -> str:
-        """The recording of a plan. Where the engine stopped: nothing, or an error where it must answer."""
+    def trace(self, plan: str) -> str | None:
+        """The recording of a plan. Where the engine stopped: none, or an error where it must answer."""
         try:
             return self.answer(plan.encode())
         except NoAnswer:
             if self.engine.must_answer:
                 raise
-            return ""
+            return None
 
     def answer(self, plan: bytes) -> str:
         self.start()
@@ -234,9 +234,9 @@ class Driver:
         last = f"; its last line is {shown(lines[-1])}" if lines else ""
         if self.late:
             hint = "" if last else "; does it flush standard output behind the line `end`?"
-            return NoAnswer(LATE, f"it did not answer within {self.engine.seconds:g} seconds{last}{hint}")
+            return NoAnswer(LATE, f"it did not answer within {seconds(self.engine.seconds)}{last}{hint}")
         if sum(map(len, lines)) > MOST_BYTES or any(len(line) >= MOST_LINE for line in lines):
-            return NoAnswer(NONSENSE, f"its answer is too long for a trace{last}")
+            return NoAnswer(LONG, f"its answer is too long for the plan{last}")
         try:
             status = self.process.wait(timeout=1)
         except subprocess.TimeoutExpired:
@@ -270,6 +270,10 @@ class Driver:
             self.process = None
 
 
+def seconds(count: int) -> str:
+    return f"{count} second" + "s" * (count != 1)
+
+
 def feed(descriptor: int, plan: bytes) -> None:
     """Writes a plan for an engine, which may answer before it has read all."""
     try:
@@ -298,9 +302,9 @@ def shown(line: bytes) -> str:
     return f"`{text[:MOST_SHOWN]}{'..' if len(text) > MOST_SHOWN else ''}`{half}"
 
 
-def verdict(program: str, trace: str, plan: Plan) -> str:
+def verdict(program: str, trace: str | None, plan: Plan) -> str:
     """What the program says, in its own word, with k."""
-    if not trace:
+    if trace is None:
         return STOPPED
     done = subprocess.run([program, "verdict", "--workers", "1", "-"], input=trace.encode(), capture_output=True)
     fault = LINE_FAULT.fullmatch(done.stderr)
@@ -375,7 +379,7 @@ def tried(kind: sessions.Kind, count: int, rnd: random.Random, driver: Driver, p
     between = f"{min(sizes)} to {max(sizes)} operations" if sizes else "no recording"
     print(f"{kind.name}: {count} sessions, {between}: {said}", flush=True)
     if STOPPED in verdicts:
-        words = f"none within {driver.engine.seconds} seconds" if driver.was_late else driver.last_words() or "none"
+        words = f"none within {seconds(driver.engine.seconds)}" if driver.was_late else driver.last_words() or "none"
         print(f"the engine's last words: {words}", flush=True)
     firsts = {}
     for one, word in sorted(zip(found, verdicts), key=lambda both: len(both[0].steps)):
@@ -385,10 +389,10 @@ def tried(kind: sessions.Kind, count: int, rnd: random.Random, driver: Driver, p
     return {**firsts, **({"accepted": found[max(accepted)[1]]} if accepted else {})}
 
 
-def of_session(session: Session, call: Callable, *words: object) -> str:
+def of_session(session: Session, call: Callable, *given: object) -> str:
     """What the call answers; where there is no answer, the error has the session."""
     try:
-        return call(*words)
+        return call(*given)
     except NoAnswer as why:
         why.session = session
         raise
@@ -442,15 +446,15 @@ def try_kind(words: argparse.Namespace, kind: sessions.Kind, driver: Driver) -> 
     firsts = tried(kind, count, random.Random(f"{words.seed} {kind.name}"), driver, words.program)
     for word, one in firsts.items():
         kept = one if word in ("accepted", UNEQUAL) else smallest(driver, words.program, one, word)
-        show(words, kind, word, driver.trace(Plan(kept).text()))
+        show(words, kind, word, of_session(kept, driver.trace, Plan(kept).text()) or "")
     return len(firsts)
 
 
 def show(words: argparse.Namespace, kind: sessions.Kind, verdict_word: str, trace: str) -> None:
     """Prints a trace that was made smaller, and keeps each where that was asked for."""
     if verdict_word == UNEQUAL:
-        print("all was exchanged, and the replicas end with different lists: receipts are missing, or messages were not applied", flush=True)
-    if verdict_word != "accepted":
+        print("all was exchanged, and the replicas end with different lists: messages were not applied, nor receipts written", flush=True)
+    if verdict_word != "accepted" and (verdict_word != UNEQUAL or kind.share == 1):  # which is not made smaller
         print(f"the smallest found of {kind.name}, {verdict_word}:\n{trace}", flush=True)
     keep(words, f"{kind.name} {verdict_word}", "trace", trace)
 
@@ -472,12 +476,13 @@ def engine_name(word: str) -> str:
 def tell(words: argparse.Namespace, driver: Driver, why: NoAnswer) -> NoReturn:
     """Prints a session that the engine does not answer, made smaller where that takes no waiting, and ends the program."""
     said = driver.last_words()
-    session = why.session if why.cause == LATE else smallest(driver, words.program, why.session, why.cause)
+    is_slow = why.cause in (LATE, LONG)
+    session = why.session if is_slow else smallest(driver, words.program, why.session, why.cause)
     plan = Plan(session)
     print(f"the plan that it does not answer:\n{plan.text()}", flush=True)
     keep(words, why.cause, "plan", plan.text())
     try:
-        if why.cause != LATE:
+        if not is_slow:
             verdict(words.program, driver.trace(plan.text()), plan)
     except NoAnswer as again:
         why, said = again, driver.last_words()
