@@ -207,7 +207,7 @@ class Driver:
         feeding.start()
         late.start()
         try:
-            lines = answered(self.process.stdout)
+            lines = answer_lines(self.process.stdout)
         finally:
             late.cancel()
         if lines[-1:] != [b"end\n"]:
@@ -234,11 +234,11 @@ class Driver:
         last = f"; its last line is {shown(lines[-1])}" if lines else ""
         if self.late:
             hint = "" if last else "; does it flush standard output behind the line `end`?"
-            return NoAnswer(LATE, f"it did not answer within {seconds(self.engine.seconds)}{last}{hint}")
+            return NoAnswer(LATE, f"it did not answer within {counted(self.engine.seconds, 'second')}{last}{hint}")
         if sum(map(len, lines)) > MOST_BYTES or any(len(line) >= MOST_LINE for line in lines):
             return NoAnswer(LONG, f"its answer is too long for the plan{last}")
         try:
-            status = self.process.wait(timeout=1)
+            status = self.process.wait(timeout=0.2)
         except subprocess.TimeoutExpired:
             return NoAnswer(ENDED, f"it closed its standard output before the line `end`{last}")
         how = f"by signal {signal.Signals(-status).name}" if status < 0 else f"with status {status}"
@@ -270,8 +270,8 @@ class Driver:
             self.process = None
 
 
-def seconds(count: int) -> str:
-    return f"{count} second" + "s" * (count != 1)
+def counted(count: int, what: str) -> str:
+    return f"{count} {what}" + "s" * (count != 1)
 
 
 def feed(descriptor: int, plan: bytes) -> None:
@@ -283,7 +283,7 @@ def feed(descriptor: int, plan: bytes) -> None:
         pass
 
 
-def answered(stream: BinaryIO) -> list:
+def answer_lines(stream: BinaryIO) -> list:
     """The lines of an answer, up to the line `end` where there is one."""
     lines, size = [], 0
     for line in iter(lambda: stream.readline(MOST_LINE), b""):
@@ -323,11 +323,12 @@ def check_is_of(plan: Plan, trace: str) -> None:
     """A trace has an operation for each that the plan asks for, of all replicas but a server that keeps no list."""
     replicas = int(trace.split("\n")[1].split(" ")[1])
     if replicas != plan.session.replicas and not (replicas == plan.session.replicas - 1 and plan.is_last_a_server()):
-        raise NoAnswer(NONSENSE, f"its answer has {replicas} replicas, and the plan {plan.session.replicas}")
+        raise NoAnswer(NONSENSE, f"its answer has {counted(replicas, 'replica')}, and the plan {plan.session.replicas}")
     did = Counter(int(line.split(" ")[0]) for line in operations(trace))
     for replica in range(replicas):
         if did[replica] < plan.did[replica]:
-            raise NoAnswer(NONSENSE, f"its answer has {did[replica]} operations of replica {replica}, and the plan {plan.did[replica]}")
+            many = counted(did[replica], "operation")
+            raise NoAnswer(NONSENSE, f"its answer has {many} of replica {replica}, and the plan {plan.did[replica]}")
 
 
 def operations(trace: str) -> list:
@@ -379,7 +380,7 @@ def tried(kind: sessions.Kind, count: int, rnd: random.Random, driver: Driver, p
     between = f"{min(sizes)} to {max(sizes)} operations" if sizes else "no recording"
     print(f"{kind.name}: {count} sessions, {between}: {said}", flush=True)
     if STOPPED in verdicts:
-        words = f"none within {seconds(driver.engine.seconds)}" if driver.was_late else driver.last_words() or "none"
+        words = f"none within {counted(driver.engine.seconds, 'second')}" if driver.was_late else driver.last_words() or "none"
         print(f"the engine's last words: {words}", flush=True)
     firsts = {}
     for one, word in sorted(zip(found, verdicts), key=lambda both: len(both[0].steps)):
@@ -425,18 +426,18 @@ def main() -> None:
     parser.add_argument("--seconds", type=number, help="after how many without an answer an engine is stopped")
     words = parser.parse_args()
     check_is_domepeeler(words.program)
-    engine, answered_sessions = engine_of(words.engine), 0
+    engine, answered = engine_of(words.engine), 0
     engine.kinds, engine.seconds = SERVER if words.server else engine.kinds, words.seconds or engine.seconds
     with tempfile.TemporaryDirectory() as folder:
         driver = Driver(engine, Path(folder))
         try:
             for kind in engine.kinds:
-                answered_sessions += try_kind(words, kind, driver)
+                answered += try_kind(words, kind, driver)
         except NoAnswer as why:
             tell(words, driver, why)
         finally:
             driver.close()
-    if not answered_sessions:
+    if not answered:
         fail("no session gave an answer, so nothing was judged")
 
 

@@ -3,7 +3,7 @@
 A session is a list of steps; which operations a replica has, and so what it may delete, follows from the steps before. So
 any step may be left out, and what remains is a session again: that is how a small one is found.
 
-What an engine is asked is a text, which lists every operation and every exchange, and no answers:
+What an engine is asked is a text, which lists every operation and every exchange, and no answers (docs/engines.md has all of it):
 
     plan 2 causal
     0 ins e0 at 0            replica 0 inserts e0 at position 0

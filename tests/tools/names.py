@@ -113,6 +113,7 @@ FILES = {
     "warning": ("what an accepted recording may hide; *unequal*: replicas end with different lists, or lack a change",
                 "tools/explaining/warnings.py"),
     "note": ("the user's own words on a session, such as its seed", "tools/explaining/places.py"),
+    "plan": ("a session that an engine is asked for, as text", "recorders/engines/sessions.py docs/engines.md"),
     "planted bug": ("a usual mistake in a small engine, whose cause the words must name", "examples/planted"),
 }
 
