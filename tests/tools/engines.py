@@ -50,9 +50,9 @@ class Wrong(NamedTuple):
 
 WRONG = [
     Wrong("hangs", "cat > /dev/null", "it did not answer within 1 second; does it flush standard output behind the line `end`?", False),
-    Wrong("half a line, and hangs", "printf 'trace 1\\nreplicas 2\\n0 ins e'; exec sleep 60",
+    Wrong("half a line, and hangs", "printf 'trace 1\\nreplicas 2\\n0 ins e'; exec sleep 60.0625",
           "it did not answer within 1 second; its last line is `0 ins e`, which has no end", False),
-    Wrong("a child that hangs", "sleep 60 & wait",
+    Wrong("a child that hangs", "sleep 60.0625 & wait",
           "it did not answer within 1 second; does it flush standard output behind the line `end`?", False),
     Wrong("other line ends", "while read line; do printf '%s\\r\\n' \"$line\"; done",
           "it did not answer within 1 second; its last line is `end\\r`", False),
@@ -245,7 +245,7 @@ def errors(tally: Tally, program: str, folder: str) -> None:
         tally.check(f"no command: {words}", done.returncode == 2 and done.stderr.startswith(f"record.py: {words} is none of crdt_el, ")
                     and done.stderr.endswith(" and no command that can be run\n") and not done.stdout, done)
     running = subprocess.run(["ps", "-eo", "args"], capture_output=True, text=True).stdout
-    tally.check("no engine is left", "my engine" not in running and "sleep 60" not in running.splitlines(), running)
+    tally.check("no engine is left", folder not in running and "sleep 60.0625" not in running.splitlines(), running)
 
 
 def small_sessions(tally: Tally) -> None:
