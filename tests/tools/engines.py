@@ -123,6 +123,10 @@ PROSEMIRROR = {
                   "contents 1.3: this response lacks one element that replica 1 had by then.|"
                   "before it: 1.2 (line 7) is still right; since then replica 1 received 0.4 (line 10)|[x] no operation deletes it|"
                   "strong and weak fail"),
+    "insert_deletes": ("plan 3 causal|0 ins x at 0|2 take 0 : 0.1|1 take 2 : 0.1|1 ins b after x|1 ins a before x|1 del x|1 ins c after a|"
+                       "0 del x|2 take 0 : 0.2|1 take 2 : 0.2|end",
+                       "contents 1.6: this response lacks two elements that replica 1 had by then.|[b] no operation deletes it|"
+                       "[a] no operation deletes it|strong and weak fail"),
 }
 # The first of these, but that the client's text was sent before x was deleted: with nothing to undo it stays where it was.
 CONFIRMED = ("plan 3 causal|0 ins x at 0|2 take 0 : 0.1|1 take 2 : 0.1|1 ins b after x|1 ins a before x|2 take 1 : 1.1 1.2|0 del x|"
