@@ -5,7 +5,8 @@ It leaves a folder `judged`: `junit.xml` with all verdicts, and of each failure 
 one that fails in the fewest lines. What it left there before it removes first; a folder of this name that holds anything else it leaves
 alone, and ends. It prints the first explanation whole, and of failures that look alike one line. It prints annotations where GitHub runs
 it, and writes `annotations.json` for GitLab. It ends with the status of domepeeler-judge-many: 0 where all are accepted, 1 where the
-editor failed, 2 where the recordings or the setting are at fault. Words behind the folder are options for domepeeler-judge-many."""
+editor failed, 2 where the recordings or the setting are at fault. Words behind the folder are options for domepeeler-judge-many; with
+`--weak`, of an editor that promises the weak list specification alone, recordings pass where that holds."""
 import json
 import os
 import re
@@ -18,6 +19,7 @@ from pathlib import Path
 JUDGED = Path("judged")
 OWN = re.compile(r"junit\.xml|annotations\.json|[1-9][0-9]*\.(html|trace|trace\.lines)")  # files that it leaves there
 IN_MESSAGES, IN_PROPERTIES = "%\r\n", "%\r\n:,"  # marks that GitHub wants escaped
+WEAK, WEAK_ALONE = "--weak", "weak holds, strong doesn't"
 MOST_LEFT = 3  # names of other files that are told
 MOST_SHOWN = 120  # letters of what the tool printed otherwise
 
@@ -64,14 +66,15 @@ def annotate(file, title, told):
     print(f"::error file={escaped(file, IN_PROPERTIES)},title={escaped(title, IN_PROPERTIES)}::{escaped(told, IN_MESSAGES)}")
 
 
-def explain(number, row):
+def explain(number, row, goal):
     """Explains a failure; answers the words, and what GitLab shows of it: a link to its page."""
     page, small = JUDGED / f"{number}.html", JUDGED / f"{number}.trace"
-    done = ended("domepeeler-explain", "--html", page, "--small", small, "--", row["file"])
+    done = ended("domepeeler-explain", *goal, "--html", page, "--small", small, "--", row["file"])
     told = (done.stdout + done.stderr).strip()
-    if row["verdict"] == "accepted":  # but unequal in the end
-        told = f"accepted, but unequal in the end: {' '.join(row['warnings'][:1])}\n{told.partition(chr(10))[2]}"
-    name = f"{shown(row['file'])}: {row['verdict']}"
+    verdict = WEAK_ALONE if row.get("weak_alone") else row["verdict"]
+    if verdict in ("accepted", WEAK_ALONE):  # but unequal in the end
+        told = f"{verdict}, but unequal in the end: {' '.join(row['warnings'][:1])}\n{told.partition(chr(10))[2]}"
+    name = f"{shown(row['file'])}: {verdict}"
     if os.environ.get("GITHUB_ACTIONS"):
         annotate(shown(row["file"]), name, told.split("\n")[0])
     url = f"{os.environ.get('CI_JOB_URL', '')}/artifacts/file/{page}" if page.exists() else os.environ.get("CI_JOB_URL", "")
@@ -125,15 +128,17 @@ def judge(folder, options):
         printed = shown(done.stdout[:MOST_SHOWN])
         raise Failed(f"domepeeler-judge-many ended with status {done.returncode}, and printed no recordings: {printed}") from None
     rows = [row for row in rows if JUDGED.resolve() not in Path(row["file"]).resolve().parents]
-    explained = [explain(number, row) for number, row in enumerate(rows, 1)]
+    goal = [WEAK] if WEAK in options else []
+    explained = [explain(number, row, goal) for number, row in enumerate(rows, 1)]
     print_explanations(rows, [told for told, _ in explained])
     print(done.stderr, end="", file=sys.stderr)
     if os.environ.get("CI_JOB_URL"):
         (JUDGED / "annotations.json").write_text(json.dumps({"recordings that are not accepted": [link for _, link in explained]}))
     if done.returncode == 0:
-        print(f"all recordings below {shown(folder)} are accepted")
+        told = "keep the weak list specification" if goal else "are accepted"
+        print(f"all recordings below {shown(folder)} {told}")
     if rows:
-        print(f"{len(rows)} not accepted: {JUDGED}/junit.xml has them all, and {JUDGED}/1.html is the page of the first")
+        print(f"{len(rows)} {'failed' if goal else 'not accepted'}: {JUDGED}/junit.xml has them all, and {JUDGED}/1.html is the page of the first")
     if done.returncode not in (0, 1, 2) or done.returncode == 1 and not rows:
         raise Failed(f"domepeeler-judge-many ended with status {done.returncode}, and listed {len(rows)} recordings")
     return done.returncode

@@ -13,6 +13,9 @@
 // process. Where the test fails by itself, its diagnostics have them, of an accepted recording too. Where it passes, the trace that it
 // saved before is removed, and what the verdict may hide stands in its diagnostics. For a property of fast-check or another library, let
 // the property end with: await accepted(recording, "failed.trace")
+//
+// An editor with a server that orders changes promises the weak list specification alone. With { weak: true } as a last argument of
+// both, a recording is taken for accepted where weak holds; `contents`, `position`, `doubled` and `refused 2` still fail.
 import { createHash } from "node:crypto"
 import { mkdir, rm, stat, writeFile } from "node:fs/promises"
 import { basename, dirname, join, relative, resolve } from "node:path"
@@ -41,8 +44,9 @@ export class NotAccepted extends Error {
   }
 }
 
-/** A function for test(): it begins a recording of so many replicas, hands it to the body, and has it judged when that has ended. */
-export function recorded(replicas, body, { folder = FOLDER } = {}) {
+/** A function for test(): it begins a recording of so many replicas, hands it to the body, and has it judged when that has ended; with
+ * `weak` it passes where weak holds. */
+export function recorded(replicas, body, { folder = FOLDER, weak = false } = {}) {
   return async (context) => {
     const recording = new Recording(replicas)
     const test = context.fullName ?? context.name // with the suites' names where Node tells them
@@ -51,7 +55,7 @@ export function recorded(replicas, body, { folder = FOLDER } = {}) {
     const judge = async () => {
       const lines = recording.lines()
       ended.delete(recording) // a test that fails has told enough
-      const { told, warnings } = await judged(recording, path)
+      const { told, warnings } = await judged(recording, path, weak)
       if (told) throw new NotAccepted(told)
       if (lines === FIRST_LINES) throw new NotAccepted(warnings.join("\n"))
       ended.set(recording, { test, lines })
@@ -61,7 +65,7 @@ export function recorded(replicas, body, { folder = FOLDER } = {}) {
     try {
       await body(recording, context)
     } catch (why) {
-      tell((await judged(recording, path, true)).told)
+      tell((await judged(recording, path, weak, true)).told)
       throw why
     }
     await judge()
@@ -69,26 +73,27 @@ export function recorded(replicas, body, { folder = FOLDER } = {}) {
   }
 }
 
-/** A promise that is kept where the recording is accepted; else it is saved, and the error says what is wrong with it. Of the first one by
- * this path that may hide something Node warns. */
-export async function accepted(recording, path) {
-  const { told, warnings } = await judged(recording, path)
+/** A promise that is kept where the recording is accepted, or with `weak` where weak holds; else it is saved, and the error says what is
+ * wrong with it. Of the first one by this path that may hide something Node warns. */
+export async function accepted(recording, path, { weak = false } = {}) {
+  const { told, warnings } = await judged(recording, path, weak)
   if (told) throw new NotAccepted(told)
   if (!warnings.length || warned.has(path)) return
   warned.add(path)
   process.emitWarning(`a recording of ${path} is accepted, and may hide something: ${warnings[0]}`)
 }
 
-// The verdict on a recording in words, which is then saved; nothing where it is accepted, unless its test has failed by itself. And of
-// what an accepted verdict warns.
-async function judged(recording, path, hasFailed = false) {
+// The verdict on a recording in words, which is then saved; nothing where it passes, unless its test has failed by itself. And of what a
+// verdict that passes warns.
+async function judged(recording, path, weak, hasFailed = false) {
   let told, warnings = []
   try {
-    const report = await recording.judge(), isAccepted = report.verdict === "accepted"
+    const report = await recording.judge(null, { weak }), isAccepted = report.verdict === "accepted"
+    const isPassing = isAccepted || (weak && report.weak === true)
     warnings = report.warnings
-    if (isAccepted && !hasFailed) return { told: "", warnings }
-    const verdict = isAccepted ? "accepted" : `not accepted: ${report.verdict}`
-    told = await recording.explain().catch((why) => `The recording is ${verdict}. There is no explanation: ${why.message}`)
+    if (isPassing && !hasFailed) return { told: "", warnings }
+    const verdict = isAccepted ? "accepted" : isPassing ? `${report.verdict}, and weak holds` : `not accepted: ${report.verdict}`
+    told = await recording.explain(null, { weak }).catch((why) => `The recording is ${verdict}. There is no explanation: ${why.message}`)
   } catch (why) {
     told = `The recording was not judged: ${why.message}`
   }

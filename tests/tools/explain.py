@@ -332,6 +332,25 @@ WORDS = [
      "neither the strong nor the weak one was judged: both know an element by its name"),
 ]
 
+# The cycle of three, and by then all has arrived everywhere. With it other entries, and what the first of the words say where weak is enough.
+ALL_ARRIVED = f"{THREE_WAY}|1 recv 0 2|1 recv 2 1|1 read : b a|2 recv 0 2|2 recv 1 1|2 read : b a"
+ALONE = "weak holds, strong doesn't: this passes, as the weak list specification alone is asked for. "
+FAILS_WEAK = [
+    # Where strong failed before, the session went wrong where weak fails.
+    ("opposite orders after the cycle", f"{THREE_WAY}|1 recv 0 2|1 recv 2 1|1 read : a b|2 recv 0 2|2 recv 1 1|2 read : a b", "refused 2: ", [
+        "When it went wrong", "line 14 of the trace, 1.2: replica 1 read the list: up to line 13 weak holds, and with line 14 it is `refused 2`",
+        "before it: 1.1 (line 6) agrees with each other response by then; since then replica 1 received 0.2 (line 12), 2.1 (line 13)",
+        "[a] before [b]: line 14, 1.2: replica 1 read the list, answered [a] [b]",
+        "[b] before [a]: line 11, 0.3: replica 0 read the list, answered [b] [a]", "strong and weak fail"]),
+    ("a lost element after the cycle", f"{THREE_WAY}|1 recv 0 2|1 recv 2 1|1 read : b|0 read : b", "contents 1.2: ", [
+        "When it went wrong", "line 14 of the trace, 1.2: replica 1 read the list: up to line 13 weak holds, and with line 14 it is `contents 1.2`",
+        "the first 14 lines are enough to show it (`head -14`)"]),
+    ("a wrong position after the cycle", f"{THREE_WAY}|2 ins c 0 : x c b|0 read : b", "position 2.2: ", [
+        "When it went wrong", "line 12 of the trace, 2.2: replica 2 inserted c at position 0: up to line 11 weak holds, and with line 12 it is "
+        "`position 2.2`", "asked for: position 0, where [x] stands"]),
+    ("a name twice", "0 ins a 0 : a|1 ins a 0 : a", "doubled: ", ["neither the strong nor the weak one was judged: both know an element by its "
+                                                                 "name"])]
+
 FIRST = ["First of all", "this trace has no recv line: `received` was never called, so no replica has heard of another"]
 # How many replicas, the entries, and whether this is said of it before all else.
 UNHEARD_OF = [
@@ -1341,7 +1360,7 @@ def contradicted(tally: Tally, folder: str) -> None:
                     b"can't explain" in got.err, got)
     for lie in {"verdict": "accepted"}, {"verdict": "accepted", "operations": 3, "order": ["a", "b"]}:
         liar.write_text(f"#!/bin/sh\ncat > /dev/null\necho '{json.dumps(lie)}'\n")
-        told = f"domepeeler-explain: {liar} accepted, by a report that is not on this trace: is it domepeeler?\n"
+        told = f"domepeeler-explain: {liar} printed a report that is not on this trace: is it domepeeler?\n"
         tally.same(f"a contradiction: {lie}", explain(str(liar), ["-"], trace), Ended(2, b"", told.encode()))
     shown = [{"from": "a", "to": "b", "shown": "1.1", "response": ["a", "b"]}, {"from": "b", "to": "a", "shown": "1.2", "response": ["b", "a"]}]
     lie = {"verdict": "refused", "k": 2, "operations": 4, "inserts": 2, "strong": False, "weak": False, "steps": shown}
@@ -1617,6 +1636,64 @@ def together(tally: Tally, program: str, folder: str) -> None:
     tally.check("small: two by one receipt", Path(folder, "together.trace").read_text() == wanted, got)
 
 
+def weak(tally: Tally, program: str, folder: str) -> None:
+    """Where weak is enough: what is said first, the status, what is warned of, and where a session went wrong that fails. All else stays."""
+    trace = text_of(3, ALL_ARRIVED).encode()
+    without, got = (explain(program, [*goal, "-"], trace) for goal in ([], ["--weak"]))
+    tally.same("weak: it passes, and the explanation follows", got, Ended(0, ALONE.encode() + without.out.replace(
+        b"When it went wrong", b"When strong came to fail"), b""))
+    tally.check("weak: not asked for", without.status == 1 and without.out.startswith(b"refused 3: "), without)
+    got = explain(program, ["--weak", "-"], text_of(3, THREE_WAY).encode())
+    lines = got.out.decode().split("\n")
+    tally.check("weak: warnings", got.status == 0 and lines[0].startswith("weak holds, strong doesn't, with three warnings: this passes") and
+                lines[2] == "What this verdict may hide" and lines[3].startswith("  in the end replicas 0, 1 and 2 show different lists: 0.2 ") and
+                "  strong fails, weak holds" in lines, got)
+    for name in "accepted", "crdt_el_accepted":
+        trace = RIGHT if name == "accepted" else (ROOT / f"examples/{name}.trace").read_bytes()
+        tally.same(f"weak: {name}", explain(program, ["--weak", "-"], trace), explain(program, ["-"], trace))
+    for name, entries, begins, wanted in FAILS_WEAK:
+        got = explain(program, ["--weak", "-"], text_of(3, entries).encode())
+        lines = got.out.decode().split("\n")
+        tally.check(f"weak: {name}", got.status == 1 and not got.err and lines[0].startswith(begins) and
+                    stand_in_order(lines, wanted) is None, got)
+        if "opposite" in name:
+            usual = explain(program, ["-"], text_of(3, entries).encode()).out
+            tally.check(f"weak: {name}, where strong is asked for", usual.startswith(b"refused 3: ") and
+                        b"up to line 10 the session is accepted, and with line 11 it is `refused 3`" in usual, usual)
+    for name in "lost_element", "crdt_el_wrong_delete", "libinfinity_replicas_disagree", "crdt_el_replicas_disagree":
+        trace = (ROOT / f"examples/{name}.trace").read_bytes()
+        got, without = (explain(program, [*goal, "-"], trace) for goal in (["--weak"], []))
+        tally.check(f"weak: {name}", got.status == without.status == 1 and got.out.split(b":")[0] == without.out.split(b":")[0], got)
+    got = explain(program, ["--weak", "-"], b"trace 1\nreplicas 1\n0 reads :\n")
+    tally.same("weak: a trace that does not read", got, explain(program, ["-"], b"trace 1\nreplicas 1\n0 reads :\n"))
+    weak_files(tally, program, folder)
+
+
+def weak_files(tally: Tally, program: str, folder: str) -> None:
+    """A small trace keeps the verdict, whether it passes or not; a page is painted as an accepted one's; and a cut trace is warned of."""
+    path = Path(folder, "weak.trace")
+    path.write_text(text_of(3, ALL_ARRIVED.replace("|0 del x", "|0 ins y 1 : x y|0 del y : x|0 del x").replace("recv 0 2", "recv 0 4")))
+    got = explain(program, ["--weak", "--small", f"{folder}/weak_small.trace", "--html", f"{folder}/weak.html", "--svg", f"{folder}/weak.svg",
+                            str(path)])
+    small = run(program, ["verdict", f"{folder}/weak_small.trace"])
+    tally.check("weak: the small trace keeps the verdict", got.status == 0 and f"{folder}/weak_small.trace has the same verdict" in
+                got.out.decode() and b"\nrefused 3\nstrong no\nweak yes\n" in small.out, (got, small))
+    tally.check("weak: the picture", Path(folder, "weak.svg").is_file(), got)
+    page = Path(folder, "weak.html").read_text()
+    tally.check("weak: the page", '<body class="accepted">' in page and
+                '<h1><span class="kind">weak holds, strong doesn&#x27;t</span>: this passes, as ' in page and
+                "<h2>The cycle of the lines up to 13</h2>" in page, page.partition("<body")[2][:1000])
+    for name, entries, begins, _ in FAILS_WEAK[:3]:
+        got = explain(program, ["--weak", "--small", f"{folder}/weak_small.trace", "-"], text_of(3, entries).encode())
+        report = run(program, ["verdict", f"{folder}/weak_small.trace"]).out.decode().split("\n")
+        tally.check(f"weak: the small trace of {name}", got.status == 1 and report[1].startswith(begins.split()[0]) and
+                    report[3] == "weak no", report)
+    Path(f"{path}.lines").write_text("40\n")
+    got = explain(program, ["--weak", str(path)])
+    tally.check("weak: a cut trace is warned of", got.status == 0 and got.out.startswith(b"weak holds, strong doesn't, with a warning: ") and
+                b"the trace may have been cut at a line's end" in got.out, got)
+
+
 def main() -> None:
     program = program_of(sys.argv)
     tally = Tally()
@@ -1639,6 +1716,7 @@ def main() -> None:
         arguments(tally, program, folder)
         files(tally, program, folder)
         finding(tally, program, folder)
+        weak(tally, program, folder)
         others(tally, folder)
         killed(tally, folder)
         contradicted(tally, folder)

@@ -55,7 +55,7 @@ MESSAGES = {"lost.trace": ("contents", "contents 0.2: "), "-moved {#}.trace": ("
 
 # What another program does, as a shell says it, and what is said of the program and that.
 NO_REPORT = "{} printed no report that agrees with its status: is it domepeeler? It ended with status "
-OTHER_TRACE = "{} accepted, by a report that is not on this trace: is it domepeeler?"
+OTHER_TRACE = "{} printed a report that is not on this trace: is it domepeeler?"
 OTHERS = [("echo hello", f"{NO_REPORT}0"), ("echo '[]'", f"{NO_REPORT}0"), ("echo '{\"a\": 1}'; exit 1", f"{NO_REPORT}1"),
           ("echo '{\"verdict\":\"accepted\"}'; exit 1", f"{NO_REPORT}1"), ("echo '{\"verdict\":\"contents\",\"at\":\"0.1\"}'; exit 0", f"{NO_REPORT}0"),
           ("printf '\\033[31musage\\n' >&2; exit 2", f"{NO_REPORT}2: \\x1b[31musage"),
@@ -1065,6 +1065,112 @@ def script_ended(tally: Tally, place: str, path: str, script: str, folder: str) 
                     (running.returncode, out, err, left))
 
 
+# Of three replicas: a cycle of three, at the end of which all has arrived everywhere, or not; and with it what weak does not bear.
+CYCLE = "0 ins x 0 : x|1 recv 0 1|2 recv 0 1|1 ins a 0 : a x|2 ins b 1 : x b|0 del x :|0 recv 1 1|0 recv 2 1|0 read : b a"
+WEAK = {"alone.trace": f"{CYCLE}|1 recv 0 2|1 recv 2 1|1 read : b a|2 recv 0 2|2 recv 1 1|2 read : b a", "unequal.trace": CYCLE,
+        "opposite.trace": f"{CYCLE}|1 recv 0 2|1 recv 2 1|1 read : a b|2 recv 0 2|2 recv 1 1|2 read : b a",
+        "lost.trace": f"{CYCLE}|1 recv 0 2|1 recv 2 1|1 read : b", "right.trace": "0 ins a 0 : a|1 recv 0 1|2 recv 0 1|1 read : a|2 read : a"}
+WEAK_ROWS = [("lost.trace", "contents", "-", "14", "14"), ("opposite.trace", "refused", "2", "14", "17"),
+             ("unequal.trace", "weak holds, strong doesn't, unequal", "3", "-", "11"), ("alone.trace", "weak holds, strong doesn't", "3", "-", "17"),
+             ("right.trace", "accepted", "-", "-", "7")]
+UNEQUAL = "1 of those that pass is unequal: in the end replicas show different lists, or lack an insert or a delete ({})"
+
+
+def weak(tally: Tally, program: str, folder: str) -> None:
+    """Where weak is enough, a trace passes of which weak holds and strong doesn't, and is counted by itself."""
+    write(folder, WEAK)
+    got = judge(program, ["--weak", folder])
+    lines = got.out.decode().splitlines()
+    rows = [cells(line)[:5] for line in lines[1:6]]
+    tally.check("weak: the rows", rows == [(f"{folder}/{name}", *rest) for name, *rest in WEAK_ROWS], rows)
+    tally.check("weak: the counts", lines[6:] == ["5 traces: 1 accepted, 2 weak alone, 1 refused, 1 contents",
+                                                  UNEQUAL.format("--unequal lets these fail")], lines[6:])
+    tally.check("weak: status 1, and warnings", got.status == 1 and got.err.decode().startswith(
+        f"domepeeler-judge-many: {folder}/unequal.trace: warning: in the end replicas 0, 1 and 2 show different lists"), got)
+    usual = judge(program, [folder])
+    told = usual.out.decode()
+    tally.check("weak: not asked for", usual.status == 1 and "weak" not in told and not usual.err and told.endswith(
+        "5 traces: 1 accepted, 3 refused, 1 contents\n") and [cells(line)[1:5] for line in told.splitlines()[1:5]] == [
+            ("refused", "3", "11", "11"), ("contents", "-", "11", "14"), ("refused", "3", "11", "17"), ("refused", "2", "11", "17")], usual)
+    passing = [f"{folder}/{name}.trace" for name in ("alone", "right", "unequal")]
+    got = judge(program, ["--weak", *passing])
+    tally.check("weak: status 0 where none fails", got.status == 0 and b"\n3 traces: 1 accepted, 2 weak alone\n" in got.out, got)
+    got = judge(program, ["--weak", "--failing", *passing])
+    tally.check("weak: none to list", got.status == 0 and got.out.decode().splitlines() == [
+        "3 traces: 1 accepted, 2 weak alone", UNEQUAL.format("--unequal lets these fail")], got)
+    got = judge(program, ["--weak", "--unequal", "--failing", *passing])
+    tally.check("weak: unequal ones fail too", got.status == 1 and cells(got.out.decode().splitlines()[1])[:2] == (
+        passing[2], "weak holds, strong doesn't, unequal") and UNEQUAL.format("counted as failing") in got.out.decode(), got)
+    rows = [json.loads(line) for line in judge(program, ["--weak", "--json", folder]).out.decode().splitlines()]
+    told = [(os.path.basename(row["file"]), row["verdict"], row["status"], row["report"]["verdict"], row.get("weak_alone"), row.get("unequal"))
+            for row in rows]
+    tally.check("weak: JSON keeps the verdict and the status", told == [
+        ("lost.trace", "contents", 1, "contents", None, None), ("opposite.trace", "refused", 1, "refused", None, None),
+        ("unequal.trace", "refused", 1, "refused", True, True), ("alone.trace", "refused", 1, "refused", True, None),
+        ("right.trace", "accepted", 0, "accepted", None, None)], told)
+    liar = Path(folder, "liar")
+    liar.write_text(f"#!/bin/sh\n{VERSION}echo '{{\"verdict\":\"refused\",\"k\":3,\"weak\":true,\"steps\":[],\"operations\":99}}'\nexit 1\n")
+    liar.chmod(0o755)
+    got = judge(str(liar), ["--weak", passing[1]])
+    tally.check("weak: a report on another trace", got.status == 2 and got.err.endswith(f": {OTHER_TRACE.format(liar)}\n".encode()), got)
+    there = [json.loads(line) | {"seconds": 0} for line in judge(program, ["--weak", "--json", "--sshlogin", ":", folder]).out.decode().splitlines()]
+    tally.check("weak: by GNU parallel", there == [row | {"seconds": 0} for row in rows], there)
+
+
+def weak_junit(tally: Tally, program: str, folder: str) -> None:
+    """A passed case says that strong doesn't hold; unequal ends and cut traces are no pass."""
+    write(folder, WEAK)
+    path = f"{folder}/judged.xml"
+    for more, failures in ([], 2), (["--unequal"], 3):
+        judge(program, ["--weak", *more, "--junit", path, folder])
+        suite = xml.parse(path).getroot().find("testsuite")
+        cases = {case.get("name"): case for case in suite.findall("testcase")}
+        tally.check(f"weak: JUnit's counts {more}", (suite.get("failures"), suite.get("errors")) == (str(failures), "0"), suite.attrib)
+        said = [(fault.tag, fault.text) for fault in cases["alone.trace"]]
+        tally.check(f"weak: JUnit's passed case {more}", said == [("system-out", "weak holds, strong doesn't: this passes, as the weak list "
+                    "specification alone is asked for; the verdict is `refused 3`\n")], said)
+        first, = cases["unequal.trace"]
+        begins = "weak holds, strong doesn't: this passes" if not more else "weak holds, strong doesn't, but unequal in the end: in the end"
+        tally.check(f"weak: JUnit's unequal case {more}", first.tag == ("failure" if more else "system-out") and first.text.startswith(begins)
+                    and "in the end replicas 0, 1 and 2 show different lists" in first.text, first.text)
+        first, = cases["opposite.trace"]
+        tally.check(f"weak: JUnit's failed case {more}", first.tag == "failure" and first.get("message").startswith("refused 2: ") and
+                    "up to line 13 weak holds, and with line 14 it is `refused 2`" in first.text, first.text)
+    Path(folder, "alone.trace.lines").write_text("40\n")
+    got = judge(program, ["--weak", "--junit", path, folder])
+    suite = xml.parse(path).getroot().find("testsuite")
+    tally.check("weak: a cut trace is no pass", got.status == 2 and b"1 weak alone, 1 refused, 1 contents, 1 failed" in got.out and
+                f"{folder}/alone.trace: the trace may have been cut at a line's end".encode() in got.err and suite.get("errors") == "1", got)
+
+
+def weak_in_ci(tally: Tally, program: str, folder: str) -> None:
+    """The script of CI passes the option on: what passes has no annotation, and what fails is explained where weak fails."""
+    subprocess.run([ROOT / "tools" / "install", f"{folder}/installed"], check=True, stdout=subprocess.DEVNULL,
+                   env=os.environ | {"DOMEPEELER": program})
+    path = os.pathsep.join([f"{folder}/installed/bin", *{os.path.dirname(shutil.which(tool)) for tool in ("python3", "sh")}])
+    project = project_of(folder, WEAK)
+    script, github = "python3 ci/judge_recordings.py recordings --weak", {"GITHUB_ACTIONS": "true"}
+    done = in_ci(project, path, script, github)
+    told = [line for line in done.stdout.splitlines() if line.startswith("::error ")]
+    tally.check("weak: annotations of GitHub", done.returncode == 1 and [line[:line.index("::", 2) + 13] for line in told] == [
+        "::error file=recordings/lost.trace,title=recordings/lost.trace%3A contents::contents 1.",
+        "::error file=recordings/opposite.trace,title=recordings/opposite.trace%3A refused::refused 2: "], told)
+    tally.check("weak: explained where weak fails", "up to line 13 weak holds, and with line 14 it is `refused 2`" in
+                Path(project, "judged/2.html").read_text() and done.stdout.endswith(
+                    "2 failed: judged/junit.xml has them all, and judged/1.html is the page of the first\n"), done.stdout)
+    done = in_ci(project, path, f"{script} --unequal", github)
+    tally.check("weak: an unequal one in GitHub", "::error file=recordings/unequal.trace,title=recordings/unequal.trace%3A weak holds%2C strong "
+                "doesn't::weak holds, strong doesn't, but unequal in the end: in the end replicas 0, 1 and 2" in done.stdout, done.stdout)
+    for name in "lost", "opposite", "unequal":
+        os.remove(f"{project}/recordings/{name}.trace")
+    done = in_ci(project, path, script, github)
+    tally.check("weak: all pass in CI", (done.returncode, done.stdout, done.stderr) == (
+        0, "all recordings below recordings keep the weak list specification\n", ""), done)
+    done = in_ci(project, path, script.replace(" --weak", ""), github)
+    tally.check("weak: not asked for in CI", done.returncode == 1 and done.stdout.endswith(
+        "1 not accepted: judged/junit.xml has them all, and judged/1.html is the page of the first\n"), done)
+
+
 def some_big(folder: Path, count: int = 2) -> None:
     """Traces of over a megabyte: one is accepted, and of the others the last read lacks elements."""
     names = [f"element{i}" for i in range(600)]
@@ -1085,7 +1191,7 @@ def big_traces(tally: Tally, program: str, folder: str) -> None:
             return super().submit(*words)
 
     usual, judges.ProcessPoolExecutor = judges.ProcessPoolExecutor, Counted
-    judges.judged_here(program, sorted(map(str, Path(folder).glob("*.trace"))), 3)
+    judges.judged_here(program, sorted(map(str, Path(folder).glob("*.trace"))), 3, False)
     judges.ProcessPoolExecutor = usual
     tally.check("big traces: by other processes", len(asked) == 3, len(asked))
     sizes = [path.stat().st_size for path in Path(folder).glob("*.trace")]
@@ -1118,8 +1224,8 @@ def main() -> None:
         fails_at(tally, program, third)
         warnings(tally, program, folder)
         warnings_of_sessions(tally, program, other)
-    for check in (pythons, little_memory, not_looked_at, changing, known_as_cut, grouped, no_files, overwriting, odd_names, tasks,
-                  script_of_ci, big_traces):
+    for check in (pythons, little_memory, not_looked_at, changing, weak, weak_junit, weak_in_ci, known_as_cut, grouped, no_files, overwriting,
+                  odd_names, tasks, script_of_ci, big_traces):
         with tempfile.TemporaryDirectory() as folder:
             check(tally, program, folder)
     with tempfile.TemporaryDirectory() as folder, tempfile.TemporaryDirectory() as other, tempfile.TemporaryDirectory() as third:

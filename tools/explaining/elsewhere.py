@@ -26,8 +26,8 @@ def needs_parallel() -> None:
         raise NoParallel("--sshlogin needs GNU parallel: on Debian, apt-get update and apt-get install parallel")
 
 
-def judged_there(machines: str, jobs: str | None, program: str, files: list) -> list:
-    """A row for each trace, judged on other machines."""
+def judged_there(machines: str, jobs: str | None, program: str, files: list, weak: bool) -> list:
+    """A row for each trace, judged on other machines. With `weak` the weak list specification alone is asked for."""
     rows, states = {}, {}
     for file in files:
         try:
@@ -38,7 +38,7 @@ def judged_there(machines: str, jobs: str | None, program: str, files: list) -> 
     with tempfile.TemporaryDirectory() as folder:
         if there:
             run_all(machines, jobs, program, there, folder)
-            rows.update(zip(there, rows_of(program, there, folder, states)))
+            rows.update(zip(there, rows_of(program, there, folder, states, weak)))
     return [rows[file] for file in files]
 
 
@@ -70,7 +70,7 @@ def looked_at(file: str, is_read: bool = False) -> tuple:
         os.close(descriptor)
 
 
-def rows_of(program: str, files: list, folder: str, states: dict) -> list:
+def rows_of(program: str, files: list, folder: str, states: dict, weak: bool) -> list:
     """What the log and the jobs' output say of each trace."""
     ended = {}
     for line in Path(folder, "log").read_bytes().split(b"\n")[1:]:
@@ -79,10 +79,11 @@ def rows_of(program: str, files: list, folder: str, states: dict) -> list:
             continue  # the rest of a file's name that has a line feed
         number, _, _, seconds, _, _, status, signal = cells[:8]
         ended[int(number)] = float(seconds), int(status) if signal == "0" else 128 + int(signal)
-    return [row_in(program, file, states[file], Path(folder, str(at)), *ended.get(at, (0.0, 255))) for at, file in enumerate(files, 1)]
+    return [row_in(program, file, states[file], Path(folder, str(at)), *ended.get(at, (0.0, 255)), weak)
+            for at, file in enumerate(files, 1)]
 
 
-def row_in(program: str, file: str, before: tuple, printed: Path, seconds: float, status: int) -> Row:
+def row_in(program: str, file: str, before: tuple, printed: Path, seconds: float, status: int, weak: bool) -> Row:
     """The row of a job of parallel, which left what it printed."""
     try:
         now, trace = looked_at(file, True)
@@ -94,4 +95,4 @@ def row_in(program: str, file: str, before: tuple, printed: Path, seconds: float
     error = errors.read_text(errors="replace").strip() if errors.exists() else ""
     if not printed.exists() and not error:
         return failed(file, seconds, status, "no answer", trace.count(b"\n"))
-    return row_of(program, file, trace, seconds, status, printed.read_bytes() if printed.exists() else b"", error)
+    return row_of(program, file, trace, seconds, status, printed.read_bytes() if printed.exists() else b"", error, weak)

@@ -29,6 +29,9 @@ WAYS = (f"The program is the one that --program names; else that of the variable
         "else the one that was built in this repository, or installed beside this tool.")
 
 
+WEAK_ALONE = "weak holds, strong doesn't"  # of a trace that passes where the weak list specification alone is asked for
+
+
 class NoProgram(Exception):
     """There is no program to ask."""
 
@@ -112,9 +115,19 @@ def report_in(status: int, printed: bytes) -> dict | None:
 
 
 def is_of(report: dict, trace: bytes) -> bool:
-    """Whether a report that accepts is one on this trace: it counts as many operations."""
+    """Whether a report that may let a trace pass is one on this trace: it counts as many operations."""
     operations = trace.count(b"\n") - HEAD_LINES - len(RECEIPT.findall(trace))
-    return report["verdict"] != "accepted" or report.get("operations") == operations
+    return not passes(report, True) or report.get("operations") == operations
+
+
+def passes(report: dict, weak: bool = False) -> bool:
+    """Whether a trace with this report passes; with `weak`, where the weak list specification alone is asked for."""
+    return report["verdict"] == "accepted" or weak and is_weak_alone(report)
+
+
+def is_weak_alone(report: dict) -> bool:
+    """Whether weak holds, and strong doesn't."""
+    return report["verdict"] == "refused" and report.get("weak") is True
 
 
 def is_another(status: int, error: str) -> bool:
@@ -132,7 +145,7 @@ def no_report(program: str, status: int, error: str) -> str:
 
 
 def of_another_trace(program: str) -> str:
-    return f"{shown(program)} accepted, by a report that is not on this trace: is it {COMMAND}?"
+    return f"{shown(program)} printed a report that is not on this trace: is it {COMMAND}?"
 
 
 def by_signal(number: int) -> str:
