@@ -24,6 +24,13 @@
  * domepeeler_full() whether it is that a limit of traces is reached: then end this session, and begin another. What was refused is
  * missing in the recording, so warnings and explanations begin with it.
  *
+ * An editor with a server that orders changes (Jupiter and its kin) promises the weak list specification alone, and is right with
+ * `refused 3` or more. For such a one ask, in the place of domepeeler_judge() and domepeeler_explain():
+ *
+ *     if (!domepeeler_passes_weak(recording, NULL)) puts(domepeeler_why(recording)); // and domepeeler_explain_weak() explains
+ *
+ * A recording passes then where weak holds; `contents`, `position`, `doubled` and `refused 2` still fail, and so do warnings.
+ *
  * Where updates have vector clocks, domepeeler_received_clock() writes the receipts, and refuses what is not causal.
  *
  * One recording is one thread's: where several threads record, hold a lock of your own around each call. */
@@ -70,7 +77,7 @@ enum {
     DOMEPEELER_NOTES = 20,
     DOMEPEELER_LETTERS = 200, /* of a note */
     DOMEPEELER_DELIVERED = 100, /* calls of domepeeler_delivered() that the explainer is told of, the last ones */
-    DOMEPEELER_WORDS = 5 + 2 * DOMEPEELER_DELIVERED, /* of a command, and a NULL behind them */
+    DOMEPEELER_WORDS = 6 + 2 * DOMEPEELER_DELIVERED, /* of a command, and a NULL behind them */
     DOMEPEELER_TOLD = 5,      /* deletes, or inserts, that warnings tell one by one */
     DOMEPEELER_CHANGES = 3    /* that warnings tell one by one of those that a replica lacks, or has made nothing of */
 };
@@ -1246,6 +1253,18 @@ static inline void domepeeler_refuse_end(struct domepeeler *d, const char *progr
     else domepeeler_fail(d, "%s ended with status %d: %.160s", program, WEXITSTATUS(status), why);
 }
 
+/* Whether what is printed may be a report on this recording, as JSON or text: it counts its operations, and one that accepts comes with
+ * status 0, any other with 1. What has no verdict is told of elsewhere. */
+static inline int domepeeler_agrees(struct domepeeler *d, const char *report, int status) {
+    char counted[40];
+    unsigned operations = 0;
+    int is_json = *report == '{', accepts = strstr(report, is_json ? "\"verdict\":\"accepted\"" : "\naccepted\n") != NULL;
+    if (!(is_json ? strrchr(report, '}') && strstr(report, "\"verdict\":\"") : strchr(report, '\n') != NULL)) return 1;
+    for (int i = 0; i < d->replicas; i++) operations += d->of[i].operations;
+    snprintf(counted, sizeof counted, is_json ? "\"operations\":%u," : " operations %u ", operations);
+    return status == !accepts && strstr(report, counted);
+}
+
 /* What the words print for this recording, with these files as the streams; NULL where that is not what is lacking then. */
 static inline char *domepeeler_answer(struct domepeeler *d, const char *const *words, const int *files, const char *named,
                                       const char *lacking, char first) {
@@ -1257,7 +1276,12 @@ static inline char *domepeeler_answer(struct domepeeler *d, const char *const *w
     if (why < 0) domepeeler_fail(d, "how %s ended was not learned: %s", words[0], strerror(errno));
     if (why) return NULL;
     char *printed = WIFEXITED(status) && WEXITSTATUS(status) < 2 ? domepeeler_whole(files[1]) : NULL;
-    if (printed && *printed && (!first || *printed == first)) return printed;
+    if (printed && *printed && (!first || *printed == first)) {
+        if (!first || domepeeler_agrees(d, printed, WEXITSTATUS(status))) return printed;
+        domepeeler_fail(d, "%s ended with status %d and printed a report that is not on this recording", words[0], WEXITSTATUS(status));
+        free(printed);
+        return NULL;
+    }
     free(printed);
     char *said = domepeeler_whole(files[2]);
     if (said) said[strcspn(said, "\n")] = 0;
@@ -1324,6 +1348,33 @@ DOMEPEELER_CHECKED static inline char *domepeeler_judge(struct domepeeler *d, co
     return NULL;
 }
 
+/* Puts the first line of the text into domepeeler_why(). Answers 0. */
+static inline unsigned domepeeler_fail_by_line(struct domepeeler *d, const char *text) {
+    return domepeeler_fail(d, "%.*s", (int)strcspn(text, "\n"), text);
+}
+
+/* Whether the recording passes where the editor promises the weak list specification alone: weak holds, by the program's report, and no
+ * warning says what that may hide. Answers 1; else domepeeler_why() has the verdict, the first warning, or why there is no verdict. The
+ * program is as for domepeeler_judge(). */
+DOMEPEELER_CHECKED static inline unsigned domepeeler_passes_weak(struct domepeeler *d, const char *program) {
+    if (!program) program = getenv("DOMEPEELER");
+    if (!program || !*program) program = "domepeeler";
+    const char *many[] = {program, "verdict", "-", NULL}, *few[] = {program, "verdict", "--workers", "1", "-", NULL};
+    int is_short = domepeeler_lines(d) < DOMEPEELER_SHORT;
+    char *report = domepeeler_ask(d, is_short ? few : many, "the program's path in DOMEPEELER", "report", 'r');
+    if (!report) return 0;
+    const char *verdict = strchr(report, '\n');
+    unsigned holds = strstr(report, "\nweak yes\n") != NULL;
+    if (!verdict) domepeeler_fail(d, "%s printed a report without a verdict", program);
+    else if (!holds) domepeeler_fail_by_line(d, verdict + 1);
+    free(report);
+    char *warnings = holds ? domepeeler_warnings(d) : NULL;
+    if (warnings && *warnings) holds = domepeeler_fail_by_line(d, warnings);
+    holds = holds && warnings;
+    free(warnings);
+    return holds;
+}
+
 /* The path, put into this room, of domepeeler-explain where it lies beside the program of the environment's DOMEPEELER; else the
  * command. */
 static inline const char *domepeeler_beside_program(char *path, size_t room) {
@@ -1363,10 +1414,8 @@ static inline char *domepeeler_with_ids(struct domepeeler *d, char *said) {
     return domepeeler_said(d, &whole);
 }
 
-/* What the report on this recording means, in words, and at the end the ids of the numbered names, and the notes; free() it. Before them
- * stands whether calls were refused. NULL where there is no answer. The tool is that of the environment's DOMEPEELER_EXPLAIN, or
- * domepeeler-explain, beside the program of DOMEPEELER or on the PATH, where NULL is given. */
-DOMEPEELER_CHECKED static inline char *domepeeler_explain(struct domepeeler *d, const char *explainer) {
+/* What the tool says; the goal is NULL, or what it is told of that. */
+static inline char *domepeeler_explained(struct domepeeler *d, const char *explainer, const char *goal) {
     char path[4096], ranges[DOMEPEELER_DELIVERED][48];
     if (!explainer) explainer = getenv("DOMEPEELER_EXPLAIN");
     if (!explainer || !*explainer) explainer = domepeeler_beside_program(path, sizeof path);
@@ -1377,9 +1426,22 @@ DOMEPEELER_CHECKED static inline char *domepeeler_explain(struct domepeeler *d, 
         words[count++] = "--delivered";
         words[count++] = ranges[i - first];
     }
+    if (goal) words[count++] = goal;
     words[count] = "-";
     char *said = domepeeler_ask(d, words, "the tool's path in DOMEPEELER_EXPLAIN", "words", 0);
     return said ? domepeeler_with_ids(d, said) : NULL;
+}
+
+/* What the report on this recording means, in words, and at the end the ids of the numbered names, and the notes; free() it. Before them
+ * stands whether calls were refused. NULL where there is no answer. The tool is that of the environment's DOMEPEELER_EXPLAIN, or
+ * domepeeler-explain, beside the program of DOMEPEELER or on the PATH, where NULL is given. */
+DOMEPEELER_CHECKED static inline char *domepeeler_explain(struct domepeeler *d, const char *explainer) {
+    return domepeeler_explained(d, explainer, NULL);
+}
+
+/* The same where the editor promises the weak list specification alone: it says first where that holds, and what comes with it. */
+DOMEPEELER_CHECKED static inline char *domepeeler_explain_weak(struct domepeeler *d, const char *explainer) {
+    return domepeeler_explained(d, explainer, "--weak");
 }
 
 #endif

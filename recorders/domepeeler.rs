@@ -20,6 +20,10 @@
 //! println!("{}", recording.explain().unwrap()); // what that means, in words
 //! ```
 //!
+//! An editor with a server that orders changes (Jupiter and its kin) promises the weak list specification alone, and is right with
+//! `refused 3` or more. For such a one end with `recording.assert_weak()`: it passes where weak holds. `contents`, `position`, `doubled`
+//! and `refused 2` still panic, and so do warnings.
+//!
 //! Where updates have vector clocks, `received_clock` writes the receipts, and refuses what is not causal.
 //!
 //! Each call that a trace can't say is `Refused`, and leaves the recording as it was.
@@ -193,6 +197,11 @@ pub struct Step {
 impl Verdict {
     pub fn is_accepted(&self) -> bool {
         matches!(self, Verdict::Accepted { .. })
+    }
+
+    /// Whether the weak list specification holds, which is all that an editor with a server that orders changes promises.
+    pub fn is_weak(&self) -> bool {
+        matches!(self, Verdict::Accepted { .. } | Verdict::Refused { weak: true, .. })
     }
 
     /// The verdict of the report as text; of an accepted one without warnings.
@@ -486,10 +495,11 @@ impl Recording {
         if !done.stdout.starts_with(b"{") {
             return Err(ended(program, &done, "no report"));
         }
-        let mut report = printed(program, done)?;
+        let mut report = printed(program, &done)?;
         let end = report.rfind('}').filter(|_| report.contains("\"verdict\":\""));
         let end = end.ok_or_else(|| format!("{program} printed a report without a verdict"))?;
         let is_accepted = report.contains("\"verdict\":\"accepted\"");
+        self.check_agrees(program, &done, is_accepted, &report, "\"operations\":", ",")?;
         let warnings = if is_accepted { self.warnings()? } else { vec![] };
         let told: Vec<String> = warnings.iter().map(|warning| quoted(warning)).collect();
         report.insert_str(end, &format!(",\"warnings\":[{}]", told.join(",")));
@@ -506,6 +516,8 @@ impl Recording {
         let done = self.ask(program, &["verdict", "-"], "the program's path in DOMEPEELER", "no report")?;
         let read = Verdict::read(&String::from_utf8_lossy(&done.stdout));
         let mut verdict = read.ok_or_else(|| ended(program, &done, "no report"))?;
+        let (is_accepted, head) = (verdict.is_accepted(), printed(program, &done)?);
+        self.check_agrees(program, &done, is_accepted, head.lines().next().unwrap_or(""), " operations ", " ")?;
         if let Verdict::Accepted { warnings, .. } = &mut verdict {
             *warnings = self.warnings()?;
         }
@@ -518,15 +530,31 @@ impl Recording {
     /// Of a recording of nothing it panics with the warning alone, and saves no trace.
     #[track_caller]
     pub fn assert_accepted(&self) {
+        self.assert_right(Verdict::is_accepted, &[]);
+    }
+
+    /// For a test of an editor that promises the weak list specification alone, as one with a server that orders changes: the same, but it
+    /// passes too where weak holds and strong doesn't, as with `refused 3` or more.
+    #[track_caller]
+    pub fn assert_weak(&self) {
+        self.assert_right(Verdict::is_weak, &["--weak"]);
+    }
+
+    /// Panics unless the verdict is right, and nothing is hidden by it. The goal is what the tool is told of it.
+    #[track_caller]
+    fn assert_right(&self, is_right: fn(&Verdict) -> bool, goal: &[&str]) {
         let path = failed_trace(Location::caller());
-        let (verdict, unsure) = match self.verdict() {
-            Err(why) => panic!("{why}"),
-            Ok(Verdict::Accepted { warnings, .. }) if self.callers.is_empty() => panic!("{}", warnings.join("\n")),
-            Ok(Verdict::Accepted { warnings, .. }) if warnings.is_empty() => return,
-            Ok(Verdict::Accepted { warnings, .. }) => ("accepted".to_string(), format!("{}\n\n", warnings.join("\n"))),
-            Ok(verdict) => (verdict.to_string(), String::new()),
+        let (verdict, warnings) = match (self.verdict(), self.warnings()) {
+            (Err(why), _) | (_, Err(why)) => panic!("{why}"),
+            (Ok(verdict), Ok(warnings)) => (verdict, warnings.join("\n")),
         };
-        let said = unsure + &self.explain().unwrap_or_else(|why| format!("{verdict}\n{why}\n"));
+        let unsure = match is_right(&verdict) {
+            false => String::new(),
+            true if warnings.is_empty() => return,
+            true if self.callers.is_empty() => panic!("{warnings}"),
+            true => format!("{warnings}\n\n"),
+        };
+        let said = unsure + &self.explained(&explainer(), goal).unwrap_or_else(|why| format!("{verdict}\n{why}\n"));
         match self.save_failed(&path) {
             Ok(()) => panic!("{said}\nThe trace is saved: {}", path.display()),
             Err(why) => panic!("{said}\nThe trace can't be saved: {}: {why}", path.display()),
@@ -546,21 +574,30 @@ impl Recording {
     /// What the report means, in words, with the lines of your code, and at the end the ids of the numbered names and the notes. The
     /// tool is that of $DOMEPEELER_EXPLAIN, or `domepeeler-explain`, beside the program of $DOMEPEELER or on the PATH.
     pub fn explain(&self) -> Result<String, String> {
-        self.explain_by(&named("DOMEPEELER_EXPLAIN", &beside_program("domepeeler-explain")))
+        self.explain_by(&explainer())
+    }
+
+    /// The same where the editor promises the weak list specification alone: it says first where that holds, and what comes with it.
+    pub fn explain_weak(&self) -> Result<String, String> {
+        self.explained(&explainer(), &["--weak"])
     }
 
     /// The words of the tool at this path.
     pub fn explain_by(&self, explainer: &str) -> Result<String, String> {
+        self.explained(explainer, &[])
+    }
+
+    fn explained(&self, explainer: &str, goal: &[&str]) -> Result<String, String> {
         let last = &self.deliveries[self.deliveries.len().saturating_sub(MOST_DELIVERED)..];
         let ranges: Vec<String> = last.iter().map(|(from, to)| format!("{from}-{to}")).collect();
-        let mut words = vec!["--language", LANGUAGE];
+        let mut words = [goal, &["--language", LANGUAGE]].concat();
         words.extend(ranges.iter().flat_map(|range| ["--delivered", range]));
         words.push("-");
         let done = self.ask(explainer, &words, "the tool's path in DOMEPEELER_EXPLAIN", "no words")?;
         if done.stdout.is_empty() {
             return Err(ended(explainer, &done, "no words"));
         }
-        let said = printed(explainer, done)?;
+        let said = printed(explainer, &done)?;
         let words: HashSet<&str> = said.split(|letter: char| !letter.is_ascii_alphanumeric()).collect();
         let ids = self.ids().into_iter().filter(|(name, _)| words.contains(name) && name.starts_with("long"));
         let long = section("Ids that were too long for a name", ids.map(|(name, id)| format!("{name}: {id}")));
@@ -643,6 +680,16 @@ impl Recording {
             (Some(status @ (0 | 1)), _) => Err(format!("{program} ended with status {status} before it had read the recording")),
             _ => Err(ended(program, &done, lacking)),
         }
+    }
+
+    /// A report counts the recording's operations, between these words; one that accepts comes with status 0, any other with 1.
+    fn check_agrees(&self, program: &str, done: &Output, accepts: bool, report: &str, before: &str, behind: &str) -> Result<(), String> {
+        let operations: u32 = self.replicas.iter().map(|own| own.operations).sum();
+        if accepts == done.status.success() && report.contains(&format!("{before}{operations}{behind}")) {
+            return Ok(());
+        }
+        let status = i32::from(!done.status.success());
+        Err(format!("{program} ended with status {status} and printed a report that is not on this recording"))
     }
 
     /// The receipts that the replica lacks, each of the last change of an author, and a read of its list.
@@ -1301,6 +1348,11 @@ fn named(variable: &str, command: &str) -> String {
     std::env::var(variable).ok().filter(|named| !named.is_empty()).unwrap_or_else(|| command.to_string())
 }
 
+/// The tool that explains.
+fn explainer() -> String {
+    named("DOMEPEELER_EXPLAIN", &beside_program("domepeeler-explain"))
+}
+
 /// The command's path where it lies beside the program of $DOMEPEELER; else the command.
 fn beside_program(command: &str) -> String {
     let program = named("DOMEPEELER", command);
@@ -1331,6 +1383,6 @@ fn signal(_: &Output) -> String {
     "a signal".to_string()
 }
 
-fn printed(program: &str, done: Output) -> Result<String, String> {
-    String::from_utf8(done.stdout).map_err(|why| format!("{program} printed no UTF-8: {why}"))
+fn printed(program: &str, done: &Output) -> Result<String, String> {
+    String::from_utf8(done.stdout.clone()).map_err(|why| format!("{program} printed no UTF-8: {why}"))
 }

@@ -5,10 +5,12 @@ It leaves a folder `judged`: `junit.xml` with all verdicts, and of each failure 
 one that fails in the fewest lines. What it left there before it removes first; a folder of this name that holds anything else it leaves
 alone, and ends. It prints the first explanation whole, and of failures that look alike one line. It prints annotations where GitHub runs
 it, and writes `annotations.json` for GitLab. It ends with the status of domepeeler-judge-many: 0 where all are accepted, 1 where the
-editor failed, 2 where the recordings or the setting are at fault. Words behind the folder are options for domepeeler-judge-many."""
+editor failed, 2 where the recordings or the setting are at fault. Words behind the folder are options for domepeeler-judge-many; with
+`--weak`, of an editor that promises the weak list specification alone, recordings pass where that holds."""
 import json
 import os
 import re
+import signal
 import subprocess
 import sys
 import traceback
@@ -17,16 +19,33 @@ from pathlib import Path
 JUDGED = Path("judged")
 OWN = re.compile(r"junit\.xml|annotations\.json|[1-9][0-9]*\.(html|trace|trace\.lines)")  # files that it leaves there
 IN_MESSAGES, IN_PROPERTIES = "%\r\n", "%\r\n:,"  # marks that GitHub wants escaped
+WEAK, WEAK_ALONE = "--weak", "weak holds, strong doesn't"
 MOST_LEFT = 3  # names of other files that are told
+MOST_SHOWN = 120  # letters of what the tool printed otherwise
 
 
 class Failed(Exception):
     """What keeps it from judging."""
 
 
+class Stopped(BaseException):
+    """A signal that stops it."""
+
+
+def be_stopped(stop, _):
+    raise Stopped(stop)
+
+
 def ended(*words):
     try:
-        return subprocess.run([str(word) for word in words], capture_output=True, text=True, errors="surrogateescape")
+        with subprocess.Popen([str(word) for word in words], stdout=subprocess.PIPE, stderr=subprocess.PIPE, text=True,
+                              errors="surrogateescape") as tool:
+            try:
+                printed = tool.communicate()
+            except BaseException:
+                tool.terminate()  # it ends what it began
+                raise
+        return subprocess.CompletedProcess(words, tool.returncode, *printed)
     except OSError as error:
         raise Failed(f"{words[0]} can't be run: {error.strerror}. Is Domepeeler installed?") from None
 
@@ -47,14 +66,15 @@ def annotate(file, title, told):
     print(f"::error file={escaped(file, IN_PROPERTIES)},title={escaped(title, IN_PROPERTIES)}::{escaped(told, IN_MESSAGES)}")
 
 
-def explain(number, row):
+def explain(number, row, goal):
     """Explains a failure; answers the words, and what GitLab shows of it: a link to its page."""
     page, small = JUDGED / f"{number}.html", JUDGED / f"{number}.trace"
-    done = ended("domepeeler-explain", "--html", page, "--small", small, "--", row["file"])
+    done = ended("domepeeler-explain", *goal, "--html", page, "--small", small, "--", row["file"])
     told = (done.stdout + done.stderr).strip()
-    if row["verdict"] == "accepted":  # but unequal in the end
-        told = f"accepted, but unequal in the end: {' '.join(row['warnings'][:1])}\n{told.partition(chr(10))[2]}"
-    name = f"{shown(row['file'])}: {row['verdict']}"
+    verdict = WEAK_ALONE if row.get("weak_alone") else row["verdict"]
+    if verdict in ("accepted", WEAK_ALONE):  # but unequal in the end
+        told = f"{verdict}, but unequal in the end: {' '.join(row['warnings'][:1])}\n{told.partition(chr(10))[2]}"
+    name = f"{shown(row['file'])}: {verdict}"
     if os.environ.get("GITHUB_ACTIONS"):
         annotate(shown(row["file"]), name, told.split("\n")[0])
     url = f"{os.environ.get('CI_JOB_URL', '')}/artifacts/file/{page}" if page.exists() else os.environ.get("CI_JOB_URL", "")
@@ -78,6 +98,13 @@ def print_explanations(rows, told):
                                                     f"{' and others' * (more > 1)}" if more else "") + "\n", flush=True)
 
 
+def say(words):
+    try:
+        print(f"judge_recordings: {words}", file=sys.stderr)
+    except OSError:  # nobody can be told
+        pass
+
+
 def prepare():
     """Makes the folder, or takes away what an earlier run has left in it."""
     JUDGED.mkdir(exist_ok=True)
@@ -95,36 +122,58 @@ def judge(folder, options):
         raise Failed(f"{JUDGED} is where the pages go, so its traces are not judged")
     prepare()
     done = ended("domepeeler-judge-many", "--failing", "--json", "--junit", JUDGED / "junit.xml", *options, "--", folder)
-    rows = [json.loads(line) for line in done.stdout.splitlines()]
+    try:
+        rows = [json.loads(line) for line in done.stdout.splitlines()]
+    except ValueError:
+        printed = shown(done.stdout[:MOST_SHOWN])
+        raise Failed(f"domepeeler-judge-many ended with status {done.returncode}, and printed no recordings: {printed}") from None
     rows = [row for row in rows if JUDGED.resolve() not in Path(row["file"]).resolve().parents]
-    explained = [explain(number, row) for number, row in enumerate(rows, 1)]
+    goal = [WEAK] if WEAK in options else []
+    explained = [explain(number, row, goal) for number, row in enumerate(rows, 1)]
     print_explanations(rows, [told for told, _ in explained])
     print(done.stderr, end="", file=sys.stderr)
     if os.environ.get("CI_JOB_URL"):
         (JUDGED / "annotations.json").write_text(json.dumps({"recordings that are not accepted": [link for _, link in explained]}))
     if done.returncode == 0:
-        print(f"all recordings below {shown(folder)} are accepted")
+        told = "keep the weak list specification" if goal else "are accepted"
+        print(f"all recordings below {shown(folder)} {told}")
     if rows:
-        print(f"{len(rows)} not accepted: {JUDGED}/junit.xml has them all, and {JUDGED}/1.html is the page of the first")
+        print(f"{len(rows)} {'failed' if goal else 'not accepted'}: {JUDGED}/junit.xml has them all, and {JUDGED}/1.html is the page of the first")
     if done.returncode not in (0, 1, 2) or done.returncode == 1 and not rows:
         raise Failed(f"domepeeler-judge-many ended with status {done.returncode}, and listed {len(rows)} recordings")
     return done.returncode
 
 
 def main():
+    if sys.version_info < (3, 9):
+        sys.stderr.write("judge_recordings: this needs Python 3.9 or later, and is run by %d.%d\n" % sys.version_info[:2])
+        return 2
+    for stop in signal.SIGINT, signal.SIGTERM, signal.SIGHUP:
+        if signal.getsignal(stop) != signal.SIG_IGN:
+            signal.signal(stop, be_stopped)
     if len(sys.argv) < 2 or sys.argv[1].startswith("--"):
         print("usage: judge_recordings.py FOLDER [OPTION..]", file=sys.stderr)
         return 2
-    for stream in sys.stdout, sys.stderr:
-        stream.reconfigure(errors="surrogateescape")
     try:
-        return judge(sys.argv[1], sys.argv[2:])
+        for stream in sys.stdout, sys.stderr:
+            if stream is None:
+                raise Failed("standard output or standard error is closed")
+            stream.reconfigure(errors="surrogateescape")
+        status = judge(sys.argv[1], sys.argv[2:])
+        sys.stdout.flush()
+        return status
     except Failed as error:
-        print(f"judge_recordings: {error}", file=sys.stderr)
+        say(error)
+    except BrokenPipeError:  # the reader has enough
+        os.dup2(os.open(os.devnull, os.O_WRONLY), sys.stdout.fileno())
     except OSError as error:
-        print(f"judge_recordings: cannot write {error.filename}: {error.strerror}", file=sys.stderr)
+        say(f"cannot write {error.filename or 'what is told'}: {error.strerror}")
+        os.dup2(os.open(os.devnull, os.O_WRONLY), sys.stdout.fileno())
+    except Stopped as stopped:
+        signal.signal(stopped.args[0], signal.SIG_DFL)
+        os.kill(os.getpid(), stopped.args[0])
     except Exception:  # which nobody has thought of: no verdict
-        traceback.print_exc()
+        say(f"a fault of this script, so nothing is judged:\n{traceback.format_exc()}")
     return 2
 
 

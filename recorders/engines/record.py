@@ -1,61 +1,112 @@
 #!/usr/bin/env python3
-"""record.py ENGINE PROGRAM [--sessions N] [--seed S] [--keep FOLDER]: random sessions of a real engine, judged.
+"""record.py ENGINE PROGRAM [--sessions N] [--seed S] [--keep FOLDER] [--server] [--seconds N]: random sessions of an engine, judged.
 
 ENGINE is one of these; what each needs is installed from Debian 12 by apt-get where it is missing (as root), and built:
 
     list_crdt     the Python list CRDT in list_crdt.py; nothing
     yjs           Yjs, recorded by yjs.mjs; nodejs, node-yjs
+    prosemirror   ProseMirror, by way of its collab plugin, recorded by prosemirror.mjs; nodejs, node-prosemirror-transform
     crdts         the list of the Rust crate crdts, recorded by crdts.rs; cargo, librust-crdts-dev
     libinfinity   libinfinity, recorded by libinfinity.c; gcc, pkg-config, libinfinity-0.7-dev
     crdt_el       crdt.el, recorded by crdt_el.el; emacs-nox, elpa-crdt
     FILE.py       one of your own, a Python module as own_engine.py says; nothing
+    COMMAND       one of your own in any language: a program's path, or a command with its words, as docs/engines.md says; nothing
 
 Prints, for each kind of session, how many were tried, how large they were, and what the program said of how many. Where
 some were not accepted it makes the shortest of each verdict smaller, as long as the verdict stays, and prints that trace;
 with --keep it writes these traces into the folder, and of each kind the accepted one with most receipts as it is. By
 default it runs within a minute, with Debian's cargo, whose build of crdts is slower, in a minute and a half. It ends with
-status 0 where sessions were judged, and 2 where none gave an answer, or something else is wrong."""
-from __future__ import annotations
-
+status 0 where all sessions are accepted, 1 where some are not, and 2 where one gave no answer, or something else is wrong:
+so where a COMMAND does not answer a session with its trace, which is then made smaller and printed."""
 import argparse
 import os
 import random
+import re
+import shlex
 import shutil
+import signal
 import subprocess
 import sys
 import tempfile
 import threading
 import traceback
 from collections import Counter
-from concurrent.futures import ThreadPoolExecutor
+from concurrent.futures import FIRST_EXCEPTION, ThreadPoolExecutor, wait
 from pathlib import Path
-from typing import NoReturn
+from typing import BinaryIO, Callable, NoReturn, Optional
+
+if sys.version_info < (3, 9):
+    sys.stderr.write("record.py: this needs Python 3.9 or later, and is run by %d.%d\n" % sys.version_info[:2])
+    sys.exit(2)
 
 import sessions
 from sessions import Plan, Session, smaller
 
 HERE = Path(__file__).parent
 STOPPED = "no answer of the engine"
+LINE_FAULT = re.compile(rb"finder: line ([0-9]+): (.*)\n")
 COMMANDS = {"cargo": "cargo", "emacs-nox": "emacs", "gcc": "gcc", "nodejs": "node", "pkg-config": "pkg-config"}
+UNEQUAL = "accepted, unequal"  # of a whole session: in the end its replicas show different lists
 JUDGES = 3  # how many programs run at the same time
+SECONDS = 0.2  # between two looks for a signal
+STOPS = [signal.SIGINT, signal.SIGTERM, signal.SIGHUP]
+MOST_LINE, MOST_BYTES = 1 << 18, 1 << 24  # of an answer; those of right engines have two megabytes at most
+MOST_SHOWN = 60  # letters of a faulty line
 NODE = {"NODE_PATH": "/usr/share/nodejs"}
 SMALL = [sessions.SMALL_PEERS, sessions.SMALL_STAR, sessions.SMALL_MIDDLE]
 ALL = [*SMALL, sessions.LARGE_PEERS, sessions.LARGE_STAR, sessions.LARGE_MIDDLE]
+SERVER = [sessions.SMALL_STAR, sessions.MIDDLING_STAR, sessions.LARGE_STAR]
+
+
+def printable(text: str) -> str:
+    """A name, or what an engine says, for a message: what can't be printed stands as `\\x1b` and the like."""
+    return "".join(letter if letter.isprintable() else f"\\x{ord(letter) - 0xdc00:02x}"
+                   if "\udc80" <= letter <= "\udcff" else ascii(letter)[1:-1]
+                   for letter in text)
 
 
 def fail(words: str) -> NoReturn:
-    print(f"record.py: {words}", file=sys.stderr)
+    try:
+        print(f"record.py: {printable(words)}", file=sys.stderr)
+    except OSError:  # nobody can be told
+        os.dup2(os.open(os.devnull, os.O_WRONLY), sys.stderr.fileno())
     sys.exit(2)
+
+
+class Stopped(BaseException):
+    """A signal that stops it, and the programs that judge meanwhile."""
+
+    by, judging = 0, set()
+
+
+def be_stopped(stop: int, _: object) -> None:
+    Stopped.by = stop
+    for process in list(Stopped.judging):
+        process.kill()
+    raise Stopped(stop)
+
+
+class NoAnswer(Exception):
+    """The engine did not answer a plan with a trace of it: it was late, it ended, or it answered nonsense. The session is the one that it
+    was asked for, where that is known."""
+
+    def __init__(self, cause: str, words: str):
+        super().__init__(words)
+        self.cause, self.session = cause, None
+
+
+LATE, LONG, ENDED, NONSENSE = (f"{STOPPED}: {cause}" for cause in ("late", "too long", "ended", "nonsense"))
 
 
 class Engine:
     """What an engine needs, how it is run, which kinds of session it is asked for and how many small ones of each within a
-    minute, how it is built in a folder, and after how many seconds without an answer it is stopped."""
+    minute, how it is built in a folder, after how many seconds without an answer it is stopped, and whether a session
+    that it doesn't answer is an error."""
 
     def __init__(self, packages: list, run: list, kinds: list, count: int, build: str = "", surroundings: dict = None,
-                 seconds: int = 20):
+                 seconds: int = 20, must_answer: bool = False):
         self.packages, self.run, self.kinds, self.count = packages, run, kinds, count
-        self.build, self.seconds = build, seconds
+        self.build, self.seconds, self.must_answer = build, seconds, must_answer
         self.surroundings = {**os.environ, "LC_ALL": "C.UTF-8", **(surroundings or {})}
 
     def prepare(self, folder: Path) -> list:
@@ -100,6 +151,8 @@ gcc -Wall -Wextra -O1 -o "$OUT/recorded" "$HERE/libinfinity.c" \\
 ENGINES = {
     "list_crdt": Engine([], [sys.executable, "{here}/list_crdt.py"], ALL, 1500),
     "yjs": Engine(["nodejs", "node-yjs"], ["node", "{here}/yjs.mjs"], [*ALL, sessions.UNCAUSAL], 1000, surroundings=NODE),
+    "prosemirror": Engine(["nodejs", "node-prosemirror-model", "node-prosemirror-transform"], ["node", "{here}/prosemirror.mjs"],
+                          SERVER, 1000, surroundings=NODE),
     "crdts": Engine(["cargo", "librust-crdts-dev"], ["{out}/target/debug/recorded"], [*ALL, sessions.UNCAUSAL], 1000, RUST),
     "libinfinity": Engine(["gcc", "pkg-config", "libinfinity-0.7-dev"], ["{out}/recorded"],
                           [*SMALL, sessions.MIDDLING_STAR], 1200, C),
@@ -108,19 +161,41 @@ ENGINES = {
 }
 
 
+BEGIN = 60  # seconds in which a module of one's own is loaded
 OWN_COUNT = 300  # small sessions of each kind of an engine of one's own
 
 
 def engine_of(word: str) -> Engine:
-    """The engine of this name, or that of the module at this path."""
+    """The engine of this name, that of the module at this path, or the one that this command starts."""
     if word in ENGINES:
         return ENGINES[word]
-    if not word.endswith(".py"):
-        fail(f"{word} is none of {', '.join(sorted(ENGINES))}, and no path of a Python module, which ends with .py")
+    command = command_of(word)
+    if word.endswith(".py") and (os.path.isfile(word) or not command):
+        return module_engine(word)
+    if not command:
+        fail(f"{word} is none of {', '.join(sorted(ENGINES))}, no path of a Python module, which ends with .py, and no command that "
+             "can be run")
+    return Engine([], [part.replace("{", "{{").replace("}", "}}") for part in command], ALL, OWN_COUNT, must_answer=True)
+
+
+def command_of(word: str) -> list:
+    """The words of a command that can be run: the path of a program, or its words as a shell reads them."""
+    try:
+        command = [os.path.abspath(word)] if os.path.isfile(word) else shlex.split(word)
+    except ValueError:  # an open quotation mark
+        return []
+    return command if command and shutil.which(command[0]) else []
+
+
+def module_engine(word: str) -> Engine:
     module = os.path.abspath(word)
-    tried = subprocess.run([sys.executable, HERE / "own_engine.py", module], stdin=subprocess.DEVNULL, capture_output=True, text=True)
+    try:
+        tried = subprocess.run([sys.executable, HERE / "own_engine.py", module], stdin=subprocess.DEVNULL, capture_output=True, text=True,
+                               errors="surrogateescape", timeout=BEGIN)
+    except subprocess.TimeoutExpired:
+        fail(f"{word} was not loaded within {BEGIN} seconds")
     if tried.returncode:
-        fail(tried.stderr.strip().splitlines()[-1])
+        fail((tried.stderr.strip().splitlines() or [f"{word} ended with status {tried.returncode}"])[-1])
     return Engine([], [sys.executable, "{here}/own_engine.py", module.replace("{", "{{").replace("}", "}}")], ALL, OWN_COUNT)
 
 
@@ -146,63 +221,193 @@ class Driver:
 
     def __init__(self, engine: Engine, folder: Path):
         self.engine, self.words, self.said, self.process = engine, engine.prepare(folder), folder / "said", None
-        self.late = False
+        self.late = self.was_late = False  # this one, one of those before
 
-    def trace(self, plan: str) -> str:
-        """The recording of a plan; nothing where the engine stopped."""
-        if self.process is None:
-            with self.said.open("w") as said:
-                self.process = subprocess.Popen(self.words, stdin=subprocess.PIPE, stdout=subprocess.PIPE, stderr=said,
-                                                env=self.engine.surroundings)
-        lines = []
-        late = threading.Timer(self.engine.seconds, self.stop)
-        late.start()
+    def trace(self, plan: str) -> Optional[str]:
+        """The recording of a plan. Where the engine stopped: none, or an error where it must answer."""
         try:
-            self.process.stdin.write(plan.encode())
-            self.process.stdin.flush()
-            for line in self.process.stdout:
-                if line == b"end\n":
-                    return "".join(lines)
-                lines.append(line.decode())
-        except BrokenPipeError:
-            pass
+            return self.answer(plan.encode())
+        except NoAnswer:
+            if self.engine.must_answer:
+                raise
+            return None
+
+    def answer(self, plan: bytes) -> str:
+        self.start()
+        feeding = threading.Thread(target=feed, args=(self.process.stdin.fileno(), plan))
+        late = threading.Timer(self.engine.seconds, self.stop)
+        signal.pthread_sigmask(signal.SIG_BLOCK, STOPS)  # which these threads would keep
+        feeding.start()
+        late.start()
+        signal.pthread_sigmask(signal.SIG_UNBLOCK, STOPS)
+        try:
+            lines = answer_lines(self.process.stdout)
         finally:
             late.cancel()
-        self.close()
-        return ""
+        if lines[-1:] != [b"end\n"]:
+            why = self.no_answer(lines)
+            self.close()
+            feeding.join()
+            raise why
+        feeding.join()
+        return b"".join(lines[:-1]).decode("ascii", errors="backslashreplace")
+
+    def start(self) -> None:
+        if self.process is not None:
+            return
+        self.late = False
+        with self.said.open("w") as said:
+            try:
+                self.process = subprocess.Popen(self.words, stdin=subprocess.PIPE, stdout=subprocess.PIPE, stderr=said,
+                                                env=self.engine.surroundings, start_new_session=True)
+            except OSError as why:
+                raise NoAnswer(ENDED, f"it can't be run: {why.strerror}") from None
+
+    def no_answer(self, lines: list) -> NoAnswer:
+        """Why these lines are no whole answer."""
+        last = f"; its last line is {shown(lines[-1])}" if lines else ""
+        if self.late:
+            hint = "" if last else "; does it flush standard output behind the line `end`?"
+            return NoAnswer(LATE, f"it did not answer within {counted(self.engine.seconds, 'second')}{last}{hint}")
+        if sum(map(len, lines)) > MOST_BYTES or any(len(line) >= MOST_LINE for line in lines):
+            return NoAnswer(LONG, f"its answer is too long for the plan{last}")
+        try:
+            status = self.process.wait(timeout=0.2)
+        except subprocess.TimeoutExpired:
+            return NoAnswer(ENDED, f"it closed its standard output before the line `end`{last}")
+        how = f"by signal {signal.Signals(-status).name}" if status < 0 else f"with status {status}"
+        return NoAnswer(ENDED, f"it ended {how} before the line `end`{last}")
+
+    def last_words(self) -> str:
+        """The last line that it wrote on standard error, if any."""
+        said = self.said.read_text(errors="backslashreplace").splitlines()
+        return said[-1] if said else ""
 
     def stop(self) -> None:
         """Ends an engine that has not answered in time."""
-        self.late = True
-        self.process.kill()
+        self.late = self.was_late = True
+        self.kill()
+
+    def kill(self) -> None:
+        """Ends the engine, and what it has started."""
+        try:
+            os.killpg(self.process.pid, signal.SIGKILL)
+        except ProcessLookupError:
+            pass
 
     def close(self) -> None:
         if self.process:
-            self.process.kill()
+            self.kill()
             self.process.wait()
+            self.process.stdin.close()
+            self.process.stdout.close()
             self.process = None
 
 
-def verdict(program: str, trace: str) -> str:
+def counted(count: int, what: str) -> str:
+    return f"{count} {what}" + "s" * (count != 1)
+
+
+def feed(descriptor: int, plan: bytes) -> None:
+    """Writes a plan for an engine, which may answer before it has read all."""
+    try:
+        while plan:
+            plan = plan[os.write(descriptor, plan):]
+    except OSError:  # it reads no more
+        pass
+
+
+def answer_lines(stream: BinaryIO) -> list:
+    """The lines of an answer, up to the line `end` where there is one."""
+    lines, size = [], 0
+    for line in iter(lambda: stream.readline(MOST_LINE), b""):
+        lines.append(line)
+        size += len(line)
+        if line == b"end\n" or not line.endswith(b"\n") or size > MOST_BYTES:
+            break
+    return lines
+
+
+def shown(line: bytes) -> str:
+    """A line for an error."""
+    text = line.decode("ascii", errors="backslashreplace").rstrip("\n")
+    text = "".join(letter if letter.isprintable() else ascii(letter)[1:-1] for letter in text)
+    half = "" if line.endswith(b"\n") else ", which has no end"
+    return f"`{text[:MOST_SHOWN]}{'..' if len(text) > MOST_SHOWN else ''}`{half}"
+
+
+def verdict(program: str, trace: Optional[str], plan: Plan) -> str:
     """What the program says, in its own word, with k."""
-    if not trace:
+    if trace is None:
         return STOPPED
-    done = subprocess.run([program, "verdict", "--workers", "1", "-"], input=trace.encode(), capture_output=True)
+    done = judged(program, trace)
+    if Stopped.by:
+        return STOPPED
+    fault = LINE_FAULT.fullmatch(done.stderr)
+    if done.returncode == 2 and fault:
+        line = trace.encode().splitlines(keepends=True)[int(fault[1]) - 1:int(fault[1])]
+        said = f", {shown(line[0])}" if line else ""
+        raise NoAnswer(NONSENSE, f"its answer is no trace: line {int(fault[1])}{said}: {fault[2].decode()}")
     word, *rest = (done.stdout.decode(errors="replace").split("\n") + [""])[1].split(" ")
     if done.returncode not in (0, 1) or (word == "accepted") != (done.returncode == 0):
-        fail(f"{program} ended with status {done.returncode}, and with no verdict that agrees: {done.stderr.decode(errors='replace').strip()}")
+        said = done.stderr.decode(errors="replace").strip()
+        fail(f"{program} ended with status {done.returncode}, and with no verdict that agrees: {said}")
+    check_is_of(plan, trace)
     return f"{word} {rest[0]}" if word == "refused" else word
 
 
+def judged(program: str, trace: str) -> subprocess.CompletedProcess:
+    """How the program ends that judges a trace; a signal that stops this one ends it too."""
+    with subprocess.Popen([program, "verdict", "--workers", "1", "-"], stdin=subprocess.PIPE, stdout=subprocess.PIPE,
+                          stderr=subprocess.PIPE) as process:
+        Stopped.judging.add(process)
+        if Stopped.by:  # meanwhile: nobody else ends this one
+            process.kill()
+        printed, errors = process.communicate(trace.encode())
+    Stopped.judging.discard(process)
+    return subprocess.CompletedProcess(process.args, process.returncode, printed, errors)
+
+
+def check_is_of(plan: Plan, trace: str) -> None:
+    """A trace has an operation for each that the plan asks for, of all replicas but a server that keeps no list."""
+    replicas = int(trace.split("\n")[1].split(" ")[1])
+    if replicas != plan.session.replicas and not (replicas == plan.session.replicas - 1 and plan.is_last_a_server()):
+        raise NoAnswer(NONSENSE, f"its answer has {counted(replicas, 'replica')}, and the plan {plan.session.replicas}")
+    did = Counter(int(line.split(" ")[0]) for line in operations(trace))
+    for replica in range(replicas):
+        if did[replica] < plan.did[replica]:
+            many = counted(did[replica], "operation")
+            raise NoAnswer(NONSENSE, f"its answer has {many} of replica {replica}, and the plan {plan.did[replica]}")
+
+
+def operations(trace: str) -> list:
+    """The lines of a trace that are operations."""
+    return [line for line in trace.split("\n") if " : " in line or line.endswith(" :")]
+
+
+def is_unequal(trace: str) -> bool:
+    """Whether the last lists of the replicas differ."""
+    last = {line.split(" ")[0]: line.partition(" :")[2] for line in operations(trace)}
+    return len(set(last.values())) > 1
+
+
+def word_of(driver: Driver, program: str, plan: Plan) -> str:
+    """What the engine's answer to a plan comes to."""
+    try:
+        return verdict(program, driver.trace(plan.text()), plan)
+    except NoAnswer as why:
+        return why.cause
+
+
 def smallest(driver: Driver, program: str, session: Session, wanted: str) -> Session:
-    """A session of which no smaller one, with a part left out, has the same verdict."""
+    """A session of which no smaller one, with a part left out, comes to the same."""
     known = {Plan(session).text(): wanted}  # many smaller ones are the same plan
 
     def is_wanted(candidate: Session) -> bool:
-        plan = Plan(candidate).text()
-        if plan not in known:
-            known[plan] = verdict(program, driver.trace(plan))
-        return known[plan] == wanted
+        plan = Plan(candidate)
+        if plan.text() not in known:
+            known[plan.text()] = word_of(driver, program, plan)
+        return known[plan.text()] == wanted
 
     found = session
     while found:
@@ -210,39 +415,60 @@ def smallest(driver: Driver, program: str, session: Session, wanted: str) -> Ses
     return session
 
 
-def tried(kind: sessions.Kind, count: int, rnd: random.Random, driver: Driver, program: str) -> dict:
-    """Records so many sessions of a kind and prints what came out; answers the accepted one with most receipts, and of
-    each other verdict the shortest."""
+def tried(kind: sessions.Kind, count: int, rnd: random.Random, driver: Driver, program: str) -> tuple:
+    """Records so many sessions of a kind and prints what came out; answers the accepted one with most receipts and of
+    each other verdict the shortest, by verdict, and how many gave no answer."""
     found = [sessions.session(kind, rnd) for _ in range(count)]
-    traces = [driver.trace(Plan(one).text()) for one in found]
+    plans = [Plan(one) for one in found]
+    traces = [of_session(plan.session, driver.trace, plan.text()) for plan in plans]
     with ThreadPoolExecutor(JUDGES) as pool:
-        verdicts = list(pool.map(lambda trace: verdict(program, trace), traces))
-    sizes = [sum(" : " in line or line.endswith(":") for line in trace.split("\n")) for trace in traces if trace]
+        try:
+            waiting = [pool.submit(of_session, plan.session, verdict, program, trace, plan) for trace, plan in zip(traces, plans)]
+            while wait(waiting, SECONDS, FIRST_EXCEPTION).not_done and not any(one.done() and one.exception() for one in waiting):
+                pass  # a signal that another thread has got is heard now
+            verdicts = [one.result() for one in waiting]
+        except BaseException:
+            pool.shutdown(wait=False, cancel_futures=True)
+            raise
+    verdicts = [UNEQUAL if word == "accepted" and kind.causal and is_unequal(trace) else word for word, trace in zip(verdicts, traces)]
+    sizes = [len(operations(trace)) for trace in traces if trace]
     said = ", ".join(f"{word}: {times}" for word, times in sorted(Counter(verdicts).items()))
     between = f"{min(sizes)} to {max(sizes)} operations" if sizes else "no recording"
     print(f"{kind.name}: {count} sessions, {between}: {said}", flush=True)
     if STOPPED in verdicts:
-        words = [f"none within {driver.engine.seconds} seconds"] if driver.late else driver.said.read_text().splitlines()
-        print("the engine's last words: " + (words or ["none"])[-1], flush=True)
+        words = f"none within {counted(driver.engine.seconds, 'second')}" if driver.was_late else driver.last_words() or "none"
+        print(f"the engine's last words: {printable(words)}", flush=True)
     firsts = {}
     for one, word in sorted(zip(found, verdicts), key=lambda both: len(both[0].steps)):
         if word not in ("accepted", STOPPED):
             firsts.setdefault(word, one)
     accepted = [(trace.count(" recv "), place) for place, trace in enumerate(traces) if verdicts[place] == "accepted"]
-    return {**firsts, **({"accepted": found[max(accepted)[1]]} if accepted else {})}
+    return {**firsts, **({"accepted": found[max(accepted)[1]]} if accepted else {})}, verdicts.count(STOPPED)
+
+
+def of_session(session: Session, call: Callable, *given: object) -> str:
+    """What the call answers; where there is no answer, the error has the session."""
+    try:
+        return call(*given)
+    except NoAnswer as why:
+        why.session = session
+        raise
 
 
 def check_is_domepeeler(program: str) -> None:
     """A program that does not answer its version as domepeeler does is another one."""
     if not shutil.which(program):
         fail(f"{program} is no program")
-    done = subprocess.run([program, "--version"], stdin=subprocess.DEVNULL, capture_output=True)
+    try:
+        done = subprocess.run([program, "--version"], stdin=subprocess.DEVNULL, capture_output=True)
+    except OSError as why:
+        fail(f"{program} can't be run: {why.strerror}")
     if done.returncode or not done.stdout.startswith(b"domepeeler "):
         fail(f"{program} is not domepeeler: asked for its version it ended with status {done.returncode}")
 
 
 def number(word: str) -> int:
-    """Of sessions, from 1 on."""
+    """Of sessions, or of seconds, from 1 on."""
     if not word.isdecimal() or int(word) == 0:
         raise argparse.ArgumentTypeError(f"{word} is no number from 1 on")
     return int(word)
@@ -250,44 +476,104 @@ def number(word: str) -> int:
 
 def main() -> None:
     parser = argparse.ArgumentParser(description=__doc__.split("\n")[0])
-    parser.add_argument("engine", help=", ".join(sorted(ENGINES)) + ", or the path of a Python module of your own")
+    parser.add_argument("engine", help=", ".join(sorted(ENGINES)) + ", the path of a Python module of your own, or your engine's command")
     parser.add_argument("program")
     parser.add_argument("--sessions", type=number, help="how many small sessions of each kind")
     parser.add_argument("--seed", type=int, default=1)
     parser.add_argument("--keep", type=Path, help="a folder for the smallest traces that were not accepted")
+    parser.add_argument("--server", action="store_true", help="only sessions where all exchange goes through a server, the last replica")
+    parser.add_argument("--seconds", type=number, help="after how many without an answer an engine is stopped")
     words = parser.parse_args()
+    if sys.stdout is None:
+        fail("cannot write: standard output is closed")
     check_is_domepeeler(words.program)
-    engine, answered = engine_of(words.engine), 0
+    engine, seen, unanswered = engine_of(words.engine), set(), 0
+    engine.kinds, engine.seconds = SERVER if words.server else engine.kinds, words.seconds or engine.seconds
     with tempfile.TemporaryDirectory() as folder:
         driver = Driver(engine, Path(folder))
-        for kind in engine.kinds:
-            count = max(1, (words.sessions or engine.count) // kind.share)
-            firsts = tried(kind, count, random.Random(f"{words.seed} {kind.name}"), driver, words.program)
-            answered += len(firsts)
-            for word, one in firsts.items():
-                kept = one if word == "accepted" else smallest(driver, words.program, one, word)
-                show(words, kind, word, driver.trace(Plan(kept).text()))
-        driver.close()
-    if not answered:
+        try:
+            for kind in engine.kinds:
+                found, lost = try_kind(words, kind, driver)
+                unanswered += lost
+                seen |= found
+        except NoAnswer as why:
+            tell(words, driver, why)
+        finally:
+            driver.close()
+    if not seen:
         fail("no session gave an answer, so nothing was judged")
+    if unanswered:
+        fail(f"sessions that gave no answer, so were not judged: {unanswered}")
+    sys.exit(1 if seen != {"accepted"} else 0)
+
+
+def try_kind(words: argparse.Namespace, kind: sessions.Kind, driver: Driver) -> tuple:
+    """Records sessions of a kind, and shows the smallest of each verdict; answers which verdicts there were, and how many sessions gave no
+    answer."""
+    count = max(1, (words.sessions or driver.engine.count) // kind.share)
+    firsts, lost = tried(kind, count, random.Random(f"{words.seed} {kind.name}"), driver, words.program)
+    for word, one in firsts.items():
+        kept = one if word in ("accepted", UNEQUAL) else smallest(driver, words.program, one, word)
+        show(words, kind, word, of_session(kept, driver.trace, Plan(kept).text()) or "")
+    return set(firsts), lost
 
 
 def show(words: argparse.Namespace, kind: sessions.Kind, verdict_word: str, trace: str) -> None:
     """Prints a trace that was made smaller, and keeps each where that was asked for."""
-    if verdict_word != "accepted":
+    if verdict_word == UNEQUAL:
+        print("all was exchanged, and the replicas end with different lists: messages were not applied, nor receipts written", flush=True)
+    if verdict_word != "accepted" and (verdict_word != UNEQUAL or kind.share == 1):  # which is not made smaller
         print(f"the smallest found of {kind.name}, {verdict_word}:\n{trace}", flush=True)
+    keep(words, f"{kind.name} {verdict_word}", "trace", trace)
+
+
+def keep(words: argparse.Namespace, what: str, ending: str, text: str) -> None:
     if words.keep:
-        words.keep.mkdir(parents=True, exist_ok=True)
-        name = "_".join([Path(words.engine).stem, *kind.name.replace(",", "").split(), *verdict_word.split()])
-        (words.keep / f"{name}.trace").write_text(trace)
+        name = "_".join([engine_name(words.engine), *what.replace(",", "").replace(":", "").split()])
+        try:
+            words.keep.mkdir(parents=True, exist_ok=True)
+            (words.keep / f"{name}.{ending}").write_text(text)
+        except OSError as why:
+            fail(f"cannot write {why.filename}: {why.strerror}")
+
+
+def engine_name(word: str) -> str:
+    """The engine's name as a part of a file's: of a command its words, without folders and endings."""
+    if word in ENGINES or os.path.isfile(word):
+        return Path(word).stem
+    return "_".join(Path(part).stem.strip("-") for part in shlex.split(word))
+
+
+def tell(words: argparse.Namespace, driver: Driver, why: NoAnswer) -> NoReturn:
+    """Prints a session that the engine does not answer, made smaller where that takes no waiting, and ends the program."""
+    said = driver.last_words()
+    is_slow = why.cause in (LATE, LONG)
+    session = why.session if is_slow else smallest(driver, words.program, why.session, why.cause)
+    plan = Plan(session)
+    print(f"the plan that it does not answer:\n{plan.text()}", flush=True)
+    keep(words, why.cause, "plan", plan.text())
+    try:
+        if not is_slow:
+            verdict(words.program, driver.trace(plan.text()), plan)
+    except NoAnswer as again:
+        why, said = again, driver.last_words()
+    fail(f"{words.engine}: {why}" + (f"; its last words: {said}" if said else ""))
 
 
 if __name__ == "__main__":
+    for stop in STOPS:
+        if signal.getsignal(stop) != signal.SIG_IGN:
+            signal.signal(stop, be_stopped)
     try:
         main()
-    except BrokenPipeError:  # the reader has enough
+    except Stopped as stopped:  # the engine was ended, and nothing is said
+        signal.signal(stopped.args[0], signal.SIG_DFL)
+        os.kill(os.getpid(), stopped.args[0])
+    except Exception as why:
+        if not isinstance(why, OSError) or why.filename is not None:
+            traceback.print_exc()  # nobody has thought of it
+            sys.exit(2)
         os.dup2(os.open(os.devnull, os.O_WRONLY), sys.stdout.fileno())
-        sys.exit(2)
-    except Exception:  # which nobody has thought of
-        traceback.print_exc()
-        sys.exit(2)
+        if isinstance(why, BrokenPipeError):  # the reader has enough
+            sys.exit(2)
+        fail(f"cannot write: {why.strerror}")

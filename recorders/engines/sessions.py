@@ -3,7 +3,7 @@
 A session is a list of steps; which operations a replica has, and so what it may delete, follows from the steps before. So
 any step may be left out, and what remains is a session again: that is how a small one is found.
 
-What an engine is asked is a text, which lists every operation and every exchange, and no answers:
+What an engine is asked is a text, which lists every operation and every exchange, and no answers (docs/engines.md has all of it):
 
     plan 2 causal
     0 ins e0 at 0            replica 0 inserts e0 at position 0
@@ -120,6 +120,10 @@ class Plan:
     def text(self) -> str:
         return "\n".join([*self.lines, "end"]) + "\n"
 
+    def is_last_a_server(self) -> bool:
+        """Whether the last replica neither inserts nor deletes: it may be a server that keeps no list."""
+        return all(kind == READ for (author, _), (kind, _) in self.changes.items() if author == self.session.replicas - 1)
+
     def take(self, step: Step) -> None:
         had = set(self.has[step.replica])
         new = [one for one in self.has[step.other] if one not in had]
@@ -165,7 +169,8 @@ def smaller(session: Session) -> list:
     """The session without some of its steps, halves first and single steps last, and without a replica that does nothing."""
     steps = session.steps
     found, width = [], len(steps) // 2
-    for idle in set(range(session.replicas)) - {r for step in steps for r in (step.replica, step.other)}:
+    busy = {step.replica for step in steps} | {step.other for step in steps if step.kind == TAKE}
+    for idle in set(range(session.replicas)) - busy:
         found.append(Session(session.replicas - 1, session.causal, [moved(step, idle) for step in steps]))
     while width:
         found += [session._replace(steps=steps[:at] + steps[at + width:]) for at in range(0, len(steps), width)]

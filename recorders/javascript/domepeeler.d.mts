@@ -15,9 +15,14 @@ export interface Report {
   inserts: number
   strong?: boolean
   weak?: boolean
-  /** What the verdict may hide where it is accepted; else empty. */
+  /** What the verdict may hide where it is accepted, or where weak is asked for and holds; else empty. */
   warnings: string[]
   [field: string]: unknown
+}
+
+/** With `weak`, the editor promises the weak list specification alone, as one with a server that orders changes. */
+export interface Goal {
+  weak?: boolean
 }
 
 /** For each replica how many of its inserts and deletes an author had seen. */
@@ -84,11 +89,12 @@ export class Recording {
   /** What an accepted verdict on this recording may hide: that replicas end differently, say, or that nothing was recorded. */
   warnings(): Promise<string[]>
 
-  /** The program's report on this recording, and as `warnings` what it may hide where it says `accepted`. The program is the words that
-   * are given, that of $DOMEPEELER, or `domepeeler`. */
-  judge(program?: string | readonly string[] | null): Promise<Report>
+  /** The program's report on this recording, and as `warnings` what it may hide where it says `accepted`; with `weak`, where weak holds.
+   * The program is the words that are given, that of $DOMEPEELER, or `domepeeler`. */
+  judge(program?: string | readonly string[] | null, options?: Goal): Promise<Report>
 
-  /** What the report means, in words, with the lines of your code or log, and your notes. The tool is the words that are given, that of
-   * $DOMEPEELER_EXPLAIN, or `domepeeler-explain`, beside the program of $DOMEPEELER or on the PATH. */
-  explain(explainer?: string | readonly string[] | null): Promise<string>
+  /** What the report means, in words, with the lines of your code or log, and your notes. With `weak`, where the weak list specification
+   * alone is asked for. The tool is the words that are given, that of $DOMEPEELER_EXPLAIN, or `domepeeler-explain`, beside the program of
+   * $DOMEPEELER or on the PATH. */
+  explain(explainer?: string | readonly string[] | null, options?: Goal): Promise<string>
 }

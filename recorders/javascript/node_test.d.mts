@@ -1,17 +1,19 @@
 import type { TestContext } from "node:test"
-import type { Recording } from "./domepeeler.mjs"
+import type { Goal, Recording } from "./domepeeler.mjs"
 
 /** The recording is not accepted, or was not judged. */
 export class NotAccepted extends Error {
   constructor(told: string)
 }
 
-/** A function for test(): it begins a recording of so many replicas, hands it to the body, and has it judged when that has ended. */
+/** A function for test(): it begins a recording of so many replicas, hands it to the body, and has it judged when that has ended; with
+ * `weak` it passes where weak holds. */
 export function recorded(
   replicas: number,
   body: (recording: Recording, context: TestContext) => unknown,
-  options?: { folder?: string },
+  options?: { folder?: string } & Goal,
 ): (context: TestContext) => Promise<void>
 
-/** A promise that is kept where the recording is accepted; else it is saved, and the error says what is wrong with it. */
-export function accepted(recording: Recording, path: string): Promise<void>
+/** A promise that is kept where the recording is accepted, or with `weak` where weak holds; else it is saved, and the error says what is
+ * wrong with it. */
+export function accepted(recording: Recording, path: string, options?: Goal): Promise<void>

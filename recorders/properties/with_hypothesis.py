@@ -5,6 +5,9 @@ Needs Debian's python3-hypothesis and python3-pytest, and the program's path in 
 
     DOMEPEELER=../../crates/finder_cli/out/finder_cli /usr/bin/python3 -m pytest -q with_hypothesis.py
 
+For an editor whose server orders all changes, ask in `check` for `recording.judge(weak=True)`, and in the place of the verdict for
+`report.get("weak")`.
+
 The second test fails, and is meant to: it shows what a failure looks like, and leaves the recording in failed.trace."""
 import sys
 from pathlib import Path

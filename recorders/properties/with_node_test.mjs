@@ -7,6 +7,9 @@
 //     export DOMEPEELER=../../crates/finder_cli/out/finder_cli NODE_PATH=/usr/share/nodejs
 //     node --test with_node_test.mjs
 //
+// For an editor whose server orders all changes, ask in `failing` for { weak, warnings } of judge(null, { weak: true }), and for `!weak` in
+// the place of the verdict.
+//
 // The second test fails, and is meant to: it shows what a failure looks like, and leaves the recording in failed.trace.
 import assert from "node:assert"
 import { createRequire } from "node:module"

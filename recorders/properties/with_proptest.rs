@@ -1,6 +1,8 @@
 //! A property-based test by proptest: whatever is done at three replicas of the list of the crate crdts, the recording is
 //! accepted without warnings. Needs Debian's librust-proptest+std-dev and librust-crdts-dev; run.py makes the package round it and runs it.
 //!
+//! For an editor whose server orders all changes, ask in `check` for `recording.verdict()`, and of that for `is_weak()`.
+//!
 //! The second test fails, and is meant to: it shows what a failure looks like, and leaves the recording in failed.trace.
 //! There an operation may arrive before what its author had seen, which this list doesn't bear.
 #![cfg(test)]

@@ -338,6 +338,16 @@ LISTED = {
     "libinfinity_two_replicas":
         "replicas 2 operations 7 inserts 4|refused 4|strong no|weak yes|step e10 e0 0.2 : e10 e0|"
         "step e0 e6 1.2 : e0 e6|step e6 e14 1.4 : e6 e14|step e14 e10 0.3 : e14 e10",
+    "libinfinity_replicas_disagree":
+        "replicas 4 operations 6 inserts 3|refused 2|strong no|weak no|step e4 e2 0.1 : e4 e0 e2|step e2 e4 2.2 : e2 e4",
+    "prosemirror_three_way_cycle":
+        "replicas 3 operations 8 inserts 3|refused 3|strong no|weak yes|step x b 2.2 : x b|step b a 1.3 : b a|step a x 1.2 : a x",
+    "prosemirror_cycle_of_four":
+        "replicas 2 operations 9 inserts 4|refused 4|strong no|weak yes|step a b 1.5 : a b|step b x 1.4 : b x|"
+        "step x y 0.1 : x y|step y a 0.3 : y a",
+    "prosemirror_lost_text": "replicas 2 operations 7 inserts 3|contents 1.3|strong no|weak no",
+    "prosemirror_insert_deletes": "replicas 2 operations 8 inserts 4|contents 1.6|strong no|weak no",
+    "prosemirror_accepted": "replicas 4 operations 25 inserts 8|accepted|strong yes|weak yes|order : e5 e14 e12 e6 e4 e10 e8 e2",
     "crdt_el_replicas_disagree":
         "replicas 4 operations 24 inserts 21|refused 2|strong no|weak no|"
         "step e34 e35 1.6 : e32 e34 e35 e25 e23 e22 e24 e21 e14 e19 e5 e11 e2 e20 e10 e8 e3 e6|"

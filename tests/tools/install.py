@@ -30,10 +30,12 @@ COMPLETED = [
     (["domepeeler", "verdict", "--workers", "1"], {"1", "16"}),
     (["domepeeler", "live", "--"], {"--workers", "--help"}),
     (["domepeeler-explain", "--s"], {"--small", "--svg"}),
-    (["domepeeler-explain", "--"], {"--html", "--small", "--svg", "--language", "--delivered", "--program", "--version", "--help"}),
+    (["domepeeler-explain", "--"], {"--html", "--small", "--svg", "--language", "--delivered", "--weak", "--program", "--version",
+                                     "--help"}),
     (["domepeeler-explain", "--language", "r"], {"rust"}),
     (["domepeeler-judge-many", "--j"], {"--json", "--junit", "--jobs"}),
-    (["domepeeler-judge-many", "--"], {"--json", "--failing", "--unequal", "--junit", "--jobs", "--sshlogin", "--program", "--version", "--help"}),
+    (["domepeeler-judge-many", "--"], {"--json", "--failing", "--unequal", "--weak", "--junit", "--jobs", "--sshlogin", "--program",
+                                        "--version", "--help"}),
 ]
 
 # Words, how the program ends by docs/formats.md, and what the man page says of that under its status alone.

@@ -113,7 +113,9 @@ FILES = {
     "cause": ("where to look in the editor, by a name of its own", "tools/explaining/causes.py"),
     "warning": ("what an accepted recording may hide; *unequal*: replicas end with different lists, or lack a change",
                 "tools/explaining/warnings.py"),
+    "weak alone": ("weak holds and strong doesn't, which passes where `--weak` asks for no more", "tools/explaining/programs.py"),
     "note": ("the user's own words on a session, such as its seed", "tools/explaining/places.py"),
+    "plan": ("a session that an engine is asked for, as text", "recorders/engines/sessions.py docs/engines.md"),
     "planted bug": ("a usual mistake in a small engine, whose cause the words must name", "examples/planted"),
 }
 

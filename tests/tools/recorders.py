@@ -8,8 +8,10 @@ import json
 import os
 import pickle
 import re
+import select
 import shlex
 import shutil
+import signal
 import subprocess
 import sys
 import tempfile
@@ -1366,6 +1368,23 @@ def check_judge(tally: Tally, recorder: Recorder, folder: Path) -> None:
         got = recorder.answers(["new\t1", "judge", "explain"], DOMEPEELER=str(killed), DOMEPEELER_EXPLAIN=str(killed))
         wanted = [f"failed {killed} {why.format(lacking)}" for lacking in ("report", "words")]
         tally.check(f"{recorder.language}: judge by what {script}", got == ["ok", *wanted], got)
+    report = '{"at":"0.1","inserts":%d,"operations":%d,"order":[],"replicas":1,"strong":true,"verdict":"%s","weak":true}'
+    for operations, verdict, status in (0, "accepted", 1), (1, "accepted", 0), (10, "accepted", 0), (0, "contents", 0), (1, "contents", 1):
+        killed.write_text(f"#!/bin/sh\ncat > /dev/null\necho '{report % (0, operations, verdict)}'\nexit {status}\n")
+        got = recorder.answers(["new\t1", "judge"], DOMEPEELER=str(killed))
+        wanted = f"failed {killed} ended with status {status} and printed a report that is not on this recording"
+        tally.check(f"{recorder.language}: judge by what says {verdict} of {operations} operations with status {status}",
+                    got == ["ok", wanted], got)
+    killed.write_text(f"#!/bin/sh\ncat > /dev/null\necho '{report % (0, 0, 'accepted')}'\n")
+    got = recorder.answers(["new\t1", "judge"], DOMEPEELER=str(killed))
+    tally.check(f"{recorder.language}: judge by what agrees", got[1].startswith("report {"), got)
+    if recorder.language == "c":  # which asks for the text too
+        for operations, status in (0, 1), (3, 0):
+            killed.write_text(f"#!/bin/sh\ncat > /dev/null\nprintf 'replicas 1 operations {operations} inserts 0\\naccepted\\nstrong yes\\nweak yes\\n'\n"
+                              f"exit {status}\n")
+            got = recorder.answers(["new\t1", "read\t0", "read\t0", "read\t0", "weak"], DOMEPEELER=str(killed))
+            wanted = f"{killed} ended with status {status} and printed a report that is not on this recording"
+            tally.check(f"c: weak by what says {operations} operations with status {status}", (wanted in got[-1]) == (operations == 0), got)
     got = recorder.answers(["new\t1", "judge"], DOMEPEELER="", PATH=f"{folder / 'path'}:{os.environ['PATH']}")
     tally.check(f"{recorder.language}: judge by domepeeler on the PATH", got[1:] and got[1].startswith("report {"), got)
 
@@ -1563,6 +1582,60 @@ def check_merge_hostile(tally: Tally, folder: Path) -> None:
                        ("x\n::error::y", "x\\n::error::y is no text of a recorder, or was cut off"), ("\udcff", "cannot read \\xff: No such file or directory")):
         done = subprocess.run([sys.executable, ROOT / "recorders" / "merge.py", "0.log", log], cwd=place, capture_output=True, text=True, timeout=60)
         tally.check(f"merge.py: {log!r}", done.returncode in (1, 2) and done.stderr == f"merge.py: {words}\n" and not done.stdout, done)
+    check_merge_stopped(tally, place)
+
+
+def check_merge_stopped(tally: Tally, place: Path) -> None:
+    """A signal ends merge.py, and it says nothing; what it writes appears whole or not at all, once, and an older Python is told which one
+    is needed."""
+    (place / "0.log.lines").unlink()
+    tool = [sys.executable, str(ROOT / "recorders" / "merge.py")]
+    old, long = place / "old.trace", place / "long.log"
+    long.write_text("trace 1\nreplicas 2\n" + "0 read :\n" * 16000)  # more than a pipe holds
+    for stop in signal.SIGINT, signal.SIGTERM, signal.SIGHUP:
+        reader = os.open(place / "pipe", os.O_RDONLY | os.O_NONBLOCK)
+        running = subprocess.Popen([*tool, "--output", "pipe", "long.log"], cwd=place, stdout=subprocess.PIPE, stderr=subprocess.PIPE,
+                                   preexec_fn=lambda: signal.signal(stop, signal.SIG_DFL))  # which what runs in the background may ignore
+        select.select([reader], [], [], 30)  # it writes
+        running.send_signal(stop)
+        out, err = running.communicate(timeout=30)
+        os.close(reader)
+        tally.check(f"merge.py: stopped by {stop.name}", (running.returncode, out, err) == (-stop, b"", b""),
+                    (running.returncode, out, err))
+    slow = ("import os, runpy, sys, time; os.replace = lambda *_: time.sleep(60); sys.argv = sys.argv[1:]; "
+            "runpy.run_path(sys.argv[0], run_name='__main__')")
+    for stop in signal.SIGINT, signal.SIGTERM, signal.SIGHUP:
+        running = subprocess.Popen([sys.executable, "-c", slow, tool[1], "--output", "new.trace", "long.log"], cwd=place,
+                                   preexec_fn=lambda: signal.signal(stop, signal.SIG_DFL))
+        until = time.monotonic() + 30
+        while not any(path.name.startswith(".merge-") for path in place.iterdir()) and time.monotonic() < until:
+            time.sleep(0.01)
+        running.send_signal(stop)
+        left = running.wait(timeout=30), sorted(path.name for path in place.iterdir() if path.name.startswith((".", "new.trace")))
+        tally.check(f"merge.py: stopped by {stop.name} before the file is there", left == (-stop, []), left)
+    for text in None, "old\n":
+        if text:
+            old.write_text(text)
+            old.chmod(0o640)
+        limited = subprocess.run(["sh", "-c", 'ulimit -f 1; trap "" XFSZ; exec "$@"', "sh", *tool, "--output", "old.trace", "long.log"],
+                                 cwd=place,
+                                 capture_output=True, text=True)
+        left = sorted(path.name for path in place.iterdir() if path.name.startswith((".", "old.trace")) and path.name != "old.trace.lines")
+        tally.check(f"merge.py: what can't be written whole, over {text!r}", (limited.returncode, limited.stderr) == (
+            2, "merge.py: cannot write old.trace: File too large\n") and left == ["old.trace"] * bool(text)
+            and (not text or old.read_text() == text),
+            (limited, left))
+    done = subprocess.run([*tool, "--output", "old.trace", "long.log"], cwd=place, capture_output=True)
+    tally.check("merge.py: the file's mode stays", done.returncode == 0 and old.read_text() == long.read_text()
+                and old.stat().st_mode & 0o777 == 0o640, done)
+    with open(place / "huge.log", "wb") as file:
+        file.truncate(120_000_000)
+    done = subprocess.run(["sh", "-c", 'ulimit -v 200000; exec "$@"', "sh", *tool, "huge.log"], cwd=place, capture_output=True, text=True)
+    tally.check("merge.py: out of memory", (done.returncode, done.stdout, done.stderr) == (3, "", "merge.py: out of memory\n"), done)
+    done = subprocess.run([*tool, "--output", "a", "--output", "b", "0.log"], cwd=place, capture_output=True, text=True)
+    tally.check("merge.py: two outputs", done.returncode == 2
+                and done.stderr.endswith("merge.py: error: argument --output: it is given twice\n")
+                and not (place / "b").exists(), done)
 
 
 def check_merged_beside(tally: Tally, folder: Path, name: str, besides: list, wanted: str, warned: str) -> None:
@@ -1799,9 +1872,9 @@ def check_hypothesis(tally: Tally, program: str, folder: Path) -> None:
     each run tries other sessions."""
     place = folder / "hypothesis"
     place.mkdir()
-    accepting = place / "accepting"
-    accepting.write_text("#!/bin/sh\ncat >> \"$TRIED\"\necho '{\"verdict\": \"accepted\"}'\n")
-    accepting.chmod(0o755)
+    noting = place / "noting"
+    noting.write_text(f"#!/bin/sh\ntee -a \"$TRIED\" | '{program}' \"$@\"\n")
+    noting.chmod(0o755)
 
     def tested(judge: str, name: str, *words: str) -> str:
         surroundings = {**os.environ, "DOMEPEELER": judge, "TRIED": str(place / name), "PYTHONDONTWRITEBYTECODE": "1",
@@ -1819,7 +1892,7 @@ def check_hypothesis(tally: Tally, program: str, folder: Path) -> None:
     tally.check("Hypothesis: the file is explained", explained.returncode == 1 and explained.stdout.startswith("refused 2: "), explained)
     tried = []
     for name in "one", "another":
-        said = tested(str(accepting), name, "-k", "not fault")
+        said = tested(str(noting), name, "-k", "not fault")
         tried.append(Path(place, name).read_text().split("trace 1\n")[1:])
         tally.check("Hypothesis: the test passes", "1 passed" in said and len(tried[-1]) == 200, said)
     tally.check("Hypothesis: another run tries other sessions", set(tried[0]) != set(tried[1]))
@@ -1837,6 +1910,91 @@ def check_no_verdict(tally: Tally, recorder: Recorder, folder: Path) -> None:
 
 
 # The first line of the example in a recorder's head, its last, what begins its lines, what stands around it, and how it is run.
+# By name: calls, and whether they pass where the weak list specification alone is asked for; if not, how the reason begins.
+CYCLE_CALLS = [line.split(" -> ")[0] for line in CYCLE.split("\n")[:-1]]
+WEAK = [("strong doesn't hold", [*CYCLE_CALLS, "delivered b a / b a / b a"], "passes"),
+        ("all holds", ["new 2", "insert 0 a 0 a", "delivered a / a"], "passes"),
+        ("strong doesn't hold, and a delete never arrived", CYCLE_CALLS, "fails in the end replicas 0, 1 and 2 show different lists: 0.2 (line 8"),
+        ("all holds, and an insert never arrived", ["new 2", "insert 0 a 0 a", "read 1"], "fails in the end replicas 0 and 1 show different lists"),
+        ("nothing is recorded", ["new 1"], f"fails {NOTHING}"),
+        ("opposite orders", ["new 2", "insert 0 a 0 a", "insert 1 b 0 b", "delivered a b / b a"], "fails refused 2"),
+        ("a lost element", ["new 2", "insert 0 a 0 a", "delivered a / (empty)"], "fails contents 1.1"),
+        ("a wrong position", ["new 1", "insert 0 a 0 a", "insert 0 b 1 b a"], "fails position 0.2"),
+        ("a name twice", ["new 1", "insert 0 a 0 a", "insert 0 a 0 a"], "fails doubled 0.1 0.2")]
+SESSIONS_OF_JUPITER = 60
+
+
+def check_weak(tally: Tally, recorder: Recorder) -> None:
+    """A recording passes where weak holds and nothing is hidden, and the tool says so first. What is judged without that goal stays."""
+    cases = [(name, [fields(call.replace(" (empty)", "")) for call in calls], wanted) for name, calls, wanted in WEAK]
+    got = recorder.answers([call for _, calls, _ in cases for call in [*calls, "weak", "explain_weak", "judge"]], DOMEPEELER_EXPLAIN=EXPLAIN)
+    for name, calls, wanted in cases:
+        passes, said = got[len(calls)], got[len(calls) + 1]
+        end = got.index("ok", len(calls) + 1)
+        report, got = got[end + 1], got[end + 2:]
+        tally.check(f"{recorder.language}: weak, {name}", passes == wanted if wanted == "passes" else passes.startswith(wanted), passes)
+        alone = "| weak holds, strong doesn't" + (": " if wanted == "passes" else ", with three warnings: ")
+        tally.check(f"{recorder.language}: weak, {name}: the words", said.startswith(alone) == name.startswith("strong doesn't"), said)
+        told = json.loads(report[len("report "):]) if report.startswith("report {") else {"verdict": report}
+        tally.check(f"{recorder.language}: weak, {name}: without it only what is accepted is warned of", told["verdict"] == "accepted" or
+                    told["warnings"] == [], report)
+
+
+def check_jupiter(tally: Tally, program: str, folder: Path) -> None:
+    """Random sessions of an editor with a server. A right one passes where weak alone is asked for, though some of its sessions are refused; with
+    each of four bugs sessions fail. Both languages record the same."""
+    place = folder / "jupiter"
+    place.mkdir()
+    source = ROOT / "tests" / "tools" / "jupiter"
+    subprocess.run(["gcc", "-std=c99", "-Wall", "-Wextra", "-Werror", "-o", place / "jupiter", source / "jupiter.c"], check=True)
+    surroundings = {**os.environ, "DOMEPEELER": program}
+    for bug in "none", "tie", "unmapped", "double", "dropped":
+        shown, texts = [], []
+        for language, words in ("c", [place / "jupiter"]), ("mjs", ["node", source / "jupiter.mjs"]):
+            traces = place / language / bug
+            traces.mkdir(parents=True)
+            done = subprocess.run([*words, bug, str(SESSIONS_OF_JUPITER), traces], capture_output=True, text=True, env=surroundings, timeout=60)
+            lines = [line.split(" ") for line in done.stdout.splitlines()]
+            tally.check(f"Jupiter, {language}, {bug}: sessions", done.returncode == 0 and not done.stderr and
+                        [line[0] for line in lines] == [str(seed) for seed in range(1, SESSIONS_OF_JUPITER + 1)], done)
+            shown.append([line[:3] for line in lines])
+            texts.append([(traces / f"{bug}-{line[0]}.trace").read_text() for line in lines])
+            if bug == "none":
+                check_right_jupiter(tally, language, lines, texts[-1])
+            else:
+                kinds = Counter(line[2] for line in lines if line[1] == "fails")
+                tally.check(f"Jupiter, {language}, {bug}: sessions fail", sum(kinds.values()) >= 20 and kinds["contents"] >= 20, kinds)
+            if bug == "dropped":
+                at_end = [text for text, line in zip(texts[-1], lines) if int(line[0]) % 2 == 0 and line[1] == "fails"]
+                ends = [passes_but_for_end(program, text) for text in at_end]
+                tally.check(f"Jupiter, {language}: what is dropped last is found by `delivered` alone", len(ends) >= 5 and all(ends), ends)
+        tally.check(f"Jupiter, {bug}: the same by both", shown[0] == shown[1] and texts[0] == texts[1], [
+            pair for pair in zip(*shown) if pair[0] != pair[1]])
+
+
+def check_right_jupiter(tally: Tally, language: str, lines: list, texts: list) -> None:
+    """Each session passes, some of them though strong doesn't hold, and in the end all clients show one list with what is there."""
+    kinds = Counter(tuple(line[1:3]) for line in lines)
+    tally.check(f"Jupiter, {language}: a right one passes, and strong fails now and then", set(kinds) == {
+        ("passes", "accepted"), ("passes", "refused")} and kinds["passes", "refused"] >= 5, kinds)
+    for text in texts:
+        entries = [line.partition(" :") for line in text.splitlines()]
+        reads = [entry for entry in entries if entry[0].split()[1] == "read"][-int(entries[1][0].split()[1]):]
+        inserted, deleted = ({head.split()[2] for head, _, _ in entries if head.split()[1] == kind} for kind in ("ins", "del"))
+        tally.check(f"Jupiter, {language}: one list in the end", reads[-1] == entries[-1] and len({names for _, _, names in reads}) == 1 and
+                    set(reads[-1][2].split()) == inserted - deleted, text)
+
+
+def passes_but_for_end(program: str, text: str) -> bool:
+    """Whether weak holds in a trace without its last entries, which `delivered` wrote: a read of each replica, and receipts before each."""
+    lines = text.splitlines(keepends=True)
+    reads = [at for at, line in enumerate(lines) if line.split()[1] == "read"][-int(lines[1].split()[1]):]
+    end = reads[0]
+    while lines[end - 1].split()[:2] == [lines[reads[0]].split()[0], "recv"]:
+        end -= 1
+    return b"\nweak yes\n" in run(program, ["verdict", "-"], "".join(lines[:end]).encode()).out
+
+
 HEADS = {
     "domepeeler.rs": ("let none", "println!(\"{}\", recording.explain()", "//! ",
                       "#[path = \"{recorder}\"]\nmod domepeeler;\nuse domepeeler::Recording;\n"
@@ -1868,6 +2026,52 @@ def check_heads(tally: Tally, program: str, folder: Path) -> None:
         tally.check(f"{name}: the example of its head", done.returncode == 0 and "accepted: " in done.stdout and
                     "may hide" not in done.stdout and trace.is_file() and trace.read_text().endswith("0 read :\n1 read :\n"), done)
         trace.unlink(missing_ok=True)
+
+
+# Of the heads: what stands before each line, how a script begins that has the lines where weak is enough, and the words that run it.
+WEAK_HEADS = {
+    "domepeeler.py": ("    ", "from domepeeler import Recording\nrecording = Recording(3)\n", [sys.executable]),
+    "domepeeler.mjs": ("//     ", 'import {{ Recording }} from "{}"\nconst recording = new Recording(3)\n', ["node"]),
+    "domepeeler.h": (" *     ", "#include \"{}\"\nint main(void) {{\nstruct domepeeler *recording = domepeeler_new(3);\n"
+                     "#define DONE(call) if (!(call)) return 1\n", ["sh", "-c", 'gcc -std=c99 -Wall -Wextra -Werror -o weak "$0" && ./weak']),
+    "domepeeler.el": (";;   ", '(load "{}" nil t)\n(let ((recording (domepeeler-new 3)))\n', ["emacs", "-Q", "--batch", "-l"])}
+
+
+def call_in(name: str, call: str) -> str:
+    """A call of a session, as a line of the recorder's language."""
+    kind, replica, *rest = call.split(" ")
+    numbers = {"insert": 2, "received": 2, "delete": 1, "read": 0}[kind]
+    given, shown = [word if word.isdigit() else f'"{word}"' for word in rest[:numbers]], [f'"{word}"' for word in rest[numbers:]]
+    as_list = {".el": f"(list {' '.join(shown)})", ".h": f"(const char *[]){{{', '.join(shown) or 'NULL'}}}, {len(shown)}"}
+    words = [replica, *given, *([] if kind == "received" else [as_list.get(Path(name).suffix, f"[{', '.join(shown)}]")])]
+    if name.endswith(".el"):
+        return f"(domepeeler-{kind} recording {' '.join(words)})\n"
+    call = f"{kind}({', '.join(words)})"
+    return f"DONE(domepeeler_{call.replace('(', '(recording, ', 1)});\n" if name.endswith(".h") else f"recording.{call}\n"
+
+
+def check_weak_heads(tally: Tally, program: str, folder: Path) -> None:
+    """What the head of a recorder says of weak runs as it stands there: at the end of a session in which weak alone holds, and of one in
+    which a delete did not arrive everywhere, and which does not pass."""
+    place = folder / "weak_heads"
+    place.mkdir()
+    at_end = ["received 1 0 2", "received 1 2 1", "read 1 b a", "received 2 0 2", "received 2 1 1", "read 2 b a"]
+    for name, (mark, before, words) in WEAK_HEADS.items():
+        recorder = ROOT / "recorders" / name
+        lines = recorder.read_text().split("\n")
+        begin = next(at for at, line in enumerate(lines) if "For such a one" in line)
+        block = [line[len(mark):] for line in lines[begin:begin + 7] if line.startswith(mark)]
+        tally.check(f"{name}: its head says how where weak is enough", 1 <= len(block) <= 3, block)
+        end = {".el": ")\n", ".h": "domepeeler_free(recording);\nreturn 0;\n}\n"}.get(recorder.suffix, "")
+        for ends, is_passing in (at_end, True), ([], False):
+            source = place / f"weak{recorder.suffix.replace('.h', '.c')}"
+            source.write_text(before.format(recorder) + "".join(call_in(name, call) for call in CYCLE_CALLS[1:] + ends) + "\n".join([*block, end]))
+            done = subprocess.run([*words, source], cwd=place, capture_output=True, text=True, env={
+                **os.environ, "DOMEPEELER": program, "DOMEPEELER_EXPLAIN": EXPLAIN, "LC_ALL": "C.UTF-8", "PYTHONPATH": str(ROOT / "recorders")})
+            said = done.stdout + done.stderr
+            told = not said and done.returncode == 0 if is_passing else any(words in said for words in (
+                "in the end replicas 0, 1 and 2 show different lists", "weak holds, strong doesn't, with three warnings"))
+            tally.check(f"{name}: what its head says of weak, {'passing' if is_passing else 'with a warning'}", told, done)
 
 
 # A user's tests in Rust: of one the list is lost where the variable says so.
@@ -1952,6 +2156,37 @@ fn verdicts() {{
     let shown: Vec<String> = [lost, moved, recording, crossed].iter().map(|one| one.verdict().unwrap().to_string()).collect();
     assert_eq!(shown, ["contents 1.1", "position 0.2", "doubled 0.1 0.2", "refused 2"]);
 }}
+
+#[test]
+fn strong_does_not_hold() {{
+    let mut recording = Recording::new(3).unwrap();
+    recording.insert(0, "x", 0, &["x"]).unwrap();
+    recording.received(1, 0, 1).unwrap();
+    recording.received(2, 0, 1).unwrap();
+    recording.insert(1, "a", 0, &["a", "x"]).unwrap();
+    recording.insert(2, "b", 1, &["x", "b"]).unwrap();
+    recording.delete(0, "x", NONE).unwrap();
+    recording.received(0, 1, 1).unwrap();
+    recording.received(0, 2, 1).unwrap();
+    recording.read(0, &["b", "a"]).unwrap();
+    let verdict = recording.verdict().unwrap();
+    assert!(verdict.is_weak() && !verdict.is_accepted());
+    if std::env::var_os("LOST").is_none() {{
+        recording.delivered(&[["b", "a"]; 3]).unwrap();
+    }}
+    recording.assert_weak(); // weak
+}}
+
+#[test]
+fn orders_are_opposite() {{
+    let mut recording = Recording::new(2).unwrap();
+    recording.insert(0, "a", 0, &["a"]).unwrap();
+    recording.insert(1, "b", 0, &["b"]).unwrap();
+    let is_lost = std::env::var_os("LOST").is_some();
+    recording.delivered(&[["a", "b"], if is_lost {{ ["b", "a"] }} else {{ ["a", "b"] }}]).unwrap();
+    assert_eq!(recording.verdict().unwrap().is_weak(), !is_lost);
+    recording.assert_weak();
+}}
 """
 
 
@@ -1965,10 +2200,10 @@ def check_rust_tests(tally: Tally, program: str, folder: Path) -> None:
     subprocess.run(["rustc", "--edition", "2021", "-D", "warnings", "--test", "-o", "editor-0123456789abcdef", "editor.rs"], cwd=place,
                    check=True)
     surroundings = {**os.environ, "DOMEPEELER": program, "DOMEPEELER_EXPLAIN": EXPLAIN, "RUST_BACKTRACE": "0", "LC_ALL": "C.UTF-8"}
-    line = {word: next(number for number, text in enumerate(RUST_TESTS.splitlines(), 1) if f"// {word}" in text) for word in ("asks", "reads")}
+    line = {word: next(number for number, text in enumerate(RUST_TESTS.splitlines(), 1) if f"// {word}" in text) for word in ("asks", "reads", "weak")}
     saved = place / "failed_traces" / "editor-inner-a_list_is_lost.trace"
     done = subprocess.run(["./editor-0123456789abcdef"], cwd=place, env={**surroundings, "LOST": "1"}, capture_output=True, text=True)
-    tally.check("Rust tests: counts", done.returncode != 0 and "test result: FAILED. 3 passed; 3 failed;" in done.stdout, done)
+    tally.check("Rust tests: counts", done.returncode != 0 and "test result: FAILED. 3 passed; 5 failed;" in done.stdout, done)
     tally.check("Rust tests: a lost list is explained", f"editor.rs:{line['asks']}:" in done.stdout and "contents 1.1: " in done.stdout and
                 f"\nIn your code\n  editor.rs:9: line 3\n  editor.rs:10: line 4\n  editor.rs:{line['reads']}: line 5\n" in done.stdout and
                 f"\nThe trace is saved: failed_traces/{saved.name}\n" in done.stdout, done)
@@ -1980,15 +2215,31 @@ def check_rust_tests(tally: Tally, program: str, folder: Path) -> None:
                 f"\nWhat this verdict may hide\n  {warning}\n" in done.stdout and
                 f"\nThe trace is saved: failed_traces/{unsure.name}\n" in done.stdout and
                 unsure.read_text().endswith("1 read : a\n0 ins b 1 : a b\n"), done)
+    weak = [saved.with_name(f"editor-{name}.trace") for name in ("orders_are_opposite", "strong_does_not_hold")]
+    tally.check("Rust tests: where weak is enough, warnings fail", f"editor.rs:{line['weak']}:" in done.stdout and
+                "\n\nweak holds, strong doesn't, with three warnings: " in done.stdout and
+                f"\nThe trace is saved: failed_traces/{weak[1].name}\n" in done.stdout, done)
+    tally.check("Rust tests: where weak is enough, opposite orders fail", "\nrefused 2: " in done.stdout and
+                f"\nThe trace is saved: failed_traces/{weak[0].name}\n" in done.stdout, done)
     tally.check("Rust tests: what is saved", sorted(path.name for path in saved.parent.iterdir()) == [
-        ".gitignore", unsure.name, f"{unsure.name}.lines", saved.name, f"{saved.name}.lines"] and
+        ".gitignore", unsure.name, f"{unsure.name}.lines", saved.name, f"{saved.name}.lines",
+        *sorted(f"{path.name}{end}" for path in weak for end in ("", ".lines"))] and
         saved.read_text().endswith("1 recv 0 1\n1 read :\n") and (saved.parent / ".gitignore").read_text() == "*\n", done)
     without = subprocess.run(["./editor-0123456789abcdef", "never"], cwd=place, capture_output=True, text=True,
                              env={**surroundings, "LOST": "1", "DOMEPEELER_EXPLAIN": "/nowhere/explain"})
     tally.check("Rust tests: warnings where no tool explains", without.returncode != 0 and
                 f":\n{warning}\n\naccepted\n/nowhere/explain cannot be run (" in without.stdout, without)
+    liar = place / "liar"
+    for operations, status in (3, 1), (9, 0), (31, 0):
+        liar.write_text(f"#!/bin/sh\ncat > /dev/null\nprintf 'replicas 2 operations {operations} inserts 1\\naccepted\\nstrong yes\\n"
+                        f"weak yes\\norder : a\\n'\nexit {status}\n")
+        liar.chmod(0o755)
+        done = subprocess.run(["./editor-0123456789abcdef", "all_is_delivered"], cwd=place, capture_output=True, text=True,
+                              env={**surroundings, "DOMEPEELER": "./liar"})
+        tally.check(f"Rust tests: a report of {operations} operations with status {status}", "0 passed; 1 failed;" in done.stdout and
+                    f"./liar ended with status {status} and printed a report that is not on this recording" in done.stdout, done)
     done = subprocess.run(["./editor-0123456789abcdef"], cwd=place, env=surroundings, capture_output=True, text=True)
-    tally.check("Rust tests: one that passes removes what it saved before", "5 passed; 1 failed;" in done.stdout and
+    tally.check("Rust tests: one that passes removes what it saved before", "7 passed; 1 failed;" in done.stdout and
                 [path.name for path in saved.parent.iterdir()] == [".gitignore"], done)
     need("clippy-driver", "rust-clippy")
     (place / "tests/domepeeler").mkdir(parents=True)
@@ -2021,7 +2272,8 @@ COMPILERS = {"gcc": ["c99", "c11", "c17"], "clang": ["c99", "c11", "c17"],
 HEADERS = ["", "#include <stdio.h>\n#include <string.h>\n", "#include <unistd.h>\n#include <sys/stat.h>\n#include <stdlib.h>\n"]
 STRICT = ["-Wall", "-Wextra", "-Wconversion", "-Wcast-qual", "-pedantic", "-Werror", "-fsyntax-only"]
 CHECKED = ['insert(d, 0, "a", 0, list, 1)', 'delete(d, 0, "a", list, 1)', "read(d, 0, list, 1)", "view(d, 0, list, 1)", "received(d, 1, 0, 1)",
-           "received_clock(d, 1, 0, clock, 2, 1)", "clock(d, 0, clock)", "delivered(d, lists, names, 2)", 'note(d, "seed 17")', 'save(d, "x")']
+           "received_clock(d, 1, 0, clock, 2, 1)", "clock(d, 0, clock)", "delivered(d, lists, names, 2)", 'note(d, "seed 17")', 'save(d, "x")',
+           "passes_weak(d, NULL)"]
 USES_C = """{}#include "{}"
 int main(void) {{
     const char *list[] = {{"a"}};
@@ -2195,6 +2447,8 @@ def main() -> None:
             check_judge(tally, recorder, folder)
             if language in EXPLAINING:
                 check_explain(tally, recorder, folder)
+            check_weak(tally, recorder)
+        check_jupiter(tally, program, folder)
         check_python(tally)
         check_users(tally, program, folder)
         check_grouped(tally, program, folder)
@@ -2210,6 +2464,7 @@ def main() -> None:
         for language in "rs", "c", "el":
             check_no_verdict(tally, Recorder(language, drivers[language], program), folder)
         check_heads(tally, program, folder)
+        check_weak_heads(tally, program, folder)
         check_rust_tests(tally, program, folder)
         check_compilers(tally, folder)
         check_hostile_c(tally, Recorder("c", drivers["c"], program), folder)

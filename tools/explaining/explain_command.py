@@ -8,7 +8,7 @@ import sys
 from typing import NoReturn
 
 from .beginning import explained
-from .commands import add_version
+from .commands import Once, add_version
 from .cycle_picture import drawing
 from .debuggers import LANGUAGES, USUAL
 from .evidence import Evidence, Unexplained
@@ -16,7 +16,7 @@ from .faulty_lines import about_fault
 from .files import MOST_BYTES, Unread, read_file, shown, write_file, written_over
 from .page import page_of
 from .places import Beside, beside, placed_warnings, with_places
-from .programs import WAYS, Judged, NoProgram, find_program, judge, report_of, report_text
+from .programs import WAYS, Judged, NoProgram, find_program, is_weak_alone, judge, passes, report_of, report_text
 from .recordings import FIRST_ENTRY, Recording
 from .small import smallest
 from .warnings import SIDE, warnings_of
@@ -25,11 +25,13 @@ from .words import text_of, verdict_of, with_warnings
 NAME = "domepeeler-explain"
 ABOUT = "Says in words what the program's verdict on a trace means: who did what in which line, and where to look."
 MOST_TOLD = 40  # operations of a small trace that are told one by one
-STATUSES = "It ends with the program's status: 0 accepted, 1 any other verdict, 2 a trace that does not read, 3 out of memory."
+STATUSES = ("It ends with the program's status: 0 accepted, 1 any other verdict, 2 a trace that does not read, 3 out of memory. "
+            "With --weak it ends with 0 too where strong fails and weak holds.")
 
 
 def words_asked() -> argparse.Namespace:
     parser = argparse.ArgumentParser(prog=NAME, description=ABOUT, epilog=f"{WAYS} {STATUSES}")
+    parser.register("action", None, Once)
     parser.add_argument("trace", metavar="TRACE", help="the trace; - is standard input")
     parser.add_argument("--program", metavar="PATH", help="the program that judges")
     parser.add_argument("--html", metavar="FILE", help="write a page with the session drawn and the words beside it")
@@ -39,6 +41,8 @@ def words_asked() -> argparse.Namespace:
                         f"by default what stands beside the trace, else {USUAL}")
     parser.add_argument("--delivered", metavar="FROM-TO", action="append", default=[], type=lines_from, help="lines of the trace that a "
                         "recorder's `delivered` wrote; by default what stands beside the trace")
+    parser.add_argument("--weak", action="store_true", help="the editor promises the weak list specification alone, as one with a server "
+                        "that orders (Jupiter): a trace passes where that holds, though strong doesn't")
     add_version(parser, NAME)
     return parser.parse_args()
 
@@ -123,12 +127,13 @@ def same_as(evidence: Evidence, told: Evidence) -> str:
 def explain(asked: argparse.Namespace, program: str, trace: bytes, judged: Judged) -> None:
     known = beside(trace, asked.trace)
     evidence = Evidence(Recording(trace.decode(), tuple(asked.delivered) or known.delivered), judged.report)
-    words, told = explained(evidence, report_of(program), asked.language or known.language or USUAL)
-    warnings = placed_warnings(warnings_of(judged.report["verdict"], trace, asked.trace).all, known)
+    words, told = explained(evidence, report_of(program), asked.language or known.language or USUAL, asked.weak)
+    is_alone = asked.weak and is_weak_alone(judged.report)
+    warnings = placed_warnings(warnings_of(judged.report["verdict"], trace, asked.trace, is_alone).all, known)
     words = with_places(with_warnings(words, warnings), known)
     print(text_of(words), end="")
     if asked.html:
-        write(asked.html, page_of(evidence, told, words, shown(asked.trace), report_text(program, trace)))
+        write(asked.html, page_of(evidence, told, words, shown(asked.trace), report_text(program, trace), is_alone))
     if asked.svg and judged.report["verdict"] == "refused":
         write(asked.svg, drawing(told.report))
     elif asked.svg:
@@ -152,6 +157,8 @@ def main() -> None:
         try:
             explain(asked, program, trace, judged)
         except Unexplained as error:
-            told = f"can't explain this verdict: {error}. The program's word counts; its report:"
-            print(f"{NAME}: {told}\n{report_text(program, trace)}", end="", file=sys.stderr)
-    sys.exit(judged.status)
+            is_passing = passes(judged.report, asked.weak)
+            told = "Is it domepeeler? Its" if is_passing else "The program's word counts; its"
+            print(f"{NAME}: can't explain this verdict: {error}. {told} report:\n{report_text(program, trace)}", end="", file=sys.stderr)
+            sys.exit(2 if is_passing else judged.status)  # what may be wrong is no pass
+    sys.exit(0 if judged.report and passes(judged.report, asked.weak) else judged.status)

@@ -13,7 +13,7 @@ from concurrent.futures import ProcessPoolExecutor, ThreadPoolExecutor
 from concurrent.futures.process import BrokenProcessPool
 from queue import Empty, SimpleQueue
 
-from .files import Unread, content, opened, shown
+from .files import CHANGED, Unread, content, opened, shown, state
 from .rows import Row, failed, row_of, unread
 
 WORDS = ["verdict", "--json", "--workers", "1"]  # for the program, before a trace
@@ -25,9 +25,10 @@ class TooMany(Exception):
     """So many can't be judged at a time."""
 
 
-def judged_here(program: str, files: list, jobs: int) -> list:
-    """A row for each trace, in the order of the files; so many are judged at a time. A user who stops it stops those too."""
-    judges = Judges(program, jobs)
+def judged_here(program: str, files: list, jobs: int, weak: bool) -> list:
+    """A row for each trace, in the order of the files; so many are judged at a time. A user who stops it stops those too. With `weak` the
+    weak list specification alone is asked for."""
+    judges = Judges(program, jobs, weak)
     with ThreadPoolExecutor(jobs) as pool:
         try:
             waiting = [pool.submit(judges.judged, file) for file in files]
@@ -61,8 +62,8 @@ def as_they_end(waiting: list) -> Iterator:
 class Judges:
     """The processes that judge, each begun by a thread of its own, and those that look at big traces."""
 
-    def __init__(self, program: str, jobs: int) -> None:
-        self.program, self.jobs = program, jobs
+    def __init__(self, program: str, jobs: int, weak: bool) -> None:
+        self.program, self.jobs, self.weak = program, jobs, weak
         self.running: set = set()
         self.is_stopped = False
         self.lock, self.lookers = threading.Lock(), None
@@ -79,6 +80,7 @@ class Judges:
     def _judged(self, file: str, begin: float) -> Row:
         descriptor = opened(file)
         try:
+            before = state(descriptor)
             try:
                 process = subprocess.Popen([self.program, *WORDS, "-"], stdin=descriptor, stdout=subprocess.PIPE, stderr=subprocess.PIPE)
             except OSError as error:
@@ -89,10 +91,13 @@ class Judges:
             printed, errors = process.communicate()
             self.running.discard(process)
             trace = content(descriptor)
+            has_changed = before != state(descriptor)
         finally:
             os.close(descriptor)
         status = process.returncode if process.returncode >= 0 else 128 - process.returncode
-        answer = self.program, file, trace, time.monotonic() - begin, status, printed, errors.decode(errors="replace").strip()
+        if has_changed:
+            return failed(file, time.monotonic() - begin, status, CHANGED, trace.count(b"\n"))
+        answer = self.program, file, trace, time.monotonic() - begin, status, printed, errors.decode(errors="replace").strip(), self.weak
         if len(trace) >= BIG and self.jobs > 1:
             try:
                 return self._looker().submit(row_of, *answer).result()

@@ -11,7 +11,7 @@ from .evidence import Evidence, Unexplained
 from .faulty_lines import about_file
 from .files import Unread, read_file, shown
 from .places import beside, placed_warnings, with_places
-from .programs import NoProgram, report_of
+from .programs import WEAK_ALONE, NoProgram, report_of
 from .recordings import Recording
 from .rows import NO_VERDICTS, Row
 from .telling import MOST_STEPS, listed
@@ -21,9 +21,10 @@ from .words import text_of, with_warnings
 NOT_IN_XML = re.compile("[^\t\n\r\x20-\ud7ff\ue000-\ufffd\U00010000-\U0010ffff]")  # XML 1.0 has no way to write these
 
 
-def junit_of(rows: list, program: str, unequal: bool) -> bytes:
+def junit_of(rows: list, program: str, unequal: bool, weak: bool = False) -> bytes:
     """A test suite of the rows of `judge_many`: a verdict other than accepted is a failure, and so are ends that are unequal, where these
-    count; a missing verdict is an error. Warnings of an accepted trace stand in its output."""
+    count; a missing verdict is an error. With `weak` a trace passes too where weak holds. Warnings of one that passes stand in its output,
+    and that strong doesn't hold."""
     suite = xml.Element("testsuite", name="domepeeler")
     for row in rows:
         folder, name = os.path.split(row.file)
@@ -31,12 +32,15 @@ def junit_of(rows: list, program: str, unequal: bool) -> bytes:
                               file=written(shown(row.file)), time=f"{row.seconds:.3f}")
         if row.verdict in NO_VERDICTS:
             add_fault(case, "error", row.verdict, "\n  ".join([shown(row.error), *about_file(row.error, row.file)]))
-        elif row.verdict != "accepted":
-            add_fault(case, "failure", row.verdict, *explanation_of(row, program))
+        elif not row.passes:
+            add_fault(case, "failure", row.verdict, *explanation_of(row, program, weak))
         elif row.unequal and unequal:
-            add_fault(case, "failure", "unequal", "\n".join([f"accepted, but unequal in the end: {row.warnings[0]}", *row.warnings[1:]]))
-        elif row.warnings:
-            xml.SubElement(case, "system-out").text = written("".join(f"warning: {warning}\n" for warning in row.warnings))
+            is_so = WEAK_ALONE if row.weak_alone else "accepted"
+            add_fault(case, "failure", "unequal", "\n".join([f"{is_so}, but unequal in the end: {row.warnings[0]}", *row.warnings[1:]]))
+        elif row.warnings or row.weak_alone:
+            alone = f"{WEAK_ALONE}: this passes, as the weak list specification alone is asked for; the verdict is `refused {row.k}`\n"
+            told = [alone] * bool(row.weak_alone) + [f"warning: {warning}\n" for warning in row.warnings or []]
+            xml.SubElement(case, "system-out").text = written("".join(told))
     counts = {"tests": len(rows), "failures": len(suite.findall("testcase/failure")), "errors": len(suite.findall("testcase/error")),
               "skipped": 0}
     whole = xml.Element("testsuites")
@@ -55,13 +59,14 @@ def add_fault(case: xml.Element, kind: str, verdict: str, told: str, about: str 
     xml.SubElement(case, kind, type=verdict, message=f"{first} It is about {about}." if about else first).text = told
 
 
-def explanation_of(row: Row, program: str) -> tuple:
+def explanation_of(row: Row, program: str, weak: bool) -> tuple:
     """What `explain` says of the trace, and the elements of a refusal; or its verdict alone, where the file is no longer what was
     judged."""
     try:
         trace = read_file(row.file)
         known = beside(trace, row.file)
-        words, told = explained(Evidence(Recording(trace.decode(), known.delivered), row.report), report_of(program), known.language or USUAL)
+        evidence = Evidence(Recording(trace.decode(), known.delivered), row.report)
+        words, told = explained(evidence, report_of(program), known.language or USUAL, weak)
         warnings = placed_warnings(warnings_of(row.verdict, trace, row.file).all, known)
         about = listed(told.elements, MOST_STEPS) if told.report["verdict"] == "refused" else ""
         return text_of(with_places(with_warnings(words, warnings), known)), about

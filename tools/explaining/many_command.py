@@ -3,34 +3,39 @@ lines."""
 from __future__ import annotations
 
 import argparse
+import errno
 import json
 import os
+import re
 import stat
 import sys
 from collections import Counter
 from pathlib import Path
 from typing import NoReturn
 
-from .commands import add_version
+from .commands import Once, add_version
 from .elsewhere import NoParallel, judged_there, needs_parallel
 from .faulty_lines import ENTRIES, about_file
 from .files import shown, write_file, written_over
 from .judges import TooMany, judged_here
 from .junit import junit_of
-from .programs import WAYS, NoProgram, check_is_domepeeler, find_program
+from .programs import WAYS, WEAK_ALONE, NoProgram, check_is_domepeeler, find_program
 from .rows import KINDS, NO_VERDICTS, Row
 from .warnings import CUT, SIDE
 
 NAME = "domepeeler-judge-many"
 ABOUT = "Judges all traces below some folders, several at a time, and lists them: first the one that fails in the fewest lines."
 STATUSES = ("It ends with status 0 where all are accepted, 1 where all can be read and some are not accepted, and 2 where one can't "
-            "be read, or is known to be cut, or something else fails.")
+            "be read, or is known to be cut, or something else fails. With --weak those pass too of which weak holds.")
 MOST_WARNED = 20  # warnings that are printed on standard error
 TRACE = ".trace"  # in any case
+COMPRESSED = re.compile(r"(.*\.trace)\.(gz|bz2|xz|zst|lz4|zip|z)", re.IGNORECASE | re.DOTALL)
+NOTHING_THERE = [errno.ENOENT, errno.ENOTDIR, errno.ELOOP]  # behind a link
 
 
 def words_asked() -> argparse.Namespace:
     parser = argparse.ArgumentParser(prog=NAME, description=ABOUT, epilog=f"{WAYS} {STATUSES}")
+    parser.register("action", None, Once)
     parser.add_argument("folders", metavar="DIR", nargs="+", help="a folder with *.trace files at any depth, or one trace")
     parser.add_argument("--program", metavar="PATH", help="the program that judges")
     parser.add_argument("--jobs", metavar="N", help="how many at a time, by default one a processor; with --sshlogin as GNU "
@@ -41,6 +46,8 @@ def words_asked() -> argparse.Namespace:
     parser.add_argument("--failing", action="store_true", help="list only the traces that are not accepted; the counts are of all")
     parser.add_argument("--unequal", action="store_true", help="let accepted traces fail whose replicas end with different lists, or "
                         "without some insert or delete")
+    parser.add_argument("--weak", action="store_true", help="the editor promises the weak list specification alone, as one with a server "
+                        "that orders (Jupiter): let traces pass where that holds, though strong doesn't; these are counted by themselves")
     parser.add_argument("--junit", metavar="FILE", help="write the verdicts of all traces in JUnit's XML form, with explanations")
     add_version(parser, NAME)
     return parser.parse_args()
@@ -88,15 +95,23 @@ def traces_in(folder: str, been: set) -> list:
         path = str(Path(folder, name))
         if is_folder(path):
             found += traces_in(path, been)
-        elif name.lower().endswith(TRACE):
+        elif name.lower().endswith(TRACE) or is_compressed_alone(name, names):
             found.append(path)
     return found
+
+
+def is_compressed_alone(name: str, names: list) -> bool:
+    """Whether a trace is there that is compressed, and does not lie beside it unpacked: it is told of as one that does not read."""
+    packed = COMPRESSED.fullmatch(name)
+    return packed is not None and packed[1] not in names
 
 
 def is_folder(path: str) -> bool:
     try:
         return stat.S_ISDIR(os.stat(path).st_mode)
-    except OSError:  # a link to nothing
+    except OSError as error:
+        if error.errno not in NOTHING_THERE and not path.lower().endswith(TRACE):
+            unread(error)  # it may be a folder of traces
         return False
 
 
@@ -119,21 +134,23 @@ def jobs_of(asked: argparse.Namespace) -> int:
 
 def judged(asked: argparse.Namespace, program: str, files: list, jobs: int) -> list:
     try:
-        return judged_here(program, files, jobs) if asked.sshlogin is None else judged_there(asked.sshlogin, asked.jobs, program, files)
+        if asked.sshlogin is None:
+            return judged_here(program, files, jobs, asked.weak)
+        return judged_there(asked.sshlogin, asked.jobs, program, files, asked.weak)
     except (TooMany, NoParallel) as error:
         fail(str(error))
 
 
 def is_failing(row: Row, asked: argparse.Namespace) -> bool:
-    return row.verdict != "accepted" or asked.unequal and bool(row.unequal)
+    return not row.passes or asked.unequal and bool(row.unequal)
 
 
 def in_order(rows: list) -> list:
-    """First the one that fails in the fewest first lines, and of equals the smaller one; then those that are accepted, by name, unequal
-    ones first."""
+    """First the one that fails in the fewest first lines, and of equals the smaller one; then those that pass, by name, unequal ones
+    first, and then those of which weak alone holds."""
     def place(row: Row) -> tuple:
-        if row.verdict == "accepted":
-            return True, not row.unequal, 0, row.file
+        if row.passes:
+            return True, not row.unequal, not row.weak_alone, row.file
         return False, row.fails_at or row.lines, row.lines, row.file
 
     return sorted(rows, key=place)
@@ -163,20 +180,21 @@ def print_table(rows: list, listed: list) -> None:
         told = [cell.ljust(width) if place < 2 or place > 5 and cells[place][0] == "noted" else cell.rjust(width)
                 for place, (cell, width) in enumerate(zip(line, widths))]
         print("  ".join(told).rstrip() if cells[-1][0] == "noted" else "  ".join(told))
-    counts = Counter(row.verdict for row in rows)
-    told = ", ".join(f"{counts[kind]} {kind}" for kind in KINDS if counts[kind])
+    counts = Counter("weak alone" if row.weak_alone else row.verdict for row in rows)
+    told = ", ".join(f"{counts[kind]} {kind}" for kind in [*KINDS[:1], "weak alone", *KINDS[1:]] if counts[kind])
     print(f"{len(rows)} trace{'' if len(rows) == 1 else 's'}: {told}")
 
 
 def told_verdict(row: Row) -> str:
-    return "accepted, unequal" if row.unequal else row.verdict
+    return (WEAK_ALONE if row.weak_alone else row.verdict) + (", unequal" if row.unequal else "")
 
 
 def print_unequal(rows: list, asked: argparse.Namespace) -> None:
     count = sum(bool(row.unequal) for row in rows)
     if count:
         told = "counted as failing" if asked.unequal else "--unequal lets these fail"
-        print(f"{count} of those accepted {'is' if count == 1 else 'are'} unequal: in the end replicas show different lists, or lack an "
+        of_those = "those that pass" if asked.weak else "those accepted"
+        print(f"{count} of {of_those} {'is' if count == 1 else 'are'} unequal: in the end replicas show different lists, or lack an "
               f"insert or a delete ({told})")
 
 
@@ -199,10 +217,10 @@ def print_warnings(rows: list) -> None:
         print(line, file=sys.stderr)
 
 
-def write_junit(path: str, rows: list, program: str, unequal: bool) -> str:
+def write_junit(path: str, rows: list, program: str, asked: argparse.Namespace) -> str:
     """What went wrong, if anything did: the verdicts are printed all the same."""
     try:
-        write_file(path, junit_of(rows, program, unequal))
+        write_file(path, junit_of(rows, program, asked.unequal, asked.weak))
     except OSError as error:
         return f"cannot write {shown(path)}: {error.strerror}"
     return ""
@@ -221,7 +239,7 @@ def main() -> None:
     if why:
         fail(why)
     rows = in_order(judged(asked, program, files, jobs))
-    unwritten = write_junit(asked.junit, rows, program, asked.unequal) if asked.junit else ""
+    unwritten = write_junit(asked.junit, rows, program, asked) if asked.junit else ""
     listed = [row for row in rows if is_failing(row, asked) or not asked.failing]
     for row in listed if asked.json else []:
         print(json.dumps({key: value for key, value in row._asdict().items() if value not in (None, "")}))

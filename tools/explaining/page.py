@@ -92,9 +92,9 @@ def head(name: str) -> str:
             ' markerUnits="userSpaceOnUse"><path d="M 0 0 L 10 5 L 0 10 z"/></marker>')
 
 
-def page_of(evidence: Evidence, told: Evidence, words: Explanation, trace: str, report: str) -> str:
+def page_of(evidence: Evidence, told: Evidence, words: Explanation, trace: str, report: str, is_passing: bool = False) -> str:
     """The page of a trace with the evidence of its verdict, and of the beginning by which it is told: what is drawn and marked is what the
-    words begin with."""
+    words begin with. One that passes, since weak holds, is painted as one that is accepted."""
     kind, _, rest = words.headline.partition(":")
     told.lines.update(operation.line for operation in evidence.operations)
     session, letters = session_of(told), letters_of(told)
@@ -108,7 +108,7 @@ def page_of(evidence: Evidence, told: Evidence, words: Explanation, trace: str, 
 <style>
 {STYLE}</style>
 </head>
-<body class="{escape(evidence.report["verdict"])}{" unsure" if words.sections[0].title == HIDDEN else ""}">
+<body class="{"accepted" if is_passing else escape(evidence.report["verdict"])}{" unsure" if words.sections[0].title == HIDDEN else ""}">
 <svg class="heads" aria-hidden="true">{head("head")}{head("receipt-head")}{head("matters-head")}</svg>
 <h1><span class="kind">{escape(kind)}</span>:{escape(rest)}</h1>
 <p class="file">{escape(trace)}</p>

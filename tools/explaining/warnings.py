@@ -38,10 +38,10 @@ class Warnings(NamedTuple):
         return [*self.cut, *self.ends, *self.others]
 
 
-def warnings_of(verdict: str, trace: bytes, name: str = "-") -> Warnings:
+def warnings_of(verdict: str, trace: bytes, name: str = "-", is_passing: bool = False) -> Warnings:
     """What to warn of where the program has given this verdict on the trace in the file of this name; `-` is no file. A verdict other
-    than accepted hides nothing, but for what a cut has taken away."""
-    ends, others = hidden(trace) if verdict == "accepted" else ([], [])
+    than accepted hides nothing, but for what a cut has taken away, and where it passes since weak holds."""
+    ends, others = hidden(trace) if verdict == "accepted" or is_passing else ([], [])
     return Warnings([] if name == "-" else cut(trace, name), ends, others)
 
 

@@ -9,6 +9,7 @@ from typing import NamedTuple
 from . import debuggers
 from .causes import Cause, causes_of
 from .evidence import MOST_ARRIVED, Evidence
+from .programs import WEAK_ALONE, is_weak_alone
 from .recordings import Operation, Receipt, Recording, place_asked
 from .telling import FIRST_STEPS, at, counted, did, joined
 
@@ -30,15 +31,18 @@ class Explanation(NamedTuple):
     causes: tuple = ()  # names of the causes that it tells
 
 
-def explanation(evidence: Evidence, told: Evidence, language: str = debuggers.USUAL) -> Explanation:
-    """The words on a verdict, told by the shortest beginning of the trace that has a fault or is refused, or by all of it."""
+def explanation(evidence: Evidence, told: Evidence, language: str = debuggers.USUAL, weak: bool = False) -> Explanation:
+    """The words on a verdict, told by the shortest beginning of the trace that has a fault or is refused, or by all of it. With `weak`,
+    where the weak list specification alone is asked for, they begin with it that this holds, if strong doesn't."""
     tell = {"accepted": accepted, "refused": refused, "doubled": doubled, "contents": contents, "position": position}
     headline, sections = tell[told.report["verdict"]](told)
     causes = causes_of(told)
     where = [Section("Where to look", [cause.told for cause in of_whole(evidence, told) + causes])] if causes else []
     whole = whole_trace(evidence, told)
     headline += f" Of the whole trace the program says {verdict_of(evidence.report)}." if whole else ""
-    return Explanation(headline, [*when_it_went_wrong(evidence, told), *without_receipts(told), *sections, *where,
+    if weak and is_weak_alone(evidence.report):
+        headline = f"{WEAK_ALONE}: this passes, as the weak list specification alone is asked for. {headline}"
+    return Explanation(headline, [*when_it_went_wrong(evidence, told, weak), *without_receipts(told), *sections, *where,
                                   *in_a_debugger(told, language), *whole, specifications(evidence.report)],
                        tuple(cause.name for cause in causes))
 
@@ -69,21 +73,24 @@ def verdict_of(report: dict) -> str:
     return f"`{' '.join([report['verdict'], *about])}`"
 
 
-def when_it_went_wrong(evidence: Evidence, told: Evidence) -> list:
+def when_it_went_wrong(evidence: Evidence, told: Evidence, weak: bool) -> list:
     """With which line the session went wrong, where that is not the last one that the verdict on the whole trace names, or is followed by
-    others."""
+    others; or with which one strong came to fail, where that is nothing wrong."""
     last = told.last_line
     named = max((operation.line for operation in evidence.operations), default=0)
     if told.report["verdict"] == "accepted" or last >= (len(evidence.recording.lines) if told.report["verdict"] == "refused" else named):
         return []
     entry = evidence.recording.entries[last - evidence.recording.entries[0].line]
     verdict = verdict_of(told.report)
-    lines = [f"{did(entry, is_first=True)}: up to line {last - 1} the session is accepted, and with line {last} it is {verdict}"]
+    is_alone = weak and is_weak_alone(evidence.report)
+    before = "weak holds" if weak and not is_alone else "the session is accepted"
+    lines = [f"{did(entry, is_first=True)}: up to line {last - 1} {before}, and with line {last} it is {verdict}"]
     if told.report["verdict"] == "refused":
-        lines += [since(told, entry, "still fits"), *in_the_end(evidence.recording)]
+        still = "agrees with each other response by then" if weak and not is_alone else "still fits"
+        lines += [since(told, entry, still), *in_the_end(evidence.recording)]
     else:
         lines.append(f"the first {last} lines are enough to show it (`head -{last}`)")
-    return [Section("When it went wrong", lines)]
+    return [Section("When strong came to fail" if is_alone else "When it went wrong", lines)]
 
 
 def whole_trace(evidence: Evidence, told: Evidence) -> list:
@@ -116,7 +123,7 @@ def with_warnings(told: Explanation, warnings: list) -> Explanation:
     if not warnings:
         return told
     count = "a warning" if len(warnings) == 1 else f"{counted(len(warnings))} warnings"
-    headline = told.headline.replace("accepted: ", f"accepted, with {count}: ", 1)
+    headline = re.sub(rf"^(accepted|{WEAK_ALONE}): ", rf"\1, with {count}: ", told.headline)
     return told._replace(headline=headline, sections=[Section(HIDDEN, warnings), *told.sections])
 
 

@@ -9,8 +9,8 @@ _domepeeler() {
         --program | --html | --small | --svg | --junit) compopt -o filenames; mapfile -t COMPREPLY < <(compgen -f -- "$word"); return ;;
     esac
     case ${COMP_WORDS[0]##*/} in
-        domepeeler-explain) options="--html --small --svg --language --delivered --program --version --help" ;;
-        domepeeler-judge-many) options="--json --failing --unequal --junit --jobs --sshlogin --program --version --help" ;;
+        domepeeler-explain) options="--html --small --svg --language --delivered --weak --program --version --help" ;;
+        domepeeler-judge-many) options="--json --failing --unequal --weak --junit --jobs --sshlogin --program --version --help" ;;
         *)
             if ((COMP_CWORD == 1)); then
                 COMPREPLY=($(compgen -W "verdict cert verify live --help --version" -- "$word"))

@@ -16,11 +16,13 @@ complete -c domepeeler-explain -l small -r -d 'write the small trace that shows 
 complete -c domepeeler-explain -l svg -r -d 'write the picture of the cycle'
 complete -c domepeeler-explain -l delivered -x -d 'lines that delivered wrote'
 complete -c domepeeler-explain -l language -x -a 'python javascript rust c emacs-lisp' -d 'of the recorder'
+complete -c domepeeler-explain -l weak -d 'let a trace pass where weak holds'
 complete -c domepeeler-explain -l program -r -d 'the program that judges'
 
 complete -c domepeeler-judge-many -l json -d 'one JSON object a trace'
 complete -c domepeeler-judge-many -l failing -d 'list only the traces that are not accepted'
 complete -c domepeeler-judge-many -l unequal -d 'let traces fail whose replicas end unequal'
+complete -c domepeeler-judge-many -l weak -d 'let traces pass where weak holds'
 complete -c domepeeler-judge-many -l junit -r -d 'write the verdicts as JUnit XML'
 complete -c domepeeler-judge-many -l jobs -x -d 'how many at a time'
 complete -c domepeeler-judge-many -l sshlogin -x -d 'machines to judge on'

@@ -9,12 +9,14 @@ _domepeeler() {
                 '--svg[write the picture of the cycle]:file:_files' \
                 '*--delivered[lines that delivered wrote]:range:' \
                 '--language[of the recorder]:language:(python javascript rust c emacs-lisp)' \
+                '--weak[let a trace pass where weak holds]' \
                 '--program[the program that judges]:program:_files' \
                 '--version[show the version]' '--help[show the help]' '1:trace:_files'
             return ;;
         domepeeler-judge-many)
             _arguments '--json[one JSON object a trace]' '--failing[list only the traces that are not accepted]' \
                 '--unequal[let traces fail whose replicas end unequal]' \
+                '--weak[let traces pass where weak holds]' \
                 '--junit[write the verdicts as JUnit XML]:file:_files' '--jobs[how many at a time]:number:' \
                 '--sshlogin[machines to judge on]:hosts:_hosts' '--program[the program that judges]:program:_files' \
                 '--version[show the version]' '--help[show the help]' '*:folder:_files'

@@ -4,6 +4,9 @@
         recording = domepeeler(2)
         ...
 
+For an editor that promises the weak list specification alone, as one with a server that orders changes, begin `domepeeler(2, weak=True)`:
+then a recording is taken for accepted where weak holds. `contents`, `position`, `doubled` and `refused 2` still fail.
+
 Where a recording is not accepted the test fails, and its report has the explanation and the path of the saved trace. What other
 fixtures record while they are torn down is judged too, when that is done; pytest tells it as an error of the test. The report of a
 test that fails by itself has the verdict on its recordings, accepted or not, in a section of its own, and they are saved. Where a test
@@ -37,10 +40,12 @@ class NothingRecorded(Unsure):
 
 
 class Judged:
-    """A recording of a test; how many lines it had when it was judged; and of what its verdict then warned."""
+    """A recording of a test, and whether weak alone is asked of it; how many lines it had when it was judged; and of what its verdict then
+    warned."""
 
-    def __init__(self, recording: Recording) -> None:
+    def __init__(self, recording: Recording, weak: bool) -> None:
         self.recording = recording
+        self.weak = weak
         self.lines = 0
         self.warnings: List[str] = []
 
@@ -63,13 +68,13 @@ def pytest_addoption(parser: pytest.Parser) -> None:
 
 
 @pytest.fixture
-def domepeeler(request: pytest.FixtureRequest) -> Callable[[int], Recording]:
-    """Begins a recording of so many replicas, which is judged when the test ends."""
+def domepeeler(request: pytest.FixtureRequest) -> Callable[..., Recording]:
+    """Begins a recording of so many replicas, which is judged when the test ends; with `weak`, where it passes if weak holds."""
     begun = Begun()
     setattr(request.node, BEGUN, begun)
 
-    def begin(replicas: int) -> Recording:
-        begun.recordings.append(Judged(Recording(replicas)))
+    def begin(replicas: int, weak: bool = False) -> Recording:
+        begun.recordings.append(Judged(Recording(replicas), weak))
         return begun.recordings[-1].recording
 
     return begin
@@ -120,22 +125,23 @@ def told_of(item: pytest.Item, one: Judged, number: Optional[int], has_failed: b
     """The verdict on a recording in words, which is then saved; nothing where it is accepted, unless its test has failed by itself."""
     one.lines = one.recording.lines()
     try:
-        report = one.recording.judge()
+        report = one.recording.judge(weak=one.weak)
         one.warnings = report["warnings"]
     except Exception as why:  # whatever it is, it is an error of this test alone
         told = f"The recording was not judged: {why}"
     else:
-        if report["verdict"] == "accepted" and not has_failed:
+        is_passing = report["verdict"] == "accepted" or one.weak and report.get("weak") is True
+        if is_passing and not has_failed:
             return ""
-        told = explained(one.recording, report["verdict"])
+        told = explained(one, report["verdict"], is_passing)
     return f"{told}\n\n{saved(item, one.recording, number)}"
 
 
-def explained(recording: Recording, verdict: str) -> str:
+def explained(one: Judged, verdict: str, is_passing: bool) -> str:
     try:
-        return recording.explain().rstrip("\n")
+        return one.recording.explain(weak=one.weak).rstrip("\n")
     except Exception as why:
-        is_so = "accepted" if verdict == "accepted" else f"not accepted: {verdict}"
+        is_so = "accepted" if verdict == "accepted" else f"{verdict}, and weak holds" if is_passing else f"not accepted: {verdict}"
         return f"The recording is {is_so}. There is no explanation: {why}"
 
 

@@ -59,8 +59,13 @@ static void show(const char *text) {
     puts("ok");
 }
 
-static void explain(struct domepeeler *d) {
-    char *words = domepeeler_explain(d, NULL);
+static void weak(struct domepeeler *d) {
+    if (domepeeler_passes_weak(d, NULL)) puts("passes");
+    else printf("fails %s\n", domepeeler_why(d));
+}
+
+static void explain(struct domepeeler *d, int is_weak) {
+    char *words = is_weak ? domepeeler_explain_weak(d, NULL) : domepeeler_explain(d, NULL);
     if (words) show(words);
     else printf("failed %s\n", domepeeler_why(d));
     free(words);
@@ -117,7 +122,8 @@ int main(void) {
         if (is("id_of")) printf(domepeeler_id_of(d, words[1]) ? "ok %s\n" : "none\n", domepeeler_id_of(d, words[1]));
         if (is("save")) save(d);
         if (is("judge")) judge(d);
-        if (is("explain")) explain(d);
+        if (is("weak")) weak(d);
+        if (is("explain") || is("explain_weak")) explain(d, is("explain_weak"));
         if (is("text")) show(domepeeler_text(d));
     }
     domepeeler_free(d);

@@ -52,9 +52,21 @@
       ("judge" (let ((report (domepeeler-judge driver-recording)))
                  (setf (alist-get 'warnings report) (vconcat (alist-get 'warnings report))) ; or an empty list were null
                  (concat "report " (json-encode report))))
+      ("weak" (driver-weak (domepeeler-judge driver-recording nil t)))
+      ("explain_weak" (concat (replace-regexp-in-string "\\(.*\\)\n" "| \\1\n" (domepeeler-explain driver-recording nil t)) "ok"))
       ("explain" (concat (replace-regexp-in-string "\\(.*\\)\n" "| \\1\n" (domepeeler-explain driver-recording)) "ok"))
       ("untyped" (funcall (nth number driver-untyped)))
       (_ (concat (replace-regexp-in-string "^\\(.\\)" "| \\1" (domepeeler-text driver-recording)) "ok")))))
+
+(defun driver-weak (report)
+  "Whether REPORT passes where the weak list specification alone is asked for.
+If not, the first reason."
+  (let ((warnings (alist-get 'warnings report))
+        (verdict (cl-loop for key in '(verdict k at first again) when (alist-get key report) collect (format "%s" (alist-get key report)))))
+    (cond
+     (warnings (concat "fails " (car warnings)))
+     ((eq (alist-get 'weak report) t) "passes")
+     (t (concat "fails " (string-join verdict " "))))))
 
 (defun driver-answer (words)
   (condition-case why

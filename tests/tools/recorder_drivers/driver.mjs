@@ -94,6 +94,10 @@ async function call(words, changeId = null) {
       return shown(await recording.warnings())
     case "explain":
       return shown((await recording.explain()).split("\n").slice(0, -1))
+    case "explain_weak":
+      return shown((await recording.explain(null, { weak: true })).split("\n").slice(0, -1))
+    case "weak":
+      return weak(await recording.judge(null, { weak: true }))
     case "id_of":
       return recording.ids().has(words[1]) ? `ok ${recording.ids().get(words[1])}` : "none"
     case "save":
@@ -106,6 +110,13 @@ async function call(words, changeId = null) {
     default:
       return shown(recording.text().split("\n").slice(0, -1))
   }
+}
+
+// Whether it passes where the weak list specification alone is asked for, and if not, the first reason.
+function weak(report) {
+  if (report.weak && !report.warnings.length) return "passes"
+  const verdict = ["verdict", "k", "at", "first", "again"].filter((key) => key in report).map((key) => report[key]).join(" ")
+  return `fails ${[...report.warnings, verdict][0]}`
 }
 
 const shown = (lines) => lines.map((line) => `| ${line}\n`).join("") + "ok"

@@ -80,8 +80,10 @@ def call(recording: Recording, words: list, change_id: str = None) -> str:
         return "ok"
     if kind == "warnings":
         return shown(recording.warnings())
-    if kind == "explain":
-        return shown(recording.explain().split("\n")[:-1])
+    if kind in ("explain", "explain_weak"):
+        return shown(recording.explain(weak=kind == "explain_weak").split("\n")[:-1])
+    if kind == "weak":
+        return weak(recording.judge(weak=True))
     if kind == "id_of":
         return f"ok {recording.ids()[words[1]]}" if words[1] in recording.ids() else "none"
     if kind == "save":
@@ -90,6 +92,14 @@ def call(recording: Recording, words: list, change_id: str = None) -> str:
     if kind == "judge":
         return "report " + json.dumps(recording.judge())
     return shown(recording.text().splitlines())
+
+
+def weak(report: dict) -> str:
+    """Whether it passes where the weak list specification alone is asked for, and if not, the first reason."""
+    if report.get("weak") and not report["warnings"]:
+        return "passes"
+    verdict = " ".join(str(report[key]) for key in ("verdict", "k", "at", "first", "again") if key in report)
+    return f"fails {[*report['warnings'], verdict][0]}"
 
 
 def shown(lines: list) -> str:

@@ -24,6 +24,15 @@ fn shown(text: &str) -> String {
     text.lines().map(|line| format!("| {line}\n")).collect::<String>() + "ok"
 }
 
+/// Whether it passes where the weak list specification alone is asked for, and if not, the first reason.
+fn weak(recording: &Recording) -> String {
+    match (recording.verdict(), recording.warnings()) {
+        (Err(why), _) | (_, Err(why)) => format!("failed {why}"),
+        (Ok(verdict), Ok(warnings)) if verdict.is_weak() => warnings.first().map_or("passes".into(), |first| format!("fails {first}")),
+        (Ok(verdict), _) => format!("fails {verdict}"),
+    }
+}
+
 fn call(recording: &mut Recording, words: &[&str]) -> Result<String, Refused> {
     let done = |n: u32| format!("ok {n}");
     match words[0] {
@@ -53,7 +62,8 @@ fn call(recording: &mut Recording, words: &[&str]) -> Result<String, Refused> {
             Ok(warnings) => warnings.iter().map(|warning| format!("| {warning}\n")).collect::<String>() + "ok",
             Err(why) => format!("refused {why}"),
         }),
-        "explain" => Ok(match recording.explain() {
+        "weak" => Ok(weak(recording)),
+        "explain" | "explain_weak" => Ok(match if words[0] == "explain" { recording.explain() } else { recording.explain_weak() } {
             Ok(said) => shown(&said),
             Err(why) => format!("failed {why}"),
         }),
