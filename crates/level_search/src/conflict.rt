@@ -47,8 +47,8 @@ fn search_core<H: Threads + Sync, G: Gate>(
     let _ = graph.elements();
     let core = Core::of(alloc, graph)?;
     let _ = core.graph.elements();
-    let sources = feedback_vertex_set(alloc, &core.graph)?;
-    let way = Way::of(alloc, &core.graph, sources.len())?;
+    let way = Way::of(alloc, &core.graph)?;
+    let sources = feedback_vertex_set(alloc, &core.graph, &way)?;
     let gate = core.gate(gate);
     let searched = least_length(rt, alloc, &core.graph, &way, &sources, workers, &gate)?;
     let Searched { least, looked } = searched;
@@ -73,10 +73,10 @@ fn search_core<H: Threads + Sync, G: Gate>(
 /// has in this graph. Where no thread can be started, another runs its worker. The answer is the same for any
 /// number of workers, any gate and any order in which the workers come to run.
 ///
-/// All searches go over the lists, or all over one table, whichever costs less by a stated rule. Over the
-/// lists one looks at each place and element at most. The table has for each element of the core the set of
-/// those that some list shows before it, a bit each: n * n / 8 bytes for n elements, which are at most 8 bytes
-/// for each place. What making it takes is said at `BeforeTable::of`. A search keeps sets of n bits. It goes
+/// All searches go over the lists, where one looks at each place and element at most; or over one table, where
+/// that has no more words than there are places. The table has for each element of the core the set of those
+/// that some list shows before it, a bit each: n * n / 8 bytes for n elements, at most 8 bytes for each place.
+/// What making it takes is said at `BeforeTable::of`. A search keeps sets of n bits. It goes
 /// through the n / 64 words of such sets twice at its start, once for each element that it goes on from, and
 /// six times at most for each of its levels, and it takes a few steps more for each element that it reaches.
 /// Each worker takes memory linear in the core. All memory is taken before the first search.

@@ -38,8 +38,8 @@ pub fn least_cycle(alloc: Global, graph: &OrderGraph, k: u32) -> Result<Steps, M
     let _ = graph.elements();
     let core = Core::of(alloc, graph)?;
     let _ = core.graph.elements();
-    let sources = feedback_vertex_set(alloc, &core.graph)?;
-    let way = Way::of(alloc, &core.graph, sources.len())?;
+    let way = Way::of(alloc, &core.graph)?;
+    let sources = feedback_vertex_set(alloc, &core.graph, &way)?;
     least_cycle_from(alloc, &core.graph, &way, &sources, k)
 }
 

@@ -10,8 +10,8 @@
 //! - It starts from few elements. An order of the core is guessed, and the elements out of place in it are
 //!   found. Each cycle leads through one of these, whatever the guess was. That they are few is not claimed:
 //!   the fewest are hard to find.
-//! - Searches go over the lists, or over one table of bits, where a layer is a union of rows: whichever costs
-//!   less by a rule of places, elements and searches (`ways`). The table has 8 bytes for each place at most.
+//! - Searches go over the lists; or over one table of bits, where a layer is a union of rows, if that has no
+//!   more words than the lists have places (`ways`): at most 8 bytes for each.
 //! - Workers take all memory before they start, so no worker can run out of memory in a search. A worker
 //!   takes the next source by one addition, and waits for nobody.
 #![tactic(auto)]

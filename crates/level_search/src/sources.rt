@@ -4,14 +4,18 @@ ghost use Rattle.std.specs.Prelude.{◌≡◌, ◌<◌, ◌≤◌, ℕ, All, All
 ghost use Rattle.std.specs.Prelude.{slice_index};
 ghost use Rattle.order_graph.specs.Lists.{lists_of};
 ghost use Rattle.level_search.specs.Sources.{AreFewerRanks, IsRanked, MeetsCycles, Rises};
+ghost use Rattle.level_search.specs.Ways.{IsWay};
 
 mod greatest;
-mod peeling;
+mod list_peeling;
+mod table_peeling;
 
+use crate::ways::Way;
 use events::Memory;
+use list_peeling::order_by_lists;
 use order_graph::OrderGraph;
-use peeling::order_taken;
 use std::alloc::Global;
+use table_peeling::order_by_table;
 
 /// The rank of an element that is out of place, or that was not taken.
 pub const UNRANKED: u32 = u32::MAX;
@@ -25,7 +29,8 @@ const FEW: u32 = 64;
 /// guess, and it is cut down to one along which each list rises: an element is out of place where one stands
 /// before it in some list that comes later in the order, and is not out of place itself. It takes memory
 /// linear in the elements, the lists and the places.
-pub fn feedback_vertex_set(alloc: Global, graph: &OrderGraph) -> Result<Vec<u32>, Memory>
+pub fn feedback_vertex_set(alloc: Global, graph: &OrderGraph, way: &Way) -> Result<Vec<u32>, Memory>
+    requires { IsWay graph.now way.now }
     ensures known { IfOk result (λ v. All (λ s. s < length graph.now.elements) v.items) }
     ensures count { IfOk result (λ v. length v.items ≤ length graph.now.elements) }
     ensures met { IfOk result (λ v. MeetsCycles (lists_of graph.now) (length graph.now.elements) v.items) }
@@ -33,10 +38,20 @@ pub fn feedback_vertex_set(alloc: Global, graph: &OrderGraph) -> Result<Vec<u32>
     if graph.elements() <= FEW {
         return all_elements(alloc, graph);
     }
-    let order = order_taken(alloc, graph)?;
+    let order = order_taken(alloc, graph, way)?;
     let mut ranks = ranks_along(alloc, graph, &order)?;
     rise_along(graph, ranks.as_mut_slice());
     unranked(alloc, &ranks)
+}
+
+/// The elements in an order in which few should be out of place.
+fn order_taken(alloc: Global, graph: &OrderGraph, way: &Way) -> Result<Vec<u32>, Memory>
+    requires { IsWay graph.now way.now }
+{
+    match &way.table {
+        Some(table) => order_by_table(alloc, graph, table),
+        None => order_by_lists(alloc, graph),
+    }
 }
 
 /// The places of the elements in an order; no rank for those that the order lacks.

@@ -16,8 +16,6 @@ use list_search::{BoundSource, Scratch, search_by_number};
 use order_graph::{Looked, OrderGraph};
 use std::alloc::Global;
 
-/// So many words of a table are read in the time of a look at a place of a list.
-const WORDS_A_LOOK: u64 = 4;
 /// No cycle has fewer elements: none stands before itself.
 const SHORTEST: u32 = 2;
 
@@ -54,33 +52,21 @@ fn places_of(graph: &OrderGraph) -> u64 {
     places
 }
 
-/// Whether searches from so many elements cost less over a table, with the making of it. A search over the
-/// lists looks at each place and element at most; one over the table reads a word for 64 elements of each row
-/// at most, and to make the table takes some steps for each place, and a row for each list. A table is made
-/// only where it has no more words than there are places.
-fn is_table_cheaper(graph: &OrderGraph, searches: usize) -> bool {
-    let places = places_of(graph);
+/// Whether the table of a graph has no more words than the lists have places. Then a search reads no more of
+/// the table than it would of the lists.
+fn is_table_small(graph: &OrderGraph) -> bool {
     let elements = graph.elements() as u64;
-    let row = elements / 64 + 1;
-    let words = elements.saturating_mul(row);
-    if words > places {
-        return false;
-    }
-    let searches = searches as u64;
-    let made = places
-        .saturating_mul(WORDS_A_LOOK)
-        .saturating_add(row.saturating_mul(graph.lists() as u64));
-    let by_table = searches.saturating_mul(words).saturating_add(made);
-    let by_lists = searches.saturating_mul(places.saturating_add(elements));
-    by_table < by_lists.saturating_mul(WORDS_A_LOOK)
+    let words = elements.saturating_mul(elements / 64 + 1);
+    words <= places_of(graph)
 }
 
 impl Way {
-    /// The way by which searches from so many elements cost less: where a table is cheaper, it is made.
-    pub fn of(alloc: Global, graph: &OrderGraph, searches: usize) -> Result<Way, Memory>
+    /// The way of all searches of a graph: where its table is no larger than its lists, that is made. It has
+    /// at most 8 bytes for each place then.
+    pub fn of(alloc: Global, graph: &OrderGraph) -> Result<Way, Memory>
         ensures { IfOk result (IsWay graph.now) }
     {
-        if !is_table_cheaper(graph, searches) {
+        if !is_table_small(graph) {
             return Ok(Way { table: None });
         }
         let table = BeforeTable::of(alloc, graph)?;

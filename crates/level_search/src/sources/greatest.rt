@@ -71,7 +71,9 @@ impl Greatest {
     /// Gives a node the greater of what the two below it have; whether it had another.
     fn gather(&mut self, list: u32, node: u32) -> bool {
         let below = node.saturating_mul(2);
-        let value = self.node(list, below).max(self.node(list, below.saturating_add(1)));
+        let value = self
+            .node(list, below)
+            .max(self.node(list, below.saturating_add(1)));
         if self.node(list, node) == value {
             return false;
         }

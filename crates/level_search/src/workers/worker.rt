@@ -66,13 +66,7 @@ impl<'a> Worker<'a> {
 }
 
 /// Searches from one element, between the gate's calls, and offers the length that it finds.
-fn search_from<G: Gate>(
-    graph: &OrderGraph,
-    way: &Way,
-    source: u32,
-    gate: &G,
-    worker: &mut Worker,
-)
+fn search_from<G: Gate>(graph: &OrderGraph, way: &Way, source: u32, gate: &G, worker: &mut Worker)
     requires element { source < length graph.now.elements }
     requires way { IsWay graph.now way.now }
     requires fits { FitsRoom graph.now worker.old.room }
@@ -105,13 +99,7 @@ fn search_from<G: Gate>(
 }
 
 /// Claims places of the sources until none is left, and searches from the element at each.
-pub fn work<G: Gate>(
-    graph: &OrderGraph,
-    way: &Way,
-    sources: &[u32],
-    gate: &G,
-    worker: &mut Worker,
-)
+pub fn work<G: Gate>(graph: &OrderGraph, way: &Way, sources: &[u32], gate: &G, worker: &mut Worker)
     requires way { IsWay graph.now way.now }
     requires known { All (λ s. s < length graph.now.elements) sources.now }
     requires count { worker.old.seat.bound.sources ≡ length sources.now }

@@ -34,7 +34,7 @@ struct Peeling {
 /// Where no element is free, a walk goes back from the least that is left, each time to the greatest that
 /// stands before and is left, until it comes to an element that is on it: the least of this ring is taken.
 /// The walk before that one stays for the next time.
-pub fn order_taken(alloc: Global, graph: &OrderGraph) -> Result<Vec<u32>, Memory> {
+pub fn order_by_lists(alloc: Global, graph: &OrderGraph) -> Result<Vec<u32>, Memory> {
     let mut peeling = Peeling::of(alloc, graph)?;
     let mut order = Vec::new(alloc);
     for _ in 0..graph.elements() {
@@ -165,7 +165,11 @@ impl Peeling {
 
     /// Puts an element at the end of the walk.
     fn walk_to(&mut self, x: u32) -> Result<(), Memory> {
-        put(&mut self.walked, x, self.walk.len().min(NONE as usize) as u32);
+        put(
+            &mut self.walked,
+            x,
+            self.walk.len().min(NONE as usize) as u32,
+        );
         self.walk.push(x)?;
         Ok(())
     }
