@@ -387,8 +387,20 @@ else LACKING, and NAMED says what another program is named by."
             (unless (and (memq status '(0 1)) (looking-at begin))
               (domepeeler--ended program status lacking
                                  (with-temp-buffer (insert-file-contents errors) (string-trim (buffer-string)))))
+            (when (equal begin "{")
+              (domepeeler--check-agrees recording program status (buffer-string)))
             (buffer-string)))
       (delete-file errors))))
+
+(defun domepeeler--check-agrees (recording program status report)
+  "Refuse a REPORT of PROGRAM that can't be on RECORDING.
+It counts its operations, and one that accepts comes with STATUS 0, any
+other with 1."
+  (let ((operations (cl-reduce #'+ (domepeeler-recording-replicas recording) :key #'domepeeler--replica-operations)))
+    (when (string-match "\"verdict\":\"\\([a-z]+\\)\"" report)
+      (unless (and (eql status (if (equal (match-string 1 report) "accepted") 0 1))
+                   (string-match-p (format "\"operations\":%d," operations) report))
+        (error "%s ended with status %d and printed a report that is not on this recording" program status)))))
 
 (defun domepeeler--ended (program status lacking why)
   "Say how PROGRAM ended, which printed LACKING not, and WHY as its error.

@@ -1253,6 +1253,18 @@ static inline void domepeeler_refuse_end(struct domepeeler *d, const char *progr
     else domepeeler_fail(d, "%s ended with status %d: %.160s", program, WEXITSTATUS(status), why);
 }
 
+/* Whether what is printed may be a report on this recording, as JSON or text: it counts its operations, and one that accepts comes with
+ * status 0, any other with 1. What has no verdict is told of elsewhere. */
+static inline int domepeeler_agrees(struct domepeeler *d, const char *report, int status) {
+    char counted[40];
+    unsigned operations = 0;
+    int is_json = *report == '{', accepts = strstr(report, is_json ? "\"verdict\":\"accepted\"" : "\naccepted\n") != NULL;
+    if (!(is_json ? strrchr(report, '}') && strstr(report, "\"verdict\":\"") : strchr(report, '\n') != NULL)) return 1;
+    for (int i = 0; i < d->replicas; i++) operations += d->of[i].operations;
+    snprintf(counted, sizeof counted, is_json ? "\"operations\":%u," : " operations %u ", operations);
+    return status == !accepts && strstr(report, counted);
+}
+
 /* What the words print for this recording, with these files as the streams; NULL where that is not what is lacking then. */
 static inline char *domepeeler_answer(struct domepeeler *d, const char *const *words, const int *files, const char *named,
                                       const char *lacking, char first) {
@@ -1264,7 +1276,12 @@ static inline char *domepeeler_answer(struct domepeeler *d, const char *const *w
     if (why < 0) domepeeler_fail(d, "how %s ended was not learned: %s", words[0], strerror(errno));
     if (why) return NULL;
     char *printed = WIFEXITED(status) && WEXITSTATUS(status) < 2 ? domepeeler_whole(files[1]) : NULL;
-    if (printed && *printed && (!first || *printed == first)) return printed;
+    if (printed && *printed && (!first || *printed == first)) {
+        if (!first || domepeeler_agrees(d, printed, WEXITSTATUS(status))) return printed;
+        domepeeler_fail(d, "%s ended with status %d and printed a report that is not on this recording", words[0], WEXITSTATUS(status));
+        free(printed);
+        return NULL;
+    }
     free(printed);
     char *said = domepeeler_whole(files[2]);
     if (said) said[strcspn(said, "\n")] = 0;

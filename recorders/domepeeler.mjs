@@ -270,7 +270,10 @@ export class Recording {
     const { name, done } = await this.#ask(program, "DOMEPEELER", "domepeeler", "the program's", ["verdict", "--json", "-"])
     if ((done.status !== 0 && done.status !== 1) || !done.stdout.startsWith("{")) throw ended(name, done, "report")
     const report = reportIn(name, done.stdout)
-    const isPassing = report.verdict === "accepted" || (weak && report.weak === true)
+    const isAccepted = report.verdict === "accepted", isPassing = isAccepted || (weak && report.weak === true)
+    const operations = this.#replicas.reduce((sum, one) => sum + one.operations, 0)
+    if (isAccepted !== (done.status === 0) || report.operations !== operations)
+      throw new Error(`${name} ended with status ${done.status} and printed a report that is not on this recording`)
     return { ...report, warnings: isPassing ? await this.warnings() : [] }
   }
 

@@ -300,7 +300,10 @@ class Recording:
         if done.returncode not in (0, 1) or not done.stdout.startswith(b"{"):
             _ended(name, done, "report")
         report = _report_in(name, done.stdout)
-        is_passing = report.get("verdict") == "accepted" or (weak and report.get("weak") is True)
+        is_accepted, operations = report["verdict"] == "accepted", sum(one.operations for one in self._replicas)
+        is_passing = is_accepted or (weak and report.get("weak") is True)
+        if is_accepted != (done.returncode == 0) or report.get("operations") != operations:
+            raise RuntimeError(f"{name} ended with status {done.returncode} and printed a report that is not on this recording")
         report["warnings"] = self.warnings() if is_passing else []
         return report
 

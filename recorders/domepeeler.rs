@@ -495,10 +495,11 @@ impl Recording {
         if !done.stdout.starts_with(b"{") {
             return Err(ended(program, &done, "no report"));
         }
-        let mut report = printed(program, done)?;
+        let mut report = printed(program, &done)?;
         let end = report.rfind('}').filter(|_| report.contains("\"verdict\":\""));
         let end = end.ok_or_else(|| format!("{program} printed a report without a verdict"))?;
         let is_accepted = report.contains("\"verdict\":\"accepted\"");
+        self.check_agrees(program, &done, is_accepted, &report, "\"operations\":", ",")?;
         let warnings = if is_accepted { self.warnings()? } else { vec![] };
         let told: Vec<String> = warnings.iter().map(|warning| quoted(warning)).collect();
         report.insert_str(end, &format!(",\"warnings\":[{}]", told.join(",")));
@@ -515,6 +516,8 @@ impl Recording {
         let done = self.ask(program, &["verdict", "-"], "the program's path in DOMEPEELER", "no report")?;
         let read = Verdict::read(&String::from_utf8_lossy(&done.stdout));
         let mut verdict = read.ok_or_else(|| ended(program, &done, "no report"))?;
+        let (is_accepted, head) = (verdict.is_accepted(), printed(program, &done)?);
+        self.check_agrees(program, &done, is_accepted, head.lines().next().unwrap_or(""), " operations ", " ")?;
         if let Verdict::Accepted { warnings, .. } = &mut verdict {
             *warnings = self.warnings()?;
         }
@@ -594,7 +597,7 @@ impl Recording {
         if done.stdout.is_empty() {
             return Err(ended(explainer, &done, "no words"));
         }
-        let said = printed(explainer, done)?;
+        let said = printed(explainer, &done)?;
         let words: HashSet<&str> = said.split(|letter: char| !letter.is_ascii_alphanumeric()).collect();
         let ids = self.ids().into_iter().filter(|(name, _)| words.contains(name) && name.starts_with("long"));
         let long = section("Ids that were too long for a name", ids.map(|(name, id)| format!("{name}: {id}")));
@@ -677,6 +680,16 @@ impl Recording {
             (Some(status @ (0 | 1)), _) => Err(format!("{program} ended with status {status} before it had read the recording")),
             _ => Err(ended(program, &done, lacking)),
         }
+    }
+
+    /// A report counts the recording's operations, between these words; one that accepts comes with status 0, any other with 1.
+    fn check_agrees(&self, program: &str, done: &Output, accepts: bool, report: &str, before: &str, behind: &str) -> Result<(), String> {
+        let operations: u32 = self.replicas.iter().map(|own| own.operations).sum();
+        if accepts == done.status.success() && report.contains(&format!("{before}{operations}{behind}")) {
+            return Ok(());
+        }
+        let status = i32::from(!done.status.success());
+        Err(format!("{program} ended with status {status} and printed a report that is not on this recording"))
     }
 
     /// The receipts that the replica lacks, each of the last change of an author, and a read of its list.
@@ -1370,6 +1383,6 @@ fn signal(_: &Output) -> String {
     "a signal".to_string()
 }
 
-fn printed(program: &str, done: Output) -> Result<String, String> {
-    String::from_utf8(done.stdout).map_err(|why| format!("{program} printed no UTF-8: {why}"))
+fn printed(program: &str, done: &Output) -> Result<String, String> {
+    String::from_utf8(done.stdout.clone()).map_err(|why| format!("{program} printed no UTF-8: {why}"))
 }

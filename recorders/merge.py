@@ -8,9 +8,8 @@ same logs have the same report.
 Beside a log may stand, in the file with `.lines` behind its name, how many lines were saved, and from where in your code each was
 recorded. A log that has fewer lines is warned of, and its places are left out. Beside TRACE such a file is left too: there the lines
 that are lost count, so that the tools warn of them."""
-from __future__ import annotations
-
 import argparse
+import contextlib
 import os
 import re
 import signal
@@ -19,6 +18,7 @@ import sys
 import traceback
 from pathlib import Path
 
+OLDEST = 3, 9  # Python that is tried
 SIDE = ".lines"  # the end of the name of a file beside a log or a trace
 NOTE = re.compile(rb"note .+")  # a line there: a word of the user's for the whole session
 LOG_MARK = b"log"  # a line there: the places are lines of a log, not of code
@@ -32,11 +32,16 @@ MOST_NOTES = 20  # as many as a recording takes
 RECEIPT = "recv [0-9]{1,7} [0-9]{1,7}"
 ENTRIES = {"trace 1": re.compile(f"[0-9]+ ({RECEIPT}|(ins|del|read) .*)", re.ASCII),
            "trace 2": re.compile(f"[0-9]+ ({RECEIPT}|(ins|del|read|view) .*)", re.ASCII)}
-STATUSES = "It ends with status 0, 1 where the logs can't be merged, and 2 where one can't be read or the trace can't be written."
+STATUSES = ("It ends with status 0, 1 where the logs can't be merged, 2 where one can't be read or the trace can't be written, and 3 where "
+            "memory ran out.")
 
 
 class Unmerged(ValueError):
     """The logs are not those of one session."""
+
+
+class Stopped(BaseException):
+    """A signal that stops the program."""
 
 
 def merge(texts: list) -> str:
@@ -184,9 +189,29 @@ def fail(status: int, words: str) -> None:
 
 def write(path: str, content: bytes) -> None:
     try:
-        Path(path).write_bytes(content)
+        if os.path.exists(path) and not os.path.isfile(path):  # a pipe, say
+            Path(path).write_bytes(content)
+        else:
+            write_whole(os.path.realpath(path), content)
     except OSError as why:
         fail(2, f"cannot write {path}: {why.strerror}")
+
+
+def write_whole(path: str, content: bytes) -> None:
+    """Writes a file that appears whole or not at all."""
+    mode = stat.S_IMODE(os.stat(path).st_mode) if os.path.exists(path) else None
+    if mode is not None and not os.access(path, os.W_OK):
+        raise PermissionError(13, "Permission denied")
+    beside = os.path.join(os.path.dirname(path), f".merge-{os.getpid()}")
+    try:
+        Path(beside).write_bytes(content)
+        if mode is not None:
+            os.chmod(beside, mode)
+        os.replace(beside, path)
+    except BaseException:
+        with contextlib.suppress(OSError):
+            os.remove(beside)
+        raise
 
 
 def write_out(text: str) -> None:
@@ -210,15 +235,24 @@ def keep_apart(output: str, logs: list) -> None:
                     fail(2, f"cannot write {written}: it is {what}")
 
 
+def be_stopped(stop: int, _: object) -> None:
+    raise Stopped(stop)
+
+
 def main() -> None:
-    signal.signal(signal.SIGINT, signal.SIG_DFL)  # a user who stops it gets no traceback
+    for stop in signal.SIGINT, signal.SIGTERM, signal.SIGHUP:
+        if signal.getsignal(stop) != signal.SIG_IGN:
+            signal.signal(stop, be_stopped)
     if sys.stderr is None:
         sys.stderr = open(os.devnull, "w")
     parser = argparse.ArgumentParser(prog="merge.py", description=__doc__, epilog=STATUSES, allow_abbrev=False,
                                      formatter_class=argparse.RawDescriptionHelpFormatter)
     parser.add_argument("logs", metavar="LOG", nargs="+", help="a log; a file beside another one, as `LOG*` takes too, is passed over")
-    parser.add_argument("--output", metavar="TRACE", help="the file to write")
+    parser.add_argument("--output", metavar="TRACE", action="append", help="the file to write")
     asked = parser.parse_args()
+    if asked.output is not None and len(asked.output) > 1:
+        parser.error("argument --output: it is given twice")
+    asked.output = asked.output and asked.output[0]
     if asked.output is None and sys.stdout is None:
         fail(2, "cannot write: standard output is closed")
     paths = [path for path in asked.logs if not (path.endswith(SIDE) and path[:-len(SIDE)] in asked.logs)]
@@ -242,8 +276,16 @@ def main() -> None:
 
 
 if __name__ == "__main__":
+    if sys.version_info < OLDEST:
+        sys.stderr.write("merge.py: this needs Python %d.%d or later, and is run by %d.%d\n" % (OLDEST + sys.version_info[:2]))
+        sys.exit(2)
     try:
         main()
+    except Stopped as stopped:  # what was begun is taken away, and nothing said
+        signal.signal(stopped.args[0], signal.SIG_DFL)
+        os.kill(os.getpid(), stopped.args[0])
+    except MemoryError:
+        fail(3, "out of memory")
     except Exception:  # which nobody has thought of: no status that says something of the logs
         traceback.print_exc()
         sys.exit(2)

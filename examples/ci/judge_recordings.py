@@ -10,6 +10,7 @@ editor failed, 2 where the recordings or the setting are at fault. Words behind 
 import json
 import os
 import re
+import signal
 import subprocess
 import sys
 import traceback
@@ -20,15 +21,31 @@ OWN = re.compile(r"junit\.xml|annotations\.json|[1-9][0-9]*\.(html|trace|trace\.
 IN_MESSAGES, IN_PROPERTIES = "%\r\n", "%\r\n:,"  # marks that GitHub wants escaped
 WEAK, WEAK_ALONE = "--weak", "weak holds, strong doesn't"
 MOST_LEFT = 3  # names of other files that are told
+MOST_SHOWN = 120  # letters of what the tool printed otherwise
 
 
 class Failed(Exception):
     """What keeps it from judging."""
 
 
+class Stopped(BaseException):
+    """A signal that stops it."""
+
+
+def be_stopped(stop, _):
+    raise Stopped(stop)
+
+
 def ended(*words):
     try:
-        return subprocess.run([str(word) for word in words], capture_output=True, text=True, errors="surrogateescape")
+        with subprocess.Popen([str(word) for word in words], stdout=subprocess.PIPE, stderr=subprocess.PIPE, text=True,
+                              errors="surrogateescape") as tool:
+            try:
+                printed = tool.communicate()
+            except BaseException:
+                tool.terminate()  # it ends what it began
+                raise
+        return subprocess.CompletedProcess(words, tool.returncode, *printed)
     except OSError as error:
         raise Failed(f"{words[0]} can't be run: {error.strerror}. Is Domepeeler installed?") from None
 
@@ -81,6 +98,13 @@ def print_explanations(rows, told):
                                                     f"{' and others' * (more > 1)}" if more else "") + "\n", flush=True)
 
 
+def say(words):
+    try:
+        print(f"judge_recordings: {words}", file=sys.stderr)
+    except OSError:  # nobody can be told
+        pass
+
+
 def prepare():
     """Makes the folder, or takes away what an earlier run has left in it."""
     JUDGED.mkdir(exist_ok=True)
@@ -98,7 +122,11 @@ def judge(folder, options):
         raise Failed(f"{JUDGED} is where the pages go, so its traces are not judged")
     prepare()
     done = ended("domepeeler-judge-many", "--failing", "--json", "--junit", JUDGED / "junit.xml", *options, "--", folder)
-    rows = [json.loads(line) for line in done.stdout.splitlines()]
+    try:
+        rows = [json.loads(line) for line in done.stdout.splitlines()]
+    except ValueError:
+        printed = shown(done.stdout[:MOST_SHOWN])
+        raise Failed(f"domepeeler-judge-many ended with status {done.returncode}, and printed no recordings: {printed}") from None
     rows = [row for row in rows if JUDGED.resolve() not in Path(row["file"]).resolve().parents]
     goal = [WEAK] if WEAK in options else []
     explained = [explain(number, row, goal) for number, row in enumerate(rows, 1)]
@@ -117,19 +145,35 @@ def judge(folder, options):
 
 
 def main():
+    if sys.version_info < (3, 9):
+        sys.stderr.write("judge_recordings: this needs Python 3.9 or later, and is run by %d.%d\n" % sys.version_info[:2])
+        return 2
+    for stop in signal.SIGINT, signal.SIGTERM, signal.SIGHUP:
+        if signal.getsignal(stop) != signal.SIG_IGN:
+            signal.signal(stop, be_stopped)
     if len(sys.argv) < 2 or sys.argv[1].startswith("--"):
         print("usage: judge_recordings.py FOLDER [OPTION..]", file=sys.stderr)
         return 2
-    for stream in sys.stdout, sys.stderr:
-        stream.reconfigure(errors="surrogateescape")
     try:
-        return judge(sys.argv[1], sys.argv[2:])
+        for stream in sys.stdout, sys.stderr:
+            if stream is None:
+                raise Failed("standard output or standard error is closed")
+            stream.reconfigure(errors="surrogateescape")
+        status = judge(sys.argv[1], sys.argv[2:])
+        sys.stdout.flush()
+        return status
     except Failed as error:
-        print(f"judge_recordings: {error}", file=sys.stderr)
+        say(error)
+    except BrokenPipeError:  # the reader has enough
+        os.dup2(os.open(os.devnull, os.O_WRONLY), sys.stdout.fileno())
     except OSError as error:
-        print(f"judge_recordings: cannot write {error.filename}: {error.strerror}", file=sys.stderr)
+        say(f"cannot write {error.filename or 'what is told'}: {error.strerror}")
+        os.dup2(os.open(os.devnull, os.O_WRONLY), sys.stdout.fileno())
+    except Stopped as stopped:
+        signal.signal(stopped.args[0], signal.SIG_DFL)
+        os.kill(os.getpid(), stopped.args[0])
     except Exception:  # which nobody has thought of: no verdict
-        traceback.print_exc()
+        say(f"a fault of this script, so nothing is judged:\n{traceback.format_exc()}")
     return 2
 
 

@@ -16,10 +16,8 @@ Prints, for each kind of session, how many were tried, how large they were, and 
 some were not accepted it makes the shortest of each verdict smaller, as long as the verdict stays, and prints that trace;
 with --keep it writes these traces into the folder, and of each kind the accepted one with most receipts as it is. By
 default it runs within a minute, with Debian's cargo, whose build of crdts is slower, in a minute and a half. It ends with
-status 0 where sessions were judged, and 2 where none gave an answer, or something else is wrong: so where a COMMAND
-does not answer a session with its trace, which is then made smaller and printed."""
-from __future__ import annotations
-
+status 0 where all sessions are accepted, 1 where some are not, and 2 where one gave no answer, or something else is wrong:
+so where a COMMAND does not answer a session with its trace, which is then made smaller and printed."""
 import argparse
 import os
 import random
@@ -33,9 +31,13 @@ import tempfile
 import threading
 import traceback
 from collections import Counter
-from concurrent.futures import ThreadPoolExecutor
+from concurrent.futures import FIRST_EXCEPTION, ThreadPoolExecutor, wait
 from pathlib import Path
-from typing import BinaryIO, Callable, NoReturn
+from typing import BinaryIO, Callable, NoReturn, Optional
+
+if sys.version_info < (3, 9):
+    sys.stderr.write("record.py: this needs Python 3.9 or later, and is run by %d.%d\n" % sys.version_info[:2])
+    sys.exit(2)
 
 import sessions
 from sessions import Plan, Session, smaller
@@ -46,6 +48,8 @@ LINE_FAULT = re.compile(rb"finder: line ([0-9]+): (.*)\n")
 COMMANDS = {"cargo": "cargo", "emacs-nox": "emacs", "gcc": "gcc", "nodejs": "node", "pkg-config": "pkg-config"}
 UNEQUAL = "accepted, unequal"  # of a whole session: in the end its replicas show different lists
 JUDGES = 3  # how many programs run at the same time
+SECONDS = 0.2  # between two looks for a signal
+STOPS = [signal.SIGINT, signal.SIGTERM, signal.SIGHUP]
 MOST_LINE, MOST_BYTES = 1 << 18, 1 << 24  # of an answer; those of right engines have two megabytes at most
 MOST_SHOWN = 60  # letters of a faulty line
 NODE = {"NODE_PATH": "/usr/share/nodejs"}
@@ -54,9 +58,32 @@ ALL = [*SMALL, sessions.LARGE_PEERS, sessions.LARGE_STAR, sessions.LARGE_MIDDLE]
 SERVER = [sessions.SMALL_STAR, sessions.MIDDLING_STAR, sessions.LARGE_STAR]
 
 
+def printable(text: str) -> str:
+    """A name, or what an engine says, for a message: what can't be printed stands as `\\x1b` and the like."""
+    return "".join(letter if letter.isprintable() else f"\\x{ord(letter) - 0xdc00:02x}"
+                   if "\udc80" <= letter <= "\udcff" else ascii(letter)[1:-1]
+                   for letter in text)
+
+
 def fail(words: str) -> NoReturn:
-    print(f"record.py: {words}", file=sys.stderr)
+    try:
+        print(f"record.py: {printable(words)}", file=sys.stderr)
+    except OSError:  # nobody can be told
+        os.dup2(os.open(os.devnull, os.O_WRONLY), sys.stderr.fileno())
     sys.exit(2)
+
+
+class Stopped(BaseException):
+    """A signal that stops it, and the programs that judge meanwhile."""
+
+    by, judging = 0, set()
+
+
+def be_stopped(stop: int, _: object) -> None:
+    Stopped.by = stop
+    for process in list(Stopped.judging):
+        process.kill()
+    raise Stopped(stop)
 
 
 class NoAnswer(Exception):
@@ -134,6 +161,7 @@ ENGINES = {
 }
 
 
+BEGIN = 60  # seconds in which a module of one's own is loaded
 OWN_COUNT = 300  # small sessions of each kind of an engine of one's own
 
 
@@ -161,9 +189,13 @@ def command_of(word: str) -> list:
 
 def module_engine(word: str) -> Engine:
     module = os.path.abspath(word)
-    tried = subprocess.run([sys.executable, HERE / "own_engine.py", module], stdin=subprocess.DEVNULL, capture_output=True, text=True)
+    try:
+        tried = subprocess.run([sys.executable, HERE / "own_engine.py", module], stdin=subprocess.DEVNULL, capture_output=True, text=True,
+                               errors="surrogateescape", timeout=BEGIN)
+    except subprocess.TimeoutExpired:
+        fail(f"{word} was not loaded within {BEGIN} seconds")
     if tried.returncode:
-        fail(tried.stderr.strip().splitlines()[-1])
+        fail((tried.stderr.strip().splitlines() or [f"{word} ended with status {tried.returncode}"])[-1])
     return Engine([], [sys.executable, "{here}/own_engine.py", module.replace("{", "{{").replace("}", "}}")], ALL, OWN_COUNT)
 
 
@@ -191,7 +223,7 @@ class Driver:
         self.engine, self.words, self.said, self.process = engine, engine.prepare(folder), folder / "said", None
         self.late = self.was_late = False  # this one, one of those before
 
-    def trace(self, plan: str) -> str | None:
+    def trace(self, plan: str) -> Optional[str]:
         """The recording of a plan. Where the engine stopped: none, or an error where it must answer."""
         try:
             return self.answer(plan.encode())
@@ -204,8 +236,10 @@ class Driver:
         self.start()
         feeding = threading.Thread(target=feed, args=(self.process.stdin.fileno(), plan))
         late = threading.Timer(self.engine.seconds, self.stop)
+        signal.pthread_sigmask(signal.SIG_BLOCK, STOPS)  # which these threads would keep
         feeding.start()
         late.start()
+        signal.pthread_sigmask(signal.SIG_UNBLOCK, STOPS)
         try:
             lines = answer_lines(self.process.stdout)
         finally:
@@ -302,11 +336,13 @@ def shown(line: bytes) -> str:
     return f"`{text[:MOST_SHOWN]}{'..' if len(text) > MOST_SHOWN else ''}`{half}"
 
 
-def verdict(program: str, trace: str | None, plan: Plan) -> str:
+def verdict(program: str, trace: Optional[str], plan: Plan) -> str:
     """What the program says, in its own word, with k."""
     if trace is None:
         return STOPPED
-    done = subprocess.run([program, "verdict", "--workers", "1", "-"], input=trace.encode(), capture_output=True)
+    done = judged(program, trace)
+    if Stopped.by:
+        return STOPPED
     fault = LINE_FAULT.fullmatch(done.stderr)
     if done.returncode == 2 and fault:
         line = trace.encode().splitlines(keepends=True)[int(fault[1]) - 1:int(fault[1])]
@@ -314,9 +350,22 @@ def verdict(program: str, trace: str | None, plan: Plan) -> str:
         raise NoAnswer(NONSENSE, f"its answer is no trace: line {int(fault[1])}{said}: {fault[2].decode()}")
     word, *rest = (done.stdout.decode(errors="replace").split("\n") + [""])[1].split(" ")
     if done.returncode not in (0, 1) or (word == "accepted") != (done.returncode == 0):
-        fail(f"{program} ended with status {done.returncode}, and with no verdict that agrees: {done.stderr.decode(errors='replace').strip()}")
+        said = done.stderr.decode(errors="replace").strip()
+        fail(f"{program} ended with status {done.returncode}, and with no verdict that agrees: {said}")
     check_is_of(plan, trace)
     return f"{word} {rest[0]}" if word == "refused" else word
+
+
+def judged(program: str, trace: str) -> subprocess.CompletedProcess:
+    """How the program ends that judges a trace; a signal that stops this one ends it too."""
+    with subprocess.Popen([program, "verdict", "--workers", "1", "-"], stdin=subprocess.PIPE, stdout=subprocess.PIPE,
+                          stderr=subprocess.PIPE) as process:
+        Stopped.judging.add(process)
+        if Stopped.by:  # meanwhile: nobody else ends this one
+            process.kill()
+        printed, errors = process.communicate(trace.encode())
+    Stopped.judging.discard(process)
+    return subprocess.CompletedProcess(process.args, process.returncode, printed, errors)
 
 
 def check_is_of(plan: Plan, trace: str) -> None:
@@ -366,14 +415,21 @@ def smallest(driver: Driver, program: str, session: Session, wanted: str) -> Ses
     return session
 
 
-def tried(kind: sessions.Kind, count: int, rnd: random.Random, driver: Driver, program: str) -> dict:
-    """Records so many sessions of a kind and prints what came out; answers the accepted one with most receipts, and of
-    each other verdict the shortest."""
+def tried(kind: sessions.Kind, count: int, rnd: random.Random, driver: Driver, program: str) -> tuple:
+    """Records so many sessions of a kind and prints what came out; answers the accepted one with most receipts and of
+    each other verdict the shortest, by verdict, and how many gave no answer."""
     found = [sessions.session(kind, rnd) for _ in range(count)]
     plans = [Plan(one) for one in found]
     traces = [of_session(plan.session, driver.trace, plan.text()) for plan in plans]
     with ThreadPoolExecutor(JUDGES) as pool:
-        verdicts = list(pool.map(lambda trace, plan: of_session(plan.session, verdict, program, trace, plan), traces, plans))
+        try:
+            waiting = [pool.submit(of_session, plan.session, verdict, program, trace, plan) for trace, plan in zip(traces, plans)]
+            while wait(waiting, SECONDS, FIRST_EXCEPTION).not_done and not any(one.done() and one.exception() for one in waiting):
+                pass  # a signal that another thread has got is heard now
+            verdicts = [one.result() for one in waiting]
+        except BaseException:
+            pool.shutdown(wait=False, cancel_futures=True)
+            raise
     verdicts = [UNEQUAL if word == "accepted" and kind.causal and is_unequal(trace) else word for word, trace in zip(verdicts, traces)]
     sizes = [len(operations(trace)) for trace in traces if trace]
     said = ", ".join(f"{word}: {times}" for word, times in sorted(Counter(verdicts).items()))
@@ -381,13 +437,13 @@ def tried(kind: sessions.Kind, count: int, rnd: random.Random, driver: Driver, p
     print(f"{kind.name}: {count} sessions, {between}: {said}", flush=True)
     if STOPPED in verdicts:
         words = f"none within {counted(driver.engine.seconds, 'second')}" if driver.was_late else driver.last_words() or "none"
-        print(f"the engine's last words: {words}", flush=True)
+        print(f"the engine's last words: {printable(words)}", flush=True)
     firsts = {}
     for one, word in sorted(zip(found, verdicts), key=lambda both: len(both[0].steps)):
         if word not in ("accepted", STOPPED):
             firsts.setdefault(word, one)
     accepted = [(trace.count(" recv "), place) for place, trace in enumerate(traces) if verdicts[place] == "accepted"]
-    return {**firsts, **({"accepted": found[max(accepted)[1]]} if accepted else {})}
+    return {**firsts, **({"accepted": found[max(accepted)[1]]} if accepted else {})}, verdicts.count(STOPPED)
 
 
 def of_session(session: Session, call: Callable, *given: object) -> str:
@@ -403,7 +459,10 @@ def check_is_domepeeler(program: str) -> None:
     """A program that does not answer its version as domepeeler does is another one."""
     if not shutil.which(program):
         fail(f"{program} is no program")
-    done = subprocess.run([program, "--version"], stdin=subprocess.DEVNULL, capture_output=True)
+    try:
+        done = subprocess.run([program, "--version"], stdin=subprocess.DEVNULL, capture_output=True)
+    except OSError as why:
+        fail(f"{program} can't be run: {why.strerror}")
     if done.returncode or not done.stdout.startswith(b"domepeeler "):
         fail(f"{program} is not domepeeler: asked for its version it ended with status {done.returncode}")
 
@@ -425,30 +484,38 @@ def main() -> None:
     parser.add_argument("--server", action="store_true", help="only sessions where all exchange goes through a server, the last replica")
     parser.add_argument("--seconds", type=number, help="after how many without an answer an engine is stopped")
     words = parser.parse_args()
+    if sys.stdout is None:
+        fail("cannot write: standard output is closed")
     check_is_domepeeler(words.program)
-    engine, answered = engine_of(words.engine), 0
+    engine, seen, unanswered = engine_of(words.engine), set(), 0
     engine.kinds, engine.seconds = SERVER if words.server else engine.kinds, words.seconds or engine.seconds
     with tempfile.TemporaryDirectory() as folder:
         driver = Driver(engine, Path(folder))
         try:
             for kind in engine.kinds:
-                answered += try_kind(words, kind, driver)
+                found, lost = try_kind(words, kind, driver)
+                unanswered += lost
+                seen |= found
         except NoAnswer as why:
             tell(words, driver, why)
         finally:
             driver.close()
-    if not answered:
+    if not seen:
         fail("no session gave an answer, so nothing was judged")
+    if unanswered:
+        fail(f"sessions that gave no answer, so were not judged: {unanswered}")
+    sys.exit(1 if seen != {"accepted"} else 0)
 
 
-def try_kind(words: argparse.Namespace, kind: sessions.Kind, driver: Driver) -> int:
-    """Records sessions of a kind, and shows the smallest of each verdict; answers how many verdicts there were."""
+def try_kind(words: argparse.Namespace, kind: sessions.Kind, driver: Driver) -> tuple:
+    """Records sessions of a kind, and shows the smallest of each verdict; answers which verdicts there were, and how many sessions gave no
+    answer."""
     count = max(1, (words.sessions or driver.engine.count) // kind.share)
-    firsts = tried(kind, count, random.Random(f"{words.seed} {kind.name}"), driver, words.program)
+    firsts, lost = tried(kind, count, random.Random(f"{words.seed} {kind.name}"), driver, words.program)
     for word, one in firsts.items():
         kept = one if word in ("accepted", UNEQUAL) else smallest(driver, words.program, one, word)
         show(words, kind, word, of_session(kept, driver.trace, Plan(kept).text()) or "")
-    return len(firsts)
+    return set(firsts), lost
 
 
 def show(words: argparse.Namespace, kind: sessions.Kind, verdict_word: str, trace: str) -> None:
@@ -462,9 +529,12 @@ def show(words: argparse.Namespace, kind: sessions.Kind, verdict_word: str, trac
 
 def keep(words: argparse.Namespace, what: str, ending: str, text: str) -> None:
     if words.keep:
-        words.keep.mkdir(parents=True, exist_ok=True)
         name = "_".join([engine_name(words.engine), *what.replace(",", "").replace(":", "").split()])
-        (words.keep / f"{name}.{ending}").write_text(text)
+        try:
+            words.keep.mkdir(parents=True, exist_ok=True)
+            (words.keep / f"{name}.{ending}").write_text(text)
+        except OSError as why:
+            fail(f"cannot write {why.filename}: {why.strerror}")
 
 
 def engine_name(word: str) -> str:
@@ -491,11 +561,19 @@ def tell(words: argparse.Namespace, driver: Driver, why: NoAnswer) -> NoReturn:
 
 
 if __name__ == "__main__":
+    for stop in STOPS:
+        if signal.getsignal(stop) != signal.SIG_IGN:
+            signal.signal(stop, be_stopped)
     try:
         main()
-    except BrokenPipeError:  # the reader has enough
+    except Stopped as stopped:  # the engine was ended, and nothing is said
+        signal.signal(stopped.args[0], signal.SIG_DFL)
+        os.kill(os.getpid(), stopped.args[0])
+    except Exception as why:
+        if not isinstance(why, OSError) or why.filename is not None:
+            traceback.print_exc()  # nobody has thought of it
+            sys.exit(2)
         os.dup2(os.open(os.devnull, os.O_WRONLY), sys.stdout.fileno())
-        sys.exit(2)
-    except Exception:  # which nobody has thought of
-        traceback.print_exc()
-        sys.exit(2)
+        if isinstance(why, BrokenPipeError):  # the reader has enough
+            sys.exit(2)
+        fail(f"cannot write: {why.strerror}")

@@ -9,7 +9,8 @@
 //     }))
 //
 // Where the recording is not accepted, or nothing was recorded, the test fails, and its error has the explanation and the path of the
-// saved trace. Where the test fails by itself, its diagnostics have them, of an accepted recording too. Where it passes, the trace that it
+// saved trace. What hooks record behind the body is judged too; what is recorded later still, as by a promise that nobody awaits, fails the
+// process. Where the test fails by itself, its diagnostics have them, of an accepted recording too. Where it passes, the trace that it
 // saved before is removed, and what the verdict may hide stands in its diagnostics. For a property of fast-check or another library, let
 // the property end with: await accepted(recording, "failed.trace")
 //
@@ -23,6 +24,16 @@ import { Recording } from "./domepeeler.mjs"
 const FOLDER = "failed_traces", MOST_LETTERS = 150
 const FIRST_LINES = 2 // of each trace: its version, and how many replicas there are
 const named = new Map() // by name of a file: how many tests of this process have had it
+const warned = new Set() // paths of properties of which a recording has hidden something
+const ended = new Map() // by recording: its test, and how many lines it had when it was judged
+
+process.on("exit", () => {
+  for (const [recording, { test, lines }] of ended) {
+    if (recording.lines() === lines) continue
+    console.error(`${test}: something was recorded when the test had ended, so it was not judged: is an await missing?`)
+    process.exitCode ||= 1
+  }
+})
 
 /** The recording is not accepted, or was not judged. */
 export class NotAccepted extends Error {
@@ -41,25 +52,35 @@ export function recorded(replicas, body, { folder = FOLDER, weak = false } = {})
     const test = context.fullName ?? context.name // with the suites' names where Node tells them
     const path = resolve(folder, fileName(test))
     const tell = (told) => `${test}: ${told}`.split("\n").forEach((line) => context.diagnostic(line)) // TAP shows each as one line
+    const judge = async () => {
+      const lines = recording.lines()
+      ended.delete(recording) // a test that fails has told enough
+      const { told, warnings } = await judged(recording, path, weak)
+      if (told) throw new NotAccepted(told)
+      if (lines === FIRST_LINES) throw new NotAccepted(warnings.join("\n"))
+      ended.set(recording, { test, lines })
+      warnings.forEach(tell)
+      for (const left of [path, `${path}.lines`]) await rm(left, { force: true }).catch(() => {}) // most often there is none
+    }
     try {
       await body(recording, context)
     } catch (why) {
       tell((await judged(recording, path, weak, true)).told)
       throw why
     }
-    const { told, warnings } = await judged(recording, path, weak)
-    if (told) throw new NotAccepted(told)
-    if (recording.lines() === FIRST_LINES) throw new NotAccepted(warnings.join("\n"))
-    warnings.forEach(tell)
-    for (const left of [path, `${path}.lines`]) await rm(left, { force: true }).catch(() => {}) // most often there is none
+    await judge()
+    context.after?.(() => recording.lines() === ended.get(recording).lines || judge()) // the last of the hooks
   }
 }
 
 /** A promise that is kept where the recording is accepted, or with `weak` where weak holds; else it is saved, and the error says what is
- * wrong with it. */
+ * wrong with it. Of the first one by this path that may hide something Node warns. */
 export async function accepted(recording, path, { weak = false } = {}) {
-  const { told } = await judged(recording, path, weak)
+  const { told, warnings } = await judged(recording, path, weak)
   if (told) throw new NotAccepted(told)
+  if (!warnings.length || warned.has(path)) return
+  warned.add(path)
+  process.emitWarning(`a recording of ${path} is accepted, and may hide something: ${warnings[0]}`)
 }
 
 // The verdict on a recording in words, which is then saved; nothing where it passes, unless its test has failed by itself. And of what a

@@ -6,6 +6,7 @@ import shutil
 import signal
 import subprocess
 import sys
+import time
 from pathlib import Path
 from typing import NamedTuple
 
@@ -110,6 +111,18 @@ class Tally:
         """Prints the counts and ends the script: with status 1 where something failed."""
         print(self.said())
         sys.exit(1 if self.failed else 0)
+
+
+def is_running(pid: str) -> bool:
+    """Whether a process does anything; one that has just been killed may not have been waited for yet."""
+    for _ in range(1000):
+        try:
+            if Path(f"/proc/{pid}/stat").read_text().rpartition(")")[2].split()[0] == "Z":
+                return False
+        except OSError:
+            return False
+        time.sleep(0.01)
+    return True
 
 
 def need(command: str, package: str) -> None:

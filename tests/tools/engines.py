@@ -174,7 +174,7 @@ def examples(tally: Tally, program: str, folder: str) -> None:
         kept = Path(folder, f"kept {name}")
         done = record(compiled(tally, folder, name, command, old, new), program, "--sessions", "10", "--keep", str(kept), *words)
         said = counted(done.stdout)
-        tally.check(f"{name}: the bug is found", done.returncode == 0 and list(said) == kinds
+        tally.check(f"{name}: the bug is found", done.returncode == 1 and list(said) == kinds
                     and all("refused 2: " in one for one in said.values()), done)
         small = kept / f"{Path(name).suffix[1:]}_planted_{kinds[0].replace(',', '').replace(' ', '_')}_refused_2.trace"
         text = small.read_text() if small.exists() else ""
@@ -209,7 +209,7 @@ def servers(tally: Tally, program: str, folder: str) -> None:
     alone.write_text(ALONE)
     done = record(f"{sys.executable} {alone}", program, "--sessions", "5")
     said = counted(done.stdout)
-    tally.check("unequal: is no pass", done.returncode == 0 and list(said) == KINDS
+    tally.check("unequal: is no pass", done.returncode == 1 and list(said) == KINDS
                 and all("accepted, unequal: " in one for one in said.values())
                 and "\nall was exchanged, and the replicas end with different lists: " in done.stdout, done.stdout[:2000])
 
@@ -279,8 +279,9 @@ def prosemirror(tally: Tally, program: str) -> None:
         told = played(CONFIRMED, variables)
         tally.check("ProseMirror: text that was confirmed stays", told.endswith("\n1 recv 0 2\n1 read : a b\nend\n"), told)
         done = record("prosemirror", program, "--sessions", "10")
-        tally.check("ProseMirror: by record.py", done.returncode == 0 and not done.stderr
-                    and list(counted(done.stdout)) == SERVER_KINDS, done)
+        said = counted(done.stdout)
+        is_right = all(re.fullmatch(r"accepted: \d+", one) for one in said.values())
+        tally.check("ProseMirror: by record.py", done.returncode == (0 if is_right else 1) and not done.stderr and list(said) == SERVER_KINDS, done)
 
 
 def played(plan: str, variables: dict) -> str:

@@ -3,14 +3,17 @@
 traces; and the way there from a plain test of Yjs, and from an engine of one's own.
 
 The words are compared with lines that were written by hand. Each small trace is judged again by the program."""
+import gzip
 import json
 import os
 import random
 import re
 import shutil
+import signal
 import subprocess
 import sys
 import tempfile
+import time
 import xml.etree.ElementTree as ElementTree
 from collections import Counter
 from concurrent.futures import ThreadPoolExecutor
@@ -19,7 +22,7 @@ from pathlib import Path
 ROOT = Path(__file__).resolve().parents[2]
 sys.path.insert(0, str(ROOT / "tests"))
 from reference.traces import has_view, written  # noqa: E402
-from shared.program import Ended, Tally, program_of, run  # noqa: E402
+from shared.program import Ended, Tally, is_running, program_of, run  # noqa: E402
 from shared.sessions import session, with_fault  # noqa: E402
 from shared.traces import trace as long_trace  # noqa: E402
 
@@ -439,6 +442,7 @@ NO_TRACES = [
     (b"cert 1\naccepted\norder :\n", "the file is a certificate, as `cert` writes it: give the trace that it is of"),
     (b"\x89PNG\r\n\x1a\n\0\0\0\rIHDR", "the file is binary, and a trace is lines of ASCII"),
     (b"\x7fELF\x02\x01\x01\0\0\0", "the file is binary, and a trace is lines of ASCII"),
+    (gzip.compress(b"trace 1\nreplicas 1\n"), "the file is compressed: unpack it first"),
 ]
 
 # What another program does, as a shell says it, and how it is told that it ended.
@@ -1080,7 +1084,7 @@ def from_own_engine(tally: Tally, program: str, folder: str) -> None:
     mine.write_text(OWN_ENGINE)
     done = record(mine, "--keep", str(kept))
     traces = sorted(kept.glob("mine {0}_*_refused_2.trace"))
-    tally.check("own engine: recorded, judged and kept", done.returncode == 0 and not done.stderr and len(traces) > 1, done)
+    tally.check("own engine: recorded, judged and kept", done.returncode == 1 and not done.stderr and len(traces) > 1, done)
     ended = [explain(program, [str(path)]) for path in traces]
     tally.check("own engine: explained", all(got.out.startswith(b"refused 2: ") and got.status == 1 for got in ended)
                 and any(b"Look at the order of concurrent inserts: " in got.out for got in ended), ended)
@@ -1108,6 +1112,13 @@ def from_no_answer(tally: Tally, program: str, folder: str) -> None:
     mine = Path(folder, "mine.py")
     mine.write_text("class Engine:\n    def __init__(self, replica):\n        raise SystemExit(5)\n    names = insert = delete = apply = len\n")
     done = subprocess.run([RECORD, str(mine), program, "--sessions", "1"], capture_output=True, text=True)
+    some = Path(folder, "some.py")
+    some.write_text("import os\nfrom list_crdt import ListCrdt\n\nclass Engine(ListCrdt):\n    def delete(self, name):\n"
+                    "        os._exit(5) if len(self.names()) == 1 else None\n        return super().delete(name)\n")
+    ended = subprocess.run([RECORD, str(some), program, "--sessions", "20"], capture_output=True, text=True)
+    stopped = sum(map(int, re.findall(r"no answer of the engine: (\d+)", ended.stdout)))
+    tally.check("record.py: some gave no answer", ended.returncode == 2 and stopped > 0 and "accepted: " in ended.stdout and
+                ended.stderr == f"record.py: sessions that gave no answer, so were not judged: {stopped}\n", ended)
     tally.check("record.py: no answer", done.returncode == 2 and done.stderr == "record.py: no session gave an answer, so nothing was judged\n"
                 and "accepted" not in done.stdout, done)
     for words, wanted in ((["list_crdt", "/bin/true"], "record.py: /bin/true is not domepeeler: asked for its version it ended with status 0\n"),
@@ -1116,6 +1127,99 @@ def from_no_answer(tally: Tally, program: str, folder: str) -> None:
                           (["list_crdt", program, "--sessions", "-3"], "record.py: error: argument --sessions: -3 is no number from 1 on\n")):
         done = subprocess.run([RECORD, *words], capture_output=True, text=True)
         tally.check(f"record.py: {words}", done.returncode == 2 and done.stderr.endswith(wanted) and not done.stdout and "Traceback" not in done.stderr, done)
+
+
+def record_ended(tally: Tally, program: str, folder: str) -> None:
+    """A signal ends `record.py`, the engine and what judges, and it says nothing; a full disk and closed streams are told of."""
+    slow, engine, begun = Path(folder, "slow"), Path(folder, "slow_engine.py"), Path(folder, "begun")
+    slow.write_text(f"#!/bin/sh\n[ \"$1\" != --version ] || exec echo domepeeler 0.2.0\necho $$ >> '{begun}'\nexec sleep 60\n")
+    slow.chmod(0o755)
+    engine.write_text("import os, time\n\nclass Engine:\n    def __init__(self, replica):\n"
+                      f"        open({str(begun)!r}, 'a').write(f'{{os.getpid()}}\\n')\n        time.sleep(60)\n"
+                      "    names = insert = delete = apply = len\n")
+    temporary = Path(folder, "temporary")
+    temporary.mkdir()
+    for words, what in (["list_crdt", str(slow)], "the program"), ([str(engine), program], "the engine"):
+        for stop in signal.SIGINT, signal.SIGTERM, signal.SIGHUP:
+            begun.write_text("")
+            running = subprocess.Popen([RECORD, *words, "--sessions", "20"], stdout=subprocess.PIPE, stderr=subprocess.PIPE,
+                                       env=os.environ | {"TMPDIR": str(temporary)},
+                                       preexec_fn=lambda: signal.signal(stop, signal.SIG_DFL))  # which a job in the background may ignore
+            until = time.monotonic() + 60
+            while not begun.read_text().endswith("\n") and time.monotonic() < until:
+                time.sleep(0.01)
+            running.send_signal(stop)
+            out, err = running.communicate(timeout=30)
+            tally.check(f"record.py: {stop.name} while {what} works", (running.returncode, out, err) == (-stop, b"", b""),
+                        (running.returncode, out, err))
+            left = [pid for pid in begun.read_text().split() if is_running(pid)]
+            tally.check(f"record.py: {stop.name} while {what} works: nothing is left", not left and not os.listdir(temporary),
+                        (left, os.listdir(temporary)))
+    for name, told in ("x\n::error::y", "x\\n::error::y"), ("\x1b[31m", "\\x1b[31m"), ("\udcff", "\\xff"):
+        done = subprocess.run([RECORD, name, program], capture_output=True, text=True)
+        tally.check(f"record.py: {told}", done.returncode == 2 and done.stderr.startswith(f"record.py: {told} is none of "), done)
+        done = subprocess.run([RECORD, "list_crdt", name], capture_output=True, text=True)
+        tally.check(f"record.py: no program {told}", (done.returncode, done.stderr) == (2, f"record.py: {told} is no program\n"), done)
+    engine.write_text("import sys\n\nclass Engine:\n    def __init__(self, replica):\n        sys.exit('\\x1b[31mno')\n"
+                      "    names = insert = delete = apply = len\n")
+    done = subprocess.run([RECORD, str(engine), program, "--sessions", "1"], capture_output=True, text=True)
+    tally.check("record.py: an engine's last words", done.returncode == 2 and "the engine's last words: \\x1b[31mno\n" in done.stdout
+                and "\x1b" not in done.stdout, done)
+    engine.write_text("import os\nos._exit(7)\n")
+    done = subprocess.run([RECORD, str(engine), program], capture_output=True, text=True)
+    tally.check("record.py: a module that ends and says nothing",
+                (done.returncode, done.stderr) == (2, f"record.py: {engine} ended with status 7\n"), done)
+    slow.write_text("")
+    done = subprocess.run([RECORD, "list_crdt", str(slow)], capture_output=True, text=True)
+    tally.check("record.py: an empty program",
+                (done.returncode, done.stderr) == (2, f"record.py: {slow} can't be run: Exec format error\n"), done)
+    usual = [RECORD, "list_crdt", program, "--sessions", "1"]
+    reader, closed = os.pipe()
+    os.close(reader)
+    with open("/dev/full", "wb") as full:
+        for out, told in (full, b"record.py: cannot write: No space left on device\n"), (closed, b""):
+            done = subprocess.run(usual, stdout=out, stderr=subprocess.PIPE)
+            tally.check(f"record.py: {told or 'a closed pipe'}", (done.returncode, done.stderr) == (2, told), done)
+    os.close(closed)
+    done = subprocess.run(["sh", "-c", 'exec "$@" >&-', "sh", *usual], capture_output=True)
+    tally.check("record.py: no standard output",
+                (done.returncode, done.stderr) == (2, b"record.py: cannot write: standard output is closed\n"), done)
+    done = subprocess.run([*usual, "--keep", f"{slow}/kept"], capture_output=True, text=True)
+    tally.check("record.py: a folder that can't be made",
+                (done.returncode, done.stderr) == (2, f"record.py: cannot write {slow}/kept: Not a directory\n"), done)
+
+
+def arguments(tally: Tally, program: str, folder: str) -> None:
+    """Wrong words are no verdict, and nothing is judged or written."""
+    Path(folder, "right.trace").write_text(text_of(1, "0 ins a 0 : a"))
+    for words, told in (([], "the following arguments are required: TRACE"),
+                        (["right.trace", "right.trace"], "unrecognized arguments: right.trace"),
+                        (["--page", "right.trace"], "unrecognized arguments: --page"),
+                        (["--html"], "argument --html: expected one argument"),
+                        (["--language", "cobol", "right.trace"], "argument --language: invalid choice: 'cobol'"),
+                        (["--delivered", "6", "right.trace"], "argument --delivered: 6 is no range of lines, as 41-46"),
+                        (["--html", "1", "--html", "2", "right.trace"], "argument --html: it is given twice"),
+                        (["--small", "1", "--small=1", "right.trace"], "argument --small: it is given twice")):
+        done = subprocess.run([EXPLAIN, "--program", program, *words], cwd=folder, capture_output=True, text=True)
+        tally.check(f"arguments: {words}", done.returncode == 2 and not done.stdout and f"domepeeler-explain: error: {told}" in done.stderr
+                    and not Path(folder, "1").exists() and not Path(folder, "2").exists(), done)
+
+
+def drawn(tally: Tally, program: str) -> None:
+    """How `draw_cycle.py` ends where it has no picture: 1 is said of reports alone."""
+    draw = str(ROOT / "tools" / "draw_cycle.py")
+    report = run(program, ["verdict", "--json", str(ROOT / "examples" / "libinfinity_three_way_cycle.trace")]).out
+    accepted = run(program, ["verdict", "--json", "-"], text_of(1, "0 ins a 0 : a").encode()).out
+    no_report = b"draw_cycle.py: standard input is no report, as `verdict --json` prints it\n"
+    for text, status, told in ((accepted, 1, b"draw_cycle.py: the report has no cycle\n"), (b"", 2, no_report), (b"[]", 2, no_report),
+                               (b"\xff", 2, no_report), (b'{"verdict": "refused", "steps": [5]}', 2, b"draw_cycle.py: TypeError(")):
+        got = run(draw, [], text)
+        tally.check(f"draw_cycle.py: {text}", got.status == status and not got.out and got.err.startswith(told)
+                    and got.err.count(b"\n") == 1, got)
+    with open("/dev/full", "wb") as full:
+        got = run(draw, [], report, out=full)
+        tally.check("draw_cycle.py: a full disk", got.status == 2 and got.err == b"draw_cycle.py: [Errno 28] No space left on device\n",
+                    got)
 
 
 def planted_bugs(tally: Tally, program: str, folder: str) -> None:
@@ -1152,7 +1256,8 @@ def scripts_end(tally: Tally) -> None:
     """What nobody has thought of ends the scripts beside the tools with 2, since 1 is said of logs and Python's own."""
     with tempfile.TemporaryDirectory() as copy:
         shutil.copytree(ROOT / "recorders", copy, dirs_exist_ok=True)
-        for path, old, words in (("merge.py", "    paths = [path", ["log"]), ("engines/record.py", "    engine, answered = ", ["list_crdt", "PROGRAM"])):
+        for path, old, words in (("merge.py", "    paths = [path", ["log"]),
+                                 ("engines/record.py", "    engine, seen, unanswered = ", ["list_crdt", "PROGRAM"])):
             script = Path(copy, path)
             script.write_text(script.read_text().replace(old, f"    raise ValueError('not thought of')\n{old}").replace(
                 "    check_is_domepeeler(words.program)\n", ""))
@@ -1231,7 +1336,8 @@ def others(tally: Tally, folder: str) -> None:
 
 
 def contradicted(tally: Tally, folder: str) -> None:
-    """A program whose verdict can't be: the tool says that it can't explain it, shows the report, and takes its status."""
+    """A program whose verdict can't be: the tool says that it can't explain it, shows the report, and takes its status,
+    unless it accepts."""
     liar = Path(folder, "liar")
     trace = text_of(1, "0 ins a 0 : a|0 ins b 1 : a b").encode()
     steps = [{"from": "a", "to": "b", "shown": "0.2", "response": ["a", "b"]}, {"from": "b", "to": "a", "shown": "0.1", "response": ["a"]}]
@@ -1245,7 +1351,17 @@ def contradicted(tally: Tally, folder: str) -> None:
             tally.check("a contradiction: accepted, by another status", got.status == 2 and not got.out and b"agrees with its status" in got.err, got)
             liar.write_text(liar.read_text().replace("exit 1", "exit 0"))
             got = explain(str(liar), ["-"], trace)
-        tally.check(f"a contradiction: {lie['verdict']}", got.status == int(lie["verdict"] != "accepted") and not got.out and b"can't explain" in got.err, got)
+        if lie["verdict"] == "guessed":
+            liar.write_text(liar.read_text().replace("exit 1", "exit 0"))
+            passed = explain(str(liar), ["-"], trace)
+            tally.check("a contradiction: no known verdict, and status 0", passed.status == 2 and not passed.out
+                        and b"agrees with its status" in passed.err, passed)
+        tally.check(f"a contradiction: {lie['verdict']}", got.status == (2 if lie["verdict"] == "accepted" else 1) and not got.out and
+                    b"can't explain" in got.err, got)
+    for lie in {"verdict": "accepted"}, {"verdict": "accepted", "operations": 3, "order": ["a", "b"]}:
+        liar.write_text(f"#!/bin/sh\ncat > /dev/null\necho '{json.dumps(lie)}'\n")
+        told = f"domepeeler-explain: {liar} printed a report that is not on this trace: is it domepeeler?\n"
+        tally.same(f"a contradiction: {lie}", explain(str(liar), ["-"], trace), Ended(2, b"", told.encode()))
     shown = [{"from": "a", "to": "b", "shown": "1.1", "response": ["a", "b"]}, {"from": "b", "to": "a", "shown": "1.2", "response": ["b", "a"]}]
     lie = {"verdict": "refused", "k": 2, "operations": 4, "inserts": 2, "strong": False, "weak": False, "steps": shown}
     liar.write_text(f"#!/bin/sh\ncat > /dev/null\necho '{json.dumps(lie)}'\nexit 1\n")
@@ -1585,6 +1701,7 @@ def main() -> None:
     said_first(tally, program)
     names_of_examples(tally)
     scripts_end(tally)
+    drawn(tally, program)
     with tempfile.TemporaryDirectory() as folder:
         planted_bugs(tally, program, folder)
     with tempfile.TemporaryDirectory() as folder:
@@ -1595,6 +1712,8 @@ def main() -> None:
         from_yjs(tally, program, folder)
         from_own_engine(tally, program, folder)
         from_no_answer(tally, program, folder)
+        record_ended(tally, program, folder)
+        arguments(tally, program, folder)
         files(tally, program, folder)
         finding(tally, program, folder)
         weak(tally, program, folder)

@@ -2,7 +2,10 @@
 """judge_many.py PROGRAM: the table of `tools/judge_many`, its order, counts and statuses, its JSON lines, and its file in JUnit's form,
 and the script of `examples/ci` with the jobs that run it."""
 import ast
+import bz2
+import gzip
 import json
+import lzma
 import os
 import pty
 import random
@@ -19,11 +22,12 @@ from pathlib import Path
 ROOT = Path(__file__).resolve().parents[2]
 sys.path.insert(0, str(ROOT / "tests"))
 from reference import verdicts  # noqa: E402
-from shared.program import Ended, Tally, need, program_of, run  # noqa: E402
+from shared.program import Ended, Tally, is_running, need, program_of, run  # noqa: E402
 from shared.sessions import session  # noqa: E402
 
-sys.path.insert(0, str(ROOT / "recorders" / "engines"))
+sys.path[:0] = [str(ROOT / "recorders" / "engines"), str(ROOT / "tools")]
 import sessions as exchanged  # noqa: E402
+from explaining import judges  # noqa: E402
 from list_crdt import Group, play  # noqa: E402
 
 TOOL = str(ROOT / "tools" / "judge_many")
@@ -51,9 +55,13 @@ MESSAGES = {"lost.trace": ("contents", "contents 0.2: "), "-moved {#}.trace": ("
 
 # What another program does, as a shell says it, and what is said of the program and that.
 NO_REPORT = "{} printed no report that agrees with its status: is it domepeeler? It ended with status "
+OTHER_TRACE = "{} printed a report that is not on this trace: is it domepeeler?"
 OTHERS = [("echo hello", f"{NO_REPORT}0"), ("echo '[]'", f"{NO_REPORT}0"), ("echo '{\"a\": 1}'; exit 1", f"{NO_REPORT}1"),
           ("echo '{\"verdict\":\"accepted\"}'; exit 1", f"{NO_REPORT}1"), ("echo '{\"verdict\":\"contents\",\"at\":\"0.1\"}'; exit 0", f"{NO_REPORT}0"),
           ("printf '\\033[31musage\\n' >&2; exit 2", f"{NO_REPORT}2: \\x1b[31musage"),
+          ("echo '{\"verdict\":\"accepted\"}'; exit 0", OTHER_TRACE),
+          ("echo '{\"verdict\":\"accepted\",\"operations\":99}'; exit 0", OTHER_TRACE),
+          ("echo '{\"verdict\":\"great\"}'; exit 0", f"{NO_REPORT}0"),
           ("echo 'usage: other' >&2; exit 2", f"{NO_REPORT}2: usage: other"), ("kill -9 $$", "{} was ended by signal 9 (SIGKILL)")]
 # Programs that don't answer their version as domepeeler does, and what is said of them: nothing is judged.
 STRANGERS = [("echo 'GNU coreutils 9.1'", "it ended with status 0: GNU coreutils 9.1"), ("exit 3", "it ended with status 3"),
@@ -321,6 +329,16 @@ def errors(tally: Tally, program: str, folder: str) -> None:
     tally.same("no folder", judge(program, [missing]),
                Ended(2, b"", f"domepeeler-judge-many: cannot read {missing}: there is no such file or folder\n".encode()))
     tally.same("no program", judge(missing, [folder]), Ended(2, b"", f"domepeeler-judge-many: can't run {missing}, which --program names\n".encode()))
+    for words, told in ([], "the following arguments are required: DIR"), (["--fast", empty], "unrecognized arguments: --fast"), (
+            [empty, "--json", empty], f"unrecognized arguments: {empty}"), ([""], "cannot read : there is no such file or folder"):
+        got = judge(program, words)
+        tally.check(f"arguments: {words}", got.status == 2 and not got.out and got.err.endswith(f": {told}\n".encode()), got)
+    for words in (["--junit", f"{folder}/a.xml", "--junit", f"{folder}/b.xml"], ["--jobs", "2", "--jobs=3"],
+                  ["--program", program, "--program=x"]):
+        got = run(TOOL, [*words, folder])
+        tally.check(f"given twice: {words[0]}", got.status == 2 and not got.out
+                    and got.err.endswith(f": error: argument {words[0]}: it is given twice\n".encode())
+                    and not os.path.exists(f"{folder}/b.xml"), got)
     for jobs in "0", "-1", "2.5", "all", "":
         tally.same(f"jobs: {jobs!r}", judge(program, [f"--jobs={jobs}", folder]),
                    Ended(2, b"", f"domepeeler-judge-many: --jobs is a number from 1 on, not {jobs or 'nothing'}\n".encode()))
@@ -351,6 +369,17 @@ def elsewhere(tally: Tally, program: str, folder: str, other: str) -> None:
         rows = [json.loads(line) | {"seconds": 0} for line in done.stdout.decode().splitlines()]
         tally.check(f"{what}: the rows", rows == here and len(rows) == len(ROWS), (rows, done.stderr))
         tally.check(f"{what}: status 1", done.returncode == 1 and not done.stderr, done)
+    for path, status in ((f"{folder}/deep", 0), (f"{folder}/none", 1)):  # the command of the guide, for folders
+        shown = re.search(r"^    (parallel .*\n.*)", (ROOT / "docs" / "many.md").read_text(), re.MULTILINE)[1]
+        shown = shown.replace("/opt/domepeeler/bin/domepeeler-judge-many", f"{sys.executable} {TOOL} --program {program}")
+        shown = shown.replace("night/part1 night/part2", os.path.relpath(path, "/")).replace("night.jsonl", f"{other}/night.jsonl")
+        os.makedirs(f"{folder}/none", exist_ok=True)
+        done = subprocess.run(["sh", "-c", shown], cwd="/", env=os.environ | {"PARALLEL_SSH": str(stand_in), "HOME": other},
+                              capture_output=True, text=True)
+        rows = [json.loads(line) for line in Path(other, "night.jsonl").read_text().splitlines()]
+        tally.check(f"two machines, by folders: {path}", done.returncode == status
+                    and [row["verdict"] for row in rows] == ["accepted"] * (1 - status), done)
+    os.rmdir(f"{folder}/none")
     got = judge(program, ["--json", "--sshlogin", ":", folder])
     rows = [json.loads(line) | {"seconds": 0} for line in got.out.decode().splitlines()]
     tally.check("parallel on this machine: the rows", rows == here and got.status == 1 and not got.err, got)
@@ -634,6 +663,19 @@ def anywhere(tally: Tally, program: str, folder: str) -> None:
     tally.same("too long a name", judge(program, [long]), Ended(2, b"", f"domepeeler-judge-many: cannot read {long}: File name too long\n".encode()))
 
 
+def little_memory(tally: Tally, program: str, folder: str) -> None:
+    """Where memory is short, an accepted trace is no failure, and nothing is half told."""
+    write(folder, {"a.trace": "0 ins a 0 : a"})
+    for tool in TOOL, str(ROOT / "tools" / "explain"):
+        for kilobytes in 22_000, 28_000, 34_000, 1_000_000:
+            got = subprocess.run(["sh", "-c", f'ulimit -v {kilobytes}; exec "$@"', "sh", sys.executable, tool, "--program", program,
+                                  f"{folder}/a.trace"],
+                                 capture_output=True, text=True)
+            is_told = "accepted" in got.stdout if got.returncode == 0 else got.stderr.startswith(f"{name_of(tool)}: ")
+            is_told = is_told and got.returncode in (0, 2, 3)
+            tally.check(f"little memory: {name_of(tool)} in {kilobytes} KB", is_told and (kilobytes < 1_000_000 or not got.returncode), got)
+
+
 def which_traces(tally: Tally, program: str, folder: str, other: str) -> None:
     """Behind links, in each real folder once, and with the ending in any case; of several folders one without a trace is told of."""
     write(folder, {"a.trace": "0 ins a 0 : a", "deep/BAD.TRACE": "0 ins a 0 : a|0 read :"})
@@ -649,6 +691,63 @@ def which_traces(tally: Tally, program: str, folder: str, other: str) -> None:
     got = judge(program, [folder, f"{folder}/empty"])
     tally.same("which traces: an empty folder beside a full one", got,
                Ended(2, b"", f"domepeeler-judge-many: there is no *.trace file below {folder}/empty\n".encode()))
+
+
+AS_USERS = ["setpriv", "--bounding-set", "-dac_override,-dac_read_search"] if os.geteuid() == 0 else []  # who may not read everything
+
+
+def not_looked_at(tally: Tally, program: str, folder: str) -> None:
+    """Where there may be traces that can't be looked at, or are compressed, not all is well, though all others are accepted."""
+    write(folder, {"a.trace": "0 ins a 0 : a", "locked/deep/b.trace": "0 ins a 0 : a|0 read :", "unread/c.trace": "0 ins a 0 : a"})
+    Path(folder, "unread", "c.trace").chmod(0)
+    try:
+        for way, mode in (("listed", 0o444), ("closed", 0)):
+            Path(folder, "locked").chmod(mode)
+            done = subprocess.run([*AS_USERS, TOOL, "--program", program, f"{folder}/a.trace", f"{folder}/locked"], capture_output=True,
+                                  text=True)
+            place = f"{folder}/locked/deep" if mode else f"{folder}/locked"
+            tally.check(f"not looked at: a folder that is {way}", (done.returncode, done.stdout, done.stderr) == (
+                2, "", f"domepeeler-judge-many: cannot read {place}: Permission denied\n"), done)
+        os.mkdir(f"{folder}/linked")
+        shutil.copy(f"{folder}/a.trace", f"{folder}/linked")
+        os.symlink(f"{folder}/locked/deep", f"{folder}/linked/more")
+        done = subprocess.run([*AS_USERS, TOOL, "--program", program, f"{folder}/linked"], capture_output=True, text=True)
+        tally.check("not looked at: a link into such a folder", (done.returncode, done.stdout, done.stderr) == (
+            2, "", f"domepeeler-judge-many: cannot read {folder}/linked/more: Permission denied\n"), done)
+        done = subprocess.run([*AS_USERS, TOOL, "--program", program, "--json", f"{folder}/unread"], capture_output=True, text=True)
+        tally.check("not looked at: a file", done.returncode == 2
+                    and json.loads(done.stdout)["error"] == "cannot be read: Permission denied", done)
+    finally:
+        Path(folder, "locked").chmod(0o755)
+    packed = Path(folder, "packed")
+    packed.mkdir()
+    shutil.copy(f"{folder}/a.trace", packed)
+    for end, pack in ("gz", gzip.compress), ("bz2", bz2.compress), ("XZ", lzma.compress):
+        Path(packed, f"a.trace.{end}").write_bytes(pack(b"trace 1\nreplicas 1\n0 read :\n"))
+    got = judge(program, [str(packed)])
+    tally.check("compressed: beside what was in it", got.status == 0 and got.out.endswith(b"\n1 trace: 1 accepted\n"), got)
+    for end in "gz", "bz2", "XZ":
+        os.rename(packed / f"a.trace.{end}", packed / f"b{end}.trace.{end}")
+    got = judge(program, [str(packed)])
+    tally.check("compressed: alone", got.status == 2 and got.out.endswith(b"\n4 traces: 1 accepted, 3 unread\n")
+                and got.err.count(b"\n  the file is compressed: unpack it first\n") == 3, got)
+
+
+def changing(tally: Tally, program: str, folder: str) -> None:
+    """A trace that changes while it is judged is not accepted: nobody knows what the verdict is of."""
+    path, judge_it = Path(folder, "a.trace"), Path(folder, "slow")
+    for what, change in (("grows", f"echo '0 read : b' >> '{path}'"),
+                         ("is written over", f"printf 'trace 1\\nreplicas 1\\n0 ins b 0 : b\\n' > '{path}'"),
+                         ("is cut", f": > '{path}'")):
+        judge_it.write_text(f"#!/bin/sh\n{VERSION}'{program}' \"$@\"\nstatus=$?\nsleep 0.02\n{change}\nexit $status\n")
+        judge_it.chmod(0o755)
+        for more in [], ["--sshlogin", ":"]:
+            write(folder, {"a.trace": "0 ins a 0 : a"})
+            got = judge(str(judge_it), ["--json", *more, str(path)])
+            row = json.loads(got.out)
+            tally.check(f"changing: one that {what} {more}", got.status == 2
+                        and (row["verdict"], row["error"]) == ("failed", "it changed while it was judged"),
+                        got)
 
 
 def no_files(tally: Tally, program: str, folder: str) -> None:
@@ -749,18 +848,6 @@ def stopped(tally: Tally, folder: str, other: str) -> None:
             tally.check(f"stopped: {stop.name}, {Path(words[0]).name}: nothing runs on", not left, left)
 
 
-def is_running(pid: str) -> bool:
-    """Whether a process does anything; one that has just been killed may not have been waited for yet."""
-    for _ in range(1000):
-        try:
-            if Path(f"/proc/{pid}/stat").read_text().rpartition(")")[2].split()[0] == "Z":
-                return False
-        except OSError:
-            return False
-        time.sleep(0.01)
-    return True
-
-
 def unknown_faults(tally: Tally, program: str, folder: str) -> None:
     """What nobody has thought of ends with 2, and not with Python's 1, which is a verdict: also while the tool is loaded. An older Python
     is told which one is needed."""
@@ -776,17 +863,108 @@ def unknown_faults(tally: Tally, program: str, folder: str) -> None:
                 tally.check(f"unknown faults: {tool}, {module}", got.returncode == (2 if is_touched else 1) and (not is_touched or not got.stdout and got.stderr.startswith(
                     f"{name_of(tool)}: a fault of this tool, so nothing is said of a trace. Please report it with what follows:\nTraceback ")), got)
             path.write_text(text)
+        for tool, what in ("judge_many", folder), ("explain", f"{folder}/lost.trace"):
+            os.makedirs(f"{tools}/alone", exist_ok=True)
+            shutil.copy(ROOT / "tools" / tool, f"{tools}/alone")
+            got = run(f"{tools}/alone/{tool}", ["--program", program, what])
+            tally.same(f"not installed whole: {tool}", got, Ended(
+                2, b"", f"{name_of(tool)}: it can't be loaded, so nothing is judged: No module named 'explaining'\n".encode()))
         for tool in "judge_many", "explain":
             old = "import sys; sys.version_info = (3, 6, 8); sys.argv = ['x']; exec(compile(open(%r).read(), 'x', 'exec'))" % f"{tools}/{tool}"
             got = subprocess.run([sys.executable, "-c", old], capture_output=True, text=True)
             tally.check(f"an older Python: {tool}", (got.returncode, got.stdout, got.stderr) == (
                 2, "", f"{name_of(tool)}: this needs Python 3.9 or later, and is run by 3.6\n"), got)
-    for path in [*(ROOT / "tools" / "explaining").glob("*.py"), ROOT / "tools" / "explain", ROOT / "tools" / "judge_many", ROOT / "recorders" / "merge.py",
-                 ROOT / "recorders" / "domepeeler.py", ROOT / "recorders" / "python" / "domepeeler" / "pytest_plugin.py"]:
+
+
+SCRIPTS = {"tools/judge_many": "domepeeler-judge-many", "tools/explain": "domepeeler-explain", "tools/draw_cycle.py": "draw_cycle.py",
+           "recorders/merge.py": "merge.py", "recorders/engines/record.py": "record.py",
+           "examples/ci/judge_recordings.py": "judge_recordings"}
+IMPORTED = ["tools/package", "tools/explaining/*.py", "recorders/*.py", "recorders/engines/*.py", "recorders/python/domepeeler/*.py"]
+# Commands that the oldest Python that is named runs as this one does.
+MAIN_WAYS = [
+    "{tools}/judge_many --json --junit junit.xml traces",
+    "{tools}/judge_many --json --jobs 2 big; cat junit.xml | sed 's/ time=\"[0-9.]*\"//g'",
+    "{tools}/explain --html 1.html --svg 1.svg --small 1.trace traces/long.trace; cat 1.html 1.svg 1.trace",
+    "{tools}/explain traces/lost.trace", "{program} verdict --json traces/long.trace | {tools}/draw_cycle.py",
+    "{recorders}/merge.py --output merged.trace 0.log 1.log; cat merged.trace merged.trace.lines",
+    "{recorders}/engines/record.py list_crdt {program} --sessions 3 --keep kept; cat kept/*.trace",
+    "{recorders}/engines/record.py mine.py {program} --sessions 3", "python3 {root}/examples/ci/judge_recordings.py traces; ls judged",
+    "PYTHONPATH={recorders} python3 {root}/examples/log/convert.py {root}/examples/log/pads.log pads.trace; {tools}/explain pads.trace",
+    "PYTHONPATH={recorders} python3 session.py; cat session.trace session.trace.lines"]
+SESSION = """
+from domepeeler import NotCausal, Recording
+recording = Recording(3)
+recording.insert(2, "a@1", 0, ["a@1"], "first")
+recording.received_clock(1, 2, recording.clock(2))
+recording.insert(1, "b", 1, ["a@1", "b"], "second")
+try:
+    recording.received_changes(0, ["second"])
+except NotCausal as why:
+    print(why)
+recording.received_changes(0, ["first", "second"])
+recording.note("seed 17")
+recording.read(0, ["b"])
+print(recording.judge(), recording.explain())
+recording.save("session.trace")
+"""
+
+
+def pythons_here() -> dict:
+    """Other versions of Python on this machine, by their numbers."""
+    paths = [shutil.which(f"python3.{number}") for number in range(6, 10)]
+    paths += sorted(map(str, Path.home().glob(".pyenv/versions/3.*/bin/python3")))
+    found = {}
+    for path in filter(None, paths):
+        done = subprocess.run([path, "-c", "import sys; print(*sys.version_info[:2])"], capture_output=True, text=True)
+        if done.returncode == 0:
+            found[tuple(map(int, done.stdout.split()))] = path
+    return found
+
+
+def pythons(tally: Tally, program: str, folder: str) -> None:
+    """On Python 3.9 all runs as it does here; an older one is told by one line which one is needed. Where the machine has none, the syntax
+    and the annotations are looked at."""
+    here = pythons_here()
+    for version, path in sorted(here.items()):
+        for script, name in SCRIPTS.items() if version < (3, 9) else ():
+            got = run(path, [str(ROOT / script), "x"])
+            told = f"{name}: this needs Python 3.9 or later, and is run by {version[0]}.{version[1]}\n"
+            tally.same(f"Python {version[0]}.{version[1]}: {script}", got, Ended(2, b"", told.encode()))
+    names = [path for pattern in [*SCRIPTS, *IMPORTED] for path in sorted(ROOT.glob(pattern))]
+    tally.check("Python 3.9: files", len(names) > 35, names)
+    for path in names:
         tree = ast.parse(path.read_text(), feature_version=(3, 9))
-        annotated = [node for node in ast.walk(tree) if isinstance(node, (ast.FunctionDef, ast.AnnAssign))]
+        annotated = [note for node in ast.walk(tree) for note in (getattr(node, "annotation", None), getattr(node, "returns", None))
+                     if note]
+        has_either = any(isinstance(part, ast.BinOp) for note in annotated for part in ast.walk(note))  # as `int | None`
         later = any(isinstance(node, ast.ImportFrom) and node.module == "__future__" for node in tree.body)
-        tally.check(f"Python 3.9: {path.name}", later or not annotated or path.name in ("explain", "judge_many"), path)
+        tally.check(f"Python 3.9: {path.name}", later or not has_either, path)
+    if (3, 9) not in here:
+        print("Python 3.9 is not on this machine: its syntax alone is looked at")
+        return
+    ended = {}
+    for version, path in ("3.9", here[3, 9]), ("here", sys.executable):
+        place = Path(folder, version)
+        write(str(place / "traces"), ACCEPTED | FAILING)
+        some_big(place / "big")
+        write(str(place), {"0.log": "0 ins a 0 : a|0 recv 1 1|0 read : a b"})
+        Path(place, "1.log").write_text("trace 1\nreplicas 2\n1 ins b 0 : b\n")
+        Path(place, "0.log").write_text(Path(place, "0.log").read_text().replace("replicas 1", "replicas 2"))
+        Path(place, "mine.py").write_text("from list_crdt import ListCrdt as Engine\n")
+        Path(place, "session.py").write_text(SESSION)
+        os.mkdir(place / "bin")
+        for name, target in (("python3", path), ("domepeeler", program), ("domepeeler-explain", ROOT / "tools/explain"),
+                             ("domepeeler-judge-many", ROOT / "tools/judge_many")):
+            os.symlink(target, place / "bin" / name)
+        ended[version] = []
+        for way in MAIN_WAYS:
+            command = way.format(tools=ROOT / "tools", recorders=ROOT / "recorders", root=ROOT, program=program)
+            done = subprocess.run(["sh", "-c", command], cwd=place, capture_output=True, text=True, stdin=subprocess.DEVNULL,
+                                  env=os.environ | {
+                "PATH": f"{place}/bin:{os.environ['PATH']}", "DOMEPEELER": program, "PYTHONDONTWRITEBYTECODE": "1"})
+            ended[version].append((done.returncode, re.sub(r'"seconds": [-\d.e]+', "", done.stdout), done.stderr))
+    for way, old, now in zip(MAIN_WAYS, *ended.values()):
+        tally.check(f"Python 3.9: {way}", old == now and now[1] and "Traceback" not in old[2], (old, now))
 
 
 def tasks(tally: Tally, program: str, folder: str) -> None:
@@ -846,10 +1024,45 @@ def script_of_ci(tally: Tally, program: str, folder: str) -> None:
     Path(place, "judged", "mine.txt").unlink()
     done = in_ci(str(place), path, f"{script} judged", {})
     tally.check("script of CI: its own folder", done.returncode == 2 and "is where the pages go" in done.stderr, done)
+    script_ended(tally, str(place), path, script, folder)
     write(str(place), {"apart/a.trace": "0 ins a 0 : a|1 ins b 0 : b"})
     done = in_ci(str(place), path, f"{script} apart --unequal", {"GITHUB_ACTIONS": "true"})
     tally.check("script of CI: unequal, where that fails", done.returncode == 1 and done.stdout.startswith(
         "::error file=apart/a.trace,title=apart/a.trace%3A accepted::accepted, but unequal in the end: in the end replicas 0 and 1 show different lists\n"), done)
+
+
+def script_ended(tally: Tally, place: str, path: str, script: str, folder: str) -> None:
+    """A signal ends the script, and what judges for it; where it can't say what came out, it does not end as if the editor had failed,
+    or had not."""
+    write(place, {"good/a.trace": "0 ins a 0 : a"})
+    for what in "good", ".":
+        for redirected, told in (">&-", "judge_recordings: standard output or standard error is closed\n"), (
+                "> /dev/full", "judge_recordings: cannot write what is told: No space left on device\n"):
+            for unbuffered in "", "1":
+                done = in_ci(place, path, f"{script} {what} {redirected}", {"PYTHONUNBUFFERED": unbuffered})
+                tally.check(f"script of CI: {what} {redirected} {unbuffered}",
+                            (done.returncode, done.stdout, done.stderr) == (2, "", told), done)
+        done = in_ci(place, path, f"{script} {what} 2>&-", {})
+        tally.check(f"script of CI: {what}, closed standard error", done.returncode in (2, int(what == ".")), done)
+    for option, told in (("--version", "domepeeler-judge-many ended with status 0, and printed no recordings: "),
+                         ("--junit=x.xml", "is given twice")):
+        done = in_ci(place, path, f"{script} good {option}", {})
+        tally.check(f"script of CI: {option}", done.returncode == 2 and "accepted" not in done.stdout and told in done.stderr, done)
+    slow, begun = Path(folder, "slow"), Path(folder, "begun")
+    slow.write_text(f"#!/bin/sh\n{VERSION}echo $$ >> '{begun}'\nexec sleep 60\n")
+    slow.chmod(0o755)
+    for stop in signal.SIGINT, signal.SIGTERM, signal.SIGHUP:
+        begun.write_text("")
+        running = subprocess.Popen([*script.split(), "good"], cwd=place, stdout=subprocess.PIPE, stderr=subprocess.PIPE,
+                                   env={"PATH": path, "DOMEPEELER": str(slow)}, preexec_fn=lambda: signal.signal(stop, signal.SIG_DFL))
+        until = time.monotonic() + 60
+        while not begun.read_text().endswith("\n") and time.monotonic() < until:
+            time.sleep(0.01)
+        running.send_signal(stop)
+        out, err = running.communicate(timeout=30)
+        left = [pid for pid in begun.read_text().split() if is_running(pid)]
+        tally.check(f"script of CI: stopped by {stop.name}", (running.returncode, out, err, left) == (-stop, b"", b"", []),
+                    (running.returncode, out, err, left))
 
 
 # Of three replicas: a cycle of three, at the end of which all has arrived everywhere, or not; and with it what weak does not bear.
@@ -895,6 +1108,11 @@ def weak(tally: Tally, program: str, folder: str) -> None:
         ("lost.trace", "contents", 1, "contents", None, None), ("opposite.trace", "refused", 1, "refused", None, None),
         ("unequal.trace", "refused", 1, "refused", True, True), ("alone.trace", "refused", 1, "refused", True, None),
         ("right.trace", "accepted", 0, "accepted", None, None)], told)
+    liar = Path(folder, "liar")
+    liar.write_text(f"#!/bin/sh\n{VERSION}echo '{{\"verdict\":\"refused\",\"k\":3,\"weak\":true,\"steps\":[],\"operations\":99}}'\nexit 1\n")
+    liar.chmod(0o755)
+    got = judge(str(liar), ["--weak", passing[1]])
+    tally.check("weak: a report on another trace", got.status == 2 and got.err.endswith(f": {OTHER_TRACE.format(liar)}\n".encode()), got)
     there = [json.loads(line) | {"seconds": 0} for line in judge(program, ["--weak", "--json", "--sshlogin", ":", folder]).out.decode().splitlines()]
     tally.check("weak: by GNU parallel", there == [row | {"seconds": 0} for row in rows], there)
 
@@ -953,13 +1171,29 @@ def weak_in_ci(tally: Tally, program: str, folder: str) -> None:
         "1 not accepted: judged/junit.xml has them all, and judged/1.html is the page of the first\n"), done)
 
 
-def big_traces(tally: Tally, program: str, folder: str) -> None:
-    """What is told of a big trace beside its verdict is found by other processes, with the same words."""
+def some_big(folder: Path, count: int = 2) -> None:
+    """Traces of over a megabyte: one is accepted, and of the others the last read lacks elements."""
     names = [f"element{i}" for i in range(600)]
     inserts = [f"0 ins {name} {place} : {' '.join(names[:place + 1])}" for place, name in enumerate(names)]
-    write(folder, {f"{i}.trace": "|".join([*inserts, "1 recv 0 600", f"1 read : {' '.join(names[:600 - i])}"]) for i in range(3)})
+    write(str(folder), {f"{i}.trace": "|".join([*inserts, "1 recv 0 600", f"1 read : {' '.join(names[:600 - i])}"]) for i in range(count)})
+
+
+def big_traces(tally: Tally, program: str, folder: str) -> None:
+    """What is told of a big trace beside its verdict is found by other processes, with the same words."""
+    some_big(Path(folder), 3)
     rows = [json.loads(line) | {"seconds": 0} for line in judge(program, ["--json", "--jobs", "3", folder]).out.decode().splitlines()]
     alone = [json.loads(line) | {"seconds": 0} for line in judge(program, ["--json", "--jobs", "1", folder]).out.decode().splitlines()]
+    asked = []
+
+    class Counted(judges.ProcessPoolExecutor):
+        def submit(self, *words: object) -> object:
+            asked.append(words)
+            return super().submit(*words)
+
+    usual, judges.ProcessPoolExecutor = judges.ProcessPoolExecutor, Counted
+    judges.judged_here(program, sorted(map(str, Path(folder).glob("*.trace"))), 3, False)
+    judges.ProcessPoolExecutor = usual
+    tally.check("big traces: by other processes", len(asked) == 3, len(asked))
     sizes = [path.stat().st_size for path in Path(folder).glob("*.trace")]
     tally.check("big traces: the same rows", rows == alone and [row["verdict"] for row in rows] == ["contents", "contents", "accepted"]
                 and min(sizes) > 1 << 20, (rows and rows[0].get("fails_at"), sizes))
@@ -990,7 +1224,8 @@ def main() -> None:
         fails_at(tally, program, third)
         warnings(tally, program, folder)
         warnings_of_sessions(tally, program, other)
-    for check in weak, weak_junit, weak_in_ci, known_as_cut, grouped, no_files, overwriting, odd_names, tasks, script_of_ci, big_traces:
+    for check in (pythons, little_memory, not_looked_at, changing, weak, weak_junit, weak_in_ci, known_as_cut, grouped, no_files, overwriting,
+                  odd_names, tasks, script_of_ci, big_traces):
         with tempfile.TemporaryDirectory() as folder:
             check(tally, program, folder)
     with tempfile.TemporaryDirectory() as folder, tempfile.TemporaryDirectory() as other, tempfile.TemporaryDirectory() as third:

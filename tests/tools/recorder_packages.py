@@ -111,6 +111,7 @@ test("awaited", async () => {
   const why = await accepted(recording, "own/awaited.trace").catch((why) => why)
   if (!(why instanceof NotAccepted) || !why.message.startsWith("contents 1.1: ")) throw new Error(`not so: ${why}`)
   await accepted(new Recording(1), "own/right.trace")
+  await accepted(new Recording(1), "own/right.trace")
   const clocked = new Recording(3)
   clocked.insert(2, "a", 0, ["a"])
   clocked.receivedClock(1, 2, new Map([[2, 1]]))
@@ -275,6 +276,30 @@ test("fails and is right", recorded(1, (recording) => {
   throw new Error("five is not six")
 }))
 '''}
+
+# Tests of Node whose hooks, or timers, record behind the body: LATE loses an element.
+LATE = '''
+import { afterEach, describe, test } from "node:test"
+import { recorded } from "domepeeler/node_test"
+
+const names = "LATE" in process.env ? [] : ["a"]
+let last
+test("hook", recorded(1, (recording, context) => {
+  context.after(() => recording.read(0, names))
+  recording.insert(0, "a", 0, ["a"])
+}))
+describe("suite", () => {
+  afterEach(() => last.read(0, names))
+  test("hook of the suite", recorded(1, (recording) => {
+    last = recording
+    recording.insert(0, "a", 0, ["a"])
+  }))
+})
+if ("TIMER" in process.env) test("timer", recorded(1, (recording) => {
+  recording.insert(0, "a", 0, ["a"])
+  setTimeout(() => recording.read(0, []), 300)
+}))
+'''
 
 # Tests of an editor of which the weak list specification alone is asked. Strong fails in each session with a cycle.
 WEAK = {
@@ -779,6 +804,8 @@ def check_javascript(tally: Tally, place: Place) -> None:
               if path.name not in [*kept, ".gitignore"]}
     tally.check("node --test: and the number of lines beside each", beside == {f"{name}.lines": "5" for name in kept}, beside)
     own = sorted(path.name for path in (place.folder / "packed/own").iterdir())
+    hidden = f"Warning: a recording of own/right.trace is accepted, and may hide something: {NOTHING}"
+    tally.check("node --test: of a property what may hide something is warned of once", done.stdout.count(hidden) == 1, done.stdout)
     tally.check("node --test: a path of its own", own == [".gitignore", "awaited.trace", "awaited.trace.lines"], own)
     check_ends_of_node(tally, place)
     check_weak_of_node(tally, place)
@@ -820,6 +847,16 @@ def check_ends_of_node(tally: Tally, place: Place) -> None:
     tally.check("node --test: an accepted recording of a test that fails by itself", begins and "Noted" in told and "seed 17" in told and
                 f"The trace is saved: {path}" in told and path.is_file() and path.read_text() == "trace 1\nreplicas 1\n0 read :\n", told)
     tally.check("node --test: Git passes over the folder", (path.parent / ".gitignore").read_text() == "*\n")
+    place.make("packed/late.test.mjs", LATE)
+    words_late = [*words[:-1], "late.test.mjs"]
+    done = place.run(words_late, "packed")
+    tally.check("node --test: hooks that record what is right", done.returncode == 0 and "# fail 0\n" in done.stdout, done.stdout)
+    done = place.run(words_late, "packed", LATE="1")
+    tally.check("node --test: what hooks record is judged", done.returncode == 1 and "not ok 1 - hook\n" in done.stdout and
+                "not ok 1 - hook of the suite\n" in done.stdout and done.stdout.count("contents 0.2: ") >= 2, done.stdout)
+    done = place.run(words_late, "packed", TIMER="1")
+    tally.check("node --test: what is recorded later still is told of", done.returncode == 1 and "ok 3 - timer" in done.stdout and
+                "timer: something was recorded when the test had ended, so it was not judged" in done.stdout, done.stdout)
     broken = str(place.folder / "broken")
     for script, why in BROKEN:
         place.make("broken", f"#!/bin/sh\n{script}\n", 0o755)

@@ -8,8 +8,10 @@ import json
 import os
 import pickle
 import re
+import select
 import shlex
 import shutil
+import signal
 import subprocess
 import sys
 import tempfile
@@ -1366,6 +1368,23 @@ def check_judge(tally: Tally, recorder: Recorder, folder: Path) -> None:
         got = recorder.answers(["new\t1", "judge", "explain"], DOMEPEELER=str(killed), DOMEPEELER_EXPLAIN=str(killed))
         wanted = [f"failed {killed} {why.format(lacking)}" for lacking in ("report", "words")]
         tally.check(f"{recorder.language}: judge by what {script}", got == ["ok", *wanted], got)
+    report = '{"at":"0.1","inserts":%d,"operations":%d,"order":[],"replicas":1,"strong":true,"verdict":"%s","weak":true}'
+    for operations, verdict, status in (0, "accepted", 1), (1, "accepted", 0), (10, "accepted", 0), (0, "contents", 0), (1, "contents", 1):
+        killed.write_text(f"#!/bin/sh\ncat > /dev/null\necho '{report % (0, operations, verdict)}'\nexit {status}\n")
+        got = recorder.answers(["new\t1", "judge"], DOMEPEELER=str(killed))
+        wanted = f"failed {killed} ended with status {status} and printed a report that is not on this recording"
+        tally.check(f"{recorder.language}: judge by what says {verdict} of {operations} operations with status {status}",
+                    got == ["ok", wanted], got)
+    killed.write_text(f"#!/bin/sh\ncat > /dev/null\necho '{report % (0, 0, 'accepted')}'\n")
+    got = recorder.answers(["new\t1", "judge"], DOMEPEELER=str(killed))
+    tally.check(f"{recorder.language}: judge by what agrees", got[1].startswith("report {"), got)
+    if recorder.language == "c":  # which asks for the text too
+        for operations, status in (0, 1), (3, 0):
+            killed.write_text(f"#!/bin/sh\ncat > /dev/null\nprintf 'replicas 1 operations {operations} inserts 0\\naccepted\\nstrong yes\\nweak yes\\n'\n"
+                              f"exit {status}\n")
+            got = recorder.answers(["new\t1", "read\t0", "read\t0", "read\t0", "weak"], DOMEPEELER=str(killed))
+            wanted = f"{killed} ended with status {status} and printed a report that is not on this recording"
+            tally.check(f"c: weak by what says {operations} operations with status {status}", (wanted in got[-1]) == (operations == 0), got)
     got = recorder.answers(["new\t1", "judge"], DOMEPEELER="", PATH=f"{folder / 'path'}:{os.environ['PATH']}")
     tally.check(f"{recorder.language}: judge by domepeeler on the PATH", got[1:] and got[1].startswith("report {"), got)
 
@@ -1563,6 +1582,60 @@ def check_merge_hostile(tally: Tally, folder: Path) -> None:
                        ("x\n::error::y", "x\\n::error::y is no text of a recorder, or was cut off"), ("\udcff", "cannot read \\xff: No such file or directory")):
         done = subprocess.run([sys.executable, ROOT / "recorders" / "merge.py", "0.log", log], cwd=place, capture_output=True, text=True, timeout=60)
         tally.check(f"merge.py: {log!r}", done.returncode in (1, 2) and done.stderr == f"merge.py: {words}\n" and not done.stdout, done)
+    check_merge_stopped(tally, place)
+
+
+def check_merge_stopped(tally: Tally, place: Path) -> None:
+    """A signal ends merge.py, and it says nothing; what it writes appears whole or not at all, once, and an older Python is told which one
+    is needed."""
+    (place / "0.log.lines").unlink()
+    tool = [sys.executable, str(ROOT / "recorders" / "merge.py")]
+    old, long = place / "old.trace", place / "long.log"
+    long.write_text("trace 1\nreplicas 2\n" + "0 read :\n" * 16000)  # more than a pipe holds
+    for stop in signal.SIGINT, signal.SIGTERM, signal.SIGHUP:
+        reader = os.open(place / "pipe", os.O_RDONLY | os.O_NONBLOCK)
+        running = subprocess.Popen([*tool, "--output", "pipe", "long.log"], cwd=place, stdout=subprocess.PIPE, stderr=subprocess.PIPE,
+                                   preexec_fn=lambda: signal.signal(stop, signal.SIG_DFL))  # which what runs in the background may ignore
+        select.select([reader], [], [], 30)  # it writes
+        running.send_signal(stop)
+        out, err = running.communicate(timeout=30)
+        os.close(reader)
+        tally.check(f"merge.py: stopped by {stop.name}", (running.returncode, out, err) == (-stop, b"", b""),
+                    (running.returncode, out, err))
+    slow = ("import os, runpy, sys, time; os.replace = lambda *_: time.sleep(60); sys.argv = sys.argv[1:]; "
+            "runpy.run_path(sys.argv[0], run_name='__main__')")
+    for stop in signal.SIGINT, signal.SIGTERM, signal.SIGHUP:
+        running = subprocess.Popen([sys.executable, "-c", slow, tool[1], "--output", "new.trace", "long.log"], cwd=place,
+                                   preexec_fn=lambda: signal.signal(stop, signal.SIG_DFL))
+        until = time.monotonic() + 30
+        while not any(path.name.startswith(".merge-") for path in place.iterdir()) and time.monotonic() < until:
+            time.sleep(0.01)
+        running.send_signal(stop)
+        left = running.wait(timeout=30), sorted(path.name for path in place.iterdir() if path.name.startswith((".", "new.trace")))
+        tally.check(f"merge.py: stopped by {stop.name} before the file is there", left == (-stop, []), left)
+    for text in None, "old\n":
+        if text:
+            old.write_text(text)
+            old.chmod(0o640)
+        limited = subprocess.run(["sh", "-c", 'ulimit -f 1; trap "" XFSZ; exec "$@"', "sh", *tool, "--output", "old.trace", "long.log"],
+                                 cwd=place,
+                                 capture_output=True, text=True)
+        left = sorted(path.name for path in place.iterdir() if path.name.startswith((".", "old.trace")) and path.name != "old.trace.lines")
+        tally.check(f"merge.py: what can't be written whole, over {text!r}", (limited.returncode, limited.stderr) == (
+            2, "merge.py: cannot write old.trace: File too large\n") and left == ["old.trace"] * bool(text)
+            and (not text or old.read_text() == text),
+            (limited, left))
+    done = subprocess.run([*tool, "--output", "old.trace", "long.log"], cwd=place, capture_output=True)
+    tally.check("merge.py: the file's mode stays", done.returncode == 0 and old.read_text() == long.read_text()
+                and old.stat().st_mode & 0o777 == 0o640, done)
+    with open(place / "huge.log", "wb") as file:
+        file.truncate(120_000_000)
+    done = subprocess.run(["sh", "-c", 'ulimit -v 200000; exec "$@"', "sh", *tool, "huge.log"], cwd=place, capture_output=True, text=True)
+    tally.check("merge.py: out of memory", (done.returncode, done.stdout, done.stderr) == (3, "", "merge.py: out of memory\n"), done)
+    done = subprocess.run([*tool, "--output", "a", "--output", "b", "0.log"], cwd=place, capture_output=True, text=True)
+    tally.check("merge.py: two outputs", done.returncode == 2
+                and done.stderr.endswith("merge.py: error: argument --output: it is given twice\n")
+                and not (place / "b").exists(), done)
 
 
 def check_merged_beside(tally: Tally, folder: Path, name: str, besides: list, wanted: str, warned: str) -> None:
@@ -1799,9 +1872,9 @@ def check_hypothesis(tally: Tally, program: str, folder: Path) -> None:
     each run tries other sessions."""
     place = folder / "hypothesis"
     place.mkdir()
-    accepting = place / "accepting"
-    accepting.write_text("#!/bin/sh\ncat >> \"$TRIED\"\necho '{\"verdict\": \"accepted\"}'\n")
-    accepting.chmod(0o755)
+    noting = place / "noting"
+    noting.write_text(f"#!/bin/sh\ntee -a \"$TRIED\" | '{program}' \"$@\"\n")
+    noting.chmod(0o755)
 
     def tested(judge: str, name: str, *words: str) -> str:
         surroundings = {**os.environ, "DOMEPEELER": judge, "TRIED": str(place / name), "PYTHONDONTWRITEBYTECODE": "1",
@@ -1819,7 +1892,7 @@ def check_hypothesis(tally: Tally, program: str, folder: Path) -> None:
     tally.check("Hypothesis: the file is explained", explained.returncode == 1 and explained.stdout.startswith("refused 2: "), explained)
     tried = []
     for name in "one", "another":
-        said = tested(str(accepting), name, "-k", "not fault")
+        said = tested(str(noting), name, "-k", "not fault")
         tried.append(Path(place, name).read_text().split("trace 1\n")[1:])
         tally.check("Hypothesis: the test passes", "1 passed" in said and len(tried[-1]) == 200, said)
     tally.check("Hypothesis: another run tries other sessions", set(tried[0]) != set(tried[1]))
@@ -2156,6 +2229,15 @@ def check_rust_tests(tally: Tally, program: str, folder: Path) -> None:
                              env={**surroundings, "LOST": "1", "DOMEPEELER_EXPLAIN": "/nowhere/explain"})
     tally.check("Rust tests: warnings where no tool explains", without.returncode != 0 and
                 f":\n{warning}\n\naccepted\n/nowhere/explain cannot be run (" in without.stdout, without)
+    liar = place / "liar"
+    for operations, status in (3, 1), (9, 0), (31, 0):
+        liar.write_text(f"#!/bin/sh\ncat > /dev/null\nprintf 'replicas 2 operations {operations} inserts 1\\naccepted\\nstrong yes\\n"
+                        f"weak yes\\norder : a\\n'\nexit {status}\n")
+        liar.chmod(0o755)
+        done = subprocess.run(["./editor-0123456789abcdef", "all_is_delivered"], cwd=place, capture_output=True, text=True,
+                              env={**surroundings, "DOMEPEELER": "./liar"})
+        tally.check(f"Rust tests: a report of {operations} operations with status {status}", "0 passed; 1 failed;" in done.stdout and
+                    f"./liar ended with status {status} and printed a report that is not on this recording" in done.stdout, done)
     done = subprocess.run(["./editor-0123456789abcdef"], cwd=place, env=surroundings, capture_output=True, text=True)
     tally.check("Rust tests: one that passes removes what it saved before", "7 passed; 1 failed;" in done.stdout and
                 [path.name for path in saved.parent.iterdir()] == [".gitignore"], done)

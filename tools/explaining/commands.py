@@ -7,7 +7,7 @@ import os
 import signal
 import sys
 import traceback
-from argparse import ArgumentParser
+from argparse import Action, ArgumentParser, Namespace
 from importlib import import_module
 from typing import NoReturn
 
@@ -18,6 +18,15 @@ STOPS = [signal.SIGTERM, signal.SIGHUP]  # that would leave running what was beg
 
 class Stopped(BaseException):
     """A signal that stops the command."""
+
+
+class Once(Action):
+    """An option that is given once: of two files one would not be written."""
+
+    def __call__(self, parser: ArgumentParser, asked: Namespace, value: object, option: str | None = None) -> None:
+        if getattr(asked, self.dest) is not self.default:
+            parser.error(f"argument {option}: it is given twice")
+        setattr(asked, self.dest, value)
 
 
 def add_version(parser: ArgumentParser, command: str) -> None:

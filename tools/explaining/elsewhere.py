@@ -7,7 +7,7 @@ import sys
 import tempfile
 from pathlib import Path
 
-from .files import Unread, opened, read_file
+from .files import CHANGED, Unread, content, opened, state
 from .judges import WORDS
 from .rows import Row, failed, row_of, unread
 
@@ -28,17 +28,17 @@ def needs_parallel() -> None:
 
 def judged_there(machines: str, jobs: str | None, program: str, files: list, weak: bool) -> list:
     """A row for each trace, judged on other machines. With `weak` the weak list specification alone is asked for."""
-    rows = {}
+    rows, states = {}, {}
     for file in files:
         try:
-            os.close(opened(file))
+            states[file], _ = looked_at(file)
         except Unread as error:
             rows[file] = unread(file, str(error))
     there = [file for file in files if file not in rows]
     with tempfile.TemporaryDirectory() as folder:
         if there:
             run_all(machines, jobs, program, there, folder)
-            rows.update(zip(there, rows_of(program, there, folder, weak)))
+            rows.update(zip(there, rows_of(program, there, folder, states, weak)))
     return [rows[file] for file in files]
 
 
@@ -61,7 +61,16 @@ def run_all(machines: str, jobs: str | None, program: str, files: list, folder: 
         raise NoParallel("parallel could not run: " + (done.stderr or b"").decode(errors="replace").strip())
 
 
-def rows_of(program: str, files: list, folder: str, weak: bool) -> list:
+def looked_at(file: str, is_read: bool = False) -> tuple:
+    """The state of a file, and its bytes where they are asked for."""
+    descriptor = opened(file)
+    try:
+        return state(descriptor), content(descriptor) if is_read else b""
+    finally:
+        os.close(descriptor)
+
+
+def rows_of(program: str, files: list, folder: str, states: dict, weak: bool) -> list:
     """What the log and the jobs' output say of each trace."""
     ended = {}
     for line in Path(folder, "log").read_bytes().split(b"\n")[1:]:
@@ -70,15 +79,18 @@ def rows_of(program: str, files: list, folder: str, weak: bool) -> list:
             continue  # the rest of a file's name that has a line feed
         number, _, _, seconds, _, _, status, signal = cells[:8]
         ended[int(number)] = float(seconds), int(status) if signal == "0" else 128 + int(signal)
-    return [row_in(program, file, Path(folder, str(at)), *ended.get(at, (0.0, 255)), weak) for at, file in enumerate(files, 1)]
+    return [row_in(program, file, states[file], Path(folder, str(at)), *ended.get(at, (0.0, 255)), weak)
+            for at, file in enumerate(files, 1)]
 
 
-def row_in(program: str, file: str, printed: Path, seconds: float, status: int, weak: bool) -> Row:
+def row_in(program: str, file: str, before: tuple, printed: Path, seconds: float, status: int, weak: bool) -> Row:
     """The row of a job of parallel, which left what it printed."""
     try:
-        trace = read_file(file)
+        now, trace = looked_at(file, True)
     except Unread as error:
         return unread(file, str(error))
+    if now != before:
+        return failed(file, seconds, status, CHANGED, trace.count(b"\n"))
     errors = printed.with_name(printed.name + ".err")
     error = errors.read_text(errors="replace").strip() if errors.exists() else ""
     if not printed.exists() and not error:

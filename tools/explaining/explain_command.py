@@ -8,7 +8,7 @@ import sys
 from typing import NoReturn
 
 from .beginning import explained
-from .commands import add_version
+from .commands import Once, add_version
 from .cycle_picture import drawing
 from .debuggers import LANGUAGES, USUAL
 from .evidence import Evidence, Unexplained
@@ -31,6 +31,7 @@ STATUSES = ("It ends with the program's status: 0 accepted, 1 any other verdict,
 
 def words_asked() -> argparse.Namespace:
     parser = argparse.ArgumentParser(prog=NAME, description=ABOUT, epilog=f"{WAYS} {STATUSES}")
+    parser.register("action", None, Once)
     parser.add_argument("trace", metavar="TRACE", help="the trace; - is standard input")
     parser.add_argument("--program", metavar="PATH", help="the program that judges")
     parser.add_argument("--html", metavar="FILE", help="write a page with the session drawn and the words beside it")
@@ -156,6 +157,8 @@ def main() -> None:
         try:
             explain(asked, program, trace, judged)
         except Unexplained as error:
-            told = f"can't explain this verdict: {error}. The program's word counts; its report:"
-            print(f"{NAME}: {told}\n{report_text(program, trace)}", end="", file=sys.stderr)
+            is_passing = passes(judged.report, asked.weak)
+            told = "Is it domepeeler? Its" if is_passing else "The program's word counts; its"
+            print(f"{NAME}: can't explain this verdict: {error}. {told} report:\n{report_text(program, trace)}", end="", file=sys.stderr)
+            sys.exit(2 if is_passing else judged.status)  # what may be wrong is no pass
     sys.exit(0 if judged.report and passes(judged.report, asked.weak) else judged.status)

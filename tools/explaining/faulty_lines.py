@@ -10,6 +10,7 @@ CAUSE = re.compile(r"line (\d+): ([a-z ]+)(?:, have (\d+))?$")  # in the program
 MOST_SHOWN = 120  # bytes of a faulty line or word
 FIRST_BYTES = 8000  # of a file that are looked at for bytes that no text has
 BINARY = re.compile(rb"[\x00-\x06\x0e-\x1a\x1c-\x1f]")
+PACKED = re.compile(rb"\x1f[\x8b\x9d]|BZh|\xfd7zXZ|\x28\xb5\x2f\xfd|\x04\x22\x4d\x18|PK\x03\x04")  # how compressed files begin
 UTF16 = b"\xff\xfe", b"\xfe\xff"  # the marks with which such texts begin
 MARK = b"\xef\xbb\xbf"  # that of UTF-8
 GREATEST = 4294967295
@@ -62,6 +63,8 @@ def no_trace(trace: bytes) -> str | None:
         return "the file is empty"
     if re.match(rb"cert [12]\r?\n", trace):
         return "the file is a certificate, as `cert` writes it: give the trace that it is of"
+    if PACKED.match(trace):
+        return "the file is compressed: unpack it first"
     if not trace.startswith(UTF16) and BINARY.search(trace[:FIRST_BYTES]):
         return "the file is binary, and a trace is lines of ASCII"
     return None

@@ -7,6 +7,7 @@ import os
 import stat
 
 MOST_BYTES = 152_305_684  # of a trace that reaches every limit
+CHANGED = "it changed while it was judged"
 
 
 class Unread(Exception):
@@ -55,6 +56,12 @@ def content(descriptor: int) -> bytes:
     except OSError as error:
         raise Unread(error.strerror) from None
     return b"".join(parts)
+
+
+def state(descriptor: int) -> tuple:
+    """What another state of an open file differs in."""
+    about = os.fstat(descriptor)
+    return about.st_dev, about.st_ino, about.st_size, about.st_mtime_ns
 
 
 def read_file(path: str, most: int = MOST_BYTES) -> bytes:

@@ -13,7 +13,7 @@ from concurrent.futures import ProcessPoolExecutor, ThreadPoolExecutor
 from concurrent.futures.process import BrokenProcessPool
 from queue import Empty, SimpleQueue
 
-from .files import Unread, content, opened, shown
+from .files import CHANGED, Unread, content, opened, shown, state
 from .rows import Row, failed, row_of, unread
 
 WORDS = ["verdict", "--json", "--workers", "1"]  # for the program, before a trace
@@ -80,6 +80,7 @@ class Judges:
     def _judged(self, file: str, begin: float) -> Row:
         descriptor = opened(file)
         try:
+            before = state(descriptor)
             try:
                 process = subprocess.Popen([self.program, *WORDS, "-"], stdin=descriptor, stdout=subprocess.PIPE, stderr=subprocess.PIPE)
             except OSError as error:
@@ -90,9 +91,12 @@ class Judges:
             printed, errors = process.communicate()
             self.running.discard(process)
             trace = content(descriptor)
+            has_changed = before != state(descriptor)
         finally:
             os.close(descriptor)
         status = process.returncode if process.returncode >= 0 else 128 - process.returncode
+        if has_changed:
+            return failed(file, time.monotonic() - begin, status, CHANGED, trace.count(b"\n"))
         answer = self.program, file, trace, time.monotonic() - begin, status, printed, errors.decode(errors="replace").strip(), self.weak
         if len(trace) >= BIG and self.jobs > 1:
             try:

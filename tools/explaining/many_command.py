@@ -3,15 +3,17 @@ lines."""
 from __future__ import annotations
 
 import argparse
+import errno
 import json
 import os
+import re
 import stat
 import sys
 from collections import Counter
 from pathlib import Path
 from typing import NoReturn
 
-from .commands import add_version
+from .commands import Once, add_version
 from .elsewhere import NoParallel, judged_there, needs_parallel
 from .faulty_lines import ENTRIES, about_file
 from .files import shown, write_file, written_over
@@ -27,10 +29,13 @@ STATUSES = ("It ends with status 0 where all are accepted, 1 where all can be re
             "be read, or is known to be cut, or something else fails. With --weak those pass too of which weak holds.")
 MOST_WARNED = 20  # warnings that are printed on standard error
 TRACE = ".trace"  # in any case
+COMPRESSED = re.compile(r"(.*\.trace)\.(gz|bz2|xz|zst|lz4|zip|z)", re.IGNORECASE | re.DOTALL)
+NOTHING_THERE = [errno.ENOENT, errno.ENOTDIR, errno.ELOOP]  # behind a link
 
 
 def words_asked() -> argparse.Namespace:
     parser = argparse.ArgumentParser(prog=NAME, description=ABOUT, epilog=f"{WAYS} {STATUSES}")
+    parser.register("action", None, Once)
     parser.add_argument("folders", metavar="DIR", nargs="+", help="a folder with *.trace files at any depth, or one trace")
     parser.add_argument("--program", metavar="PATH", help="the program that judges")
     parser.add_argument("--jobs", metavar="N", help="how many at a time, by default one a processor; with --sshlogin as GNU "
@@ -90,15 +95,23 @@ def traces_in(folder: str, been: set) -> list:
         path = str(Path(folder, name))
         if is_folder(path):
             found += traces_in(path, been)
-        elif name.lower().endswith(TRACE):
+        elif name.lower().endswith(TRACE) or is_compressed_alone(name, names):
             found.append(path)
     return found
+
+
+def is_compressed_alone(name: str, names: list) -> bool:
+    """Whether a trace is there that is compressed, and does not lie beside it unpacked: it is told of as one that does not read."""
+    packed = COMPRESSED.fullmatch(name)
+    return packed is not None and packed[1] not in names
 
 
 def is_folder(path: str) -> bool:
     try:
         return stat.S_ISDIR(os.stat(path).st_mode)
-    except OSError:  # a link to nothing
+    except OSError as error:
+        if error.errno not in NOTHING_THERE and not path.lower().endswith(TRACE):
+            unread(error)  # it may be a folder of traces
         return False
 
 

@@ -3,6 +3,7 @@ from __future__ import annotations
 
 import json
 import os
+import re
 import shutil
 import signal
 import subprocess
@@ -16,6 +17,7 @@ from .files import shown
 VARIABLE = "DOMEPEELER"
 VERDICTS = {"accepted": 0, "refused": 1, "doubled": 1, "contents": 1, "position": 1}  # with the status by which the program ends
 COMMAND = "domepeeler"
+HEAD_LINES, RECEIPT = 2, re.compile(rb"\n[0-9]+ recv ")  # of a trace: lines before its entries, and what begins one that is no operation
 TOOLS = Path(__file__).resolve().parent.parent
 REPOSITORY, PREFIX = TOOLS.parent, TOOLS.parent.parent.parent  # of these tools as they lie in the repository, or as tools/install puts them
 # Where the program lies beside them: as the repository builds it, and as it is installed.
@@ -83,6 +85,8 @@ def judge(program: str, trace: bytes) -> Judged:
     report = report_in(done.returncode, done.stdout)
     if report is None and is_another(done.returncode, error):
         raise NoProgram(no_report(program, done.returncode, error))
+    if report is not None and not is_of(report, trace):
+        raise NoProgram(of_another_trace(program))
     return Judged(done.returncode, report, error)
 
 
@@ -107,7 +111,13 @@ def report_in(status: int, printed: bytes) -> dict | None:
     except ValueError:
         return None
     verdict = report.get("verdict") if isinstance(report, dict) else None
-    return report if isinstance(verdict, str) and VERDICTS.get(verdict, status) == status else None
+    return report if isinstance(verdict, str) and VERDICTS.get(verdict, 1) == status else None
+
+
+def is_of(report: dict, trace: bytes) -> bool:
+    """Whether a report that may let a trace pass is one on this trace: it counts as many operations."""
+    operations = trace.count(b"\n") - HEAD_LINES - len(RECEIPT.findall(trace))
+    return not passes(report, True) or report.get("operations") == operations
 
 
 def passes(report: dict, weak: bool = False) -> bool:
@@ -132,6 +142,10 @@ def no_report(program: str, status: int, error: str) -> str:
     said = next(filter(None, error.splitlines()), "")
     return f"{shown(program)} printed no report that agrees with its status: is it domepeeler? It ended with status {status}" + (
         f": {shown(said)}" if said else "")
+
+
+def of_another_trace(program: str) -> str:
+    return f"{shown(program)} printed a report that is not on this trace: is it {COMMAND}?"
 
 
 def by_signal(number: int) -> str:

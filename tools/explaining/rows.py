@@ -8,7 +8,7 @@ from .beginning import failing_beginning
 from .causes import causes_of
 from .evidence import Evidence, Unexplained
 from .places import Beside, beside, placed_warnings
-from .programs import NoProgram, is_another, is_weak_alone, no_report, report_in, report_of
+from .programs import NoProgram, is_another, is_of, is_weak_alone, no_report, of_another_trace, report_in, report_of
 from .recordings import FIRST_ENTRY, Recording
 from .warnings import Warnings, warnings_of
 
@@ -64,6 +64,8 @@ def row_of(program: str, file: str, trace: bytes, seconds: float, status: int, p
         return failed(file, seconds, status, no_report(program, status, error), lines)
     if report is None:
         return Row(file, "unread" if status == 2 else "failed", None, lines, seconds, status, None, error)
+    if not is_of(report, trace):
+        return failed(file, seconds, status, of_another_trace(program), lines)
     known = beside(trace, file)
     is_alone = weak and is_weak_alone(report)
     warnings = warned_of(report["verdict"], trace, file, is_alone)
