@@ -1,5 +1,5 @@
 #!/usr/bin/env python3
-"""refused_calls.py PROGRAM [--write] [--most N] [--processes N]: each call that can answer out of memory, with a request refused.
+"""refused_calls.py PROGRAM [--few] [--write] [--most N] [--processes N]: each call that can answer out of memory, with a request refused.
 
 Of each such call it takes a test of the crates that makes it and compares what it answers, and runs it with its first request
 refused, then with its second, and so on until a run meets no refusal; a test that would take more than --most runs, 20,000 unless
@@ -10,7 +10,12 @@ whose test is gone.
 
 Such a call is a public function of a crate's surface, or a method of a type of it, whose answer has a place for out of memory: the
 sources are asked which they are. Those that never give it are named below, with what says so. It needs what `rt ci` has built in
-this repository, and a C compiler (`cc`); it is no part of the gate."""
+this repository, and a C compiler (`cc`).
+
+With --few it is a part of the gate: of each test and command the first request is refused, the last, the one in the middle, and
+those by which the last is found."""
+from __future__ import annotations
+
 import argparse
 import re
 import sys
@@ -21,8 +26,9 @@ from typing import NamedTuple
 
 ROOT = Path(__file__).resolve().parents[2]
 sys.path.insert(0, str(ROOT / "tests"))
-from memory.refused_memory import refuse_each, shim  # noqa: E402
+from memory.refused_memory import few, refuse_each, refuse_few, shim  # noqa: E402
 from memory.refused_memory_of_tests import Test, tests_of  # noqa: E402
+from shared.last_runs import note  # noqa: E402
 from shared.program import Tally, program_of  # noqa: E402
 
 PAGE = ROOT / "tests" / "memory" / "refused_calls.md"
@@ -31,11 +37,12 @@ VECTORS = [ROOT / "tests" / "vectors" / f"{name}.trace" for name in ("all-three-
 MOST = 20_000
 
 # The calls of the program alone, which are no crate's surface; the list is kept by hand.
-ENGINES = ("run", "run_cert", "run_verify", "live")
+ENGINES = ("live",)
 # The calls whose answer has a place for out of memory that they never give, and how that is known.
 NEVER = {
     "Recording::room": "takes no memory, and its clause tells the answer, memory apart",
     "Outline::read": "takes no memory, and its clause `memory` says so",
+    "write_output": "takes no memory, and its clause `err` names a failed write alone",
 }
 # Crates whose calls are made by tests alone.
 OF_TESTS = ("sample_recordings",)
@@ -103,6 +110,7 @@ TESTS = {
     "verdict::judge": ("certificate", "verdicts_of_worked_recordings", "any_number_of_workers"),
     "report::text": ("engines", "worked_recordings"),
     "report::json": ("engines", "reports_as_json"),
+    "OrderGraph::turned": ("graph_tests", "ring_of_four_turned"),
     "OrderGraph::narrowed": ("graph_tests", "two_none_and_all_of_the_ring_of_four"),
     "witness_order::taken": ("graph_tests", "neither_a_cycle_nor_what_stands_after_it_is_taken"),
     "witness_order::order": ("graph_tests", "the_least_of_several_orders"),
@@ -126,6 +134,8 @@ TESTS = {
     "rehearse": ("program", "live"),
     "rehearse_watched": ("program", "live"),
     "verdict_and_graph": ("certificate", "certificates_with_their_verdicts"),
+    "recording_from": ("engines", "worked_recordings"),
+    "verdict_on": ("engines", "worked_recordings"),
     "run": ("engines", "worked_recordings", "any_number_of_workers"),
     "run_cert": ("program", "cert"),
     "run_verify": ("program", "verify"),
@@ -244,13 +254,26 @@ def refuse_in_test(tally: Tally, call: str, test: Test, name: str, most: int) ->
     return Line(call, name, refused, seen if is_whole else f"{seen}; cut short")
 
 
-def refuse_in_program(tally: Tally, call: str, library: str, folder: str, program: str, command: str) -> Line:
+def refuse_few_in_test(tally: Tally, calls: str, test: Test, name: str) -> None:
+    """The first request, the last, and some between them; and a run that meets no refusal."""
+    ended = {}
+
+    def refuse(request: int) -> bool:
+        ended[request] = test.run(request)
+        return ended[request][1]
+
+    last = few(refuse)
+    stopped = [request for request, (status, _) in sorted(ended.items()) if status != 0]
+    tally.check(f"{calls}: {name}", last > 0 and not stopped, stopped)
+
+
+def refuse_in_program(tally: Tally, call: str, library: str, folder: str, program: str, command: str, refuse=refuse_each) -> Line:
     """The program's command on three vectors."""
     runs = memory = thread = 0
     own = Tally()
     for trace in VECTORS:
         certificate = [str(trace.with_suffix(".cert2"))] if command == "verify" else []
-        more = refuse_each(own, library, folder, [program, command, str(trace), *certificate])
+        more = refuse(own, library, folder, [program, command, str(trace), *certificate])
         runs, memory, thread = runs + more.runs, memory + more.memory, thread + more.thread
     without = f", {thread:,} times without a thread" if thread else ""
     seen = f"{memory:,} times out of memory{without}, else the right answer" if not own.failed else "another answer"
@@ -263,10 +286,34 @@ def line_of(tally: Tally, library: str, folder: str, program: str, most: int, ca
     own = tempfile.mkdtemp(dir=folder)
     if crate == "program":
         return refuse_in_program(tally, call, library, own, program, name)
+    test = test_of(tally, library, own, call, crate, name)
+    return refuse_in_test(tally, call, test, f"{crate} {name}", most) if test else None
+
+
+def test_of(tally: Tally, library: str, folder: str, call: str, crate: str, name: str) -> Test | None:
+    """The test of a crate that makes the call; none where there is no such test."""
     built = next(iter(sorted((ROOT / "crates" / crate / "out").glob("*_tests"))), None)
     whole = [test for test in tests_of(built) if test.split("::")[-1] == name] if built else []
     tally.check(f"{call}: {crate} has the test {name}", len(whole) == 1, built or "`rt ci` has not been run here")
-    return refuse_in_test(tally, call, Test(library, own, built, whole[0]), f"{crate} {name}", most) if len(whole) == 1 else None
+    return Test(library, folder, built, whole[0]) if len(whole) == 1 else None
+
+
+def refuse_few_of_all(tally: Tally, library: str, folder: str, processes: int, program: str) -> None:
+    """A few requests of each test and command, of a test that makes several calls once."""
+    calls = {}
+    for call, (crate, *names) in TESTS.items():
+        for name in names:
+            calls.setdefault((crate, name), []).append(call)
+
+    def refuse(crate: str, name: str) -> None:
+        own, told = tempfile.mkdtemp(dir=folder), " ".join(calls[crate, name])
+        if crate == "program":
+            refuse_in_program(tally, told, library, own, program, name, refuse_few)
+        elif test := test_of(tally, library, own, told, crate, name):
+            refuse_few_in_test(tally, told, test, f"{crate} {name}")
+
+    with ThreadPoolExecutor(processes) as asking:
+        list(asking.map(lambda pair: refuse(*pair), calls))
 
 
 def lines(tally: Tally, library: str, folder: str, given: argparse.Namespace, program: str) -> list[Line]:
@@ -290,6 +337,7 @@ def put(table: str) -> None:
 def main() -> None:
     words = argparse.ArgumentParser(description=__doc__)
     words.add_argument("program")
+    words.add_argument("--few", action="store_true", help="refuse a few requests of each")
     words.add_argument("--write", action="store_true", help="put the table into refused_calls.md")
     words.add_argument("--most", type=int, default=MOST, help="how many runs of a test at most")
     words.add_argument("--processes", type=int, default=1, help="how many tests are tried at a time")
@@ -297,12 +345,18 @@ def main() -> None:
     program = program_of([sys.argv[0], given.program])
     tally = Tally()
     check_names(tally)
+    if given.few:
+        with tempfile.TemporaryDirectory() as folder:
+            refuse_few_of_all(tally, shim(folder), folder, given.processes, program)
+        tally.close()
     with tempfile.TemporaryDirectory() as folder:
         made = lines(tally, shim(folder), folder, given, program)
     missing = set(TESTS) - {one.call for one in made}
     tally.check("each call has a line", not missing, missing)
     if given.write and not tally.failed:
         put("\n".join(["| call | test | requests refused | seen |", "|---|---|---|---|", *(one.text() for one in made), ""]))
+    if given.most >= MOST:
+        note("tests/memory/refused_calls.py", f"{tally.said()}, {len(made)} lines of {len(TESTS)} calls", program)
     tally.close()
 
 

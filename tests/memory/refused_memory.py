@@ -8,10 +8,11 @@ import os
 import sys
 import tempfile
 from pathlib import Path
-from typing import NamedTuple
+from typing import Callable, NamedTuple
 
 ROOT = Path(__file__).resolve().parents[2]
 sys.path.insert(0, str(ROOT / "tests"))
+from shared.last_runs import note  # noqa: E402
 from shared.program import Ended, Tally, library_of, program_of, run  # noqa: E402
 
 # When so many runs in turn make no such request, the program makes no more. (How many it makes depends on its threads.)
@@ -45,21 +46,61 @@ def refused(library: str, folder: str, words: list, request: int) -> tuple[Ended
     return got, os.path.exists(told)
 
 
+class Command:
+    """A command of the program, which is run again and again with one request refused, and what was seen."""
+
+    def __init__(self, tally: Tally, library: str, folder: str, words: list):
+        self.tally, self.library, self.folder, self.words = tally, library, folder, words
+        self.ample = run(words[0], words[1:])
+        if self.ample.status not in (0, 1):
+            sys.exit(f"no answer to {words[1:]}: {self.ample}")
+        self.allowed = (self.ample, MEMORY, THREAD) if words[1] == "live" else (self.ample, MEMORY)
+        self.seen = Refused(0, 0, 0)
+
+    def refuse(self, request: int) -> bool:
+        """A run that must answer what it may; whether it made so many requests."""
+        got, was_refused = refused(self.library, self.folder, self.words, request)
+        right = got in self.allowed if was_refused else got == self.ample
+        self.tally.check(f"{self.words[1:]}, request {request}", right, got)
+        if was_refused:
+            runs, memory, thread = self.seen
+            self.seen = Refused(runs + 1, memory + (got == MEMORY), thread + (got == THREAD))
+        return was_refused
+
+    def ended(self) -> Refused:
+        """What was seen, once all runs were made."""
+        self.tally.check(f"some request of {self.words[1:]} was refused, and want of memory told", self.seen.memory > 0)
+        return self.seen
+
+
 def refuse_each(tally: Tally, library: str, folder: str, words: list) -> Refused:
     """Refuses one request after the other."""
-    ample = run(words[0], words[1:])
-    if ample.status not in (0, 1):
-        sys.exit(f"no answer to {words[1:]}: {ample}")
-    allowed = (ample, MEMORY, THREAD) if words[1] == "live" else (ample, MEMORY)
-    runs = memory = thread = last = request = 0
+    command, last, request = Command(tally, library, folder, words), 0, 0
     while request < last + UNMET:
         request += 1
-        got, was_refused = refused(library, folder, words, request)
-        tally.check(f"{words[1:]}, request {request}", got in allowed if was_refused else got == ample, got)
-        if was_refused:
-            runs, memory, thread, last = runs + 1, memory + (got == MEMORY), thread + (got == THREAD), request
-    tally.check(f"some request of {words[1:]} was refused, and want of memory told", memory > 0)
-    return Refused(runs, memory, thread)
+        last = request if command.refuse(request) else last
+    return command.ended()
+
+
+def refuse_few(tally: Tally, library: str, folder: str, words: list) -> Refused:
+    """Refuses the first request, the last, the one in the middle, and those by which the last is found."""
+    command = Command(tally, library, folder, words)
+    few(command.refuse)
+    return command.ended()
+
+
+def few(refuse: Callable[[int], bool]) -> int:
+    """Refuses the first request, the last, the one in the middle, and those by which the last is found; answers the last. Where
+    threads make more or fewer requests each time it is one of the last."""
+    more = 1
+    while refuse(more):
+        more *= 2
+    low, high = more // 2, more
+    while low + 1 < high:
+        middle = (low + high) // 2
+        low, high = (middle, high) if refuse(middle) else (low, middle)
+    refuse((1 + low) // 2)
+    return low
 
 
 def commands(trace: Path) -> list:
@@ -83,6 +124,7 @@ def main() -> None:
     runs, memory, thread = (sum(counts) for counts in zip(*seen))
     print(f"{runs:,} runs with a request refused: {memory:,} out of memory, {thread:,} without a thread; "
           f"at most {max(seen).runs:,} for one answer")
+    note("tests/memory/refused_memory.py", tally.said(), program)
     tally.close()
 
 

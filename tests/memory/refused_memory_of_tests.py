@@ -14,7 +14,8 @@ from pathlib import Path
 
 ROOT = Path(__file__).resolve().parents[2]
 sys.path.insert(0, str(ROOT / "tests"))
-from memory.refused_memory import shim  # noqa: E402
+from memory.refused_memory import few, shim  # noqa: E402
+from shared.last_runs import note  # noqa: E402
 from shared.program import Tally  # noqa: E402
 
 CRATES = ROOT / "crates"
@@ -52,14 +53,7 @@ class Test:
 
     def requests(self) -> int:
         """How many requests it makes, or some fewer."""
-        more = 1
-        while self.run(more)[1]:
-            more *= 2
-        low, high = more // 2, more
-        while low + 1 < high:
-            middle = (low + high) // 2
-            low, high = (middle, high) if self.run(middle)[1] else (low, middle)
-        return low
+        return few(lambda request: self.run(request)[1])
 
 
 def chosen(requests: int) -> list:
@@ -96,6 +90,8 @@ def main() -> None:
                       f"{len(refused) - len(stopped)} times it passed", flush=True)
     print(f"{together:,} requests refused")
     tally.check("requests were refused", together > 0)
+    if not named:
+        note("tests/memory/refused_memory_of_tests.py", f"{tally.said()}, {together:,} requests refused")
     tally.close()
 
 

@@ -16,12 +16,14 @@ from pathlib import Path
 ROOT = Path(__file__).resolve().parents[2]
 sys.path.insert(0, str(ROOT / "tests"))
 from memory.refused_memory import shim  # noqa: E402
+from shared.last_runs import note  # noqa: E402
 from shared.program import Ended, Tally, program_of, run, short  # noqa: E402
 
 CRATE = ROOT / "crates" / "session_runs"
 MET = re.compile(rb"in (\d+) of them memory was refused\n")
 # One request is refused in so many, in turn.
 ONE_IN = [3, 5, 10, 20, 50, 100, 300]
+RUNS = 30
 LEAST_MET = 100
 
 
@@ -34,7 +36,7 @@ def refused(program: str, library: str, told: Path, one_in: int, seed: int) -> t
 
 
 def main() -> None:
-    program, runs = program_of(sys.argv[:2]), int(sys.argv[2]) if len(sys.argv) > 2 else 30
+    program, runs = program_of(sys.argv[:2]), int(sys.argv[2]) if len(sys.argv) > 2 else RUNS
     ample = run(program, [], (CRATE / "stdin").read_bytes())
     tally = Tally()
     tally.same("with ample memory", ample, Ended(0, (CRATE / "stdout").read_bytes(), b""))
@@ -55,6 +57,8 @@ def main() -> None:
     print(f"{requests:,} requests refused, {sessions:,} sessions, {met:,} of them had a body come back; "
           f"{without_memory} runs found no memory before they printed")
     tally.check(f"at least {LEAST_MET} sessions had a body come back", met >= LEAST_MET, met)
+    if runs >= RUNS:
+        note("tests/memory/refused_sessions.py", f"{tally.said()}, {requests:,} requests refused", program)
     tally.close()
 
 

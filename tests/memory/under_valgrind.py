@@ -14,11 +14,13 @@ from pathlib import Path
 
 ROOT = Path(__file__).resolve().parents[2]
 sys.path.insert(0, str(ROOT / "tests"))
+from shared.last_runs import note  # noqa: E402
 from shared.mutants import edited, mutated, some_bytes  # noqa: E402
 from shared.program import Tally, need, program_of, run  # noqa: E402
 
 VECTORS = ROOT / "tests" / "vectors"
 SEED = 1945
+MUTANTS = 1000
 VALGRIND = ["-q", "--fair-sched=yes", "--leak-check=full", "--errors-for-leak-kinds=definite,indirect", "--error-exitcode=99"]
 
 
@@ -54,7 +56,7 @@ def asked(program: str, folder: str, many: int, has_live: bool = False):
 
 
 def main() -> None:
-    many = int(sys.argv[2]) if len(sys.argv) > 2 else 1000
+    many = int(sys.argv[2]) if len(sys.argv) > 2 else MUTANTS
     program = program_of(sys.argv[:2])
     need("valgrind", "valgrind")
     tally = Tally()
@@ -64,6 +66,8 @@ def main() -> None:
             return words, text, run("valgrind", [*VALGRIND, program, *words], text), run(program, words, text)
         for words, text, got, wanted in pool.map(tried, asked(program, folder, many)):
             tally.same(f"{words} on {text[:300]!r}", got, wanted)
+    if many >= MUTANTS:
+        note("tests/memory/under_valgrind.py", tally.said(), program)
     tally.close()
 
 

@@ -20,7 +20,8 @@ from pathlib import Path
 
 ROOT = Path(__file__).resolve().parents[2]
 sys.path.insert(0, str(ROOT / "tests"))
-from memory.under_valgrind import asked  # noqa: E402
+from memory.under_valgrind import MUTANTS, asked  # noqa: E402
+from shared.last_runs import note  # noqa: E402
 from shared.program import Ended, Tally, library_of, program_of, run  # noqa: E402
 
 HERE = Path(__file__).parent
@@ -54,7 +55,7 @@ def try_faults(tally: Tally, loaded: str, folder: str) -> None:
 
 
 def main() -> None:
-    many = int(sys.argv[2]) if len(sys.argv) > 2 else 1000
+    many = int(sys.argv[2]) if len(sys.argv) > 2 else MUTANTS
     program = program_of(sys.argv[:2])
     tally = Tally()
     with tempfile.TemporaryDirectory() as folder, ThreadPoolExecutor(os.cpu_count()) as pool:
@@ -66,6 +67,8 @@ def main() -> None:
             return words, text, checked(loaded, [program, *words], text), run(program, words, text)
         for words, text, got, wanted in pool.map(tried, asked(program, folder, many, has_live=True)):
             tally.same(f"{words} on {text[:300]!r}", got, wanted)
+    if many >= MUTANTS:
+        note("tests/memory/with_sanitizer.py", tally.said(), program)
     tally.close()
 
 

@@ -24,6 +24,7 @@ from reference.checker import answer_of  # noqa: E402
 from reference.traces import MOST_ENTRIES, MOST_INSERTS, MOST_NAMES, MOST_PLACES, line_fault  # noqa: E402
 from shared.colliding import chosen_names  # noqa: E402
 from shared.forger import line  # noqa: E402
+from shared.last_runs import note  # noqa: E402
 from shared.measured import measured  # noqa: E402
 from shared.program import Ended, Tally, fault, program_of  # noqa: E402
 from shared.two_orders import Exchanged, TwoOrders, names_that_share_slots  # noqa: E402
@@ -276,6 +277,8 @@ def main() -> None:
         attack_with_certificates(tally, program, asking, given, folder)
         if given.only in "names that collide":
             chosen_names(tally, program, folder, CHOSEN_NAMES)
+    if given.megabytes >= MEGABYTES and not given.only:
+        note("tests/program/attacked.py", tally.said(), program)
     tally.close()
 
 

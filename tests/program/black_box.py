@@ -1,6 +1,7 @@
 #!/usr/bin/env python3
 """black_box.py PROGRAM: what only the built program can show: lines, statuses, standard error, files and pipes."""
 import json
+import math
 import os
 import re
 import subprocess
@@ -283,6 +284,23 @@ def most_threads(program: str, words: list) -> int:
     return most
 
 
+# How often a run is seen with all its threads at once: with 16 workers on four processors in one run of four (38 of 130 beside other
+# work), with two and four in all (130 of 130 each). What is counted on is less: one run of ten, and one of two.
+MANY_SEEN, FEW_SEEN = 1 / 10, 1 / 2
+# A program that is right fails such a check by this chance, where its threads are seen as often as that.
+CHANCE = 1e-6
+
+
+def seen_threads(program: str, words: list, wanted: int, often: float) -> int:
+    """The most threads that were seen, in as many runs as it takes that a run with so many is missed by the chance alone."""
+    seen = 0
+    for _ in range(math.ceil(math.log(CHANCE) / math.log(1 - often))):
+        seen = max(seen, most_threads(program, words))
+        if seen >= wanted:
+            break
+    return seen
+
+
 def threads(tally: Tally, program: str, folder: str) -> None:
     """As many threads search as were asked for, in one run of several near the limits on names: a search may end before all
     have begun. The check before it, which finds the covering responses too, has more than one where more than one worker was asked
@@ -295,19 +313,11 @@ def threads(tally: Tally, program: str, folder: str) -> None:
     many = min(64, 2 * processors + 8)
     seen = most_threads(program, ["verdict", "--workers", "1", path])
     tally.check("one worker", seen == 1, f"saw {seen}")
-    for _ in range(20):
-        if seen <= 1:
-            seen = most_threads(program, ["verdict", "--workers", "2", os.path.join(folder, "accepted")])
+    seen = seen_threads(program, ["verdict", "--workers", "2", os.path.join(folder, "accepted")], 2, FEW_SEEN)
     tally.check("threads before the search", seen > 1 or processors == 1, f"saw {seen}")
-    runs = 0
-    while seen < many and runs < 60:
-        seen = max(seen, most_threads(program, ["verdict", "--workers", str(many), path]))
-        runs += 1
+    seen = seen_threads(program, ["verdict", "--workers", str(many), path], many, MANY_SEEN)
     tally.check(f"{many} workers in threads", seen >= many, f"saw {seen}")
-    seen = 0
-    for _ in range(20):
-        if seen < 4:
-            seen = most_threads(program, ["cert", path])
+    seen = seen_threads(program, ["cert", path], 4, FEW_SEEN)
     tally.check("four workers of a certificate", seen == 4, f"saw {seen}")
 
 

@@ -25,6 +25,7 @@ from reference.checker import certificate_of, line_on  # noqa: E402
 from reference.traces import line_fault  # noqa: E402
 from reference.verdicts import Recording, dotted, first_fault, recording_of, report_of  # noqa: E402
 from shared.forger import forged, line  # noqa: E402
+from shared.last_runs import note  # noqa: E402
 from shared.mutants import edited, mutated, some_bytes  # noqa: E402
 from shared.program import Ended, Quick, Tally, fault, program_of  # noqa: E402
 from shared.sessions import session, with_fault  # noqa: E402
@@ -41,6 +42,8 @@ WORKERS = [1] * 10 + [2] * 5 + [4] * 4 + [64]
 SHARED = "/dev/shm" if os.path.isdir("/dev/shm") else None
 # After so many cases of a process it says how far it is.
 TOLD_EACH = 50_000
+# A run of fewer cases is no run that the page of last runs tells of.
+LEAST_CASES = 100_000
 
 
 def texts(rnd: random.Random):
@@ -143,6 +146,8 @@ def main() -> None:
             tally.passed, tally.failed, kinds = tally.passed + one.passed, tally.failed + one.failed, kinds + of_kinds
     print(", ".join(f"{n:,} {kind}" for kind, n in sorted(kinds.items())))
     print(f"{sum(kinds.values()):,} texts, {tally.passed + tally.failed:,} cases in {time.monotonic() - begun:.0f} seconds")
+    if tally.passed + tally.failed >= LEAST_CASES:
+        note("tests/program/fuzz.py", f"{tally.said()}, seed {given.seed}", program)
     tally.close()
 
 

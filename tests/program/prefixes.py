@@ -22,6 +22,7 @@ from reference.checker import certificate_of, line_on  # noqa: E402
 from reference.traces import line_fault  # noqa: E402
 from reference.verdicts import Fault, Recording, first_fault, recording_of, report_of  # noqa: E402
 from shared.forger import line  # noqa: E402
+from shared.last_runs import note  # noqa: E402
 from shared.program import Ended, Quick, Tally, fault, is_short, program_of  # noqa: E402
 
 VECTORS = ROOT / "tests" / "vectors"
@@ -125,6 +126,8 @@ def main() -> None:
                     try_certificate(tally, counted, program, trace, cert, text)
     print(", ".join(f"{many} {what}" for what, many in counted.items()))
     tally.check("prefixes of traces and certificates", counted["traces' prefixes"] > 0 and counted["certificates' prefixes"] > 0)
+    if given.one_in == 1 and given.vectors == VECTORS:
+        note("tests/program/prefixes.py", tally.said(), program.program)
     tally.close()
 
 

@@ -22,6 +22,9 @@ from dataclasses import dataclass
 from pathlib import Path
 
 ROOT = Path(__file__).resolve().parents[2]
+sys.path.insert(0, str(ROOT / "tests"))
+from shared.last_runs import note  # noqa: E402
+
 CRATES = ("events", "specification")
 SPECS = "crates/specification/specs"
 EVENTS = "crates/events/specs"
@@ -522,7 +525,10 @@ def main() -> int:
             refused += fault is None
             verdict = "refused" if fault is None else f"NOT REFUSED ({fault})"
             print(f"{verdict}: {one.function}: {one.name} [{where}, {time.monotonic() - start:.0f} s]", flush=True)
-    print(f"{refused} of {len(wanted)} changes refused")
+    said = f"{refused} of {len(wanted)} changes refused"
+    print(said)
+    if not words:
+        note("tests/proofs/changed_definitions.py", said)
     return 0 if refused == len(wanted) else 1
 
 

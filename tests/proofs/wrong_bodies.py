@@ -3,7 +3,7 @@
 
 `rt ci` tries the wrong bodies in crates/CRATE/must-fail. Those in tests/proofs/wrong_bodies/CRATE are further ones of the same
 form, which would make the gate longer by minutes; README says which functions have none. This script copies the crates to a temporary folder, puts these wrong bodies in the place of the others there, and has
-`rt must-fail` try them. It is no part of the gate: crates that were not checked before are proved first.
+`rt must-fail` try them; tests/last_runs.txt has a line of each crate. It is no part of the gate: crates that were not checked before are proved first.
 
     tests/proofs/wrong_bodies.py                 all crates that have further wrong bodies
     tests/proofs/wrong_bodies.py CRATE..         these crates
@@ -16,6 +16,9 @@ import tempfile
 from pathlib import Path
 
 ROOT = Path(__file__).resolve().parents[2]
+sys.path.insert(0, str(ROOT / "tests"))
+from shared.last_runs import WRONG_BODIES, note  # noqa: E402
+
 BODIES = ROOT / "tests/proofs/wrong_bodies"
 
 
@@ -58,8 +61,10 @@ def main() -> int:
         copy_crates(folder)
         for crate in crates:
             refused = refused_in(folder, crate)
+            stayed = [f"{crate}/{name}" for name in names_of(crate) if name not in refused]
+            note(f"{WRONG_BODIES} {crate}", f"{len(refused)} refused, {len(stayed)} not")
             passed += refused
-            failed += [f"{crate}/{name}" for name in names_of(crate) if name not in refused]
+            failed += stayed
     for name in failed:
         print(f"not refused: {name}")
     print(f"{len(passed)} refused, {len(failed)} not")

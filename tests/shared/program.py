@@ -103,9 +103,13 @@ class Tally:
     def same(self, name: str, got: Ended, wanted: Ended) -> None:
         self.check(name, got == wanted, f"got {short(got)}, wanted {short(wanted)}")
 
+    def said(self) -> str:
+        """The counts in words."""
+        return f"{self.passed} passed, {self.failed} failed"
+
     def close(self) -> None:
         """Prints the counts and ends the script: with status 1 where something failed."""
-        print(f"{self.passed} passed, {self.failed} failed")
+        print(self.said())
         sys.exit(1 if self.failed else 0)
 
 

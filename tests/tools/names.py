@@ -7,12 +7,17 @@
     names.py --list     prints where each name stands
 
 A name is one of a crate that has the word `pub`, a method of such a trait, a function of a program's main file, a test, or a
-definition of the crate's specs."""
+definition of the crate's specs. With the page, tests/last_runs.txt is looked at: a long script that ran last more than a release
+before what it tries was changed is complained of."""
 import re
 import sys
 from pathlib import Path
 
 ROOT = Path(__file__).resolve().parents[2]
+sys.path.insert(0, str(ROOT / "tests"))
+from shared import last_runs  # noqa: E402
+from shared.program import Tally  # noqa: E402
+
 PAGE = ROOT / "docs" / "names.md"
 
 HEAD = """# The words of the field, and their names in the code
@@ -254,6 +259,15 @@ def found(word: str) -> list[str]:
             if word in (name, name.split("::")[-1])]
 
 
+def check_last_runs(tally: Tally) -> None:
+    """The page of last runs has a line for each long script, and none of them is too old. A release is a heading of CHANGELOG.md."""
+    if last_runs.has_history():
+        faults = last_runs.faults()
+        tally.check("tests/last_runs.txt", not faults, "; ".join(faults))
+    else:
+        print("tests/last_runs.txt was not looked at: the history of the repository is not here")
+
+
 def main() -> int:
     if sys.argv[1:] == ["--write"]:
         PAGE.write_text(page(), encoding="utf-8")
@@ -265,11 +279,11 @@ def main() -> int:
         places = found(sys.argv[1])
         print("\n".join(places) if places else f"names.py: no name is {sys.argv[1]}")
         return 0 if places else 1
-    if PAGE.read_text(encoding="utf-8") == page():
-        print("1 passed, 0 failed")
-        return 0
-    print("docs/names.md is not what the sources say: tests/tools/names.py --write makes it anew\n0 passed, 1 failed")
-    return 1
+    tally = Tally()
+    tally.check("docs/names.md is not what the sources say: tests/tools/names.py --write makes it anew",
+                PAGE.read_text(encoding="utf-8") == page())
+    check_last_runs(tally)
+    tally.close()
 
 
 if __name__ == "__main__":
