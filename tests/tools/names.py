@@ -7,7 +7,7 @@
     names.py --list     prints where each name stands
 
 A name is one of a crate that has the word `pub`, a method of such a trait, a function of a program's main file, a test, or a
-definition of the crate's specs. With the page, it looks at what stands outside the gate: a long script that ran last more than
+definition of the crate's specs. With the page, it looks at what proofs and scripts show: a long script that ran last more than
 a release before what it tries was changed (tests/last_runs.txt), and a planted mistake whose text stands there no more, are
 complained of."""
 import re
