@@ -23,6 +23,7 @@ from pathlib import Path
 
 ROOT = Path(__file__).resolve().parents[2]
 sys.path.insert(0, str(ROOT / "tests"))
+from shared.edits import pattern_of  # noqa: E402
 from shared.last_runs import note  # noqa: E402
 
 CRATES = ("events", "specification")
@@ -33,7 +34,7 @@ LIMITS = "crates/events/src/lib.rt"
 
 @dataclass(frozen=True)
 class Edit:
-    """In one file, a text that stands there once, and what it becomes."""
+    """In one file, a text that stands there once, wherever its lines are broken, and what it becomes."""
 
     file: str
     old: str
@@ -393,8 +394,8 @@ CHANGES = (
         "worked::worked_recordings",
         "a receipt of any number is taken",
         f"{EVENTS}/Session.antt",
-        "(passes (λ o. nat_lt (count_of o.replica entries) o.n) (received e.body), NotYet (have_of entries (received e.body)))",
-        "(passes (λ o. nat_lt o.n (count_of o.replica entries)) (received e.body), NotYet (have_of entries (received e.body)))",
+        "passes (λ o. nat_lt (count_of o.replica entries) o.n) (received e.body), NotYet",
+        "passes (λ o. nat_lt o.n (count_of o.replica entries)) (received e.body), NotYet",
         "rows/Recordings",
     ),
     change(
@@ -442,14 +443,20 @@ CHANGES = (
 )
 
 
+def stale_changes() -> list[str]:
+    """The texts that don't stand once in their files any more."""
+    return [f"{edit.file}: stands {found} times: {edit.old}" for wanted in CHANGES for edit in wanted.edits
+            if (found := len(pattern_of(edit.old).findall((ROOT / edit.file).read_text(encoding="utf-8")))) != 1]
+
+
 def replace_once(folder: Path, edit: Edit) -> str:
     """Make the edit in the folder, and give the file's text from before."""
     file = folder / edit.file
     text = file.read_text(encoding="utf-8")
-    found = text.count(edit.old)
+    changed, found = pattern_of(edit.old).subn(lambda _: edit.new, text)
     if found != 1:
         raise SystemExit(f"{edit.file}: this text stands there {found} times, not once: {edit.old}")
-    file.write_text(text.replace(edit.old, edit.new), encoding="utf-8")
+    file.write_text(changed, encoding="utf-8")
     return text
 
 

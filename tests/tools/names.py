@@ -7,15 +7,18 @@
     names.py --list     prints where each name stands
 
 A name is one of a crate that has the word `pub`, a method of such a trait, a function of a program's main file, a test, or a
-definition of the crate's specs. With the page, tests/last_runs.txt is looked at: a long script that ran last more than a release
-before what it tries was changed is complained of."""
+definition of the crate's specs. With the page, it looks at what proofs and scripts show: a long script that ran last more than
+a release before what it tries was changed (tests/last_runs.txt), and a planted mistake whose text stands there no more, are
+complained of."""
 import re
 import sys
 from pathlib import Path
 
 ROOT = Path(__file__).resolve().parents[2]
 sys.path.insert(0, str(ROOT / "tests"))
+from proofs.changed_definitions import stale_changes  # noqa: E402
 from shared import last_runs  # noqa: E402
+from shared.edits import stale_bodies  # noqa: E402
 from shared.program import Tally  # noqa: E402
 
 PAGE = ROOT / "docs" / "names.md"
@@ -283,6 +286,8 @@ def main() -> int:
     tally.check("docs/names.md is not what the sources say: tests/tools/names.py --write makes it anew",
                 PAGE.read_text(encoding="utf-8") == page())
     check_last_runs(tally)
+    stale = stale_bodies() + stale_changes()
+    tally.check("planted mistakes apply", not stale, "; ".join(stale))
     tally.close()
 
 
