@@ -24,6 +24,14 @@ def met_inserts(recording: Recording, delete: Operation, arrival: Arrival) -> li
             if had[insert.replica] >= insert.n and not delete.has_seen(insert) and not insert.has_seen(delete) and insert is not arrival.insert]
 
 
+def met_before(recording: Recording, delete: Operation, receipt: Receipt) -> bool:
+    """Whether the receipt's replica had another delete before it, and an insert of another element, where these did not know of each other."""
+    had = recording.clock_before(receipt)
+    changes = [change for change in recording.changes() if had[change.replica] >= change.n]
+    deletes = [change for change in changes if change.kind == "del" and change is not delete]
+    return any(change.kind == "ins" and not change.has_seen(other) and not other.has_seen(change) for other in deletes for change in changes)
+
+
 def elements_before(recording: Recording, change: Operation, receipt: Receipt) -> set:
     """The elements that stood before the place of the change: for its author when it was made, and for the replica when it arrived."""
     own = list_of(recording, change)
