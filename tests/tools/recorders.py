@@ -1756,8 +1756,10 @@ def check_guide(tally: Tally, program: str, folder: Path) -> None:
 
 
 # How README's examples begin, what runs them in the folder of the one file that they import, and that file.
-README = {"from domepeeler import": ([sys.executable, "readme.py"], "domepeeler.py"),
-          "import { Recording }": (["node", "readme.mjs"], "domepeeler.mjs")}
+README = {"from domepeeler import": ([sys.executable, "readme.py"], "domepeeler.py", ("delivered([[],", 'delivered([["a"],')),
+          "import { Recording }": (["node", "readme.mjs"], "domepeeler.mjs", ("delivered([[],", 'delivered([["a"],')),
+          "mod domepeeler;": (["sh", "-c", 'rustc --edition 2021 -D warnings --test -o readme "$0" && ./readme -q', "tests/editor.rs"],
+                              "domepeeler.rs", ("&[empty, empty]", '&[&["a"][..], &empty]'))}
 
 
 class Places:
@@ -1840,20 +1842,25 @@ def check_any_order(tally: Tally, program: str, shown: list) -> None:
 
 
 def check_readme(tally: Tally, program: str, folder: Path) -> None:
-    """README's examples are accepted; and if replica 0 has lost the delete in its last answer, each ends with the explanation."""
+    """README's examples are accepted; and if replica 0 has lost the delete in its last answer, each ends with the explanation. That of Rust is a
+    file of tests."""
     place = folder / "readme"
-    place.mkdir()
+    (place / "tests/domepeeler").mkdir(parents=True)
+    shutil.copy(ROOT / "recorders/domepeeler.rs", place / "tests/domepeeler/mod.rs")
     surroundings = {**os.environ, "DOMEPEELER": program, "DOMEPEELER_EXPLAIN": EXPLAIN, "PYTHONDONTWRITEBYTECODE": "1"}
-    for begin, (words, recorder) in README.items():
+    for begin, (words, recorder, (empty, lost)) in README.items():
         found = [block for block in blocks(ROOT / "README.md") if block.startswith(begin)]
-        tally.check(f"README: {begin}", len(found) == 1 and found[0].count("delivered([[], []])") == 1, found)
+        tally.check(f"README: {begin}", len(found) == 1 and found[0].count(empty) == 1, found)
         shutil.copy(ROOT / "recorders" / recorder, place)
         text = "".join(found)
-        for code, wanted in (text, ""), (text.replace("delivered([[],", 'delivered([["a"],'), "contents 0.2: "):
+        for code, wanted in (text, ""), (text.replace(empty, lost), "contents 0.2: "):
             Path(place, words[-1]).write_text(code)
             done = subprocess.run(words, cwd=place, capture_output=True, text=True, env=surroundings)
-            tally.check(f"README: {begin}, {wanted or 'accepted'}", done.returncode == int(wanted != "") and wanted in done.stderr and
-                        (wanted != "" or not done.stderr + done.stdout), done)
+            said = done.stderr + done.stdout
+            passed = "\nrunning 1 test\n.\ntest result: ok. 1 passed; 0 failed; " if recorder.endswith(".rs") else ""
+            status = (101 if passed else 1) if wanted else 0
+            tally.check(f"README: {begin}, {wanted or 'accepted'}", done.returncode == status and (
+                wanted in said if wanted else said.startswith(passed) and bool(said) == bool(passed)), done)
 
 
 def check_hypothesis(tally: Tally, program: str, folder: Path) -> None:
