@@ -2346,6 +2346,53 @@ def check_places_c(tally: Tally, program: str, folder: Path) -> None:
     tally.check("C: explain names these", done.stdout.endswith("\n\nIn your code\n  editor.y:7: line 3\n  other.y:20: lines 7 and 8\n\n"), done)
 
 
+# Four threads that share a recording under a lock.
+THREADS_C = f"""#include "{ROOT / 'recorders'}/domepeeler.h"
+#include <pthread.h>
+
+static struct domepeeler *recording;
+static pthread_mutex_t lock = PTHREAD_MUTEX_INITIALIZER;
+
+static void *record(void *number) {{
+    const char *list[] = {{"even", "odd"}};
+    int replica = *(int *)number;
+    for (int i = 0; i < 2000; i++) {{
+        pthread_mutex_lock(&lock);
+        unsigned n = replica % 2 ? domepeeler_read(recording, replica, list + 1, 1)
+                                 : domepeeler_view(recording, replica, list, 1);
+        pthread_mutex_unlock(&lock);
+        if (n != (unsigned)i + 1) exit(1);
+    }}
+    return NULL;
+}}
+
+int main(void) {{
+    pthread_t threads[4];
+    int numbers[] = {{0, 1, 2, 3}};
+    recording = domepeeler_new(4);
+    for (int i = 0; i < 4; i++)
+        if (pthread_create(&threads[i], NULL, record, &numbers[i])) return 1;
+    for (int i = 0; i < 4; i++) pthread_join(threads[i], NULL);
+    unsigned is_saved = domepeeler_save(recording, "threads.trace");
+    domepeeler_free(recording);
+    return !is_saved;
+}}
+"""
+
+
+def check_threads_c(tally: Tally, folder: Path) -> None:
+    """Threads that hold a lock around each call: every line is there whole, with its place."""
+    Path(folder, "threads.c").write_text(THREADS_C)
+    subprocess.run([*GCC, "-pthread", "-o", "threads", "threads.c"], cwd=folder, check=True)
+    done = subprocess.run(["./threads"], cwd=folder, capture_output=True, text=True)
+    entries = Path(folder, "threads.trace").read_text().splitlines()[2:] if done.returncode == 0 else []
+    places = [line.split(" ", 1)[1] for line in Path(folder, "threads.trace.lines").read_text().splitlines()[2:]] if entries else []
+    wanted = {("0 view : even", "threads.c:13"), ("1 read : odd", "threads.c:12"), ("2 view : even", "threads.c:13"),
+              ("3 read : odd", "threads.c:12")}
+    counts = Counter(zip(entries, places))
+    tally.check("C: four threads", len(entries) == len(places) and counts == {pair: 2000 for pair in wanted}, (counts, done))
+
+
 # A program whose timer interrupts it, and which ignores how its children end; and then one that goes on after calls were refused.
 HOSTILE_C = f"""#include "{ROOT / 'recorders'}/domepeeler.h"
 #include <sys/time.h>
@@ -2502,6 +2549,7 @@ def main() -> None:
         check_rust_tests(tally, program, folder)
         check_compilers(tally, folder)
         check_places_c(tally, program, folder)
+        check_threads_c(tally, folder)
         check_hostile_c(tally, Recorder("c", drivers["c"], program), folder)
     tally.close()
 

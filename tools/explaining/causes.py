@@ -20,15 +20,16 @@ UNDELIVERED = ("{lines} by `delivered`: before it nothing shows that {changes} {
                "{are} held back for ever. Look at what keeps changes waiting.")
 NOT_APPLIED = ("It looks as if {changes} {were} not applied at replica {replica}: lost, or held back, or `received` is called before the "
                "change is applied.{moved}")
-BROUGHT = ("No receipt at replica {replica} names {changes}, which arrived with {brought}. If each of your changes has a receipt of its own, "
-           "{brought} overtook {them}, or {they} {were} lost.")
-LOST = ("Look first at whether {change} was lost on its way to replica {replica}, or overtaken: no receipt names it there, as one does each other "
-        "change of replica {author}. Where positions are sent, what comes later is then misplaced.")
+BROUGHT = ("No receipt at replica {replica} names {changes}, which arrived with {brought}. If each of your changes has a receipt of its "
+           "own, {brought} overtook {them}, or {they} {were} lost.")
+LOST = ("Look first at whether {change} was lost on its way to replica {replica}, or overtaken: no receipt names it there, as one does each "
+        "other change of replica {author}. Where positions are sent, what comes later is then misplaced.")
 NO_RECEIPT = ("It looks as if {changes} {were} applied at replica {replica} without a receipt: the call of `received` is missing, comes "
               "too late, or names another operation.")
 WRONG_DELETE = ("{delete} looks applied to {missing} in the place of {surplus}: look at how a delete finds its element where it is "
                 "applied, and at whether the recorder names the element that was deleted.{moved}")
-MOVED_DELETE = " In an editor that sends positions, its position was perhaps not adjusted for {changes}, which its author had not seen{back}.{tie}"
+MOVED_DELETE = (" In an editor that sends positions, its position was perhaps not adjusted for {changes}, which its author had not "
+                "seen{back}.{tie}")
 MOVED_BEFORE = "; or an earlier insert was not adjusted for a delete"
 PUT_AT_ONCE = (" {others} {were} inserted at the place of {element}, neither author knowing of the other: look also at which comes first "
                "there.")
@@ -202,7 +203,8 @@ def of_refusal(evidence: Evidence) -> list:
         told = CONCURRENT.format(first=first.element, then=then.element, moved=moved_over(evidence))
         return [*lost(evidence), Cause("concurrent", told), *beside_deleted(evidence)]
     later, old = (first, then) if first.has_seen(then) else (then, first)
-    told = SEEN.format(later=at(later), new=later.element, old=old.element, moved=moved_over(evidence)) + (put_meanwhile(evidence, later) or put_meanwhile(evidence, old))
+    told = SEEN.format(later=at(later), new=later.element, old=old.element, moved=moved_over(evidence))
+    told += put_meanwhile(evidence, later) or put_meanwhile(evidence, old)
     return [*lost(evidence), *beside_deleted(evidence), Cause("seen", told)]
 
 
