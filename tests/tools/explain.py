@@ -300,6 +300,11 @@ WORDS = [
      "1.3 (line 12) looks applied to d in the place of c: look at how a delete finds its element where it is applied, and at whether the recorder "
      "names the element that was deleted. In an editor that sends positions, its position was perhaps not adjusted for the delete 0.4 (line 8) of "
      "a, which its author had not seen; or an earlier insert was not adjusted for a delete." + stop(13, "replica 0 applies 1.3")),
+    ("a delete that takes what is deleted later", 2, "0 ins a 0 : a|0 ins b 1 : a b|1 recv 0 2|1 read : a b|1 del a : b|0 ins c 0 : c a b|0 recv 1 2|"
+     "0 read : a b|0 del c : a b",
+     "1.2 (line 7) looks applied to c in the place of a: look at how a delete finds its element where it is applied, and at whether the recorder "
+     "names the element that was deleted. In an editor that sends positions, its position was perhaps not adjusted for the insert 0.3 (line 8) of "
+     "c, which its author had not seen." + stop(9, "replica 0 applies 1.2")),
     ("an insert that another one at its place has shifted", 2, "0 ins b 0 : b|0 ins c 0 : c b|1 ins a 0 : a|1 recv 0 1|1 read : a b|1 recv 0 2|"
      "1 read : a b c",
      "Look at where a replica places an incoming insert: 0.2 (line 4) inserted c when it had b, so their order was known already, and still it "

@@ -86,8 +86,7 @@ def of_contents(evidence: Evidence) -> list:
     if evidence.undelivered:
         return [undelivered(evidence)]
     found = [*wrong_delete(evidence, evidence.operations[0]), *second_delete(evidence), *overtaken(evidence), *lost_neighbour(evidence)]
-    is_late = overtaken(evidence) or lost(evidence)
-    found = [*lost(evidence), *(found or unlike_receipts(evidence)), *([] if is_late else brought(evidence))]
+    found = [*lost(evidence), *(found or unlike_receipts(evidence)), *brought(evidence)]
     return [*found, Cause("arrival", otherwise("If that is not the cause", ARRIVAL) if found else ARRIVAL)]
 
 
@@ -107,10 +106,12 @@ def lost(evidence: Evidence) -> list:
 
 
 def brought(evidence: Evidence) -> list:
-    """Of changes that the response ought to show, and that came with a later one of their author without receipts of their own."""
-    came = {}
-    for change in evidence.unnamed:
-        came.setdefault(evidence.recording.arrival(change, evidence.operations[0].replica), []).append(change)
+    """Of changes that the response ought to show, and that came with a later one of their author without receipts of their own; but where one
+    is told as overtaken or lost."""
+    came, replica = {}, evidence.operations[0].replica
+    told = [change for change, _ in evidence.overtakings] + [change for change, other in evidence.unreceived[:1] if other == replica]
+    for change in evidence.unnamed if not told else []:
+        came.setdefault(evidence.recording.arrival(change, replica), []).append(change)
     return [Cause("brought", BROUGHT.format(replica=receipt.replica, brought=at(receipt.seen), them="them" if changes[1:] else "it",
                                             they="they" if changes[1:] else "it", **changes_told(changes)))
             for receipt, changes in list(came.items())[:1]]
@@ -158,7 +159,8 @@ def wrong_delete(evidence: Evidence, operation: Operation) -> list:
     before = [one for one in evidence.recording.streams[operation.replica][:operation.n - 1] if one.kind != "view"][-1:]
     news = [delete for delete in deletes if operation.has_seen(delete) and not any(one.has_seen(delete) for one in before)]
     is_new = any(map(evidence.is_new, evidence.recording.inserts[missing])) and before
-    is_deleted = missing in evidence.recording.deletes and not all(evidence.otherwise)  # by what no receipt brings, and that alone tells it
+    earlier = [one for one in evidence.recording.deletes.get(missing, []) if one.line < operation.line]
+    is_deleted = earlier and not all(evidence.otherwise)  # by what no receipt brings, and that alone tells it
     if is_deleted or not news or is_new or not any(map(operation.has_seen, inserts)):
         return []
     moved = moved_delete(evidence, news[0])
