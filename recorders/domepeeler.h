@@ -33,7 +33,19 @@
  *
  * Where updates have vector clocks, domepeeler_received_clock() writes the receipts, and refuses what is not causal.
  *
- * One recording is one thread's: where several threads record, hold a lock of your own around each call. */
+ * An explanation names the line of code that made each call, since the calls that record are macros too, which hand in __FILE__ and
+ * __LINE__. Where a function of yours makes the calls for others, let it take theirs and hand them on, and it names their lines:
+ *
+ *     #define typed(...) typed_from(__FILE__, __LINE__, __VA_ARGS__)
+ *     void typed_from(const char *file, int line, const char *name) {
+ *         list[0] = name;
+ *         if (!domepeeler_insert_from(file, line, recording, 0, name, 0, list, 1)) puts(domepeeler_why(recording));
+ *     }
+ *
+ * A pointer to such a call, and one in brackets as (domepeeler_insert)(...), is the plain function, which names no line.
+ *
+ * One recording is one thread's: where several threads record, hold a lock of your own around each call. Without it ten of ten runs of four
+ * threads crashed. */
 #ifndef DOMEPEELER_H
 #define DOMEPEELER_H
 
@@ -97,6 +109,12 @@ struct domepeeler_replica {
     unsigned others[DOMEPEELER_REPLICAS], *changes, (*pasts)[DOMEPEELER_REPLICAS];
 };
 
+/* From where in your code a line of the trace was recorded; the file is NULL where that is not known. */
+struct domepeeler_caller {
+    char *file;
+    int line;
+};
+
 /* An id, and its name in the trace: of an id that is no name, or of a name that looks like what such an id becomes. */
 struct domepeeler_id {
     char *id, name[DOMEPEELER_BYTES + 1];
@@ -113,6 +131,10 @@ struct domepeeler {
     char *notes[DOMEPEELER_NOTES];
     size_t noted;
     size_t (*deliveries)[2], delivered; /* of each call of domepeeler_delivered() its first and last line of the text */
+    struct domepeeler_caller *callers;  /* of each line of the text behind its head */
+    size_t called, callers_room;
+    const char *file; /* from where the call comes that is under way, or NULL */
+    int line;
     size_t refused; /* calls, but for limits and what is not causal, after which a session may well go on */
     int full;
     char why[512], first[512]; /* of the last call that answered 0, and of the first one that was refused so */
@@ -251,8 +273,18 @@ static inline void domepeeler_forget(struct domepeeler *d, size_t known) {
     domepeeler_arrange(d, known);
 }
 
+/* Forgets the callers of all lines but the first so many. A file's name is kept once for the lines that follow one another. */
+static inline void domepeeler_forget_callers(struct domepeeler *d, size_t called) {
+    for (; d->called > called; d->called--) {
+        char *file = d->callers[d->called - 1].file;
+        if (d->called < 2 || d->callers[d->called - 2].file != file) free(file);
+    }
+}
+
 static inline void domepeeler_free(struct domepeeler *d) {
     if (!d) return;
+    domepeeler_forget_callers(d, 0);
+    free(d->callers);
     for (size_t i = 0; i < d->known; i++) free(d->ids[i]);
     for (size_t i = 0; i < d->noted; i++) free(d->notes[i]);
     for (int i = 0; i < d->replicas; i++) {
@@ -304,6 +336,34 @@ static inline size_t domepeeler_lines(const struct domepeeler *d) {
     return lines;
 }
 
+/* From where the next call comes. */
+static inline void domepeeler_come_from(struct domepeeler *d, const char *file, int line) {
+    d->file = file;
+    d->line = line;
+}
+
+/* Keeps from where the line comes that is written next. Answers 1, or 0 without memory. */
+static inline int domepeeler_keep_caller(struct domepeeler *d) {
+    if (d->called == d->callers_room) {
+        size_t room = d->callers_room ? 2 * d->callers_room : 64;
+        void *callers = realloc(d->callers, room * sizeof *d->callers);
+        if (!callers) return 0;
+        d->callers = (struct domepeeler_caller *)callers;
+        d->callers_room = room;
+    }
+    struct domepeeler_caller *caller = d->callers + d->called;
+    char *before = d->called ? caller[-1].file : NULL;
+    caller->file = d->file && before && !strcmp(before, d->file) ? before : NULL;
+    caller->line = d->line;
+    if (d->file && !caller->file) {
+        caller->file = (char *)malloc(strlen(d->file) + 1);
+        if (!caller->file) return 0;
+        strcpy(caller->file, d->file);
+    }
+    d->called += 1;
+    return 1;
+}
+
 /* The id, which is no name itself, that has this name in the trace; NULL where the name stands for no other id. */
 static inline const char *domepeeler_id_of(const struct domepeeler *d, const char *name) {
     const struct domepeeler_id *one = domepeeler_find(d, name, 1);
@@ -344,6 +404,27 @@ static inline char *domepeeler_said(struct domepeeler *d, struct domepeeler_word
     words->text = NULL;
     domepeeler_fail(d, "no memory");
     return NULL;
+}
+
+/* Says the caller's place in your code, with the file's path from this folder if it lies below that. */
+static inline void domepeeler_say_place(struct domepeeler_words *said, const struct domepeeler_caller *caller, const char *here) {
+    size_t length = strlen(here), start = said->length;
+    int is_below = length && !strncmp(caller->file, here, length) && caller->file[length] == '/';
+    domepeeler_say(said, "%s:%d", caller->file + (is_below ? length + 1 : 0), caller->line);
+    if (!said->is_short) domepeeler_clean(said->text + start);
+}
+
+/* The folder in which the program runs, put into this room; else an empty text. */
+static inline const char *domepeeler_here(char *room, size_t bytes) {
+    if (!getcwd(room, bytes)) *room = 0;
+    return room;
+}
+
+/* The caller of this line of the text, or NULL where it is not known. */
+static inline const struct domepeeler_caller *domepeeler_caller_of(const struct domepeeler *d, size_t line) {
+    if (line <= DOMEPEELER_HEAD || line - DOMEPEELER_HEAD > d->called) return NULL;
+    const struct domepeeler_caller *caller = d->callers + (line - DOMEPEELER_HEAD - 1);
+    return caller->file ? caller : NULL;
 }
 
 /* Opens a new file of this folder, which is so many bytes with the slash behind it, and puts its path into the room. Answers the file, or
@@ -458,9 +539,22 @@ static inline unsigned domepeeler_save_into(struct domepeeler *d, const char *pa
     return is_written ? 1 : domepeeler_cannot_write(d, path);
 }
 
+/* Says for each line of which it is known from where in your code it was recorded. */
+static inline void domepeeler_say_callers(const struct domepeeler *d, struct domepeeler_words *said) {
+    char room[4096];
+    const char *here = domepeeler_here(room, sizeof room);
+    for (size_t line = DOMEPEELER_HEAD + 1; line <= DOMEPEELER_HEAD + d->called; line++) {
+        const struct domepeeler_caller *caller = domepeeler_caller_of(d, line);
+        if (!caller) continue;
+        domepeeler_say(said, "%zu ", line);
+        domepeeler_say_place(said, caller, here);
+        domepeeler_say(said, "\n");
+    }
+}
+
 /* Writes the text into a file of this name; and first, into one with `.lines` behind the name, how many lines it has, so that the
- * tools notice where the end of the file is lost, the notes, and which lines domepeeler_delivered() wrote. Each appears whole, or what
- * stood there stays. A pipe or a device has no such file beside it. Answers 1. */
+ * tools notice where the end of the file is lost, the notes, which lines domepeeler_delivered() wrote, and from where in your code each
+ * line was recorded. Each appears whole, or what stood there stays. A pipe or a device has no such file beside it. Answers 1. */
 DOMEPEELER_CHECKED static inline unsigned domepeeler_save(struct domepeeler *d, const char *path) {
     struct stat about;
     if (!stat(path, &about) && !S_ISREG(about.st_mode)) return domepeeler_save_into(d, path);
@@ -469,6 +563,7 @@ DOMEPEELER_CHECKED static inline unsigned domepeeler_save(struct domepeeler *d, 
     domepeeler_say(&lines, "%zu\nlanguage c\n", domepeeler_lines(d));
     for (size_t i = 0; i < d->noted; i++) domepeeler_say(&lines, "note %s\n", d->notes[i]);
     for (size_t i = 0; i < d->delivered; i++) domepeeler_say(&lines, "delivered %zu %zu\n", d->deliveries[i][0], d->deliveries[i][1]);
+    domepeeler_say_callers(d, &lines);
     int is_room = domepeeler_said(d, &beside) && domepeeler_said(d, &lines);
     unsigned is_saved = is_room && domepeeler_save_both(d, path, beside.text, lines.text);
     free(beside.text);
@@ -593,8 +688,8 @@ static inline unsigned domepeeler_line(struct domepeeler *d, int replica, const 
         if (!domepeeler_name(d, response[i])) return 0;
     if (!domepeeler_fits(d, replica, inserts, names)) return 0;
     struct domepeeler_replica *own = &d->of[replica];
-    if (!domepeeler_one_more(own) || !domepeeler_grow(d, 16 + strlen(words) + names * (1 + DOMEPEELER_BYTES)))
-        return domepeeler_refuse(d, 0, "no memory");
+    int is_room = domepeeler_one_more(own) && domepeeler_grow(d, 16 + strlen(words) + names * (1 + DOMEPEELER_BYTES));
+    if (!is_room || !domepeeler_keep_caller(d)) return domepeeler_refuse(d, 0, "no memory");
     own->entries += 1;
     own->inserts += inserts;
     own->places += (unsigned)names;
@@ -664,7 +759,7 @@ static inline unsigned domepeeler_receipt(struct domepeeler *d, int replica, int
     struct domepeeler_replica *own = &d->of[replica];
     char line[64];
     snprintf(line, sizeof line, "%d recv %d %lld\n", replica, author, n);
-    if (!domepeeler_grow(d, strlen(line))) return domepeeler_refuse(d, 0, "no memory");
+    if (!domepeeler_grow(d, strlen(line)) || !domepeeler_keep_caller(d)) return domepeeler_refuse(d, 0, "no memory");
     domepeeler_put(d, line);
     own->entries += 1;
     for (int other = 0; other < d->replicas && d->only < 0; other++) {
@@ -712,7 +807,7 @@ static inline int domepeeler_one_more_delivery(struct domepeeler *d) {
 DOMEPEELER_CHECKED static inline unsigned domepeeler_delivered(struct domepeeler *d, const char *const *const *lists,
                                                                const size_t *names, size_t count) {
     struct domepeeler_replica before[DOMEPEELER_REPLICAS];
-    size_t length = d->length, known = d->known, first = domepeeler_lines(d) + 1;
+    size_t length = d->length, known = d->known, called = d->called, first = domepeeler_lines(d) + 1;
     if (d->only >= 0)
         return domepeeler_refuse(d, 0, "one replica's log can't say that everything has arrived: the others are recorded elsewhere");
     if (count != (size_t)d->replicas)
@@ -736,6 +831,7 @@ DOMEPEELER_CHECKED static inline unsigned domepeeler_delivered(struct domepeeler
     }
     d->text[d->length = length] = 0;
     domepeeler_forget(d, known);
+    domepeeler_forget_callers(d, called);
     return 0;
 }
 
@@ -880,11 +976,23 @@ static inline const char *domepeeler_joint(size_t i, size_t count) { return i ==
 
 static inline const char *domepeeler_plural(size_t count) { return count == 1 ? "" : "s"; }
 
+/* Says the number of a line, and behind a comma its place in your code, where that is known. */
+static inline void domepeeler_say_line(const struct domepeeler *d, struct domepeeler_words *said, size_t line) {
+    char room[4096];
+    const struct domepeeler_caller *caller = domepeeler_caller_of(d, line);
+    domepeeler_say(said, caller ? "%zu, " : "%zu", line);
+    if (caller) domepeeler_say_place(said, caller, domepeeler_here(room, sizeof room));
+}
+
 /* Says the changes, the first of them by name, and how many more there are. */
-static inline void domepeeler_say_changes(struct domepeeler_words *said, const struct domepeeler_event *changes, size_t count) {
+static inline void domepeeler_say_changes(const struct domepeeler *d, struct domepeeler_words *said, const struct domepeeler_event *changes,
+                                          size_t count) {
     size_t most = DOMEPEELER_CHANGES, told = count < most ? count : most, words = told + (count > told);
-    for (size_t i = 0; i < told; i++)
-        domepeeler_say(said, "%s%d.%u (line %zu)", domepeeler_joint(i, words), changes[i].author, changes[i].n, changes[i].line);
+    for (size_t i = 0; i < told; i++) {
+        domepeeler_say(said, "%s%d.%u (line ", domepeeler_joint(i, words), changes[i].author, changes[i].n);
+        domepeeler_say_line(d, said, changes[i].line);
+        domepeeler_say(said, ")");
+    }
     if (count > told) domepeeler_say(said, " and %zu more", count - told);
 }
 
@@ -962,7 +1070,7 @@ static inline size_t domepeeler_say_lacked(const struct domepeeler_warned *w, st
     for (int i = 0; i < w->d->replicas; i++) {
         if (!counts[i]) continue;
         domepeeler_say(never, "%s", domepeeler_joint(told++, lacking));
-        domepeeler_say_changes(never, first[i], counts[i]);
+        domepeeler_say_changes(w->d, never, first[i], counts[i]);
         domepeeler_say(never, " never arrived at replica %d", i);
     }
     return all;
@@ -1079,7 +1187,7 @@ static inline void domepeeler_say_unshown(struct domepeeler_warned *w) {
         }
         if (!news) continue;
         domepeeler_say(w->said, "replica %d received ", i);
-        domepeeler_say_changes(w->said, entries->arrived, news);
+        domepeeler_say_changes(w->d, w->said, entries->arrived, news);
         domepeeler_say(w->said, " last, and nothing shows what it made of %s: let each replica read at the end\n",
                        news == 1 ? "that" : "them");
     }
@@ -1397,12 +1505,71 @@ static inline int domepeeler_is_told(const char *said, const struct domepeeler_i
     return 0;
 }
 
-/* What is said, and behind it the ids of the numbered names in it, and the notes. */
+/* The line of the trace that is named behind `line `, with something behind it that is no name; else 0. */
+static inline size_t domepeeler_line_named(const char *said, const char *at) {
+    char *end;
+    unsigned char before = at == said ? ' ' : (unsigned char)at[-1];
+    if (!isdigit((unsigned char)at[5]) || isalnum(before) || before == '_' || before > 127) return 0;
+    size_t line = strtoul(at + 5, &end, 10);
+    if ((*end && strchr(",):", *end)) || !strncmp(end, " of the trace,", 14)) return line;
+    return !strncmp(end, " (", 2) && !strncmp(end + 2 + strspn(end + 2, "0123456789"), " recv ", 6) ? line : 0;
+}
+
+/* Says the places of the lines of the trace that are named in what is said, each once with all its lines. `named` has a zero for each line
+ * of the text, and one more. */
+static inline void domepeeler_say_named(const struct domepeeler *d, struct domepeeler_words *whole, const char *said, char *named) {
+    char room[4096];
+    const char *title = "\nIn your code\n", *here = domepeeler_here(room, sizeof room);
+    size_t last = DOMEPEELER_HEAD + d->called;
+    for (const char *at = strstr(said, "line "); at; at = strstr(at + 1, "line ")) {
+        size_t line = domepeeler_line_named(said, at);
+        if (domepeeler_caller_of(d, line)) named[line] = 1;
+    }
+    for (size_t first = DOMEPEELER_HEAD + 1; first <= last; first++) {
+        size_t count = 0, told = 0;
+        const struct domepeeler_caller *caller = domepeeler_caller_of(d, first), *other;
+        if (!named[first]) continue;
+        for (size_t line = first; line <= last; line++) {
+            if (!named[line] || !(other = domepeeler_caller_of(d, line))) continue;
+            if (other->line == caller->line && !strcmp(other->file, caller->file)) named[line] = 2, count++;
+        }
+        domepeeler_say(whole, "%s  ", title);
+        domepeeler_say_place(whole, caller, here);
+        domepeeler_say(whole, ": line%s ", domepeeler_plural(count));
+        for (size_t line = first; told < count; line++) {
+            if (named[line] != 2) continue;
+            domepeeler_say(whole, "%s%zu", domepeeler_joint(told++, count), line);
+            named[line] = 0;
+        }
+        domepeeler_say(whole, "\n");
+        title = "";
+    }
+}
+
+/* Says what is said, with the place behind each line that stands in brackets in what the verdict may hide. */
+static inline void domepeeler_say_with_places(const struct domepeeler *d, struct domepeeler_words *whole, const char *said) {
+    const char *title = "\nWhat this verdict may hide\n", *at = strstr(said, title), *end = at ? strstr(at + strlen(title), "\n\n") : NULL;
+    for (at = at ? strstr(at, "(line ") : NULL; at && (!end || at < end); at = strstr(at + 1, "(line ")) {
+        char *behind;
+        size_t line = isdigit((unsigned char)at[6]) ? strtoul(at + 6, &behind, 10) : 0;
+        if (!line || *behind != ')') continue;
+        domepeeler_say(whole, "%.*s", (int)(at + 6 - said), said);
+        domepeeler_say_line(d, whole, line);
+        said = behind;
+    }
+    domepeeler_say(whole, "%s", said);
+}
+
+/* What is said, with the places of the lines in it, and behind it the ids of the numbered names in it, and the notes. */
 static inline char *domepeeler_with_ids(struct domepeeler *d, char *said) {
     struct domepeeler_words whole = {NULL, 0, 0, 0};
     const char *title = "\nIds that were too long for a name\n";
+    char *named = (char *)calloc(DOMEPEELER_HEAD + d->called + 1, 1);
     domepeeler_say_refused(d, &whole, "\n\n");
-    domepeeler_say(&whole, "%s", said);
+    domepeeler_say_with_places(d, &whole, said);
+    if (named) domepeeler_say_named(d, &whole, said, named);
+    whole.is_short |= !named;
+    free(named);
     for (size_t i = 0; i < d->known; i++) {
         const struct domepeeler_id *one = d->ids[i];
         if (!domepeeler_is_told(said, one)) continue;
@@ -1432,9 +1599,9 @@ static inline char *domepeeler_explained(struct domepeeler *d, const char *expla
     return said ? domepeeler_with_ids(d, said) : NULL;
 }
 
-/* What the report on this recording means, in words, and at the end the ids of the numbered names, and the notes; free() it. Before them
- * stands whether calls were refused. NULL where there is no answer. The tool is that of the environment's DOMEPEELER_EXPLAIN, or
- * domepeeler-explain, beside the program of DOMEPEELER or on the PATH, where NULL is given. */
+/* What the report on this recording means, in words, with the lines of your code, and at the end the ids of the numbered names, and the
+ * notes; free() it. Before them stands whether calls were refused. NULL where there is no answer. The tool is that of the environment's
+ * DOMEPEELER_EXPLAIN, or domepeeler-explain, beside the program of DOMEPEELER or on the PATH, where NULL is given. */
 DOMEPEELER_CHECKED static inline char *domepeeler_explain(struct domepeeler *d, const char *explainer) {
     return domepeeler_explained(d, explainer, NULL);
 }
@@ -1443,5 +1610,73 @@ DOMEPEELER_CHECKED static inline char *domepeeler_explain(struct domepeeler *d, 
 DOMEPEELER_CHECKED static inline char *domepeeler_explain_weak(struct domepeeler *d, const char *explainer) {
     return domepeeler_explained(d, explainer, "--weak");
 }
+
+/* The calls that record, each with the line of code from which it comes; the file's name is copied. */
+DOMEPEELER_CHECKED static inline unsigned domepeeler_insert_from(const char *file, int line, struct domepeeler *d, int replica,
+                                                                 const char *name, long long position, const char *const *response,
+                                                                 size_t names) {
+    domepeeler_come_from(d, file, line);
+    unsigned said = domepeeler_insert(d, replica, name, position, response, names);
+    domepeeler_come_from(d, NULL, 0);
+    return said;
+}
+
+DOMEPEELER_CHECKED static inline unsigned domepeeler_delete_from(const char *file, int line, struct domepeeler *d, int replica,
+                                                                 const char *name, const char *const *response, size_t names) {
+    domepeeler_come_from(d, file, line);
+    unsigned said = domepeeler_delete(d, replica, name, response, names);
+    domepeeler_come_from(d, NULL, 0);
+    return said;
+}
+
+DOMEPEELER_CHECKED static inline unsigned domepeeler_read_from(const char *file, int line, struct domepeeler *d, int replica,
+                                                               const char *const *response, size_t names) {
+    domepeeler_come_from(d, file, line);
+    unsigned said = domepeeler_read(d, replica, response, names);
+    domepeeler_come_from(d, NULL, 0);
+    return said;
+}
+
+DOMEPEELER_CHECKED static inline unsigned domepeeler_view_from(const char *file, int line, struct domepeeler *d, int replica,
+                                                               const char *const *part, size_t names) {
+    domepeeler_come_from(d, file, line);
+    unsigned said = domepeeler_view(d, replica, part, names);
+    domepeeler_come_from(d, NULL, 0);
+    return said;
+}
+
+DOMEPEELER_CHECKED static inline unsigned domepeeler_received_from(const char *file, int line, struct domepeeler *d, int replica,
+                                                                   int author, long long n) {
+    domepeeler_come_from(d, file, line);
+    unsigned said = domepeeler_received(d, replica, author, n);
+    domepeeler_come_from(d, NULL, 0);
+    return said;
+}
+
+DOMEPEELER_CHECKED static inline unsigned domepeeler_received_clock_from(const char *file, int line, struct domepeeler *d, int replica,
+                                                                         int author, const unsigned *clock, size_t counts,
+                                                                         unsigned changes) {
+    domepeeler_come_from(d, file, line);
+    unsigned said = domepeeler_received_clock(d, replica, author, clock, counts, changes);
+    domepeeler_come_from(d, NULL, 0);
+    return said;
+}
+
+DOMEPEELER_CHECKED static inline unsigned domepeeler_delivered_from(const char *file, int line, struct domepeeler *d,
+                                                                    const char *const *const *lists, const size_t *names,
+                                                                    size_t count) {
+    domepeeler_come_from(d, file, line);
+    unsigned said = domepeeler_delivered(d, lists, names, count);
+    domepeeler_come_from(d, NULL, 0);
+    return said;
+}
+
+#define domepeeler_insert(...) domepeeler_insert_from(__FILE__, __LINE__, __VA_ARGS__)
+#define domepeeler_delete(...) domepeeler_delete_from(__FILE__, __LINE__, __VA_ARGS__)
+#define domepeeler_read(...) domepeeler_read_from(__FILE__, __LINE__, __VA_ARGS__)
+#define domepeeler_view(...) domepeeler_view_from(__FILE__, __LINE__, __VA_ARGS__)
+#define domepeeler_received(...) domepeeler_received_from(__FILE__, __LINE__, __VA_ARGS__)
+#define domepeeler_received_clock(...) domepeeler_received_clock_from(__FILE__, __LINE__, __VA_ARGS__)
+#define domepeeler_delivered(...) domepeeler_delivered_from(__FILE__, __LINE__, __VA_ARGS__)
 
 #endif

@@ -287,7 +287,32 @@ WORDS = [
      "[b] 0.2 has no receipt of its own at replica 1, as each other change of replica 0 has. It was lost, or 0.3 overtook it in line 9"),
     ("one receipt for several changes of an author", 2, "0 ins a 0 : a|0 ins b 1 : a b|0 ins c 2 : a b c|1 recv 0 3|1 read : a c",
      "[b] inserted by 0.2 (line 4), arrived at replica 1 in line 6 (1 recv 0 3)|"
-     "[b] was put behind a, which was not deleted there when it arrived (line 6)|[b] no operation deletes it"),
+     "[b] was put behind a, which was not deleted there when it arrived (line 6)|[b] no operation deletes it||Where to look|"
+     "It looks as if 0.2 (line 4) was not applied at replica 1: lost, or held back, or `received` is called before the change is applied.|"
+     "No receipt at replica 1 names 0.2 (line 4), which arrived with 0.3 (line 5). If each of your changes has a receipt of its own, "
+     "0.3 (line 5) overtook it, or it was lost."),
+    ("a change that is lost before others of a server's order", 3, "0 ins a 0 : a|0 ins b 0 : b a|1 recv 0 1|1 read : a|1 ins c 1 : a c|2 recv 0 1|"
+     "2 ins y 1 : a y|0 recv 2 1|0 recv 1 2|0 read : b a y c|1 recv 2 1|1 read : a c y|0 ins d 4 : b a y c d|0 ins e 5 : b a y c d e|1 recv 0 4|"
+     "1 read : a c y d|1 recv 0 5|1 read : a c y d e",
+     "Look first at whether 0.2 (line 4) was lost on its way to replica 1, or overtaken: no receipt names it there, as one does each other change of "
+     "replica 0. Where positions are sent, what comes later is then misplaced.|"
+     "Look at the order of concurrent inserts: c and y were inserted without knowing of each other, and were shown in two different orders. Use a "
+     "rule that gives the same order everywhere (by the replicas' numbers, say), and not the order in which they arrive."),
+    ("a delete that meets an insert and a delete which did not know each other", 2, "0 ins a 0 : a|0 ins b 1 : a b|0 ins c 2 : a b c|1 recv 0 3|"
+     "1 read : a b c|0 del a : b c|1 ins d 3 : a b c d|0 recv 1 2|0 read : b c d|1 del c : a b d|0 recv 1 3|0 read : b c",
+     "1.3 (line 12) looks applied to d in the place of c: look at how a delete finds its element where it is applied, and at whether the recorder "
+     "names the element that was deleted. In an editor that sends positions, its position was perhaps not adjusted for the delete 0.4 (line 8) of "
+     "a, which its author had not seen; or an earlier insert was not adjusted for a delete." + stop(13, "replica 0 applies 1.3")),
+    ("a delete that takes what is deleted later", 2, "0 ins a 0 : a|0 ins b 1 : a b|1 recv 0 2|1 read : a b|1 del a : b|0 ins c 0 : c a b|0 recv 1 2|"
+     "0 read : a b|0 del c : a b",
+     "1.2 (line 7) looks applied to c in the place of a: look at how a delete finds its element where it is applied, and at whether the recorder "
+     "names the element that was deleted. In an editor that sends positions, its position was perhaps not adjusted for the insert 0.3 (line 8) of "
+     "c, which its author had not seen." + stop(9, "replica 0 applies 1.2")),
+    ("an insert that another one at its place has shifted", 2, "0 ins b 0 : b|0 ins c 0 : c b|1 ins a 0 : a|1 recv 0 1|1 read : a b|1 recv 0 2|"
+     "1 read : a b c",
+     "Look at where a replica places an incoming insert: 0.2 (line 4) inserted c when it had b, so their order was known already, and still it "
+     "differs. Often the number that orders inserts does not grow when changes arrive, or the neighbour is not found. a was inserted at the place "
+     "of c, neither author knowing of the other: look also at which comes first there." + stop(8, "replica 1 applies 0.2", 6)),
     ("a receipt that comes before the change is applied", 2, "0 ins a 0 : a|1 recv 0 1|1 read : a|0 ins b 1 : a b|0 del a : b|1 recv 0 3|1 read : a",
      "contents 1.2: this response lacks one element that replica 1 had by then and has one element that should not be there.||"
      "Where to look|"
@@ -667,6 +692,22 @@ def words(tally: Tally, program: str) -> None:
         is_debugged = got.out.split()[0].rstrip(b":") in (b"refused", b"contents", b"position")
         tally.check(f"in a debugger: {name}", (b"\nIn a debugger\n" in got.out) == is_debugged, got)
         tally.check(f"status: {name}", got.status == run(program, ["verdict", "-"], trace).status, got.status)
+
+
+# Entries of a trace of two replicas, and words on receipts that must not be said of them.
+UNSAID = [
+    ("one receipt stands for two changes, and neither is applied", "0 ins a 0 : a|0 ins b 1 : a b|0 read : a b|1 recv 0 3|1 read :", "No receipt at"),
+    ("the receipt that is missing is that of a delete of what is deleted", "0 ins a 0 : a|1 recv 0 1|1 read : a|1 del a :|0 del a :|0 ins b 0 : b|"
+     "1 recv 0 3|1 read : b|0 ins c 1 : b c|1 recv 0 4|1 read : b c|0 ins d 2 : b c d|1 recv 0 5|1 read : b c", "was lost on its way"),
+    ("the receipt comes later", "0 ins a 0 : a|0 ins b 1 : a b|0 ins c 2 : a b c|0 ins d 3 : a b c d|1 recv 0 1|1 read : a|1 recv 0 3|1 read : a c|"
+     "1 recv 0 4|1 read : a c d|1 recv 0 2|1 read : a b c d", "was lost on its way"),
+]
+
+
+def unsaid(tally: Tally, program: str) -> None:
+    for name, entries, words in UNSAID:
+        got = explain(program, ["-"], text_of(2, entries).encode())
+        tally.check(f"not said where {name}", got.out.startswith(b"contents 1.") and words.encode() not in got.out, got)
 
 
 def arrivals_in(text: str, kind: str = "ins") -> dict:
@@ -1698,6 +1739,7 @@ def main() -> None:
     program = program_of(sys.argv)
     tally = Tally()
     words(tally, program)
+    unsaid(tally, program)
     said_first(tally, program)
     names_of_examples(tally)
     scripts_end(tally)

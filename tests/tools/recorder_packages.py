@@ -426,6 +426,64 @@ fn lost() {
 }
 '''
 
+# What stands before the lines of proptest in the README of Rust, the words that the test asks, and a crate that stands in for proptest.
+BEFORE_PROPTEST = '''
+use domepeeler::{Recording, Verdict};
+use proptest::prelude::*;
+
+fn steps() -> Vec<Vec<&'static str>> {
+    vec![vec!["a"], vec![]] // which the second one of the replicas reads
+}
+
+fn session(list: &[&str]) -> Result<Recording, TestCaseError> {
+    let mut recording = Recording::new(2).unwrap();
+    recording.insert(0, "a", 0, &["a"]).unwrap();
+    recording.delivered(&[&["a"][..], list]).unwrap();
+    Ok(recording)
+}
+
+'''
+STAND_IN = '''
+pub mod prelude {
+    pub use super::{prop_assert, proptest, TestCaseError};
+}
+
+#[derive(Debug)]
+pub struct TestCaseError(pub String);
+
+impl TestCaseError {
+    pub fn fail(why: impl Into<String>) -> TestCaseError {
+        TestCaseError(why.into())
+    }
+}
+
+#[macro_export]
+macro_rules! prop_assert {
+    ($is_right:expr, $($words:tt)*) => {
+        if !$is_right {
+            return Err($crate::TestCaseError(format!($($words)*)));
+        }
+    };
+}
+
+#[macro_export]
+macro_rules! proptest {
+    ($(#[test] fn $name:ident($given:ident in $strategy:expr) $body:block)*) => {
+        $(#[test]
+        fn $name() {
+            for $given in $strategy {
+                let tried: Result<(), $crate::TestCaseError> = (|| {
+                    $body
+                    Ok(())
+                })();
+                tried.unwrap();
+            }
+        })*
+    };
+}
+'''
+ASKED = '#!/bin/sh\necho "$*" >> "{0}/asked"\nexec "{0}/prefix/bin/domepeeler" "$@"\n'
+
 # A recording with twelve long ids in each language, of which the last one alone is in the list, but is not answered; what is
 # printed of it, and what must be printed. The word that a script gets is a tool that is no explainer.
 LONG_ID = "4@abcdefghijklmnopqrstuvwxyz_-.0123456789"
@@ -906,11 +964,32 @@ def check_rust(tally: Tally, place: Place) -> None:
     check_beside(tally, place, "Rust", [str(place.folder / "rust/target/debug/own")], "rust")
 
 
+def check_proptest(tally: Tally, place: Place) -> None:
+    """The lines of the README for proptest, and for crates that lie in a folder as Debian's do: a failing property asks for verdicts alone,
+    and saves what fails."""
+    config = example("rust", "[source.crates-io]")
+    tally.check("cargo: Debian's folder of crates", config.count('"/usr/share/cargo/registry"') == 1, config)
+    place.make("rust/.cargo/config.toml", config.replace("/usr/share/cargo", str(place.folder)))
+    place.make("registry/proptest/Cargo.toml", '[package]\nname = "proptest"\nversion = "1.0.0"\nedition = "2021"\n')
+    place.make("registry/proptest/src/lib.rs", STAND_IN)
+    place.make("registry/proptest/.cargo-checksum.json", '{"files":{}}')
+    place.make("rust/Cargo.toml", '[package]\nname = "own"\nversion = "0.1.0"\nedition = "2021"\n[dev-dependencies]\nproptest = "1"\n'
+               f'domepeeler = {{ path = "{place.folder / "recorders/rust"}" }}\n[profile.dev]\ndebug = 0\n')
+    place.make("rust/src/lib.rs", "")
+    place.make("rust/tests/properties.rs", BEFORE_PROPTEST + example("rust", "proptest! {"))
+    asked = place.make("asking", ASKED.format(place.folder), 0o755)
+    done = place.run(["cargo", "test", "--offline", "--quiet", "--test", "properties"], "rust", DOMEPEELER=asked, DOMEPEELER_EXPLAIN=asked)
+    saved, words = place.folder / "rust/failed.trace", place.folder / "asked"
+    tally.check("proptest: a failing property", done.returncode != 0 and "Contents { at: (1, 1) }" in done.stdout, done.stdout)
+    tally.check("proptest: asks for verdicts alone", words.is_file() and words.read_text() == "verdict -\n" * 2, done.stdout)
+    tally.check("proptest: saves what fails", saved.is_file() and saved.read_text().endswith("1 recv 0 1\n1 read :\n"), done.stdout)
+
+
 def main() -> None:
     program = program_of(sys.argv)
     prepare()
     tally = Tally()
-    for check in check_installed, check_versions, check_python, check_javascript, check_rust:
+    for check in check_installed, check_versions, check_python, check_javascript, check_rust, check_proptest:
         with tempfile.TemporaryDirectory() as name:
             check(tally, Place(Path(name).resolve(), program))
     tally.close()

@@ -36,6 +36,7 @@ EXAMPLES = ROOT / "examples"
 EXPLAIN = str(ROOT / "tools" / "explain")
 DEBIAN_PYTHON = "/usr/bin/python3"
 LANGUAGES = {"py": "python", "mjs": "javascript", "rs": "rust", "c": "c", "el": "emacs-lisp"}
+GCC = ["gcc", "-std=c99", "-Wall", "-Wextra", "-Werror"]
 TYPED = ["rs", "c"]  # languages in which some wrong calls can't be written
 sys.path.insert(0, str(ROOT / "recorders"))
 
@@ -356,8 +357,7 @@ def prepared(folder: Path) -> dict:
             sys.exit(f"recorders.py: there is no {needed}")
     if not has_hypothesis():
         sys.exit(f"recorders.py: {DEBIAN_PYTHON} has no hypothesis or no pytest")
-    subprocess.run(["gcc", "-std=c99", "-Wall", "-Wextra", "-Werror", "-D_POSIX_C_SOURCE=200809L", "-o", folder / "c",
-                    DRIVERS / "driver.c"], check=True)
+    subprocess.run([*GCC, "-D_POSIX_C_SOURCE=200809L", "-o", folder / "c", DRIVERS / "driver.c"], check=True)
     subprocess.run(["rustc", "--edition", "2021", "-D", "warnings", "-o", folder / "rs", DRIVERS / "driver.rs"], check=True)
     return {"py": [sys.executable, DRIVERS / "driver.py"], "mjs": ["node", DRIVERS / "driver.mjs"], "rs": [folder / "rs"],
             "c": [folder / "c"], "el": ["emacs", "-Q", "--batch", "-l", DRIVERS / "driver.el"]}
@@ -665,9 +665,11 @@ def check_replaced(tally: Tally, recorder: Recorder, place: Path) -> None:
     tally.check(f"{recorder.language}: nothing else is left", left == [], left)
 
 
-# Languages whose recorder remembers where each line was recorded, and those whose `explain` has no more than the tool's words.
-PLACING = ["py", "mjs", "rs"]
+# Languages whose recorder remembers where each line was recorded, and how its driver names the recording before a call; and those whose
+# `explain` has no more than the tool's words, but for these places.
+PLACING = {"py": "recording.", "mjs": "recording.", "rs": "recording.", "c": "domepeeler_"}
 EXPLAINING = ["c", "el"]
+CODE = re.compile(r"\nIn your code\n(  .*\n)+")
 
 
 def check_places(tally: Tally, recorder: Recorder, folder: Path) -> None:
@@ -688,13 +690,13 @@ def check_places(tally: Tally, recorder: Recorder, folder: Path) -> None:
                     [line.split(" ")[0] for line in lines] == [str(number) for number in range(3, len(kinds) + 3)], lines)
         for kind, line in zip(kinds, lines):
             found = re.fullmatch(rf"\d+ {re.escape(path)}:(\d+)((?:, called from {re.escape(path)}:\d+){{0,2}})", line)
-            is_call = found and f"recording.{kind}(" in source[int(found[1]) - 1]
-            tally.check(f"{recorder.language}: the place of {kind}", is_call and (not found[2] or recorder.language != "rs"), line)
+            is_call = found and f"{PLACING[recorder.language]}{kind}(" in source[int(found[1]) - 1]
+            tally.check(f"{recorder.language}: the place of {kind}", is_call and (not found[2] or recorder.language not in ("rs", "c")), line)
     recorder.answers(["new\t3", "insert\t0\ta\t0\ta", "delivered\ta\t/\ta\t/\ta", f"save\t{trace}"])
     lines = Path(f"{trace}.lines").read_text().splitlines()[4:]
     places = {re.search(rf"driver\.{recorder.language}:(\d+)", line)[1] for line in lines}
     tally.check(f"{recorder.language}: the place of delivered", len(lines) == 5 and len(places) == 1 and
-                "recording.delivered(" in source[int(*places) - 1], lines)
+                f"{PLACING[recorder.language]}delivered(" in source[int(*places) - 1], lines)
 
 
 # Programs of a user, in `tests/` of a folder in which they run, and what must stand beside the trace that each saves. An installed package
@@ -784,6 +786,37 @@ fn main() {{
     recording.save(whole).unwrap();
 }}
 ''', ["3 {place}tests/editor.rs:6", "4 {place}tests/editor.rs:17", "5 {place}tests/editor.rs:18"]),
+    "editor.c": (f'''#include "{ROOT / 'recorders'}/domepeeler.h"
+
+static struct domepeeler *recording;
+
+static unsigned typed(const char *name) {{
+    return domepeeler_insert(recording, 0, name, 0, (const char *[]){{name, "b"}}, 1);
+}}
+
+#define looked(...) looked_from(__FILE__, __LINE__, __VA_ARGS__)
+static unsigned looked_from(const char *file, int line, int replica) {{
+    char name[1000]; /* which is another text later */
+    snprintf(name, sizeof name, "%s", file);
+    unsigned n = domepeeler_read_from(name, line, recording, replica, NULL, 0);
+    memset(name, 'x', sizeof name - 1);
+    return n;
+}}
+
+int main(void) {{
+    recording = domepeeler_new(2);
+    char whole[4096];
+    unsigned is_done = getcwd(whole, sizeof whole - 20) && domepeeler_received(recording, 1, 0, typed("a"));
+    is_done = is_done && looked(1) && domepeeler_save(recording, "session.trace");
+    char *words = domepeeler_explain(recording, NULL);
+    fputs(words ? words : domepeeler_why(recording), stdout);
+    strcat(whole, "/whole.trace");
+    is_done = is_done && !mkdir("gone", 0777) && !chdir("gone") && !rmdir("../gone") && domepeeler_save(recording, whole);
+    free(words);
+    domepeeler_free(recording);
+    return !is_done;
+}}
+''', ["3 {place}tests/editor.c:6", "4 {place}tests/editor.c:21", "5 {place}tests/editor.c:22"]),
 }
 # Programs that read a log, and the calls of `at` that they make and that are refused; and how each is run.
 LOG_READERS = {
@@ -882,6 +915,18 @@ fn main() {{
     println!("{{}}", recording.explain().unwrap());
 }}
 ''', ["./long1"]),
+    "long1.c": (f'''#include "{ROOT / 'recorders'}/domepeeler.h"
+int main(void) {{
+    const char *list[] = {{"{LETTERS32}x", "a"}};
+    struct domepeeler *recording = domepeeler_new(2);
+    unsigned is_done = domepeeler_insert(recording, 0, list[0], 0, list, 1) && domepeeler_delete(recording, 0, list[0], NULL, 0)
+        && domepeeler_insert(recording, 0, "a", 0, list + 1, 1) && domepeeler_received(recording, 1, 0, 3)
+        && domepeeler_read(recording, 1, NULL, 0);
+    char *words = domepeeler_explain(recording, NULL);
+    puts(words ? words : domepeeler_why(recording));
+    return !is_done;
+}}
+''', ["./long1_c"]),
 }
 # Programs that record several entries in one line, of which all are named; and how each is run.
 GROUPED = {
@@ -919,6 +964,19 @@ fn main() {{
     print!("{{}}", recording.explain().unwrap());
 }}
 ''', ["./grouped"], "grouped.rs:6", "grouped.rs:8", "grouped.rs:9"),
+    "grouped.c": (f'''#include "{ROOT / 'recorders'}/domepeeler.h"
+int main(void) {{
+    struct domepeeler *recording = domepeeler_new(2);
+    const char *list[] = {{"a", "b", "c"}};
+    for (size_t at = 0; at < 3; at++) {{
+        if (!domepeeler_insert(recording, 0, list[at], (long long)at, list, at + 1)) return 1;
+    }}
+    if (!domepeeler_received(recording, 1, 0, 3)) return 1;
+    if (!domepeeler_read(recording, 1, NULL, 0) || !domepeeler_note(recording, "seed 17")) return 1;
+    fputs(domepeeler_explain(recording, NULL), stdout);
+    return 0;
+}}
+''', ["./grouped_c"], "grouped.c:6", "grouped.c:8", "grouped.c:9"),
 }
 HANDING_ON = {"lib/site-packages/other.py": "from another import hand\n\n\ndef call(act, *words):\n    return act(*words)\n",
               "lib/dist-packages/another.py": "def hand(act, *words):\n    return act(*words)\n",
@@ -935,15 +993,17 @@ def check_users(tally: Tally, program: str, folder: Path) -> None:
         Path(place, name).write_text(text)
     for source in "tests/editor.rs", "long1.rs":
         subprocess.run(["rustc", "--edition", "2021", "-o", Path(source).stem, place / source], cwd=place, check=True)
+    for source in "tests/editor.c", "long1.c":
+        subprocess.run([*GCC, "-o", f"{Path(source).stem}_c", place / source], cwd=place, check=True)
     surroundings = {**os.environ, "DOMEPEELER": program, "DOMEPEELER_EXPLAIN": EXPLAIN, "PYTHONDONTWRITEBYTECODE": "1",
                     "LC_ALL": "C.UTF-8"}
-    for name in "long1.py", "long1.mjs", "long1.rs":
+    for name in LONG_NAMES:
         done = subprocess.run(LONG_NAMES[name][1], cwd=place, capture_output=True, text=True, env=surroundings)
         tally.check(f"{name}: a place is no name of an id", "In your code\n" in done.stdout and f"\n  {name}:" in done.stdout and
                     "too long" not in done.stdout, done)
-    for name, words in ("editor.py", [sys.executable]), ("editor.mjs", ["node"]), ("editor.rs", []):
-        done = subprocess.run([*words, f"tests/{name}"] if words else ["./editor"], cwd=place, capture_output=True, text=True,
-                              env=surroundings)
+    for name, words in ("editor.py", [sys.executable, "tests/editor.py"]), ("editor.mjs", ["node", "tests/editor.mjs"]), (
+            "editor.rs", ["./editor"]), ("editor.c", ["./editor_c"]):
+        done = subprocess.run(words, cwd=place, capture_output=True, text=True, env=surroundings)
         for saved, path in ("session.trace.lines", ""), ("whole.trace.lines", f"{place}/"):
             language = f"language {LANGUAGES[name.split('.')[1]]}"
             wanted = "".join(line + "\n" for line in ["5", language, *(line.format(place=path) for line in USERS[name][1])])
@@ -966,6 +1026,8 @@ def check_grouped(tally: Tally, program: str, folder: Path) -> None:
         Path(place, name).write_text(text)
         if name.endswith(".rs"):
             subprocess.run(["rustc", "--edition", "2021", "-o", "grouped", name], cwd=place, check=True)
+        if name.endswith(".c"):
+            subprocess.run([*GCC, "-o", "grouped_c", name], cwd=place, check=True)
         done = subprocess.run(words, cwd=place, capture_output=True, text=True, env=surroundings)
         told = [f"  {one}: {lines}\n" for one, lines in zip(places, ["lines 3, 4 and 5", "line 6", "line 7"])]
         tally.check(f"{name}: one place for several lines", done.stdout.startswith("contents 1.1: ") and
@@ -1212,7 +1274,7 @@ def check_warnings(tally: Tally, recorder: Recorder) -> None:
         if recorder.language in PLACING:
             found = [re.fullmatch(rf", [^,()]*driver\.{recorder.language}:(\d+)", place) for place in placed]
             tally.check(f"{recorder.language}: warnings have places, {name}", all(
-                one and "recording." in source[int(one[1]) - 1] for one in found), told)
+                one and PLACING[recorder.language] in source[int(one[1]) - 1] for one in found), told)
             told = [re.sub(rf", [^,()]*driver\.{recorder.language}:\d+\)", ")", line) for line in told]
         tally.check(f"{recorder.language}: warnings, {name}", told == wanted and got[-2] == "ok", (told, wanted))
         ends, others = hidden(text.encode())
@@ -1402,7 +1464,7 @@ def check_explain(tally: Tally, recorder: Recorder, folder: Path) -> None:
         text = "".join(line[2:] + "\n" for line in got[:at] if line.startswith("| "))
         told = subprocess.run([EXPLAIN, "--language", LANGUAGES[recorder.language], "-"], input=text, capture_output=True, text=True,
                               env=recorder.surroundings).stdout
-        said = "".join(line[2:] + "\n" for line in got[at + 1:-1])
+        said = CODE.sub("", "".join(line[2:] + "\n" for line in got[at + 1:-1]))
         tally.check(f"{recorder.language}: explain {name}", told and said == told + more and got[-1] == "ok", got)
     got = recorder.answers(["new\t3\t1", "explain"], DOMEPEELER_EXPLAIN=EXPLAIN)[-1]
     tally.check(f"{recorder.language}: explain one log", got.split(" ", 1)[1:] == [ONE_LOG], got)
@@ -1767,8 +1829,10 @@ def check_guide(tally: Tally, program: str, folder: Path) -> None:
 
 
 # How README's examples begin, what runs them in the folder of the one file that they import, and that file.
-README = {"from domepeeler import": ([sys.executable, "readme.py"], "domepeeler.py"),
-          "import { Recording }": (["node", "readme.mjs"], "domepeeler.mjs")}
+README = {"from domepeeler import": ([sys.executable, "readme.py"], "domepeeler.py", ("delivered([[],", 'delivered([["a"],')),
+          "import { Recording }": (["node", "readme.mjs"], "domepeeler.mjs", ("delivered([[],", 'delivered([["a"],')),
+          "mod domepeeler;": (["sh", "-c", 'rustc --edition 2021 -D warnings --test -o readme "$0" && ./readme -q', "tests/editor.rs"],
+                              "domepeeler.rs", ("&[empty, empty]", '&[&["a"][..], &empty]'))}
 
 
 class Places:
@@ -1851,20 +1915,25 @@ def check_any_order(tally: Tally, program: str, shown: list) -> None:
 
 
 def check_readme(tally: Tally, program: str, folder: Path) -> None:
-    """README's examples are accepted; and if replica 0 has lost the delete in its last answer, each ends with the explanation."""
+    """README's examples are accepted; and if replica 0 has lost the delete in its last answer, each ends with the explanation. That of Rust is a
+    file of tests."""
     place = folder / "readme"
-    place.mkdir()
+    (place / "tests/domepeeler").mkdir(parents=True)
+    shutil.copy(ROOT / "recorders/domepeeler.rs", place / "tests/domepeeler/mod.rs")
     surroundings = {**os.environ, "DOMEPEELER": program, "DOMEPEELER_EXPLAIN": EXPLAIN, "PYTHONDONTWRITEBYTECODE": "1"}
-    for begin, (words, recorder) in README.items():
+    for begin, (words, recorder, (empty, lost)) in README.items():
         found = [block for block in blocks(ROOT / "README.md") if block.startswith(begin)]
-        tally.check(f"README: {begin}", len(found) == 1 and found[0].count("delivered([[], []])") == 1, found)
+        tally.check(f"README: {begin}", len(found) == 1 and found[0].count(empty) == 1, found)
         shutil.copy(ROOT / "recorders" / recorder, place)
         text = "".join(found)
-        for code, wanted in (text, ""), (text.replace("delivered([[],", 'delivered([["a"],'), "contents 0.2: "):
+        for code, wanted in (text, ""), (text.replace(empty, lost), "contents 0.2: "):
             Path(place, words[-1]).write_text(code)
             done = subprocess.run(words, cwd=place, capture_output=True, text=True, env=surroundings)
-            tally.check(f"README: {begin}, {wanted or 'accepted'}", done.returncode == int(wanted != "") and wanted in done.stderr and
-                        (wanted != "" or not done.stderr + done.stdout), done)
+            said = done.stderr + done.stdout
+            passed = "\nrunning 1 test\n.\ntest result: ok. 1 passed; 0 failed; " if recorder.endswith(".rs") else ""
+            status = (101 if passed else 1) if wanted else 0
+            tally.check(f"README: {begin}, {wanted or 'accepted'}", done.returncode == status and (
+                wanted in said if wanted else said.startswith(passed) and bool(said) == bool(passed)), done)
 
 
 def check_hypothesis(tally: Tally, program: str, folder: Path) -> None:
@@ -1946,7 +2015,7 @@ def check_jupiter(tally: Tally, program: str, folder: Path) -> None:
     place = folder / "jupiter"
     place.mkdir()
     source = ROOT / "tests" / "tools" / "jupiter"
-    subprocess.run(["gcc", "-std=c99", "-Wall", "-Wextra", "-Werror", "-o", place / "jupiter", source / "jupiter.c"], check=True)
+    subprocess.run([*GCC, "-o", place / "jupiter", source / "jupiter.c"], check=True)
     surroundings = {**os.environ, "DOMEPEELER": program}
     for bug in "none", "tie", "unmapped", "double", "dropped":
         shown, texts = [], []
@@ -2273,7 +2342,9 @@ HEADERS = ["", "#include <stdio.h>\n#include <string.h>\n", "#include <unistd.h>
 STRICT = ["-Wall", "-Wextra", "-Wconversion", "-Wcast-qual", "-pedantic", "-Werror", "-fsyntax-only"]
 CHECKED = ['insert(d, 0, "a", 0, list, 1)', 'delete(d, 0, "a", list, 1)', "read(d, 0, list, 1)", "view(d, 0, list, 1)", "received(d, 1, 0, 1)",
            "received_clock(d, 1, 0, clock, 2, 1)", "clock(d, 0, clock)", "delivered(d, lists, names, 2)", 'note(d, "seed 17")', 'save(d, "x")',
-           "passes_weak(d, NULL)"]
+           "passes_weak(d, NULL)", *(f"{call}_from(__FILE__, __LINE__, d, {rest})" for call, rest in (
+               ("insert", '0, "a", 0, list, 1'), ("delete", '0, "a", list, 1'), ("read", "0, list, 1"), ("view", "0, list, 1"),
+               ("received", "1, 0, 1"), ("received_clock", "1, 0, clock, 2, 1"), ("delivered", "lists, names, 2")))]
 USES_C = """{}#include "{}"
 int main(void) {{
     const char *list[] = {{"a"}};
@@ -2281,7 +2352,9 @@ int main(void) {{
     unsigned clock[2] = {{1, 0}};
     size_t names[] = {{1, 1}};
     struct domepeeler *d = domepeeler_new(2);
+    unsigned (*reads)(struct domepeeler *, int, const char *const *, size_t) = domepeeler_read;
     (void)lists, (void)clock, (void)names;
+    if (!reads(d, 0, list, 1) || !(domepeeler_read)(d, 0, list, 1)) puts(domepeeler_why(d));
 {}    domepeeler_free(d);
     return 0;
 }}
@@ -2310,6 +2383,96 @@ def check_compilers(tally: Tally, folder: Path) -> None:
     for compiler in "gcc", "clang":
         said = subprocess.run([compiler, "-std=c99", "-c", "-o", "/dev/null", source], capture_output=True, text=True).stderr
         tally.check(f"C: {compiler} warns of answers that are ignored", said.count(": warning: ignoring return value") == len(CHECKED), said)
+
+
+# Calls in C from lines that other programs wrote, from none, and from a wrapper as the recorder's head has it; what is refused names none.
+PLACES_C = f"""#include "{ROOT / 'recorders'}/domepeeler.h"
+static struct domepeeler *recording;
+static const char *list[1];
+{{wrapper}}
+int main(void) {{{{
+    recording = domepeeler_new(2);
+    const char *const *lists[] = {{{{list, (const char *[]){{{{"a:b"}}}}}}}}; /* which is no name */
+    size_t names[] = {{{{1, 1}}}};
+#line 7 "editor.y"
+    typed("a");
+    if (domepeeler_delivered(recording, lists, names, 2) || domepeeler_read(recording, 7, list, 1)) return 1;
+    unsigned is_done = (domepeeler_read)(recording, 0, list, 1)
+        && domepeeler_read_from(NULL, 3, recording, 0, list, 1)
+        && domepeeler_read_from("a\\001\\xff\\xc3\\xa4 b.c", 12, recording, 0, list, 1);
+#line 20 "other.y"
+    is_done = is_done && domepeeler_received(recording, 1, 0, 2) && domepeeler_read(recording, 1, NULL, 0);
+    char *words = is_done ? domepeeler_explain(recording, NULL) : NULL;
+    puts(words ? words : domepeeler_why(recording));
+    is_done = domepeeler_save(recording, "places.trace");
+    free(words);
+    domepeeler_free(recording);
+    return !is_done;
+}}}}
+"""
+
+
+def check_places_c(tally: Tally, program: str, folder: Path) -> None:
+    """The lines of code beside a trace of the recorder of C, and in the words of `explain`."""
+    head = (ROOT / "recorders/domepeeler.h").read_text().partition("*/")[0].splitlines()
+    mark = " *     "
+    begin = next(at for at, line in enumerate(head) if line.startswith(f"{mark}#define typed"))
+    wrapper = "\n".join(line[len(mark):] for line in head[begin:begin + 5])
+    Path(folder, "places.c").write_text(PLACES_C.format(wrapper=wrapper))
+    subprocess.run([*GCC, "-fsanitize=address,undefined", "-o", "places", "places.c"], cwd=folder, check=True)
+    done = subprocess.run(["./places"], cwd=folder, capture_output=True, text=True, env={
+        **os.environ, "DOMEPEELER": program, "DOMEPEELER_EXPLAIN": EXPLAIN, "LC_ALL": "C.UTF-8"})
+    beside = Path(folder, "places.trace.lines").read_text() if done.returncode == 0 else done
+    tally.check("C: a place for each line of which it is known", beside ==
+                "8\nlanguage c\n3 editor.y:7\n6 a??\u00e4 b.c:12\n7 other.y:20\n8 other.y:20\n", beside)
+    tally.check("C: explain names these", done.stdout.endswith("\n\nIn your code\n  editor.y:7: line 3\n  other.y:20: lines 7 and 8\n\n"), done)
+
+
+# Four threads that share a recording under a lock.
+THREADS_C = f"""#include "{ROOT / 'recorders'}/domepeeler.h"
+#include <pthread.h>
+
+static struct domepeeler *recording;
+static pthread_mutex_t lock = PTHREAD_MUTEX_INITIALIZER;
+
+static void *record(void *number) {{
+    const char *list[] = {{"even", "odd"}};
+    int replica = *(int *)number;
+    for (int i = 0; i < 2000; i++) {{
+        pthread_mutex_lock(&lock);
+        unsigned n = replica % 2 ? domepeeler_read(recording, replica, list + 1, 1)
+                                 : domepeeler_view(recording, replica, list, 1);
+        pthread_mutex_unlock(&lock);
+        if (n != (unsigned)i + 1) exit(1);
+    }}
+    return NULL;
+}}
+
+int main(void) {{
+    pthread_t threads[4];
+    int numbers[] = {{0, 1, 2, 3}};
+    recording = domepeeler_new(4);
+    for (int i = 0; i < 4; i++)
+        if (pthread_create(&threads[i], NULL, record, &numbers[i])) return 1;
+    for (int i = 0; i < 4; i++) pthread_join(threads[i], NULL);
+    unsigned is_saved = domepeeler_save(recording, "threads.trace");
+    domepeeler_free(recording);
+    return !is_saved;
+}}
+"""
+
+
+def check_threads_c(tally: Tally, folder: Path) -> None:
+    """Threads that hold a lock around each call: every line is there whole, with its place."""
+    Path(folder, "threads.c").write_text(THREADS_C)
+    subprocess.run([*GCC, "-pthread", "-o", "threads", "threads.c"], cwd=folder, check=True)
+    done = subprocess.run(["./threads"], cwd=folder, capture_output=True, text=True)
+    entries = Path(folder, "threads.trace").read_text().splitlines()[2:] if done.returncode == 0 else []
+    places = [line.split(" ", 1)[1] for line in Path(folder, "threads.trace.lines").read_text().splitlines()[2:]] if entries else []
+    wanted = {("0 view : even", "threads.c:13"), ("1 read : odd", "threads.c:12"), ("2 view : even", "threads.c:13"),
+              ("3 read : odd", "threads.c:12")}
+    counts = Counter(zip(entries, places))
+    tally.check("C: four threads", len(entries) == len(places) and counts == {pair: 2000 for pair in wanted}, (counts, done))
 
 
 # A program whose timer interrupts it, and which ignores how its children end; and then one that goes on after calls were refused.
@@ -2467,6 +2630,8 @@ def main() -> None:
         check_weak_heads(tally, program, folder)
         check_rust_tests(tally, program, folder)
         check_compilers(tally, folder)
+        check_places_c(tally, program, folder)
+        check_threads_c(tally, folder)
         check_hostile_c(tally, Recorder("c", drivers["c"], program), folder)
     tally.close()
 

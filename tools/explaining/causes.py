@@ -6,7 +6,7 @@ from __future__ import annotations
 from typing import NamedTuple
 
 from .evidence import Evidence
-from .positions import are_put_at_once, elements_before, met, met_inserts, put_there_at_once
+from .positions import are_put_at_once, elements_before, met, met_before, met_inserts, put_there_at_once
 from .programs import GUIDE
 from .recordings import Operation, place_asked
 from .telling import at, joined, listed
@@ -20,11 +20,17 @@ UNDELIVERED = ("{lines} by `delivered`: before it nothing shows that {changes} {
                "{are} held back for ever. Look at what keeps changes waiting.")
 NOT_APPLIED = ("It looks as if {changes} {were} not applied at replica {replica}: lost, or held back, or `received` is called before the "
                "change is applied.{moved}")
+BROUGHT = ("No receipt at replica {replica} names {changes}, which arrived with {brought}. If each of your changes has a receipt of its "
+           "own, {brought} overtook {them}, or {they} {were} lost.")
+LOST = ("Look first at whether {change} was lost on its way to replica {replica}, or overtaken: no receipt names it there, as one does each "
+        "other change of replica {author}. Where positions are sent, what comes later is then misplaced.")
 NO_RECEIPT = ("It looks as if {changes} {were} applied at replica {replica} without a receipt: the call of `received` is missing, comes "
               "too late, or names another operation.")
 WRONG_DELETE = ("{delete} looks applied to {missing} in the place of {surplus}: look at how a delete finds its element where it is "
                 "applied, and at whether the recorder names the element that was deleted.{moved}")
-MOVED_DELETE = " In an editor that sends positions, its position was perhaps not adjusted for {changes}, which its author had not seen.{tie}"
+MOVED_DELETE = (" In an editor that sends positions, its position was perhaps not adjusted for {changes}, which its author had not "
+                "seen{back}.{tie}")
+MOVED_BEFORE = "; or an earlier insert was not adjusted for a delete"
 PUT_AT_ONCE = (" {others} {were} inserted at the place of {element}, neither author knowing of the other: look also at which comes first "
                "there.")
 SECOND_DELETE = ("{again} deletes {element}, already deleted here by {first}: look at what the editor does with a delete whose element "
@@ -80,7 +86,7 @@ def of_contents(evidence: Evidence) -> list:
     if evidence.undelivered:
         return [undelivered(evidence)]
     found = [*wrong_delete(evidence, evidence.operations[0]), *second_delete(evidence), *overtaken(evidence), *lost_neighbour(evidence)]
-    found = found or unlike_receipts(evidence)
+    found = [*lost(evidence), *(found or unlike_receipts(evidence)), *brought(evidence)]
     return [*found, Cause("arrival", otherwise("If that is not the cause", ARRIVAL) if found else ARRIVAL)]
 
 
@@ -90,6 +96,25 @@ def undelivered(evidence: Evidence) -> Cause:
     lines = sorted({evidence.recording.arrival(change, replica).line for change in changes})
     written = f"{'Line' if len(lines) == 1 else 'Lines'} {listed(list(map(str, lines)), MOST_TOLD)} {'was' if len(lines) == 1 else 'were'} written"
     return Cause("not delivered", UNDELIVERED.format(lines=written, replica=replica, **changes_told(changes)))
+
+
+def lost(evidence: Evidence) -> list:
+    """Of a change that came nowhere by itself, where each other one of its author did; but where it is told as overtaken."""
+    told = [change for change, _ in evidence.overtakings[:1]]
+    return [Cause("lost", LOST.format(change=at(change), replica=replica, author=change.replica))
+            for change, replica in evidence.unreceived[:1] if change not in told]
+
+
+def brought(evidence: Evidence) -> list:
+    """Of changes that the response ought to show, and that came with a later one of their author without receipts of their own; but where one
+    is told as overtaken or lost."""
+    came, replica = {}, evidence.operations[0].replica
+    told = [change for change, _ in evidence.overtakings] + [change for change, other in evidence.unreceived[:1] if other == replica]
+    for change in evidence.unnamed if not told else []:
+        came.setdefault(evidence.recording.arrival(change, replica), []).append(change)
+    return [Cause("brought", BROUGHT.format(replica=receipt.replica, brought=at(receipt.seen), them="them" if changes[1:] else "it",
+                                            they="they" if changes[1:] else "it", **changes_told(changes)))
+            for receipt, changes in list(came.items())[:1]]
 
 
 def unlike_receipts(evidence: Evidence) -> list:
@@ -113,7 +138,8 @@ def moved_delete(evidence: Evidence, delete: Operation) -> str:
         return ""
     others = [other.element for insert in evidence.recording.inserts.get(delete.element, [])[:1]
               for other in put_there_at_once(evidence.recording, insert, receipt)]
-    return MOVED_DELETE.format(changes=named(unknown), tie=at_once(delete.element, others) if others else "")
+    back = MOVED_BEFORE if met_before(evidence.recording, delete, receipt) else ""
+    return MOVED_DELETE.format(changes=named(unknown), back=back, tie=at_once(delete.element, others) if others else "")
 
 
 def changes_told(changes: list) -> dict:
@@ -133,7 +159,8 @@ def wrong_delete(evidence: Evidence, operation: Operation) -> list:
     before = [one for one in evidence.recording.streams[operation.replica][:operation.n - 1] if one.kind != "view"][-1:]
     news = [delete for delete in deletes if operation.has_seen(delete) and not any(one.has_seen(delete) for one in before)]
     is_new = any(map(evidence.is_new, evidence.recording.inserts[missing])) and before
-    is_deleted = missing in evidence.recording.deletes and not all(evidence.otherwise)  # by what no receipt brings, and that alone tells it
+    earlier = [one for one in evidence.recording.deletes.get(missing, []) if one.line < operation.line]
+    is_deleted = earlier and not all(evidence.otherwise)  # by what no receipt brings, and that alone tells it
     if is_deleted or not news or is_new or not any(map(operation.has_seen, inserts)):
         return []
     moved = moved_delete(evidence, news[0])
@@ -172,14 +199,15 @@ def of_position(evidence: Evidence) -> list:
 def of_refusal(evidence: Evidence) -> list:
     """Concurrent inserts first; then inserts beside deleted elements, then two elements of which one's author had seen the other."""
     if evidence.report["k"] > 2:
-        return [of_several(evidence)]
+        return [*lost(evidence), of_several(evidence)]
     first, then = (evidence.recording.inserts[name][0] for name in evidence.elements)
     if not first.has_seen(then) and not then.has_seen(first):
         told = CONCURRENT.format(first=first.element, then=then.element, moved=moved_over(evidence))
-        return [Cause("concurrent", told), *beside_deleted(evidence)]
+        return [*lost(evidence), Cause("concurrent", told), *beside_deleted(evidence)]
     later, old = (first, then) if first.has_seen(then) else (then, first)
     told = SEEN.format(later=at(later), new=later.element, old=old.element, moved=moved_over(evidence))
-    return [*beside_deleted(evidence), Cause("seen", told)]
+    told += put_meanwhile(evidence, later) or put_meanwhile(evidence, old)
+    return [*lost(evidence), *beside_deleted(evidence), Cause("seen", told)]
 
 
 def beside_deleted(evidence: Evidence) -> list:
@@ -206,6 +234,13 @@ def put_at_once(evidence: Evidence) -> str:
         if others:
             return at_once(insert.element, others)
     return ""
+
+
+def put_meanwhile(evidence: Evidence, insert: Operation) -> str:
+    """Which inserts that were there when this one arrived had been made at its place, neither author knowing of the other's."""
+    found = {other.element: None for arrival in evidence.arrivals if arrival.insert is insert
+             for other in put_there_at_once(evidence.recording, insert, arrival.receipt)}
+    return at_once(insert.element, list(found)) if found else ""
 
 
 def at_once(element: str, others: list) -> str:

@@ -286,6 +286,31 @@ class Evidence:
         return len(others) >= SEVERAL and {receipt.seen for receipt in receipts}.issuperset(others)
 
     @cached_property
+    def unreceived(self) -> list:
+        """Changes of which a replica of the verdict, or the author of a change that it is about, has no receipt of its own, though each
+        other change of the same author has one there; and that replica. They may have been lost on their way. A delete of what another one
+        deletes too is none: where it becomes nothing, it needs no receipt."""
+        last = max(operation.line for operation in self.operations)
+        about = [change.replica for name in self.elements for changes in (self.recording.inserts, self.recording.deletes)
+                 for change in changes.get(name, []) if change.line <= last]
+        return [(change, replica) for replica in dict.fromkeys([operation.replica for operation in self.operations] + about)
+                for change in self.recording.skipped(replica, SEVERAL)
+                if change.line < last and (change.kind == "ins" or not self.recording.deletes[change.element][1:])]
+
+    @cached_property
+    def unnamed(self) -> list:
+        """Of wrong contents, the changes of its elements that a receipt for a later change of their author has brought since the response
+        before, and that no receipt names, nor one of `delivered`."""
+        replica, found = self.operations[0].replica, []
+        for changes, names in (self.recording.inserts, self.missing), (self.recording.deletes, self.surplus):
+            for change in (change for name in names for change in changes.get(name, []) if self.is_new(change)):
+                brought = self.recording.arrival(change, replica)
+                is_later = brought.seen is not change and brought.seen.replica == change.replica and brought.seen.element
+                if is_later and not self.recording.is_delivered(brought.line) and not self.recording.own_receipt(change, replica):
+                    found.append(change)
+        return found
+
+    @cached_property
     def overtakings(self) -> list:
         """Of wrong contents, the changes of its elements, and of those beside which these were put, that were overtaken on their way to the
         response."""

@@ -1,6 +1,7 @@
 """What an editor that sends positions has to do where a change arrives: it moves the change over those that its author had not seen."""
 from __future__ import annotations
 
+from bisect import bisect_right
 from itertools import takewhile
 
 from .evidence import Arrival
@@ -24,6 +25,21 @@ def met_inserts(recording: Recording, delete: Operation, arrival: Arrival) -> li
             if had[insert.replica] >= insert.n and not delete.has_seen(insert) and not insert.has_seen(delete) and insert is not arrival.insert]
 
 
+def met_before(recording: Recording, delete: Operation, receipt: Receipt) -> bool:
+    """Whether the receipt's replica had an insert before it, and another delete, where these did not know of each other."""
+    had = recording.clock_before(receipt)
+    inserts = [[one for one in stream[:count] if one.kind == "ins"] for stream, count in zip(recording.streams, had)]
+    numbers = [[insert.n for insert in stream] for stream in inserts]
+    for other in recording.changes():
+        if other.kind == "ins" or other is delete or had[other.replica] < other.n:
+            continue
+        for stream, ns, seen in zip(inserts, numbers, other.clock):
+            unseen = stream[bisect_right(ns, seen):][:1]  # it has seen the least of those that come later
+            if unseen and not unseen[0].has_seen(other):
+                return True
+    return False
+
+
 def elements_before(recording: Recording, change: Operation, receipt: Receipt) -> set:
     """The elements that stood before the place of the change: for its author when it was made, and for the replica when it arrived."""
     own = list_of(recording, change)
@@ -42,15 +58,23 @@ def list_of(recording: Recording, change: Operation) -> list:
 
 def put_there_at_once(recording: Recording, insert: Operation, receipt: Receipt) -> list:
     """The inserts that the receipt's replica had before it, which were made at the place of this one, neither author knowing of the other's."""
-    had = recording.clock_before(receipt)
+    had, own = recording.clock_before(receipt), neighbours(insert)
     return [other for inserts in recording.inserts.values() for other in inserts
-            if had[other.replica] >= other.n and are_put_at_once(insert, other)]
+            if had[other.replica] >= other.n and not is_known(insert, other) and are_alike(own, neighbours(other))]
 
 
 def are_put_at_once(insert: Operation, other: Operation) -> bool:
     """Whether two inserts were made at one place, by authors who did not know of each other's."""
-    is_known = insert.has_seen(other) or other.has_seen(insert)
-    return not is_known and any(one == another for one, another in zip(neighbours(insert), neighbours(other)))
+    return not is_known(insert, other) and are_alike(neighbours(insert), neighbours(other))
+
+
+def is_known(insert: Operation, other: Operation) -> bool:
+    return insert.has_seen(other) or other.has_seen(insert)
+
+
+def are_alike(one: tuple, another: tuple) -> bool:
+    """Whether they have a left or a right neighbour in common."""
+    return any(first == second for first, second in zip(one, another))
 
 
 def neighbours(insert: Operation) -> tuple:

@@ -136,6 +136,18 @@ class Recording:
         """The first receipt in a replica's log that names just this operation, if one does."""
         return next((receipt for receipt in self.receipts[replica] if receipt.seen is operation), None)
 
+    def skipped(self, replica: int, least: int) -> list:
+        """The changes that alone of their authors, of whom so many others came at least, came to a replica without a receipt of their own."""
+        receipts = self.receipts[replica]
+        named = {receipt.seen.key for receipt in receipts if not self.is_delivered(receipt.line)}
+        clock = [max((receipt.seen.clock[author] for receipt in receipts), default=0) for author in range(self.replicas)]
+        found = []
+        for author, stream in enumerate(self.streams):
+            changes = [change for change in stream[:clock[author]] if change.element] if author != replica else []
+            lacking = [change for change in changes if change.key not in named]
+            found += lacking if len(lacking) == 1 and len(changes) > least else []
+        return found
+
     def change_at(self, changes: list, receipt: Receipt) -> Operation | None:
         """Of these operations the one that was first made at the receipt's replica, or arrived there, if that was before the receipt."""
         came = {}

@@ -1,5 +1,5 @@
--- A core has the cycles of the whole: what is shortest or least there is so here. And the elements through which
--- a cycle leads are a core.
+-- A core has the cycles of the whole: what is shortest or least there is so here. And the elements through
+-- which a cycle leads are a core.
 use Rattle.std.proofs.Common.{◌≡◌, ◌≢◌, ℕ, zero, suc, ◌+◌, ◌<◌, ◌≤◌, ◌⊎◌, inl, inr, Some, List, [], ◌∷◌}
 use Rattle.std.proofs.Common.{length, map, get_or, refl, sym, ◌∙◌, ap, subst, arith}
 use Rattle.std.specs.Prelude.{All, AllPairs, Contains, IsTrue, slice_get, unwrap_or, nat_lt}

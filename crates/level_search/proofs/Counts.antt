@@ -1,10 +1,11 @@
 -- Counts of looks: of a search under a lower bound, of several together, and how many at most.
 use Rattle.std.proofs.Common.{◌≡◌, ℕ, zero, suc, ◌+◌, ◌*◌, ◌≤◌, Option, Some, None, List, [], ◌∷◌}
 use Rattle.std.proofs.Common.{◌++◌, length, min, inl, inr, refl, subst, le_trans, arith}
-use Rattle.std.specs.Prelude.{slice_index}
+use Rattle.std.specs.Prelude.{slice_index, sum_by}
 use Rattle.std.proofs.Math.Nat.{add-mul}
 use Rattle.level_search.specs.LayerSizes.{counted, layer_size}
-use Rattle.level_search.specs.Looks.{AreCountsAt, HasLooked, IsAtEnd, IsCountOf, IsLastPart}
+use Rattle.level_search.specs.Looks.{AreCountsAt, HasLookedBy, IsAtEnd, IsCountBy, IsCountOf, IsLastPart}
+use Rattle.level_search.specs.Looks.{IsListCount}
 use Rattle.level_search.specs.declared.tabled.sets.Sets.{Sets}
 use Rattle.level_search.proofs.LayerSizes.{layer-up, sizes-within}
 
@@ -34,11 +35,24 @@ count-lower n rows s low low' sets answer count less is = record {
   is_sum = is.is_sum;
 }
 
+list-lower : (n : ℕ) (rows : List (List ℕ)) (low low' : ℕ) (answer : Option ℕ) (count : ℕ) → low' ≤ low
+    → IsListCount n rows low answer count → IsListCount n rows low' answer count
+list-lower n rows low low' (Some m) count less is = is
+list-lower n rows low low' None count less is = (is.0, λ lt. is.1 (omega arith))
+
+pub either-lower : (n : ℕ) (rows : List (List ℕ)) (s low low' : ℕ) (sets : Sets) (answer : Option ℕ)
+    (count : ℕ) → low' ≤ low → IsCountBy n rows s low sets answer count
+    → IsCountBy n rows s low' sets answer count
+either-lower n rows s low low' sets answer count less (inl is) =
+    inl (count-lower n rows s low low' sets answer count less is)
+either-lower n rows s low low' sets answer count less (inr is) =
+    inr (list-lower n rows low low' answer count less is)
+
 pub looked-lower : (n : ℕ) (rows : List (List ℕ)) (s low low' : ℕ) (sets : Sets) (answer : Option ℕ)
-    (old new : ℕ) → low' ≤ low → HasLooked n rows s low sets answer old new
-    → HasLooked n rows s low' sets answer old new
+    (old new : ℕ) → low' ≤ low → HasLookedBy n rows s low sets answer old new
+    → HasLookedBy n rows s low' sets answer old new
 looked-lower n rows s low low' sets answer old new less is =
-    (is.0, count-lower n rows s low low' sets answer is.0 less is.1, is.2)
+    (is.0, either-lower n rows s low low' sets answer is.0 less is.1, is.2)
 
 pub counts-lower : (n : ℕ) (rows : List (List ℕ)) (low low' : ℕ) (sources places : List ℕ) (count : ℕ)
     → low' ≤ low → AreCountsAt n rows low sources places count → AreCountsAt n rows low' sources places count
@@ -48,7 +62,7 @@ counts-lower n rows low low' sources (place ∷ places) count less are = (
   are.1,
   are.2,
   are.3,
-  count-lower n rows (slice_index sources place) low low' are.2 are.3 are.0 less are.4,
+  either-lower n rows (slice_index sources place) low low' are.2 are.3 are.0 less are.4,
   counts-lower n rows low low' sources places are.1 less are.5,
   are.6,
 )
@@ -56,7 +70,7 @@ counts-lower n rows low low' sources (place ∷ places) count less are = (
 -- one search more
 pub counts-one : (n : ℕ) (rows : List (List ℕ)) (low : ℕ) (sources : List ℕ) (place : ℕ) (sets : Sets)
     (answer : Option ℕ) (one : ℕ)
-    → IsCountOf n rows (slice_index sources place) low sets answer one
+    → IsCountBy n rows (slice_index sources place) low sets answer one
     → AreCountsAt n rows low sources (place ∷ []) one
 counts-one n rows low sources place sets answer one is = (one, 0, sets, answer, is, refl, omega arith)
 
@@ -93,14 +107,30 @@ count-most n rows s low sets answer count is =
     let sum = is.is_sum in
     omega (arith, sum, part, sizes-within n sets)
 
-pub counts-most : (n : ℕ) (rows : List (List ℕ)) (low : ℕ) (sources places : List ℕ) (count : ℕ)
-    → AreCountsAt n rows low sources places count → count ≤ length places * (2 * n)
-counts-most n rows low sources [] count are = omega (arith, are)
-counts-most n rows low sources (place ∷ places) count are =
-    let one = count-most n rows (slice_index sources place) low are.2 are.3 are.0 are.4 in
-    let others = counts-most n rows low sources places are.1 are.5 in
+pub list-most : (n : ℕ) (rows : List (List ℕ)) (low : ℕ) (answer : Option ℕ) (count : ℕ)
+    → IsListCount n rows low answer count → count ≤ sum_by (λ r. length r) rows + n
+list-most n rows low (Some m) count is = is.0
+list-most n rows low None count is = is.0
+
+-- no search looks at more than this, where it is no less than either way may take
+pub either-most : (n : ℕ) (rows : List (List ℕ)) (s low : ℕ) (sets : Sets) (answer : Option ℕ)
+    (count most : ℕ) → 2 * n ≤ most → sum_by (λ r. length r) rows + n ≤ most
+    → IsCountBy n rows s low sets answer count → count ≤ most
+either-most n rows s low sets answer count most two all (inl is) =
+    le_trans (count-most n rows s low sets answer count is) two
+either-most n rows s low sets answer count most two all (inr is) =
+    le_trans (list-most n rows low answer count is) all
+
+pub counts-most : (n : ℕ) (rows : List (List ℕ)) (low : ℕ) (sources places : List ℕ) (count most : ℕ)
+    → 2 * n ≤ most → sum_by (λ r. length r) rows + n ≤ most
+    → AreCountsAt n rows low sources places count → count ≤ length places * most
+counts-most n rows low sources [] count most two all are = omega (arith, are)
+counts-most n rows low sources (place ∷ places) count most two all are =
+    let one =
+    either-most n rows (slice_index sources place) low are.2 are.3 are.0 most two all are.4 in
+    let others = counts-most n rows low sources places are.1 most two all are.5 in
     let sum = are.6 in
-    omega (arith, one, others, sum, add-mul (length places) 1 (2 * n))
+    omega (arith, one, others, sum, add-mul (length places) 1 most)
 
 -- a count from 0 is the number of looks, up to the last count
 pub counted-is : (k : ℕ) → counted k 0 ≡ min k 18446744073709551615

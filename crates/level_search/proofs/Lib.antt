@@ -8,11 +8,13 @@ pub mod Placed
 -- Lemmas on cores and cycles.
 pub mod StepsRound
 pub mod OnRing
+pub mod Rounds
 pub mod OnCycles
 pub mod Cores
 pub mod ShortestFew
 pub mod Lengths
 pub mod Rising
+pub mod ListLooks
 -- Lemmas on the workers.
 pub mod Teams
 pub mod LeastOffer

@@ -1,5 +1,7 @@
--- Where a guess at the components is right, a cycle leads just through the elements whose component has others.
-use Rattle.std.proofs.Common.{◌≡◌, ℕ, zero, suc, ◌+◌, ◌-◌, ◌<◌, ◌≤◌, ◌⊎◌, inl, inr, Bool, true, false, List, get_or}
+-- Where a guess at the components is right, a cycle leads just through the elements whose component has
+-- others.
+use Rattle.std.proofs.Common.{◌≡◌, ℕ, zero, suc, ◌+◌, ◌-◌, ◌<◌, ◌≤◌, ◌⊎◌, inl, inr, Bool, true, false, List}
+use Rattle.std.proofs.Common.{get_or}
 use Rattle.std.proofs.Common.{refl, length, sym, ◌∙◌, ap, subst, arith}
 use Rattle.std.specs.Prelude.{◌↔◌, Option, Some, None, IfNone, is_some}
 use Rattle.std.proofs.lemmas.Bool.{cases_lt, false≢true}
@@ -25,7 +27,8 @@ climbs-far : (rows : List (List ℕ)) (value : ℕ → ℕ) → ((l j x y : ℕ)
     → Stands rows l (j + 1) y → value x ≤ value y) → (d l p x y : ℕ) → Stands rows l p x
     → Stands rows l (p + suc d) y → value x ≤ value y
 climbs-far rows value step zero l p x y first second =
-    step l p x y first (subst (λ q. Stands rows l q y) (let e : p + suc zero ≡ p + 1 = omega arith in e) second)
+    step l p x y first
+    (subst (λ q. Stands rows l q y) (let e : p + suc zero ≡ p + 1 = omega arith in e) second)
 climbs-far rows value step (suc d) l p x y first second =
     let within = second.within in
     let z : ℕ = get_or (row rows l) (p + suc d) 0 in
@@ -141,7 +144,7 @@ module _ (n : ℕ) (rows : List (List ℕ)) (g : Guess) (right : IsRight n rows 
           absurd (apart x (subst (λ z. Before rows x z) (sym yours ∙ same ∙ mine) step))
 
 module _ (v : Responses) (proper : AreProper v) where
-  apart-in : (x : ℕ) → Before (lists_of v) x x → ⊥
+  pub apart-in : (x : ℕ) → Before (lists_of v) x x → ⊥
   apart-in x step = none_before_itself v proper (name v x) (stands-names v proper x x step)
 
   pub cycle-lies : (x m : ℕ) → HasCycle (lists_of v) x m → LiesOnCycle v x

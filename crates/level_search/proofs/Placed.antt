@@ -1,14 +1,16 @@
 -- Numbers that stand at places of lists are no more than the places.
 use Rattle.std.proofs.Common.{◌≡◌, ℕ, zero, suc, ◌+◌, ◌*◌, ◌<◌, ◌≤◌, Some, List, [], ◌∷◌, ◌++◌, length}
-use Rattle.std.proofs.Common.{refl, ap, ◌∙◌, arith, length-append}
-use Rattle.std.specs.Prelude.{AllPairs, Contains, sum_by}
-use Rattle.std.specs.List.{range_with_len}
+use Rattle.std.proofs.Common.{Bool, filter, refl, ap, ◌∙◌, arith, length-append}
+use Rattle.std.specs.Prelude.{AllPairs, Contains, bytes_eq, sum_by}
+use Rattle.std.specs.List.{range_with_len, list_any}
 use Rattle.std.proofs.lemmas.List.FromFn.{length-range_with_len}
 use Rattle.std.proofs.lemmas.List.Sorted.{length_permutation}
-use Rattle.std.proofs.lemmas.List.Sums.{sum_by-cons}
+use Rattle.std.proofs.lemmas.List.Sums.{count_by-le-length, length-filter, sum_by-cons}
 use Rattle.std.proofs.lemmas.Nat.{mul-le}
 use Rattle.std.proofs.lemmas.Option.{slice_get-get_or}
-use Rattle.specification.specs.Responses.{Responses, place_count}
+use Rattle.events.specs.Names.{NameBytes}
+use Rattle.specification.specs.LayerRule.{narrowed}
+use Rattle.specification.specs.Responses.{Responses, Returned, place_count}
 use Rattle.specification.proofs.Members.{In, Once, Once-bounded, Once-from_AllPairs, In-append_left}
 use Rattle.specification.proofs.Members.{In-append_right, In-from_place, Contains-from_In}
 use Rattle.order_graph.specs.Lists.{lists_of, row}
@@ -49,18 +51,42 @@ placed-few v xs rising placed =
     (slice_get-get_or (row rows at.list) at.place 0 at.here.within ∙ ap Some at.here.here)))) in
     omega (arith, few, joined-length rows, lists-total v)
 
--- a search from each of these elements, with two looks at most at the row of each, makes no more looks than
--- elements times places and elements
+-- what is left where elements are left out has no more places
+pub narrowed-places : (v : Responses) (among : List NameBytes) → place_count (narrowed v among) ≤ place_count v
+narrowed-places v among = go v.returned
+  where
+    go : (rs : List Returned)
+        → sum_by (λ r. length r.names) (narrowed (record { elements = v.elements; returned = rs }) among).returned
+        ≤ sum_by (λ r. length r.names) rs
+    go [] = omega arith
+    go (r ∷ rs) =
+        let kept : NameBytes → Bool = λ x. list_any (bytes_eq x) among in
+        let left : Returned = record { by = r.by; names = filter kept r.names } in
+        omega (
+          arith,
+          go rs,
+          length-filter kept r.names,
+          count_by-le-length kept r.names,
+          sum_by-cons (λ (o : Returned). length o.names) r rs,
+          sum_by-cons (λ (o : Returned). length o.names) left
+              (narrowed (record { elements = v.elements; returned = rs }) among).returned,
+        )
+
+-- a search from each of these elements, with two looks at most at the row of each, or one at each place and
+-- element, makes no more looks than elements times places and elements
 pub within-searches : (v : Responses) (n : ℕ) (rows : List (List ℕ)) (least looked : ℕ)
-    → n ≤ length v.elements → n ≤ place_count v → AreLooksOf n rows least looked → IsWithinSearches v looked
-within-searches v n rows least looked known placed is =
-    let all = counts-most n rows least is.sources is.places is.count is.counts in
+    → n ≤ length v.elements → n ≤ place_count v → sum_by (λ r. length r) rows ≤ place_count v
+    → AreLooksOf n rows least looked → IsWithinSearches v looked
+within-searches v n rows least looked known placed total is =
+    let all =
+    counts-most n rows least is.sources is.places is.count (place_count v + length v.elements)
+    (omega (arith, known, placed)) (omega (arith, known, total)) is.counts in
     let searches : length is.places ≡ length is.sources =
     length_permutation (range_with_len 0 (length is.sources)) is.places is.once
     ∙ length-range_with_len 0 (length is.sources) in
     let few = is.few in
     let most =
-    mul-le (length is.places) (2 * n) (length v.elements) (place_count v + length v.elements)
-    (omega (arith, searches, few, known)) (omega (arith, known, placed)) in
+    mul-le (length is.places) (place_count v + length v.elements) (length v.elements)
+    (place_count v + length v.elements) (omega (arith, searches, few, known)) (omega arith) in
     let looked_is = is.looked_is in
     omega (arith, looked_is, all, most, counted-most is.count 0)

@@ -23,7 +23,7 @@ use Rattle.level_search.proofs.LayerSizes.{looked-more}
 use Rattle.level_search.specs.Sources.{MeetsCycles}
 use Rattle.level_search.specs.Team.{AreNumbered, IsSearchedAt, IsLength, Honest, IsReady, SameSeat, HasWorked}
 use Rattle.level_search.specs.Team.{HaveWorked, AreLooksOfClaims, ceiling, AtPlace, IsTeam, IsLeastLength}
-use Rattle.level_search.specs.Looks.{AreCountsAt, HasLooked}
+use Rattle.level_search.specs.Looks.{AreCountsAt, HasLookedBy}
 use Rattle.level_search.specs.declared.tabled.sets.Sets.{Sets}
 use Rattle.level_search.specs.declared.workers.worker.Worker.{Worker}
 use Rattle.list_search.proofs.Joining.{cycle-known, first-walk, names_of_walk, walk_of_names}
@@ -93,7 +93,7 @@ fewer_left s t source bound claimed within above =
 pub looks_claimed : (n : ℕ) (rows : List (List ℕ)) (sources : List ℕ) (s t : SeatView) (place was now : ℕ)
     (sets : Sets) (answer : Option ℕ) → t.claimed ≡ s.claimed ++ place ∷ [] → t.low ≤ s.low
     → AreLooksOfClaims n rows sources s was
-    → HasLooked n rows (slice_index sources place) t.low sets answer was now
+    → HasLookedBy n rows (slice_index sources place) t.low sets answer was now
     → AreLooksOfClaims n rows sources t now
 looks_claimed n rows sources s t place was now sets answer claimed less are more = (
   are.0 + more.0,

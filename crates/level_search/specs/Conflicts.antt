@@ -1,12 +1,13 @@
 -- What a search of the core has found, and the least conflict.
-use Rattle.std.specs.Prelude.{◌≡◌, ℕ, ◌+◌, ◌*◌, ◌≤◌, Option, Some, None, List, length}
+use Rattle.std.specs.Prelude.{◌≡◌, ℕ, ◌+◌, ◌*◌, ◌<◌, ◌≤◌, Option, Some, None, List, All, length}
 use Rattle.specification.specs.Responses.{Responses, AreProper, place_count}
 use Rattle.specification.specs.Conflict.{AreLeastSteps, HasConflictNumber, HasNoConflict}
 use Rattle.specification.specs.LayerRule.{narrowed}
 use Rattle.order_graph.specs.Kept.{names_at}
 use Rattle.order_graph.specs.Lists.{lists_of}
-use Rattle.level_search.specs.Tables.{IsBeforeTable}
+use Rattle.level_search.specs.Ways.{IsWay}
 use Rattle.level_search.specs.Cores.{IsCoreOf}
+use Rattle.level_search.specs.Sources.{MeetsCycles}
 use Rattle.level_search.specs.Team.{AreLooksOf, IsLeastLength}
 use Rattle.level_search.specs.declared.conflict.Conflict.{Conflict}
 use Rattle.level_search.specs.declared.conflict.Found.{Found}
@@ -24,16 +25,18 @@ pub record AreLooksIn (v : Responses) (least looked : ℕ) : Type 0 where
   pub is_part : part ≡ narrowed v (names_at v.elements numbers)
   pub looks : AreLooksOf (length part.elements) (lists_of part) least looked
 
--- the core is one of these responses, the table is the core's, and the length that of a shortest cycle there
+-- the core is one of these responses, the way is the core's, and the length that of a shortest cycle there
 pub record IsFound (v : Responses) (s : Found) : Type 0 where
   pub proper : AreProper v
   pub core : IsCoreOf v s.core.elements.items
   pub part : s.core.graph ≡ narrowed v (names_at v.elements s.core.elements.items)
   pub part_proper : AreProper s.core.graph
-  pub table : IsBeforeTable (length s.core.graph.elements) (lists_of s.core.graph) s.table
+  pub way : IsWay s.core.graph s.way
   pub least : IsLeastLength s.core.graph s.least
   pub looked : AreLooksOf (length s.core.graph.elements) (lists_of s.core.graph) s.least s.looked
   pub few : IsWithinSearches v s.looked
+  pub known : All (λ x. x < length s.core.graph.elements) s.sources.items
+  pub met : MeetsCycles (lists_of s.core.graph) (length s.core.graph.elements) s.sources.items
 
 -- the conflict number and the steps of the least cycle, as many; none where there is no conflict
 abbrev pub IsLeastConflict : Responses → Option Conflict → Type 0

@@ -1,5 +1,5 @@
--- The core of responses: the elements through which a cycle leads. Each leads to another and back, so they are
--- those of the strongly connected components with more than one element.
+-- The core of responses: the elements through which a cycle leads. Each leads to another and back, so they
+-- are those of the strongly connected components with more than one element.
 use Rattle.std.specs.Prelude.{ℕ, ◌<◌, List, length, All, AllPairs, Contains}
 use Rattle.events.specs.Names.{NameBytes}
 use Rattle.specification.specs.Responses.{Responses}

@@ -1,6 +1,6 @@
--- How many rows of its table a search has looked at.
+-- How many rows of its table a search has looked at, or places and elements of the lists.
 use Rattle.std.specs.Prelude.{◌≡◌, ℕ, zero, suc, ◌+◌, ◌*◌, ◌<◌, ◌≤◌, ◌⊎◌, Option, Some, None, List, [], ◌∷◌}
-use Rattle.std.specs.Prelude.{slice_index}
+use Rattle.std.specs.Prelude.{length, slice_index, sum_by}
 use Rattle.level_search.specs.Balls.{IsBall, IsInLayer}
 use Rattle.list_search.specs.Graph.{Before}
 use Rattle.level_search.specs.LayerSizes.{counted, layer_size, set_size}
@@ -41,16 +41,31 @@ abbrev pub HasLooked : ℕ → List (List ℕ) → ℕ → ℕ → Sets → Opti
 HasLooked n rows s low sets answer old new =
     (count : ℕ) × IsCountOf n rows s low sets answer count × (new ≡ counted count old)
 
--- searches from each element below a number, one after the other
-abbrev pub HaveLooked : ℕ → List (List ℕ) → ℕ → ℕ → ℕ → ℕ → Type 0
-HaveLooked n rows low zero old new = new ≡ old
-HaveLooked n rows low (suc s) old new = (was : ℕ) × HaveLooked n rows low s old was × (sets : Sets)
-    × (answer : Option ℕ) × HasLooked n rows s low sets answer was new
+-- so many looks of a search over the lists: one at each place and element at most. It has looked at two at
+-- least for each element of a cycle that it found, and at one at least where a bound let it look for any.
+abbrev pub IsListCount : ℕ → List (List ℕ) → ℕ → Option ℕ → ℕ → Type 0
+IsListCount n rows low None count = (count ≤ sum_by (λ r. length r) rows + n) × (2 < low → 0 < count)
+IsListCount n rows low (Some m) count = (count ≤ sum_by (λ r. length r) rows + n) × (2 * m ≤ count)
+
+-- so many looks of a search over a table, or over the lists
+abbrev pub IsCountBy : ℕ → List (List ℕ) → ℕ → ℕ → Sets → Option ℕ → ℕ → Type 0
+IsCountBy n rows s low sets answer count =
+    IsCountOf n rows s low sets answer count ⊎ IsListCount n rows low answer count
+
+-- a search by either way has raised the count by its looks
+abbrev pub HasLookedBy : ℕ → List (List ℕ) → ℕ → ℕ → Sets → Option ℕ → ℕ → ℕ → Type 0
+HasLookedBy n rows s low sets answer old new =
+    (count : ℕ) × IsCountBy n rows s low sets answer count × (new ≡ counted count old)
+
+-- a search over the lists has
+abbrev pub HasLookedInLists : ℕ → List (List ℕ) → ℕ → Option ℕ → ℕ → ℕ → Type 0
+HasLookedInLists n rows low answer old new =
+    (count : ℕ) × IsListCount n rows low answer count × (new ≡ counted count old)
 
 -- the looks of a search from the element at each of these places of a list, together
 abbrev pub AreCountsAt : ℕ → List (List ℕ) → ℕ → List ℕ → List ℕ → ℕ → Type 0
 AreCountsAt n rows low sources [] count = count ≡ 0
 AreCountsAt n rows low sources (place ∷ places) count =
     (one : ℕ) × (others : ℕ) × (sets : Sets) × (answer : Option ℕ)
-    × IsCountOf n rows (slice_index sources place) low sets answer one
+    × IsCountBy n rows (slice_index sources place) low sets answer one
     × AreCountsAt n rows low sources places others × (count ≡ one + others)

@@ -7,10 +7,10 @@ use Rattle.shared_bound.specs.declared.TheConstants.{NO_OFFER}
 use Rattle.specification.specs.Responses.{Responses}
 use Rattle.specification.specs.Search.{IsShortestLength, HasNoCycle}
 use Rattle.order_graph.specs.Lists.{lists_of}
-use Rattle.level_search.specs.Balls.{FitsSets}
 use Rattle.level_search.specs.LayerSizes.{counted}
 use Rattle.level_search.specs.Looks.{AreCountsAt}
 use Rattle.level_search.specs.Sources.{MeetsCycles}
+use Rattle.level_search.specs.Ways.{FitsRoom}
 use Rattle.list_search.specs.Walks.{HasCycle, NoneShorter}
 use Rattle.level_search.specs.declared.workers.worker.Worker.{Worker}
 
@@ -36,7 +36,7 @@ AreLooksOfClaims n rows sources s looked =
 -- a worker may search this graph from these sources
 pub record IsReady (v : Responses) (sources : List ℕ) (w : Worker) : Type 0 where
   pub honest : Honest (lists_of v) sources w.seat
-  pub fits : FitsSets (length v.elements) w.sets
+  pub fits : FitsRoom v w.room
   pub looked : AreLooksOfClaims (length v.elements) (lists_of v) sources w.seat w.looked
 
 -- what no worker changes

@@ -1,6 +1,7 @@
 //! The elements that lie on a cycle: those whose strongly connected component has others.
 
-ghost use Rattle.std.specs.Prelude.{◌≡◌, ◌↔◌, ◌<◌, ◌≤◌, ℕ, All, AllPairs, Contains, IfOk, length, slice_index_or};
+ghost use Rattle.std.specs.Prelude.{◌≡◌, ◌↔◌, ◌<◌, ◌≤◌, ℕ, All, AllPairs, Contains, IfOk, length};
+ghost use Rattle.std.specs.Prelude.{slice_index_or};
 ghost use Rattle.std.specs.Prelude.{true, false, vec_len};
 ghost use Rattle.list_search.specs.ScratchView.{Fits};
 ghost use Rattle.level_search.specs.Cores.{LiesOnCycle};

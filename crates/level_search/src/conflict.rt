@@ -6,23 +6,25 @@ ghost use Rattle.level_search.specs.Conflicts.{AreLooksIn, IsFound, IsLeastConfl
 
 use super::MOST_WORKERS;
 use super::cycle_core::Core;
-use super::cycles::least_cycle_by_table;
+use super::cycles::least_cycle_from;
 use super::gate::Gate;
 use super::search_fault::SearchFault;
-use super::workers::least_length;
-use crate::before_table::BeforeTable;
+use super::sources::feedback_vertex_set;
+use super::workers::{Searched, least_length};
+use crate::ways::Way;
 use order_graph::OrderGraph;
 use shared_bound::NO_OFFER;
 use std::alloc::Global;
 use std::thread::Threads;
 use witnesses::Steps;
 
-/// What the workers have found: the core, its table, and the length of a shortest cycle, or `NO_OFFER` where
-/// there is none; and how many steps they have taken.
+/// What the workers have found: the core, the way in which they searched it, and the elements from which; the
+/// length of a shortest cycle, or `NO_OFFER` where there is none; and how many steps they have taken.
 #[derive(Drop)]
 struct Found {
     core: Core,
-    table: BeforeTable,
+    way: Way,
+    sources: Vec<u32>,
     least: u32,
     looked: u64,
 }
@@ -45,13 +47,17 @@ fn search_core<H: Threads + Sync, G: Gate>(
     let _ = graph.elements();
     let core = Core::of(alloc, graph)?;
     let _ = core.graph.elements();
-    let table = BeforeTable::of(alloc, &core.graph)?;
-    let searched = least_length(rt, alloc, &core.graph, &table, workers, &core.gate(gate))?;
+    let way = Way::of(alloc, &core.graph)?;
+    let sources = feedback_vertex_set(alloc, &core.graph, &way)?;
+    let gate = core.gate(gate);
+    let searched = least_length(rt, alloc, &core.graph, &way, &sources, workers, &gate)?;
+    let Searched { least, looked } = searched;
     Ok(Found {
         core,
-        table,
-        least: searched.least,
-        looked: searched.looked,
+        way,
+        sources,
+        least,
+        looked,
     })
 }
 
@@ -67,12 +73,13 @@ fn search_core<H: Threads + Sync, G: Gate>(
 /// has in this graph. Where no thread can be started, another runs its worker. The answer is the same for any
 /// number of workers, any gate and any order in which the workers come to run.
 ///
-/// All searches read one table, which has for each element of the core the set of those that some list shows
-/// before it, a bit each: n * n / 8 bytes for n elements. What making it takes is said at `BeforeTable::of`.
-/// A search keeps sets of n bits. It goes through the n / 64 words of such sets twice at its start, once for
-/// each element that it goes on from, and six times at most for each of its levels, and it takes a few steps
-/// more for each element that it reaches. Each worker takes memory linear in the core. All memory is taken
-/// before the first search.
+/// All searches go over the lists, where one looks at each place and element at most; or over one table, where
+/// that has no more words than there are places. The table has for each element of the core the set of those
+/// that some list shows before it, a bit each: n * n / 8 bytes for n elements, at most 8 bytes for each place.
+/// What making it takes is said at `BeforeTable::of`. A search keeps sets of n bits. It goes
+/// through the n / 64 words of such sets twice at its start, once for each element that it goes on from, and
+/// six times at most for each of its levels, and it takes a few steps more for each element that it reaches.
+/// Each worker takes memory linear in the core. All memory is taken before the first search.
 pub fn conflict_number<H: Threads + Sync, G: Gate>(
     rt: &H,
     alloc: Global,
@@ -91,8 +98,8 @@ pub fn conflict_number<H: Threads + Sync, G: Gate>(
     }
 }
 
-/// A conflict: its number, and the steps of the least cycle, as many; and how many looks at a row of their
-/// table the searches for the number took together, up to 18446744073709551615.
+/// A conflict: its number, and the steps of the least cycle, as many; and how many looks the searches for the
+/// number took together, at rows of their table or at places and elements, up to 18446744073709551615.
 #[derive(Drop)]
 pub struct Conflict {
     pub k: u32,
@@ -101,7 +108,7 @@ pub struct Conflict {
 }
 
 /// The conflict number and the least cycle, as `conflict_number` and `least_cycle` find them; none where
-/// some order has the responses of all operations. The table that the searches read is made once for both.
+/// some order has the responses of all operations. What the searches read is made once for both.
 pub fn least_conflict<H: Threads + Sync, G: Gate>(
     rt: &H,
     alloc: Global,
@@ -118,7 +125,13 @@ pub fn least_conflict<H: Threads + Sync, G: Gate>(
     if found.least == NO_OFFER {
         return Ok(None);
     }
-    let steps = least_cycle_by_table(alloc, &found.core.graph, &found.table, found.least)?;
+    let steps = least_cycle_from(
+        alloc,
+        &found.core.graph,
+        &found.way,
+        &found.sources,
+        found.least,
+    )?;
     Ok(Some(Conflict {
         k: found.least,
         steps,

@@ -1,18 +1,21 @@
 //! The least cycle, and its steps.
 
-ghost use Rattle.std.specs.Prelude.{◌≡◌, IfOk, length};
+ghost use Rattle.std.specs.Prelude.{◌≡◌, ◌<◌, All, IfOk, length};
 ghost use Rattle.specification.specs.Conflict.{AreLeastSteps};
 ghost use Rattle.specification.specs.Search.{IsShortestLength};
 ghost use Rattle.order_graph.specs.Lists.{lists_of};
-ghost use Rattle.level_search.specs.Tables.{IsBeforeTable};
+ghost use Rattle.level_search.specs.Sources.{MeetsCycles};
+ghost use Rattle.level_search.specs.Ways.{IsWay};
 
 mod choose;
-mod distances_to;
+mod distances;
+mod first;
 mod ring;
 mod steps;
 
 use super::cycle_core::Core;
-use crate::before_table::BeforeTable;
+use super::sources::feedback_vertex_set;
+use crate::ways::Way;
 use events::Memory;
 use order_graph::OrderGraph;
 use ring::least_ring;
@@ -23,9 +26,10 @@ use witnesses::Steps;
 /// The least cycle, where k is the length of a shortest: its elements are the first, in dictionary order of
 /// their numbers, of all cycles of k elements, and each step names the least operation that shows it.
 ///
-/// It leaves out the elements through which no cycle leads. For the n elements that are left it makes the table of what stands before each, in time linear in the places and n * n / 8
-/// bytes, and searches from each up to the cycle's first. The rest is linear in the elements and places that
-/// are left: one search for the distances to the first, and what stands after each element of the cycle.
+/// It leaves out the elements through which no cycle leads. It searches from elements up to the cycle's first,
+/// and from few through which all cycles lead, by turns, as `conflict_number` does. The rest is linear in the
+/// elements and places that are left, for each of these few that is on a shortest cycle and for the first:
+/// searches for distances, and what stands after each element of the cycle.
 pub fn least_cycle(alloc: Global, graph: &OrderGraph, k: u32) -> Result<Steps, Memory>
     requires { IsShortestLength graph.now k }
     ensures { IfOk result (λ steps. AreLeastSteps graph.now steps × (length steps ≡ k)) }
@@ -34,22 +38,26 @@ pub fn least_cycle(alloc: Global, graph: &OrderGraph, k: u32) -> Result<Steps, M
     let _ = graph.elements();
     let core = Core::of(alloc, graph)?;
     let _ = core.graph.elements();
-    let table = BeforeTable::of(alloc, &core.graph)?;
-    least_cycle_by_table(alloc, &core.graph, &table, k)
+    let way = Way::of(alloc, &core.graph)?;
+    let sources = feedback_vertex_set(alloc, &core.graph, &way)?;
+    least_cycle_from(alloc, &core.graph, &way, &sources, k)
 }
 
-/// The same, where the table is made.
-pub fn least_cycle_by_table(
+/// The same, where each cycle leads through one of these sources, and searches go this way.
+pub fn least_cycle_from(
     alloc: Global,
     graph: &OrderGraph,
-    table: &BeforeTable,
+    way: &Way,
+    sources: &[u32],
     k: u32,
 ) -> Result<Steps, Memory>
-    requires table { IsBeforeTable (length graph.now.elements) (lists_of graph.now) table.now }
+    requires way { IsWay graph.now way.now }
+    requires known { All (λ s. s < length graph.now.elements) sources.now }
+    requires met { MeetsCycles (lists_of graph.now) (length graph.now.elements) sources.now }
     requires shortest { IsShortestLength graph.now k }
     ensures { IfOk result (λ steps. AreLeastSteps graph.now steps × (length steps ≡ k)) }
 {
-    let ring = least_ring(alloc, graph, table, k)?;
+    let ring = least_ring(alloc, graph, way, sources, k)?;
     let steps = steps_of(alloc, graph, &ring)?;
     Ok(Steps::from_items(steps))
 }

@@ -1,5 +1,5 @@
-//! What guesses read and write: lists of which nothing is promised. A guess is tested before anything hangs on
-//! it.
+//! What guesses read and write: lists of which nothing is promised. A guess is tested before anything hangs
+//! on it.
 
 /// No element.
 pub const NONE: u32 = u32::MAX;

@@ -5,14 +5,13 @@
 //! `search` and `distances` of `list_search` are handed out too.
 //!
 //! - The search goes on in the core: the elements through which a cycle leads. It holds every cycle, and the
-//!   answers there are those of the whole (proofs/Cores). These are the strongly connected components with more
-//!   than one element: they are guessed, and then tested (proofs/OnCycles).
+//!   answers there are those of the whole (proofs/Cores). These are the strongly connected components with
+//!   more than one element: they are guessed, and then tested (proofs/OnCycles).
 //! - It starts from few elements. An order of the core is guessed, and the elements out of place in it are
 //!   found. Each cycle leads through one of these, whatever the guess was. That they are few is not claimed:
 //!   the fewest are hard to find.
-//! - It reads one table of bits. A layer is a union of rows. The table takes 32 MiB for a core of 16,384
-//!   elements, and 512 MiB for one of all 65,536. A search over lists, for such, is not built into the
-//!   program.
+//! - Searches go over the lists; or over one table of bits, where a layer is a union of rows, if that has no
+//!   more words than the lists have places (`ways`): at most 8 bytes for each.
 //! - Workers take all memory before they start, so no worker can run out of memory in a search. A worker
 //!   takes the next source by one addition, and waits for nobody.
 #![tactic(auto)]
@@ -28,6 +27,7 @@ mod laws;
 mod search_fault;
 mod sources;
 mod tabled;
+mod ways;
 mod workers;
 
 pub use before_table::BeforeTable;

@@ -1,19 +1,21 @@
 //! The elements from which it is enough to search.
 
-ghost use Rattle.std.specs.Prelude.{◌≡◌, ◌+◌, ◌/◌, ◌<◌, ◌≤◌, ℕ, All, AllPairs, Contains, IfOk, length};
+ghost use Rattle.std.specs.Prelude.{◌≡◌, ◌<◌, ◌≤◌, ℕ, All, AllPairs, Contains, IfOk, length};
 ghost use Rattle.std.specs.Prelude.{slice_index};
 ghost use Rattle.order_graph.specs.Lists.{lists_of};
-ghost use Rattle.level_search.specs.Tables.{IsBeforeTable};
-ghost use Rattle.level_search.specs.Sources.{AreRanked, MeetsCycles, Rises};
+ghost use Rattle.level_search.specs.Sources.{AreFewerRanks, IsRanked, MeetsCycles, Rises};
+ghost use Rattle.level_search.specs.Ways.{IsWay};
 
-mod peeling;
+mod greatest;
+mod list_peeling;
+mod table_peeling;
 
-use crate::before_table::BeforeTable;
-use bit_tables::BitSet;
+use crate::ways::Way;
 use events::Memory;
+use list_peeling::order_by_lists;
 use order_graph::OrderGraph;
-use peeling::order_taken;
 use std::alloc::Global;
+use table_peeling::order_by_table;
 
 /// The rank of an element that is out of place, or that was not taken.
 pub const UNRANKED: u32 = u32::MAX;
@@ -24,13 +26,11 @@ const FEW: u32 = 64;
 /// each element to those that some list shows after it.
 ///
 /// Where the elements are many, those are taken that stand out of place in some order of all. The order is a
-/// guess: an element is in its place where all that stands before it in some list comes earlier.
-pub fn feedback_vertex_set(
-    alloc: Global,
-    graph: &OrderGraph,
-    table: &BeforeTable,
-) -> Result<Vec<u32>, Memory>
-    requires table { IsBeforeTable (length graph.now.elements) (lists_of graph.now) table.now }
+/// guess, and it is cut down to one along which each list rises: an element is out of place where one stands
+/// before it in some list that comes later in the order, and is not out of place itself. It takes memory
+/// linear in the elements, the lists and the places.
+pub fn feedback_vertex_set(alloc: Global, graph: &OrderGraph, way: &Way) -> Result<Vec<u32>, Memory>
+    requires { IsWay graph.now way.now }
     ensures known { IfOk result (λ v. All (λ s. s < length graph.now.elements) v.items) }
     ensures count { IfOk result (λ v. length v.items ≤ length graph.now.elements) }
     ensures met { IfOk result (λ v. MeetsCycles (lists_of graph.now) (length graph.now.elements) v.items) }
@@ -38,59 +38,79 @@ pub fn feedback_vertex_set(
     if graph.elements() <= FEW {
         return all_elements(alloc, graph);
     }
-    let order = order_taken(alloc, graph, table)?;
-    let ranks = ranks_along(alloc, graph, table, &order)?;
+    let order = order_taken(alloc, graph, way)?;
+    let mut ranks = ranks_along(alloc, graph, &order)?;
+    rise_along(graph, ranks.as_mut_slice());
     unranked(alloc, &ranks)
 }
 
-/// The places of the elements in an order, but for those that are out of place, and those that the order
-/// lacks.
-fn ranks_along(
-    alloc: Global,
-    graph: &OrderGraph,
-    table: &BeforeTable,
-    order: &[u32],
-) -> Result<Vec<u32>, Memory>
-    requires table { IsBeforeTable (length graph.now.elements) (lists_of graph.now) table.now }
-    ensures count { IfOk result (λ ranks. length ranks.items ≡ length graph.now.elements) }
-    ensures rise { IfOk result (λ ranks. (l : ℕ) → Rises (lists_of graph.now) ranks.items l) }
+/// The elements in an order in which few should be out of place.
+fn order_taken(alloc: Global, graph: &OrderGraph, way: &Way) -> Result<Vec<u32>, Memory>
+    requires { IsWay graph.now way.now }
 {
-    let elements = graph.elements();
-    let mut ranks = Vec::from_elem(alloc, UNRANKED, elements as usize)?;
-    let mut taken = BitSet::new(alloc, elements as usize)?;
-    for rank in 0..elements {
+    match &way.table {
+        Some(table) => order_by_table(alloc, graph, table),
+        None => order_by_lists(alloc, graph),
+    }
+}
+
+/// The places of the elements in an order; no rank for those that the order lacks.
+fn ranks_along(alloc: Global, graph: &OrderGraph, order: &[u32]) -> Result<Vec<u32>, Memory>
+    ensures { IfOk result (λ ranks. length ranks.items ≡ length graph.now.elements) }
+{
+    let mut ranks = Vec::from_elem(alloc, UNRANKED, graph.elements() as usize)?;
+    for rank in 0..graph.elements() {
         if let Some(x) = order.get(rank as usize) {
-            take(graph, table, *x, rank, &mut taken, ranks.as_mut_slice());
+            if (*x as usize) < ranks.len() {
+                ranks[*x as usize] = rank;
+            }
         }
     }
     Ok(ranks)
 }
 
-/// Takes an element: it has this rank where all that stands before it was taken.
-fn take(
-    graph: &OrderGraph,
-    table: &BeforeTable,
-    x: u32,
-    rank: u32,
-    taken: &mut BitSet,
-    ranks: &mut [u32],
-)
-    requires table { IsBeforeTable (length graph.now.elements) (lists_of graph.now) table.now }
-    requires width { length taken.old ≡ length graph.now.elements / 64 + 1 }
+/// Takes ranks away, so that those that are left rise along each list.
+fn rise_along(graph: &OrderGraph, ranks: &mut [u32])
     requires count { length ranks.old ≡ length graph.now.elements }
-    requires rank { rank < UNRANKED }
-    requires ranked { AreRanked table.now rank taken.old ranks.old }
-    ensures width { length taken.new ≡ length taken.old }
     ensures count { length ranks.new ≡ length ranks.old }
-    ensures ranked { AreRanked table.now (rank + 1) taken.new ranks.new }
+    ensures rise { (l : ℕ) → Rises (lists_of graph.now) ranks.new l }
 {
-    if x >= graph.elements() || taken.contains(x as usize) {
-        return;
+    for list in 0..graph.lists() {
+        rise_in(graph, list, ranks);
     }
-    if table.before(x).is_subset(taken) {
-        ranks[x as usize] = rank;
+}
+
+/// Takes ranks away, so that those that are left rise along this list.
+fn rise_in(graph: &OrderGraph, list: u32, ranks: &mut [u32])
+    requires count { length ranks.old ≡ length graph.now.elements }
+    ensures count { length ranks.new ≡ length ranks.old }
+    ensures fewer { AreFewerRanks ranks.old ranks.new }
+    ensures rise { Rises (lists_of graph.now) ranks.new list }
+{
+    let mut next = 0;
+    for j in 0..graph.list(list).len() {
+        next = rise_at(graph.list(list)[j], next, ranks);
     }
-    taken.insert(x as usize);
+}
+
+/// Takes the rank of an element away where it is below this one; the least rank that may come next.
+fn rise_at(x: u32, next: u32, ranks: &mut [u32]) -> u32
+    requires known { x < length ranks.old }
+    requires next { next ≤ UNRANKED }
+    ensures count { length ranks.new ≡ length ranks.old }
+    ensures fewer { AreFewerRanks ranks.old ranks.new }
+    ensures next { (next ≤ result) × (result ≤ UNRANKED) }
+    ensures above { IsRanked ranks.new x → (next ≤ slice_index ranks.new x) × (slice_index ranks.new x < result) }
+{
+    let rank = ranks[x as usize];
+    if rank == UNRANKED {
+        return next;
+    }
+    if rank < next {
+        ranks[x as usize] = UNRANKED;
+        return next;
+    }
+    rank + 1
 }
 
 /// Each element.

@@ -6,7 +6,7 @@ ghost use Rattle.std.specs.List.{range_with_len};
 ghost use Rattle.order_graph.specs.Lists.{lists_of};
 ghost use Rattle.specification.specs.Responses.{AreProper};
 ghost use Rattle.shared_bound.specs.Seats.{fresh_seat};
-ghost use Rattle.level_search.specs.Tables.{IsBeforeTable};
+ghost use Rattle.level_search.specs.Ways.{IsWay};
 ghost use Rattle.level_search.specs.Sources.{MeetsCycles};
 ghost use Rattle.level_search.specs.Team.{AreLooksOf, AreLooksOfClaims, CanWork, HasWorked, HaveWorked};
 ghost use Rattle.level_search.specs.Team.{Honest};
@@ -17,8 +17,7 @@ mod worker;
 
 use super::MOST_WORKERS;
 use super::gate::Gate;
-use super::sources::feedback_vertex_set;
-use crate::before_table::BeforeTable;
+use crate::ways::Way;
 use events::Memory;
 use order_graph::OrderGraph;
 use shared_bound::{Bound, NO_OFFER, Seat};
@@ -53,12 +52,12 @@ fn team<'a>(
 fn work_all<H: Threads + Sync, G: Gate>(
     rt: &H,
     graph: &OrderGraph,
-    table: &BeforeTable,
+    way: &Way,
     sources: &[u32],
     gate: &G,
     team: &mut [Worker],
 )
-    requires table { IsBeforeTable (length graph.now.elements) (lists_of graph.now) table.now }
+    requires way { IsWay graph.now way.now }
     requires known { All (λ s. s < length graph.now.elements) sources.now }
     requires team { All (CanWork graph.now sources.now) team.old }
     ensures { HaveWorked graph.now sources.now team.old team.new }
@@ -69,11 +68,11 @@ fn work_all<H: Threads + Sync, G: Gate>(
         team,
         threads,
         &|_: usize, worker: &mut Worker|
-            requires table { IsBeforeTable (length graph.now.elements) (lists_of graph.now) table.now }
+            requires way { IsWay graph.now way.now }
             requires known { All (λ s. s < length graph.now.elements) sources.now }
             requires ready { CanWork graph.now sources.now worker.old }
             ensures { HasWorked graph.entry.now sources.entry.now worker.old worker.new }
-        { work(graph, table, sources, gate, worker) },
+        { work(graph, way, sources, gate, worker) },
     );
 }
 
@@ -132,34 +131,39 @@ pub struct Searched {
     pub looked: u64,
 }
 
-/// The length of a shortest cycle by a search from each of few elements. All memory is taken before a worker
-/// starts.
+/// The length of a shortest cycle by a search from each of these elements, through one of which each cycle
+/// leads. All memory is taken before a worker starts.
 pub fn least_length<H: Threads + Sync, G: Gate>(
     rt: &H,
     alloc: Global,
     graph: &OrderGraph,
-    table: &BeforeTable,
+    way: &Way,
+    sources: &[u32],
     workers: u32,
     gate: &G,
 ) -> Result<Searched, Memory>
-    requires table { IsBeforeTable (length graph.now.elements) (lists_of graph.now) table.now }
+    requires way { IsWay graph.now way.now }
+    requires known { All (λ s. s < length graph.now.elements) sources.now }
+    requires count { length sources.now ≤ length graph.now.elements }
+    requires met { MeetsCycles (lists_of graph.now) (length graph.now.elements) sources.now }
     requires workers { (1 ≤ workers) × (workers ≤ MOST_WORKERS) }
     requires proper { AreProper graph.now }
     ensures least { IfOk result (λ s. IsLeastLength graph.now s.least) }
     ensures looked { IfOk result (λ s. AreLooksOf (length graph.now.elements) (lists_of graph.now) s.least
         s.looked) }
 {
-    let sources = feedback_vertex_set(alloc, graph, table)?;
+    // Its contract has that the elements are few.
+    let _ = graph.elements();
     let (bound, first) = Bound::new(alloc, sources.len() as u32, workers)?;
-    let mut team = team(alloc, graph, &sources, &bound, first, workers)?;
-    work_all(rt, graph, table, &sources, gate, team.as_mut_slice());
+    let mut team = team(alloc, graph, sources, &bound, first, workers)?;
+    work_all(rt, graph, way, sources, gate, team.as_mut_slice());
     let Some(last) = team.pop() else {
         unreachable!()
     };
     let (first, looked) = last.into_seat();
-    let (first, looked) = gathered(&bound, graph, &sources, first, looked, team);
+    let (first, looked) = gathered(&bound, graph, sources, first, looked, team);
     Ok(Searched {
-        least: closed(bound, graph, &sources, first),
+        least: closed(bound, graph, sources, first),
         looked,
     })
 }

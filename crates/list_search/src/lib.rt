@@ -8,4 +8,4 @@
 mod searching;
 
 pub use order_graph::Looked;
-pub use searching::{BoundSource, PlainBound, Scratch, distances, search};
+pub use searching::{BoundSource, PlainBound, Scratch, distances, search, search_by_number};

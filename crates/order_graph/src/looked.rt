@@ -1,6 +1,6 @@
 //! The count of looks: at places of lists, at elements that are expanded, or at rows of a table.
 
-ghost use Rattle.std.specs.Prelude.{◌≡◌, ◌≤◌, ℕ};
+ghost use Rattle.std.specs.Prelude.{◌≡◌, ◌+◌, ◌≤◌, min, ℕ};
 ghost use Rattle.order_graph.specs.Lists.{ticked};
 
 use std::marker::Model;
@@ -38,5 +38,13 @@ impl Looked {
         ensures forward { self.old ≤ self.new }
     {
         self.count = self.count.saturating_add(1);
+    }
+
+    /// Counts so many looks more.
+    pub fn add(&mut self, looks: u64)
+        ensures added { self.new ≡ min (self.old + looks) 18446744073709551615 }
+        ensures small { self.old ≤ 18446744073709551615 }
+    {
+        self.count = self.count.saturating_add(looks);
     }
 }

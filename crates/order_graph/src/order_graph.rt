@@ -151,8 +151,8 @@ impl OrderGraph {
         OrderGraph::with_spots(alloc, names, shown, places)
     }
 
-    /// The graph of the same elements where each list goes the other way: an element stands there before those
-    /// that it stands after here. Time and memory are linear in the elements and the places.
+    /// The graph of the same elements where each list goes the other way: an element stands there before
+    /// those that it stands after here. Time and memory are linear in the elements and the places.
     pub fn turned(&self, alloc: Global) -> Result<OrderGraph, Memory>
         ensures { IfOk result (λ g. g ≡ turned self.now) }
     {

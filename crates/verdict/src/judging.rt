@@ -30,8 +30,8 @@ use witnesses::Order;
 ///
 /// Without conflicts its cost is that of `contents_check::check` and linear in the places of the responses
 /// that cover all; where there are, `least_conflict` has the cost of the search. Memory is linear in the
-/// places, and where there are conflicts n * n / 8 bytes more for the n elements that can't be taken in turn
-/// for an order, and linear in these for each worker.
+/// places, and where there are conflicts n * n / 8 bytes more for the n elements through which a cycle leads,
+/// and linear in these for each worker.
 pub fn judge<H: Threads + Sync, G: Gate>(
     rt: &H,
     alloc: Global,

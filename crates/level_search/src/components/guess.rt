@@ -104,8 +104,8 @@ impl Depth {
     }
 }
 
-/// Searches against the direction of the lists, from the element that was left last on: what is found from one
-/// element is its component.
+/// Searches against the direction of the lists, from the element that was left last on: what is found from
+/// one element is its component.
 fn search_backward(alloc: Global, graph: &OrderGraph, depth: Depth) -> Result<Guess, Memory> {
     let Depth {
         found,

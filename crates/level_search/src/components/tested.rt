@@ -2,7 +2,8 @@
 
 ghost use Rattle.std.specs.Prelude.{◌≡◌, ℕ, ◌+◌, ◌<◌, ◌≤◌, IfOk, List, true, length, vec_len};
 ghost use Rattle.order_graph.specs.Lists.{lists_of, row, Stands};
-ghost use Rattle.level_search.specs.StrongComponents.{AreLinks, FitsLinks, HasValues, IsLinked, IsNearer, IsOwned};
+ghost use Rattle.level_search.specs.StrongComponents.{AreLinks, FitsLinks, HasValues, IsLinked, IsNearer};
+ghost use Rattle.level_search.specs.StrongComponents.{IsOwned};
 ghost use Rattle.level_search.specs.StrongComponents.{IsRight, IsTested, after, rank, root};
 
 use super::guess::Guess;

@@ -1,55 +1,32 @@
 //! The first in dictionary order of the shortest rings.
 
-ghost use Rattle.std.specs.Prelude.{◌≡◌, ℕ, ◌+◌, ◌-◌, ◌*◌, ◌<◌, ◌≤◌, IfOk, length, slice_index};
+ghost use Rattle.std.specs.Prelude.{◌≡◌, ℕ, ◌-◌, ◌<◌, All, IfOk, length, slice_index};
 ghost use Rattle.specification.specs.Responses.{AreProper};
 ghost use Rattle.specification.specs.Search.{IsShortestLength};
 ghost use Rattle.order_graph.specs.Lists.{lists_of};
 ghost use Rattle.list_search.specs.Rings.{IsFirstRing, IsLeastNext};
-ghost use Rattle.level_search.specs.Tables.{IsBeforeTable};
-ghost use Rattle.level_search.specs.Balls.{FitsSets};
-ghost use Rattle.level_search.specs.Looks.{HaveLooked};
+ghost use Rattle.level_search.specs.Rounds.{FitsDistances};
+ghost use Rattle.level_search.specs.Sources.{MeetsCycles};
+ghost use Rattle.level_search.specs.Ways.{IsWay};
 ghost use Rattle.list_search.specs.Walks.{HasCycle, NoneShorter};
 
 use super::choose::next_of_ring;
-use super::distances_to::distances_to;
-use crate::before_table::BeforeTable;
-use crate::tabled::{Sets, search_by_table};
+use super::distances::Distances;
+use super::first::first_on_ring;
+use crate::ways::{Room, Way};
 use events::Memory;
-use list_search::PlainBound;
 use order_graph::{Looked, OrderGraph};
 use std::alloc::Global;
 
-/// The least element through which a shortest cycle leads.
-fn first_source(
-    graph: &OrderGraph,
-    table: &BeforeTable,
-    k: u32,
-    sets: &mut Sets,
-    looked: &mut Looked,
-) -> u32
-    requires table { IsBeforeTable (length graph.now.elements) (lists_of graph.now) table.now }
-    requires fits { FitsSets (length graph.now.elements) sets.old }
-    requires least { IsShortestLength graph.now k }
-    ensures known { result < length graph.now.elements }
-    ensures cycle { HasCycle (lists_of graph.now) result k }
-    ensures proper { AreProper graph.now }
-    ensures lowest { (t : ℕ) → t < length graph.now.elements → HasCycle (lists_of graph.now) t k
-        → result ≤ t }
-    ensures looked { looked.new ≤ looked.old + length graph.now.elements * (2 * length graph.now.elements) }
-    ensures looks { HaveLooked (length graph.now.elements) (lists_of graph.now) (k + 1)
-        (result + 1) looked.old looked.new }
-{
-    for element in 0..graph.elements() {
-        let mut bound = PlainBound { least: k + 1 };
-        if search_by_table(graph, table, element, sets, looked, &mut bound).is_some() {
-            return element;
-        }
-    }
-    unreachable!()
-}
-
 /// The least ring from an element on, through which a shortest cycle leads.
-fn ring_from(alloc: Global, graph: &OrderGraph, element: u32, k: u32) -> Result<Vec<u32>, Memory>
+fn ring_from(
+    alloc: Global,
+    graph: &OrderGraph,
+    element: u32,
+    k: u32,
+    distances: &mut Distances,
+) -> Result<Vec<u32>, Memory>
+    requires fits { FitsDistances graph.now distances.old }
     requires known { element < length graph.now.elements }
     requires cycle { HasCycle (lists_of graph.now) element k }
     requires shortest { NoneShorter (lists_of graph.now) element k }
@@ -63,13 +40,13 @@ fn ring_from(alloc: Global, graph: &OrderGraph, element: u32, k: u32) -> Result<
     let _ = graph.elements();
     // The cycle is a shortest, so what its i-th element stands before and leads back in k - i steps has just
     // this distance.
-    let depths = distances_to(alloc, graph, element, k)?;
+    distances.find_to(graph, element, k);
     let mut looked = Looked::new();
     let mut ring = Vec::new(alloc);
     ring.push(element)?;
     let mut a = element;
     for i in 1..k {
-        a = next_of_ring(graph, element, k - i, a, &depths, &mut looked);
+        a = next_of_ring(graph, element, k - i, a, &distances.to, &mut looked);
         ring.push(a)?;
     }
     Ok(ring)
@@ -79,19 +56,31 @@ fn ring_from(alloc: Global, graph: &OrderGraph, element: u32, k: u32) -> Result<
 pub fn least_ring(
     alloc: Global,
     graph: &OrderGraph,
-    table: &BeforeTable,
+    way: &Way,
+    sources: &[u32],
     k: u32,
 ) -> Result<Vec<u32>, Memory>
-    requires table { IsBeforeTable (length graph.now.elements) (lists_of graph.now) table.now }
+    requires way { IsWay graph.now way.now }
+    requires known { All (λ s. s < length graph.now.elements) sources.now }
+    requires met { MeetsCycles (lists_of graph.now) (length graph.now.elements) sources.now }
     requires least { IsShortestLength graph.now k }
     ensures proper { AreProper graph.now }
     ensures first { IfOk result (λ v. IsFirstRing (lists_of graph.now) k v.items) }
 {
     // Its contract has that the responses are proper.
     let _ = graph.elements();
-    let mut sets = Sets::new(alloc, graph)?;
+    let mut room = Room::new(alloc, graph)?;
     let mut looked = Looked::new();
-    let element = first_source(graph, table, k, &mut sets, &mut looked);
-    let ring = ring_from(alloc, graph, element, k)?;
+    let mut distances = Distances::new(alloc, graph)?;
+    let element = first_on_ring(
+        graph,
+        way,
+        sources,
+        k,
+        &mut room,
+        &mut distances,
+        &mut looked,
+    );
+    let ring = ring_from(alloc, graph, element, k, &mut distances)?;
     Ok(ring)
 }

@@ -1,17 +1,16 @@
 //! One worker: it claims sources, searches from them, and offers what it finds.
 
-ghost use Rattle.std.specs.Prelude.{◌≡◌, ℕ, ◌+◌, ◌*◌, Option, List, ◌<◌, ◌≤◌, true, [], length, IfOk, All};
+ghost use Rattle.std.specs.Prelude.{◌≡◌, ℕ, Option, List, ◌<◌, ◌≤◌, true, [], length, IfOk, All};
 ghost use Rattle.order_graph.specs.Lists.{lists_of};
-ghost use Rattle.level_search.specs.Tables.{IsBeforeTable};
-ghost use Rattle.level_search.specs.Balls.{FitsSets};
-ghost use Rattle.level_search.specs.Looks.{HasLooked};
+ghost use Rattle.level_search.specs.Looks.{HasLookedBy};
 ghost use Rattle.level_search.specs.Team.{IsLength, IsReady, SameSeat};
+ghost use Rattle.level_search.specs.Ways.{FitsRoom, IsWay};
 ghost use Rattle.list_search.specs.Walks.{NoneShorter};
+ghost use Rattle.level_search.specs.declared.tabled.sets.Sets.{Sets};
 
 use super::bound_seat::BoundSeat;
-use crate::before_table::BeforeTable;
 use crate::gate::Gate;
-use crate::tabled::{Sets, search_by_table};
+use crate::ways::{Room, Way, search_through};
 use events::Memory;
 use order_graph::{Looked, OrderGraph};
 use shared_bound::{Bound, NO_OFFER, Seat};
@@ -23,7 +22,7 @@ use std::alloc::Global;
 pub struct Worker<'a> {
     pub number: u32,
     pub seat: BoundSeat<'a>,
-    pub sets: Sets,
+    pub room: Room,
     pub looked: Looked,
 }
 
@@ -42,11 +41,11 @@ impl<'a> Worker<'a> {
         ensures seat { IfOk result (λ w. w.seat ≡ seat) }
         ensures ready { IfOk result (λ w. (sources : List ℕ) → IsReady graph.now sources w) }
     {
-        let sets = Sets::new(alloc, graph)?;
+        let room = Room::new(alloc, graph)?;
         Ok(Worker {
             number,
             seat: BoundSeat::new(bound, seat),
-            sets,
+            room,
             looked: Looked::new(),
         })
     }
@@ -59,7 +58,7 @@ impl<'a> Worker<'a> {
         let Worker {
             number: _,
             seat,
-            sets: _,
+            room: _,
             looked,
         } = self;
         (seat.into_seat(), looked.count())
@@ -67,19 +66,13 @@ impl<'a> Worker<'a> {
 }
 
 /// Searches from one element, between the gate's calls, and offers the length that it finds.
-fn search_from<G: Gate>(
-    graph: &OrderGraph,
-    table: &BeforeTable,
-    source: u32,
-    gate: &G,
-    worker: &mut Worker,
-)
+fn search_from<G: Gate>(graph: &OrderGraph, way: &Way, source: u32, gate: &G, worker: &mut Worker)
     requires element { source < length graph.now.elements }
-    requires table { IsBeforeTable (length graph.now.elements) (lists_of graph.now) table.now }
-    requires fits { FitsSets (length graph.now.elements) worker.old.sets }
+    requires way { IsWay graph.now way.now }
+    requires fits { FitsRoom graph.now worker.old.room }
     requires known { worker.old.seat.low ≤ NO_OFFER }
     ensures number { worker.new.number ≡ worker.old.number }
-    ensures fits { FitsSets (length graph.now.elements) worker.new.sets }
+    ensures fits { FitsRoom graph.now worker.new.room }
     ensures searched { NoneShorter (lists_of graph.now) source worker.new.seat.low }
     ensures falls { worker.new.seat.low ≤ worker.old.seat.low }
     ensures seat { worker.new.seat ≡ record worker.old.seat {
@@ -88,16 +81,15 @@ fn search_from<G: Gate>(
     } }
     ensures offers { All (IsLength (lists_of graph.now)) worker.old.seat.offered
         → All (IsLength (lists_of graph.now)) worker.new.seat.offered }
-    ensures looked { worker.new.looked ≤ worker.old.looked + 2 * length graph.now.elements }
-    ensures looks { (answer : Option ℕ) × HasLooked (length graph.now.elements) (lists_of graph.now) source
-        worker.new.seat.low worker.new.sets answer worker.old.looked worker.new.looked }
+    ensures looks { (sets : Sets) × (answer : Option ℕ) × HasLookedBy (length graph.now.elements)
+        (lists_of graph.now) source worker.new.seat.low sets answer worker.old.looked worker.new.looked }
 {
     gate.before(worker.number, source);
-    if let Some(length) = search_by_table(
+    if let Some(length) = search_through(
         graph,
-        table,
+        way,
         source,
-        &mut worker.sets,
+        &mut worker.room,
         &mut worker.looked,
         &mut worker.seat,
     ) {
@@ -107,14 +99,8 @@ fn search_from<G: Gate>(
 }
 
 /// Claims places of the sources until none is left, and searches from the element at each.
-pub fn work<G: Gate>(
-    graph: &OrderGraph,
-    table: &BeforeTable,
-    sources: &[u32],
-    gate: &G,
-    worker: &mut Worker,
-)
-    requires table { IsBeforeTable (length graph.now.elements) (lists_of graph.now) table.now }
+pub fn work<G: Gate>(graph: &OrderGraph, way: &Way, sources: &[u32], gate: &G, worker: &mut Worker)
+    requires way { IsWay graph.now way.now }
     requires known { All (λ s. s < length graph.now.elements) sources.now }
     requires count { worker.old.seat.bound.sources ≡ length sources.now }
     requires ready { IsReady graph.now sources.now worker.old }
@@ -124,6 +110,6 @@ pub fn work<G: Gate>(
     ensures same { SameSeat worker.old.seat worker.new.seat }
 {
     while let Some(place) = worker.seat.claim() {
-        search_from(graph, table, sources[place as usize], gate, worker);
+        search_from(graph, way, sources[place as usize], gate, worker);
     }
 }

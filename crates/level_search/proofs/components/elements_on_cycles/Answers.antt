@@ -15,7 +15,12 @@ returns c =
     let marks : List Bool = c.in_ok-marks.marks.items in
     let lent : c.as_slice.result.now ≡ marks = c.as_slice.ensures.value in
     let count : length c.as_slice.result.now ≡ length v.elements =
-    omega (arith, ap (λ (l : List Bool). length l) lent, c.in_ok-marks.ensures.count, c.in_ok-marks.marks.ok) in
+    omega (
+      arith,
+      ap (λ (l : List Bool). length l) lent,
+      c.in_ok-marks.ensures.count,
+      c.in_ok-marks.marks.ok,
+    ) in
     let tells : (x : ℕ) → x < length v.elements
     → (get_or c.as_slice.result.now x false ≡ true) ↔ LiesOnCycle v x =
     subst (λ (l : List Bool). (x : ℕ) → x < length v.elements → (get_or l x false ≡ true) ↔ LiesOnCycle v x)

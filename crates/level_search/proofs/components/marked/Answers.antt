@@ -42,7 +42,8 @@ loop-x-preserved c =
               | inl lt ↦ inv.all y lt out
               | inr over ↦
                   let e : y ≡ n = omega arith in
-                  absurd (false≢true (sym w.if-mark.false ∙ ap (λ i. slice_index_or marks i false) (sym e) ∙ out))
+                  absurd (false≢true
+                  (sym w.if-mark.false ∙ ap (λ i. slice_index_or marks i false) (sym e) ∙ out))
             ];
           })
     ]

@@ -2,8 +2,8 @@ use Rattle.level_search.proofs.Cores.{least_steps, no_conflict, some_conflict}
 use Rattle.level_search.proofs.Lengths.{shortest}
 use Rattle.level_search.proofs.conflict.least_conflict.Goals as goal
 
-pub least_cycle_by_table-requires-clause-shortest : goal.least_cycle_by_table-requires-clause-shortest
-least_cycle_by_table-requires-clause-shortest g c =
+pub least_cycle_from-requires-clause-shortest : goal.least_cycle_from-requires-clause-shortest
+least_cycle_from-requires-clause-shortest g c =
     shortest c.in_ok-found.found.core.graph c.in_ok-found.found.least c.in_ok-found.ensures.least.least
     c.if-found.false
 

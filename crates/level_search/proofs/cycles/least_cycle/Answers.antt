@@ -3,8 +3,8 @@ use Rattle.std.proofs.lemmas.Result.{IfOk-weaker}
 use Rattle.level_search.proofs.Cores.{shortest_in_core, steps_of_core}
 use Rattle.level_search.proofs.cycles.least_cycle.Goals as goal
 
-pub least_cycle_by_table-requires-clause-shortest : goal.least_cycle_by_table-requires-clause-shortest
-least_cycle_by_table-requires-clause-shortest c =
+pub least_cycle_from-requires-clause-shortest : goal.least_cycle_from-requires-clause-shortest
+least_cycle_from-requires-clause-shortest c =
     let core = c.in_ok-core.ensures in
     shortest_in_core c.args.graph.now c.elements.ensures.proper c.in_ok-core.core.elements.items core.elements
     c.in_ok-core.core.graph core.graph c.elements-2.ensures.proper c.args.k c.requires
@@ -12,10 +12,10 @@ least_cycle_by_table-requires-clause-shortest c =
 pub returns : goal.returns
 returns c =
     let core = c.in_ok-core.ensures in
-    IfOk-weaker c.least_cycle_by_table.result _ _
+    IfOk-weaker c.least_cycle_from.result _ _
     (λ steps are. (
       steps_of_core c.args.graph.now c.elements.ensures.proper c.in_ok-core.core.elements.items
           core.elements c.in_ok-core.core.graph core.graph c.elements-2.ensures.proper steps are.0,
       are.1,
     ))
-    c.least_cycle_by_table.ensures
+    c.least_cycle_from.ensures

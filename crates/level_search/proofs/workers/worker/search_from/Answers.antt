@@ -11,20 +11,20 @@ use Rattle.level_search.proofs.workers.worker.search_from.Goals.{in-Some, in_def
 pub returns-clause-offers : goal.returns-clause-offers
 returns-clause-offers g c =
     let P : ℕ → Type 0 = IsLength (lists_of c.args.graph.now) in
-    let read : c.search_by_table.new.bound.offered ≡ c.args.worker.now.seat.offered =
-    ap (λ (s : SeatView). s.offered) c.search_by_table.ensures.reads in
+    let read : c.search_through.new.bound.offered ≡ c.args.worker.now.seat.offered =
+    ap (λ (s : SeatView). s.offered) c.search_through.ensures.reads in
     λ all. (
-    elim c.match-search_by_table.branch [
+    elim c.match-search_through.branch [
       | in-Some w ↦ (
-          let told : w.offer.new.self.offered ≡ c.search_by_table.new.bound.offered ++ w.in-Some.length ∷ [] =
+          let told : w.offer.new.self.offered ≡ c.search_through.new.bound.offered ++ w.in-Some.length ∷ [] =
           ap (λ (s : SeatView). s.offered) w.offer.ensures.seat in
-          let here : c.match-search_by_table.worker.seat.offered ≡ w.offer.new.self.offered =
+          let here : c.match-search_through.worker.seat.offered ≡ w.offer.new.self.offered =
           ap (λ (k : Worker). k.seat.offered) w.worker-is in
           subst (All P) (sym (here ∙ (told ∙ ap (λ (l : List ℕ). l ++ w.in-Some.length ∷ []) read)))
           (All-push P _ w.in-Some.length all (c.args.source, w.in-Some.ensures.answer.0.cycle))
           )
       | in_default w ↦ (
-          let here : c.match-search_by_table.worker.seat.offered ≡ c.search_by_table.new.bound.offered =
+          let here : c.match-search_through.worker.seat.offered ≡ c.search_through.new.bound.offered =
           ap (λ (k : Worker). k.seat.offered) w.worker-is in
           subst (All P) (sym (here ∙ read)) all
           )
@@ -34,13 +34,14 @@ returns-clause-offers g c =
 -- the least length that the seat knows of is no greater than the bound that was read last
 pub returns-clause-looks : goal.returns-clause-looks
 returns-clause-looks g c =
-    let looks = c.search_by_table.ensures.looks in
-    elim c.match-search_by_table.branch [
+    let looks = c.search_through.ensures.looks in
+    elim c.match-search_through.branch [
       | in-Some w ↦
           let less = w.offer.ensures.low in
           rw w.worker-is (
-            c.search_by_table.result,
-            looked-lower _ _ _ c.search_by_table.new.bound.low _ _ _ _ _ (omega (arith, less)) looks,
+            c.search_through.new.room.sets,
+            c.search_through.result,
+            looked-lower _ _ _ c.search_through.new.bound.low _ _ _ _ _ (omega (arith, less)) looks,
           )
-      | in_default w ↦ rw w.worker-is (c.search_by_table.result, looks)
+      | in_default w ↦ rw w.worker-is (c.search_through.new.room.sets, c.search_through.result, looks)
     ]

@@ -1,5 +1,4 @@
-//! Elements taken away one by one, each time one before which none that is left stands; where there is none,
-//! one that lies on a cycle. It is a guess at an order with few elements out of place, which `sources` tests.
+//! Elements taken away one by one, as in `list_peeling`, where there is a table of what stands before each.
 
 ghost use Rattle.std.specs.Prelude.{◌≡◌, length};
 
@@ -30,9 +29,9 @@ struct Peeling {
     least: u32,
 }
 
-/// The elements in the order in which they are taken away, each once. What stands before an element should be
-/// taken earlier, but for few elements; no clause says so, and `sources` tests it.
-pub fn order_taken(
+/// The elements in the order in which they are taken away, each once, as `order_by_lists` takes them. It
+/// reads the words of an element's row once, and again up to the element that it awaited last.
+pub fn order_by_table(
     alloc: Global,
     graph: &OrderGraph,
     table: &BeforeTable,

@@ -2,7 +2,7 @@ use Rattle.std.proofs.Common.{◌≡◌, ◌∙◌, ℕ, List, length, ap}
 use Rattle.specification.specs.Conflict.{AreLeastSteps, Step}
 use Rattle.level_search.specs.Steps.{AreStepsOf}
 use Rattle.level_search.proofs.StepsRound.{least_steps_of_ring}
-use Rattle.level_search.proofs.cycles.least_cycle_by_table.Goals as goal
+use Rattle.level_search.proofs.cycles.least_cycle_from.Goals as goal
 
 pub returns : goal.returns
 returns c =

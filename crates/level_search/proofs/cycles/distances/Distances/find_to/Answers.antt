@@ -7,14 +7,14 @@ use Rattle.order_graph.specs.Lists.{lists_of}
 use Rattle.order_graph.proofs.Turned.{lists_turned}
 use Rattle.list_search.specs.Distances.{AreDistances}
 use Rattle.list_search.proofs.Turning.{distances_turned}
-use Rattle.level_search.proofs.cycles.distances_to.distances_to.Goals as goal
+use Rattle.level_search.proofs.cycles.distances.Distances.find_to.Goals as goal
 
-pub returns-clause-distances : goal.returns-clause-distances
-returns-clause-distances c =
+pub returns-clause-to : goal.returns-clause-to
+returns-clause-to c =
     let v : Responses = c.args.graph.now in
     let depths : List ℕ = c.distances.new.depths in
     let there : AreDistances (map reverse (lists_of v)) c.args.element c.args.limit depths =
     subst (λ (rows : List (List ℕ)). AreDistances rows c.args.element c.args.limit depths)
-    (ap lists_of c.in_ok-turned.ensures ∙ lists_turned v) c.distances.ensures.distances in
-    let long : length depths ≡ c.in_ok-depths.depths.len = omega arith in
+    (ap lists_of c.requires.fits.turned_is ∙ lists_turned v) c.distances.ensures.distances in
+    let long : length depths ≡ c.args.self.now.to.len = omega arith in
     rw (take_at depths _ _ long) (distances_turned (lists_of v) c.args.element c.args.limit depths there)

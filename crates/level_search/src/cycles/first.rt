@@ -1,0 +1,167 @@
+//! The least element through which a shortest cycle leads.
+
+ghost use Rattle.std.specs.Prelude.{◌≡◌, ◌⊎◌, ◌↔◌, ℕ, ◌+◌, ◌*◌, ◌<◌, ◌≤◌, All, true, length};
+ghost use Rattle.specification.specs.Responses.{place_count};
+ghost use Rattle.specification.specs.Search.{IsShortestLength};
+ghost use Rattle.order_graph.specs.Lists.{lists_of};
+ghost use Rattle.list_search.specs.Walks.{HasCycle, NoneShorter};
+ghost use Rattle.level_search.specs.Rounds.{FitsDistances, IsBetween, IsRoundOf};
+ghost use Rattle.level_search.specs.Sources.{MeetsCycles};
+ghost use Rattle.level_search.specs.Ways.{FitsRoom, IsWay};
+
+use super::distances::Distances;
+use crate::ways::{Room, Way, search_through};
+use list_search::PlainBound;
+use order_graph::{Looked, OrderGraph};
+
+/// Whether a cycle of the shortest length leads through an element.
+fn is_on_ring(
+    graph: &OrderGraph,
+    way: &Way,
+    element: u32,
+    k: u32,
+    room: &mut Room,
+    looked: &mut Looked,
+) -> bool
+    requires known { element < length graph.now.elements }
+    requires way { IsWay graph.now way.now }
+    requires fits { FitsRoom graph.now room.old }
+    requires least { IsShortestLength graph.now k }
+    ensures fits { FitsRoom graph.now room.new }
+    ensures answer { (result ≡ true) ↔ HasCycle (lists_of graph.now) element k }
+    ensures looked { looked.new ≤ looked.old + 2 * (place_count graph.now + length graph.now.elements) }
+{
+    // Its contract has that the responses are proper.
+    let _ = graph.elements();
+    let mut bound = PlainBound { least: k + 1 };
+    search_through(graph, way, element, room, looked, &mut bound).is_some()
+}
+
+/// Whether an element is on a cycle of k steps through that from and to which these distances are; no cycle
+/// is shorter.
+fn is_between(to: &[u32], from: &[u32], k: u32, x: u32) -> bool
+    requires to { x < length to.now }
+    requires from { x < length from.now }
+    ensures { (result ≡ true) ↔ IsBetween to.now from.now k x }
+{
+    let away = from[x as usize];
+    away > 0 && away < k && to[x as usize] == k - away
+}
+
+/// The least of these; at most the element itself.
+fn first_between(to: &[u32], from: &[u32], k: u32, element: u32) -> u32
+    requires to { element < length to.now }
+    requires from { element < length from.now }
+    ensures falls { result ≤ element }
+    ensures found { (result ≡ element) ⊎ IsBetween to.now from.now k result }
+    ensures least { (x : ℕ) → IsBetween to.now from.now k x → result ≤ x }
+{
+    for x in 0..element {
+        if is_between(to, from, k, x) {
+            return x;
+        }
+    }
+    element
+}
+
+/// The least element of all shortest cycles through an element.
+fn least_round(graph: &OrderGraph, element: u32, k: u32, distances: &mut Distances) -> u32
+    requires known { element < length graph.now.elements }
+    requires fits { FitsDistances graph.now distances.old }
+    requires cycle { HasCycle (lists_of graph.now) element k }
+    requires shortest { NoneShorter (lists_of graph.now) element k }
+    ensures fits { FitsDistances graph.now distances.new }
+    ensures cycle { HasCycle (lists_of graph.now) result k }
+    ensures least { (t : ℕ) → IsRoundOf (lists_of graph.now) element k t → result ≤ t }
+{
+    // Its contract has that the responses are proper.
+    let _ = graph.elements();
+    distances.find_to(graph, element, k);
+    distances.find_from(graph, element, k);
+    first_between(&distances.to, &distances.from, k, element)
+}
+
+/// The lesser of the least so far and the least element of all shortest cycles through a source.
+fn least_of_source(
+    graph: &OrderGraph,
+    way: &Way,
+    source: u32,
+    k: u32,
+    least: u32,
+    room: &mut Room,
+    distances: &mut Distances,
+    looked: &mut Looked,
+) -> u32
+    requires known { source < length graph.now.elements }
+    requires way { IsWay graph.now way.now }
+    requires fits { FitsRoom graph.now room.old }
+    requires distances { FitsDistances graph.now distances.old }
+    requires shortest { IsShortestLength graph.now k }
+    ensures fits { FitsRoom graph.now room.new }
+    ensures distances { FitsDistances graph.now distances.new }
+    ensures falls { result ≤ least }
+    ensures found { (result ≡ least) ⊎ HasCycle (lists_of graph.now) result k }
+    ensures round { (t : ℕ) → IsRoundOf (lists_of graph.now) source k t → result ≤ t }
+    ensures looked { looked.new ≤ looked.old + 2 * (place_count graph.now + length graph.now.elements) }
+{
+    // Its contract has that the responses are proper.
+    let _ = graph.elements();
+    if !is_on_ring(graph, way, source, k, room, looked) {
+        return least;
+    }
+    least.min(least_round(graph, source, k, distances))
+}
+
+/// The least element through which a shortest cycle leads.
+///
+/// Each such cycle leads through one of the sources. So elements from 0 on and sources are searched from by
+/// turns, under a bound of one more than the length. The first element that is on such a cycle is the one, or
+/// where the elements come so far, the least on such a cycle through a source. It takes at most two searches
+/// for each element up to the one, or for each source; and two for distances from each source that is on such
+/// a cycle.
+pub fn first_on_ring(
+    graph: &OrderGraph,
+    way: &Way,
+    sources: &[u32],
+    k: u32,
+    room: &mut Room,
+    distances: &mut Distances,
+    looked: &mut Looked,
+) -> u32
+    requires way { IsWay graph.now way.now }
+    requires known { All (λ s. s < length graph.now.elements) sources.now }
+    requires met { MeetsCycles (lists_of graph.now) (length graph.now.elements) sources.now }
+    requires fits { FitsRoom graph.now room.old }
+    requires distances { FitsDistances graph.now distances.old }
+    requires shortest { IsShortestLength graph.now k }
+    ensures distances { FitsDistances graph.now distances.new }
+    ensures known { result < length graph.now.elements }
+    ensures cycle { HasCycle (lists_of graph.now) result k }
+    ensures lowest { (t : ℕ) → t < length graph.now.elements → HasCycle (lists_of graph.now) t k
+        → result ≤ t }
+    ensures looked { looked.new ≤ looked.old + (result + 1) * (4 * (place_count graph.now
+        + length graph.now.elements)) }
+    ensures few { looked.new ≤ looked.old + (length sources.now + 1) * (4 * (place_count graph.now
+        + length graph.now.elements)) }
+{
+    let mut least = graph.elements();
+    for i in 0..graph.elements() {
+        if least <= i || i as usize >= sources.len() {
+            return least;
+        }
+        if is_on_ring(graph, way, i, k, room, looked) {
+            return i;
+        }
+        least = least_of_source(
+            graph,
+            way,
+            sources[i as usize],
+            k,
+            least,
+            room,
+            distances,
+            looked,
+        );
+    }
+    least
+}

@@ -1,0 +1,133 @@
+//! A search for the shortest cycle through an element, over the lists or over a table of what stands before
+//! each element.
+
+ghost use Rattle.std.specs.Prelude.{◌≡◌, ◌+◌, ◌*◌, ◌<◌, ◌≤◌, IfOk, length};
+ghost use Rattle.specification.specs.Responses.{place_count};
+ghost use Rattle.order_graph.specs.Lists.{lists_of};
+ghost use Rattle.list_search.specs.Walks.{IsSearchAnswer};
+ghost use Rattle.level_search.specs.Looks.{HasLookedBy, HasLookedInLists};
+ghost use Rattle.level_search.specs.Ways.{FitsRoom, IsWay};
+ghost use Rattle.list_search.specs.ScratchView.{Fits};
+
+use crate::before_table::BeforeTable;
+use crate::tabled::{Sets, search_by_table};
+use events::Memory;
+use list_search::{BoundSource, Scratch, search_by_number};
+use order_graph::{Looked, OrderGraph};
+use std::alloc::Global;
+
+/// No cycle has fewer elements: none stands before itself.
+const SHORTEST: u32 = 2;
+
+/// The table of what stands before each element, or none, where searches go over the lists.
+#[derive(Drop)]
+pub struct Way {
+    pub table: Option<BeforeTable>,
+}
+
+/// What a search writes on, by either way.
+#[derive(Drop)]
+pub struct Room {
+    pub sets: Sets,
+    pub scratch: Scratch,
+}
+
+impl Room {
+    /// Room for searches of this graph. It takes memory linear in the elements and the lists.
+    pub fn new(alloc: Global, graph: &OrderGraph) -> Result<Room, Memory>
+        ensures { IfOk result (FitsRoom graph.now) }
+    {
+        let sets = Sets::new(alloc, graph)?;
+        let scratch = Scratch::new(alloc, graph)?;
+        Ok(Room { sets, scratch })
+    }
+}
+
+/// How many places all lists have together.
+fn places_of(graph: &OrderGraph) -> u64 {
+    let mut places: u64 = 0;
+    for list in 0..graph.lists() {
+        places = places.saturating_add(graph.length(list) as u64);
+    }
+    places
+}
+
+/// Whether the table of a graph has no more words than the lists have places. Then a search reads no more of
+/// the table than it would of the lists.
+fn is_table_small(graph: &OrderGraph) -> bool {
+    let elements = graph.elements() as u64;
+    let words = elements.saturating_mul(elements / 64 + 1);
+    words <= places_of(graph)
+}
+
+impl Way {
+    /// The way of all searches of a graph: where its table is no larger than its lists, that is made. It has
+    /// at most 8 bytes for each place then.
+    pub fn of(alloc: Global, graph: &OrderGraph) -> Result<Way, Memory>
+        ensures { IfOk result (IsWay graph.now) }
+    {
+        if !is_table_small(graph) {
+            return Ok(Way { table: None });
+        }
+        let table = BeforeTable::of(alloc, graph)?;
+        Ok(Way { table: Some(table) })
+    }
+}
+
+/// Searches for the shortest cycle through an element, below the bound last read. `Some` is its length, where
+/// it is below that bound; `None` says that no cycle through the element is shorter than that bound.
+///
+/// By the lists it makes at most as many looks as there are places and elements, and where it finds a cycle of
+/// m elements, 2 * m at least; by the table just as many as are said at `search_by_table`. Under a bound of two
+/// it looks at nothing in the lists, since no cycle is shorter.
+pub fn search_through<B: BoundSource>(
+    graph: &OrderGraph,
+    way: &Way,
+    element: u32,
+    room: &mut Room,
+    looked: &mut Looked,
+    bound: &mut B,
+) -> Option<u32>
+    requires element { element < length graph.now.elements }
+    requires way { IsWay graph.now way.now }
+    requires fits { FitsRoom graph.now room.old }
+    ensures answer { IsSearchAnswer (lists_of graph.now) element (B.last bound.new) result }
+    ensures bound { B.last bound.new ≤ B.last bound.old }
+    ensures reads { B.reads bound.old bound.new }
+    ensures fits { FitsRoom graph.now room.new }
+    ensures looked { looked.new ≤ looked.old + 2 * (place_count graph.now + length graph.now.elements) }
+    ensures looks { HasLookedBy (length graph.now.elements) (lists_of graph.now) element (B.last bound.new)
+        room.new.sets result looked.old looked.new }
+{
+    match &way.table {
+        Some(table) => search_by_table(graph, table, element, &mut room.sets, looked, bound),
+        None => search_by_lists(graph, element, &mut room.scratch, looked, bound),
+    }
+}
+
+/// The same over the lists.
+fn search_by_lists<B: BoundSource>(
+    graph: &OrderGraph,
+    element: u32,
+    scratch: &mut Scratch,
+    looked: &mut Looked,
+    bound: &mut B,
+) -> Option<u32>
+    requires element { element < length graph.now.elements }
+    requires fits { Fits scratch.old graph.now }
+    ensures answer { IsSearchAnswer (lists_of graph.now) element (B.last bound.new) result }
+    ensures bound { B.last bound.new ≤ B.last bound.old }
+    ensures reads { B.reads bound.old bound.new }
+    ensures fits { Fits scratch.new graph.now }
+    ensures looks { HasLookedInLists (length graph.now.elements) (lists_of graph.now) (B.last bound.new) result
+        looked.old looked.new }
+{
+    // Its contract has that the responses are proper.
+    let _ = graph.elements();
+    if bound.best() <= SHORTEST {
+        return None;
+    }
+    let found = search_by_number(graph, element, scratch, bound);
+    looked.add(scratch.looked());
+    found
+}
