@@ -5,8 +5,8 @@ Of each such call it takes a test of the crates that makes it and compares what 
 refused, then with its second, and so on until a run meets no refusal; a test that would take more than --most runs, 20,000 unless
 told otherwise, is cut short, and fails. A call that only an engine of the program has is tried by the program's command, on three
 vectors. A test passes where its calls answer out of memory, or what they must, and again what they must when memory is there. The
-table of calls is printed, and with --write it is put into refused_calls.md, where nothing failed. A call without a line there fails, and so does one
-whose test is gone.
+table of calls is printed, and with --write it is put into refused_calls.md, where nothing failed. A call without a line there
+fails, and so does one whose test is gone.
 
 Such a call is a public function of a crate's surface, or a method of a type of it, whose answer has a place for out of memory: the
 sources are asked which they are. Those that never give it are named below, with what says so. It needs what `rt ci` has built in

@@ -284,8 +284,8 @@ def most_threads(program: str, words: list) -> int:
     return most
 
 
-# How often a run is seen with all its threads at once: with 16 workers on four processors in one run of four (38 of 130 beside other
-# work), with two and four in all (130 of 130 each). What is counted on is less: one run of ten, and one of two.
+# How often a run is seen with all its threads at once: with 16 workers on four processors in one run of four (45 of 170 beside other
+# work), with two and four in all (170 of 170 each). What is counted on is less: one run of ten, and one of two.
 MANY_SEEN, FEW_SEEN = 1 / 10, 1 / 2
 # A program that is right fails such a check by this chance, where its threads are seen as often as that.
 CHANCE = 1e-6

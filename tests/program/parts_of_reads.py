@@ -3,6 +3,8 @@
 
 A part says nothing that the whole did not say. So what comes out is sound as well, and its conflict number is none or not
 smaller. This is asked of 500 generated recordings, by the slow reference and by the program, whose reports must be the same."""
+from __future__ import annotations
+
 import random
 import sys
 from collections import Counter

@@ -6,6 +6,8 @@ a trace's to `verdict` in both forms, to `cert`, `live` and `verify`, a certific
 certificate and the checker's line must be those of reference/. A prefix that spells a recording too large for the reference of
 reports is counted, and given to `verify` alone; one that is too large for that of certificates too is counted alone. With
 --one-in a share of the prefixes is tried; another folder of vectors can be named."""
+from __future__ import annotations
+
 import argparse
 import os
 import random

@@ -11,6 +11,7 @@ minutes.
     tests/proofs/changed_definitions.py          all changes
     tests/proofs/changed_definitions.py WORD     those whose law or change has this word
 """
+from __future__ import annotations
 
 import re
 import shutil

@@ -2,8 +2,9 @@
 """Does the prover refuse the further wrong bodies too?
 
 `rt ci` tries the wrong bodies in crates/CRATE/must-fail. Those in tests/proofs/wrong_bodies/CRATE are further ones of the same
-form, which would make the gate longer by minutes; README says which functions have none. This script copies the crates to a temporary folder, puts these wrong bodies in the place of the others there, and has
-`rt must-fail` try them; tests/last_runs.txt has a line of each crate. It is no part of the gate: crates that were not checked before are proved first.
+form, which would make the gate longer by minutes; README says which functions have none. This script copies the crates to a
+temporary folder, puts these wrong bodies in the place of the others there, and has `rt must-fail` try them; tests/last_runs.txt
+has a line of each crate. It is no part of the gate: crates that were not checked before are proved first.
 
     tests/proofs/wrong_bodies.py                 all crates that have further wrong bodies
     tests/proofs/wrong_bodies.py CRATE..         these crates

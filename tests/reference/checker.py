@@ -1,4 +1,6 @@
 """A slow checker of certificates, written from docs/definitions.md and docs/formats.md. It shares nothing with the program."""
+from __future__ import annotations
+
 import re
 from itertools import combinations
 from typing import NamedTuple

@@ -1,5 +1,7 @@
 """A slow reader of trace texts: the first faulty line and its cause. It is written from docs/formats.md, and shares nothing
 with the program: each line is matched whole by one expression."""
+from __future__ import annotations
+
 import re
 from collections import Counter
 

@@ -2,6 +2,8 @@
 
 It is written from docs/definitions.md and docs/formats.md, and shares nothing with the program: visibility by adding
 pairs until none is new, orders and conflicts by all permutations of the elements, cycles by all lists of elements."""
+from __future__ import annotations
+
 import json
 from functools import lru_cache
 from itertools import combinations, count, permutations, product

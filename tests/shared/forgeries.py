@@ -3,6 +3,8 @@
 Where forger.py changes words of the text, this takes the certificate apart by the reference's reading, changes it, and spells it
 anew. Its kinds are those of which a checker could miss one: a step, an operation, a layer, a row, the number k, an order, and the
 certificate of something else."""
+from __future__ import annotations
+
 import random
 from typing import Callable, NamedTuple
 

@@ -1,6 +1,8 @@
 """Random small sessions as traces, which other scripts judge: by any order, by plans that lead to rings, and with a fault.
 
 A share of them holds views, and a few without a view are spelled in version 2 all the same."""
+from __future__ import annotations
+
 import random
 
 # Names whose order by bytes says nothing of the order of inserts.

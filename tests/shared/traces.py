@@ -4,6 +4,8 @@ and inserts too (XXL), or smaller.
 
 The editors of one group keep one order of all elements: those of their own group first, then those of the next group,
 and so on round; within a group by rank. So the groups' orders together make a ring."""
+from __future__ import annotations
+
 import random
 import sys
 from bisect import bisect_left
