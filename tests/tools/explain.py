@@ -3,6 +3,8 @@
 traces; and the way there from a plain test of Yjs, and from an engine of one's own.
 
 The words are compared with lines that were written by hand. Each small trace is judged again by the program."""
+from __future__ import annotations
+
 import gzip
 import json
 import os
