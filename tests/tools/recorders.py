@@ -249,6 +249,31 @@ CHANGES = [
      "one replica's log does not know the changes of the others: send each operation's number, and call received\n", ["1 ins a 0 : a"]),
 ]
 
+# Sessions that are judged after each call that takes a list. An answer that begins with `stopped` is followed by what else `explain` says of
+# the trace up to there; `again` stands for the same answer.
+STOPS_IN = ["py", "mjs"]
+STOPS = [
+    ("right", "stop 2 -> ok\ninsert 0 a 0 a -> ok 1\nreceived 1 0 1 -> ok\nread 1 a -> ok 1\ndelete 1 a -> ok 2\nview 0 a -> ok 2\n"
+     "delivered / -> ok\n"),
+    ("a lost element", "stop 2 -> ok\ninsert 0 a 0 a -> ok 1\nreceived 1 0 1 -> ok\nread 1 -> stopped contents 1.1:\nread 1 a -> again\n"
+     "insert 0 b 1 a b -> again\ndelete 0 a -> again\nview 1 -> again\nreceived 0 1 1 -> again\nreceived_clock 0 1 1 0 0 -> again\n"
+     "delivered a / a -> again\nnote seed -> ok\nlines -> ok 5\n"),
+    ("a wrong insert", "stop 1 -> ok\ninsert 0 a 0 a -> ok 1\ninsert 0 b 1 b a -> stopped position 0.2:\nread 0 -> again\nlines -> ok 4\n"),
+    ("a wrong delete", "stop 1 -> ok\ninsert 0 a 0 a -> ok 1\ndelete 0 a a -> stopped contents 0.2:\nlines -> ok 4\n"),
+    ("a wrong view", "stop 2 -> ok\ninsert 0 a 0 a -> ok 1\nread 0 a -> ok 2\nview 1 a -> stopped contents 1.1:\nlines -> ok 5\n"),
+    ("wrong lists in the end", "stop 2 -> ok\ninsert 0 a 0 a -> ok 1\ndelivered a / -> stopped contents 1.1:\nread 0 a -> again\n"
+     "lines -> ok 6\n"),
+    ("a name twice", "stop 1 -> ok\ninsert 0 a 0 a -> ok 1\ninsert 0 a 0 a -> stopped doubled: 0.1 and 0.2 insert the same name\nlines -> ok 4\n"),
+    ("opposite orders", "stop 2 -> ok\ninsert 0 a 0 a -> ok 1\ninsert 1 b 0 b -> ok 1\nreceived 0 1 1 -> ok\nreceived 1 0 1 -> ok\n"
+     "read 0 a b -> ok 2\nread 1 b a -> stopped refused 2:\nlines -> ok 8\n"),
+    ("a cycle of three", CYCLE.replace("new 3", "stop 3").replace("b a -> ok 3", "b a -> stopped refused 3:") + "lines -> ok 11\n"),
+    ("a cycle of three where weak is enough", CYCLE.replace("new 3", "stop_weak 3") + "delivered b a / b a / b a -> ok\n"),
+    ("opposite orders where weak is enough", CYCLE.replace("new 3", "stop_weak 3") + "delivered b a / b a / a b -> stopped refused 2:\n"
+     "lines -> ok 18\n"),
+    ("what is refused is not judged", "stop 2 -> ok\nread 7 -> refused no replica 7 among 0 to 1\nread 0 -> ok 1\n"),
+    ("one replica's log", "stop 2 1 -> refused one replica's log can't stop in a wrong call: it is judged only when the logs are merged\n"),
+]
+
 # Calls that are refused, behind calls that are not; the recording stays what it was.
 REFUSED = [
     ("replica 2 of 2", "new 2 -> ok\nread 2 -> refused no replica 2 among 0 to 1\n"),
@@ -2009,6 +2034,40 @@ def check_weak(tally: Tally, recorder: Recorder) -> None:
                     told["warnings"] == [], report)
 
 
+def check_stop(tally: Tally, recorder: Recorder, folder: Path) -> None:
+    """A session stops in the call that answered wrong, in no other, and with the words of `explain`; its line stays the last. Where there is
+    no verdict, each call says so."""
+    for name, script in STOPS:
+        pairs = [line.split(" -> ") for line in script.split("\n")[:-1]]
+        if recorder.language not in CLOCKED:
+            pairs = [pair for pair in pairs if not pair[0].startswith("received_clock")]
+        weak = "explain_weak" if script.startswith("stop_weak") else "explain"
+        got = recorder.answers([*(fields(call) for call, _ in pairs), weak], DOMEPEELER_EXPLAIN=EXPLAIN)
+        answers, told = got[:len(pairs)], " / ".join(line[2:] for line in got[len(pairs):-1])
+        at = next((at for at, (_, wanted) in enumerate(pairs) if wanted.startswith("stopped")), len(pairs))
+        says = answers[at] if at < len(answers) else ""
+        wanted = [says if wanted == "again" or number == at else wanted for number, (_, wanted) in enumerate(pairs)]
+        tally.check(f"{recorder.language}: stops, {name}", answers == wanted, got)
+        if at == len(pairs):
+            continue
+        told = told.partition(" /  / Noted")[0]  # what was noted when it had stopped
+        tally.check(f"{recorder.language}: stops, {name}: the words", says.startswith(pairs[at][1]) and says == f"stopped {told}" and
+                    (recorder.language == "el" or " / In your code / " in says), got)
+    calls = [fields(call) for call in ("stop 2", "insert 0 a 0 a", "received 1 0 1", "read 1 a", "lines")]
+    killed = folder / "killed"
+    killed.write_text("#!/bin/sh\ncat > /dev/null\necho no >&2\nexit 3\n")
+    killed.chmod(0o755)
+    for program, why in (str(folder / "nowhere"), "cannot be run"), (str(killed), "ended with status 3: no"):
+        got = recorder.answers(calls, DOMEPEELER=program)
+        is_told = [answer.startswith(f"failed {program} {why}") for answer in got]
+        tally.check(f"{recorder.language}: stops where the program {why}", is_told == [False, True, False, True, False] and
+                    got[::2] == ["ok", "ok", "ok 5"], got)
+    calls[3] = "read\t1"
+    got = recorder.answers(calls, DOMEPEELER_EXPLAIN="nowhere")
+    tally.check(f"{recorder.language}: stops without an explainer", got[3].startswith(
+        "stopped The recording is not accepted: contents. There is no explanation: nowhere cannot be run"), got)
+
+
 def check_jupiter(tally: Tally, program: str, folder: Path) -> None:
     """Random sessions of an editor with a server. A right one passes where weak alone is asked for, though some of its sessions are refused; with
     each of four bugs sessions fail. Both languages record the same."""
@@ -2611,6 +2670,8 @@ def main() -> None:
             if language in EXPLAINING:
                 check_explain(tally, recorder, folder)
             check_weak(tally, recorder)
+            if language in STOPS_IN:
+                check_stop(tally, recorder, folder)
         check_jupiter(tally, program, folder)
         check_python(tally)
         check_users(tally, program, folder)
