@@ -251,7 +251,6 @@ CHANGES = [
 
 # Sessions that are judged after each call that takes a list. An answer that begins with `stopped` is followed by what else `explain` says of
 # the trace up to there; `again` stands for the same answer.
-STOPS_IN = ["py", "mjs"]
 STOPS = [
     ("right", "stop 2 -> ok\ninsert 0 a 0 a -> ok 1\nreceived 1 0 1 -> ok\nread 1 a -> ok 1\ndelete 1 a -> ok 2\nview 0 a -> ok 2\n"
      "delivered / -> ok\n"),
@@ -2042,7 +2041,8 @@ def check_stop(tally: Tally, recorder: Recorder, folder: Path) -> None:
         if recorder.language not in CLOCKED:
             pairs = [pair for pair in pairs if not pair[0].startswith("received_clock")]
         weak = "explain_weak" if script.startswith("stop_weak") else "explain"
-        got = recorder.answers([*(fields(call) for call, _ in pairs), weak], DOMEPEELER_EXPLAIN=EXPLAIN)
+        asked = [weak] if "stopped" in script else []
+        got = recorder.answers([*(fields(call) for call, _ in pairs), *asked], DOMEPEELER_EXPLAIN=EXPLAIN)
         answers, told = got[:len(pairs)], " / ".join(line[2:] for line in got[len(pairs):-1])
         at = next((at for at, (_, wanted) in enumerate(pairs) if wanted.startswith("stopped")), len(pairs))
         says = answers[at] if at < len(answers) else ""
@@ -2064,8 +2064,8 @@ def check_stop(tally: Tally, recorder: Recorder, folder: Path) -> None:
                     got[::2] == ["ok", "ok", "ok 5"], got)
     calls[3] = "read\t1"
     got = recorder.answers(calls, DOMEPEELER_EXPLAIN="nowhere")
-    tally.check(f"{recorder.language}: stops without an explainer", got[3].startswith(
-        "stopped The recording is not accepted: contents. There is no explanation: nowhere cannot be run"), got)
+    tally.check(f"{recorder.language}: stops without an explainer", re.match(
+        r"stopped The recording is not accepted: contents( 1\.1)?\. There is no explanation: nowhere cannot be run", got[3]), got)
 
 
 def check_jupiter(tally: Tally, program: str, folder: Path) -> None:
@@ -2251,6 +2251,17 @@ fn nothing_is_recorded() {{
 }}
 
 #[test]
+fn it_stops() {{
+    let mut recording = Recording::new(2).unwrap().stop().unwrap();
+    recording.insert(0, "a", 0, &["a"]).unwrap();
+    recording.received(1, 0, 1).unwrap();
+    recording.read(1, if std::env::var_os("LOST").is_some() {{ NONE }} else {{ &["a"] }}).unwrap(); // stops
+    if std::env::var_os("LOST").is_some() {{
+        println!("it went on");
+    }}
+}}
+
+#[test]
 fn there_is_no_program() {{
     assert!(session().verdict_by("/nowhere/domepeeler").unwrap_err().starts_with("/nowhere/domepeeler cannot be run ("));
     assert_eq!(session().verdict_by("true").unwrap_err(), "true ended with status 0 and printed no report");
@@ -2328,10 +2339,13 @@ def check_rust_tests(tally: Tally, program: str, folder: Path) -> None:
     subprocess.run(["rustc", "--edition", "2021", "-D", "warnings", "--test", "-o", "editor-0123456789abcdef", "editor.rs"], cwd=place,
                    check=True)
     surroundings = {**os.environ, "DOMEPEELER": program, "DOMEPEELER_EXPLAIN": EXPLAIN, "RUST_BACKTRACE": "0", "LC_ALL": "C.UTF-8"}
-    line = {word: next(number for number, text in enumerate(RUST_TESTS.splitlines(), 1) if f"// {word}" in text) for word in ("asks", "reads", "weak")}
+    line = {word: next(number for number, text in enumerate(RUST_TESTS.splitlines(), 1) if f"// {word}" in text) for word in ("asks", "reads", "stops", "weak")}
     saved = place / "failed_traces" / "editor-inner-a_list_is_lost.trace"
     done = subprocess.run(["./editor-0123456789abcdef"], cwd=place, env={**surroundings, "LOST": "1"}, capture_output=True, text=True)
-    tally.check("Rust tests: counts", done.returncode != 0 and "test result: FAILED. 3 passed; 5 failed;" in done.stdout, done)
+    tally.check("Rust tests: counts", done.returncode != 0 and "test result: FAILED. 3 passed; 6 failed;" in done.stdout, done)
+    tally.check("Rust tests: one that stops names the line of its call", re.search(
+        rf"editor\.rs:{line['stops']}:\d+:\ncontents 1\.1: [^\0]*editor\.rs:{line['stops']}: line 5\n", done.stdout) and
+        "it went on" not in done.stdout, done)
     tally.check("Rust tests: a lost list is explained", f"editor.rs:{line['asks']}:" in done.stdout and "contents 1.1: " in done.stdout and
                 f"\nIn your code\n  editor.rs:9: line 3\n  editor.rs:10: line 4\n  editor.rs:{line['reads']}: line 5\n" in done.stdout and
                 f"\nThe trace is saved: failed_traces/{saved.name}\n" in done.stdout, done)
@@ -2367,7 +2381,7 @@ def check_rust_tests(tally: Tally, program: str, folder: Path) -> None:
         tally.check(f"Rust tests: a report of {operations} operations with status {status}", "0 passed; 1 failed;" in done.stdout and
                     f"./liar ended with status {status} and printed a report that is not on this recording" in done.stdout, done)
     done = subprocess.run(["./editor-0123456789abcdef"], cwd=place, env=surroundings, capture_output=True, text=True)
-    tally.check("Rust tests: one that passes removes what it saved before", "7 passed; 1 failed;" in done.stdout and
+    tally.check("Rust tests: one that passes removes what it saved before", "8 passed; 1 failed;" in done.stdout and
                 [path.name for path in saved.parent.iterdir()] == [".gitignore"], done)
     need("clippy-driver", "rust-clippy")
     (place / "tests/domepeeler").mkdir(parents=True)
@@ -2401,7 +2415,7 @@ HEADERS = ["", "#include <stdio.h>\n#include <string.h>\n", "#include <unistd.h>
 STRICT = ["-Wall", "-Wextra", "-Wconversion", "-Wcast-qual", "-pedantic", "-Werror", "-fsyntax-only"]
 CHECKED = ['insert(d, 0, "a", 0, list, 1)', 'delete(d, 0, "a", list, 1)', "read(d, 0, list, 1)", "view(d, 0, list, 1)", "received(d, 1, 0, 1)",
            "received_clock(d, 1, 0, clock, 2, 1)", "clock(d, 0, clock)", "delivered(d, lists, names, 2)", 'note(d, "seed 17")', 'save(d, "x")',
-           "passes_weak(d, NULL)", *(f"{call}_from(__FILE__, __LINE__, d, {rest})" for call, rest in (
+           "passes_weak(d, NULL)", "stop(d, 0, NULL, NULL)", *(f"{call}_from(__FILE__, __LINE__, d, {rest})" for call, rest in (
                ("insert", '0, "a", 0, list, 1'), ("delete", '0, "a", list, 1'), ("read", "0, list, 1"), ("view", "0, list, 1"),
                ("received", "1, 0, 1"), ("received_clock", "1, 0, clock, 2, 1"), ("delivered", "lists, names, 2")))]
 USES_C = """{}#include "{}"
@@ -2485,6 +2499,56 @@ def check_places_c(tally: Tally, program: str, folder: Path) -> None:
     tally.check("C: a place for each line of which it is known", beside ==
                 "8\nlanguage c\n3 editor.y:7\n6 a??\u00e4 b.c:12\n7 other.y:20\n8 other.y:20\n", beside)
     tally.check("C: explain names these", done.stdout.endswith("\n\nIn your code\n  editor.y:7: line 3\n  other.y:20: lines 7 and 8\n\n"), done)
+
+
+# A program in C++ whose call-back throws, and one that has none.
+STOP_CPP = f"""#include "{ROOT / 'recorders'}/domepeeler.h"
+#include <string>
+static void raise_it(const char *words, void *data) {{
+    ++*static_cast<int *>(data);
+    throw std::string(words);
+}}
+static void lose(struct domepeeler *d) {{
+    const char *list[] = {{"a"}};
+    if (!domepeeler_insert(d, 0, "a", 0, list, 1) || !domepeeler_received(d, 1, 0, 1)) puts("refused");
+    if (!domepeeler_read(d, 1, NULL, 0)) puts(domepeeler_why(d)); // answers wrong
+}}
+int main() {{
+    int called = 0;
+    struct domepeeler *d = domepeeler_new(2);
+    if (!domepeeler_stop(d, 0, raise_it, &called)) return 1;
+    for (int i = 0; i < 2; i++) {{
+        try {{
+            lose(d);
+        }} catch (const std::string &words) {{
+            printf("%d %zu %s\\n", called, domepeeler_lines(d), i ? "again" : words.c_str());
+        }}
+    }}
+    domepeeler_free(d);
+    d = domepeeler_new(2);
+    if (!domepeeler_stop(d, 0, NULL, NULL)) return 1;
+    lose(d);
+    puts(domepeeler_stopped(d) ? "stopped" : "not stopped");
+    char *warnings = domepeeler_warnings(d);
+    printf("%s", warnings);
+    free(warnings);
+    domepeeler_free(d);
+    return 0;
+}}
+"""
+
+
+def check_stop_cpp(tally: Tally, program: str, folder: Path) -> None:
+    """A call-back may throw: nothing is lost by that, and the session is stopped. Without one the call answers 0, which is no refusal."""
+    Path(folder, "stop.cpp").write_text(STOP_CPP)
+    words = ["g++", "-std=c++11", "-Wall", "-Wextra", "-Werror", "-fsanitize=address,undefined", "-o", "stop", "stop.cpp"]
+    subprocess.run(words, cwd=folder, check=True)
+    done = subprocess.run(["./stop"], cwd=folder, capture_output=True, text=True, env={
+        **os.environ, "DOMEPEELER": program, "DOMEPEELER_EXPLAIN": EXPLAIN, "LC_ALL": "C.UTF-8"})
+    line = next(number for number, text in enumerate(STOP_CPP.splitlines(), 1) if "// answers wrong" in text)
+    tally.check("C++: a call-back that throws", done.returncode == 0 and done.stdout.startswith("1 5 contents 1.1: ") and
+                f"  stop.cpp:{line}: line 5\n2 5 again\n" in done.stdout, done)
+    tally.check("C++: no call-back", re.search(r"\n2 5 again\ncontents 1\.1: [^\n]*\nstopped\nin the end replicas 0 and 1 show different lists\n$", done.stdout), done)
 
 
 # Four threads that share a recording under a lock.
@@ -2670,8 +2734,7 @@ def main() -> None:
             if language in EXPLAINING:
                 check_explain(tally, recorder, folder)
             check_weak(tally, recorder)
-            if language in STOPS_IN:
-                check_stop(tally, recorder, folder)
+            check_stop(tally, recorder, folder)
         check_jupiter(tally, program, folder)
         check_python(tally)
         check_users(tally, program, folder)
@@ -2692,6 +2755,7 @@ def main() -> None:
         check_rust_tests(tally, program, folder)
         check_compilers(tally, folder)
         check_places_c(tally, program, folder)
+        check_stop_cpp(tally, program, folder)
         check_threads_c(tally, folder)
         check_hostile_c(tally, Recorder("c", drivers["c"], program), folder)
     tally.close()
