@@ -27,7 +27,7 @@
 ;; Then a recording passes where weak holds; `contents', `position', `doubled' and `refused 2' still fail, and so do warnings.
 ;;
 ;; `(domepeeler-new 2 nil t)' has the session judged after each call that takes a list, and signals `domepeeler-not-accepted' in
-;; the call that answered wrong.
+;; the call that answered wrong; with `weak' in the place of t, in that after which weak doesn't hold.
 ;;
 ;; Where updates have vector clocks, `domepeeler-received-clock' writes the receipts, and refuses what is not causal.
 ;;

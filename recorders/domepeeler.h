@@ -32,7 +32,7 @@
  * A recording passes then where weak holds; `contents`, `position`, `doubled` and `refused 2` still fail, and so do warnings.
  *
  * domepeeler_stop(recording, 0, call_back, data) has the session judged after each call that takes a list. The call that answered wrong
- * calls back, where a debugger can stop, and answers 0.
+ * calls back, where a debugger can stop, and answers 0; with 1, that after which weak doesn't hold.
  *
  * Where updates have vector clocks, domepeeler_received_clock() writes the receipts, and refuses what is not causal.
  *

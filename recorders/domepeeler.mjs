@@ -26,7 +26,7 @@
 // Where a log is read, `at` says from which of its lines the next calls come. `note` keeps a word for the whole recording, as "seed 17".
 //
 // `new Recording(2, null, { stop: true })` judges the session after each call that takes a list, and throws NotAccepted in the call that
-// answered wrong.
+// answered wrong; with `weak: true` too, in that after which weak doesn't hold.
 //
 // Each call that a trace can't say throws Refused, or Full at a limit, and leaves the recording as it was.
 

@@ -26,7 +26,8 @@ Where updates have vector clocks, or ids, `received_clock` and `received_changes
 Where a log is read, `at` says from which of its lines the next calls come. `note` keeps a word for the whole recording, as "seed 17".
 Threads may share a recording: each call is whole before the next one begins.
 
-`Recording(2, stop=True)` judges the session after each call that takes a list, and raises `NotAccepted` in the call that answered wrong.
+`Recording(2, stop=True)` judges the session after each call that takes a list, and raises `NotAccepted` in the call that answered wrong;
+with `weak=True` too, in that after which weak doesn't hold.
 
 Each call that a trace can't say raises `Refused`, or `Full` at a limit, and leaves the recording as it was."""
 from __future__ import annotations

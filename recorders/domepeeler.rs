@@ -24,7 +24,8 @@
 //! `refused 3` or more. For such a one end with `recording.assert_weak()`: it passes where weak holds. `contents`, `position`, `doubled`
 //! and `refused 2` still panic, and so do warnings.
 //!
-//! `Recording::new(2)?.stop()?` has the session judged after each call that takes a list, and panics in the call that answered wrong.
+//! `Recording::new(2)?.stop()?` has the session judged after each call that takes a list, and panics in the call that answered wrong;
+//! `stop_weak` in that after which weak doesn't hold.
 //!
 //! Where updates have vector clocks, `received_clock` writes the receipts, and refuses what is not causal.
 //!
