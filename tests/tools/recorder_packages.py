@@ -1068,6 +1068,9 @@ def check_stop_of_node(tally: Tally, place: Place) -> None:
     told = done.stdout.split("not ok 2 - is caught\n")[-1].split("ok 3 - ")[0]
     tally.check("node --test: a test that catches the stop", re.search(rf"error: [^\n]*\n *{LOST}", told) and "The trace is saved: " in told,
                 told)
+    script = "process.getBuiltinModule = undefined; const { Recording } = await import('domepeeler'); new Recording(2, null, { stop: true })"
+    done = place.run(["node", "--input-type=module", "-e", script], "packed")
+    tally.check("JavaScript: stops in no Node.js that is older", "Error: `stop` needs Node.js from 20.16 or 22.3 on" in done.stdout, done.stdout)
     done = place.run(words, "packed", DOMEPEELER="nowhere")
     told = done.stdout.split("not ok 1 - stops\n")[-1].split("ok 2 - ")[0]
     tally.check("node --test: stops without a program", "nowhere cannot be run" in told and

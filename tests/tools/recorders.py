@@ -336,7 +336,7 @@ OWN_TYPES = {
            "number of changes is not a whole number from 1 to 1 but None", "delivered wants the list of each of the 2 replicas, not None",
            'delivered wants the list of each of the 2 replicas, not the string "ab"', "no replica 2 among 0 to 1",
            "delivered wants the list of each of the 2 replicas, not of 1", "a response is a list of names", NO_NOTE.partition(" ")[2],
-           REPLICA + 'the string "' + "1" * 40 + '"..'],
+           REPLICA + 'the string "' + "1" * 40 + '"..', "a recording is told of weak with `stop` alone: else tell `judge` and `explain`"],
     "mjs": [REPLICA + "a Symbol", POSITION + "the BigInt 2", "a name is a string, not a Symbol", "a name is a string, not the BigInt 3",
             "a name is a string, not undefined", "a name is a string, not undefined", POSITION + "null", POSITION + "the number NaN",
             POSITION + "an array", POSITION + "an object", POSITION + "a function",
@@ -345,7 +345,8 @@ OWN_TYPES = {
             'delivered wants the list of each of the 2 replicas, not the string "ab"', "no replica 2 among 0 to 1",
             "delivered wants the list of each of the 2 replicas, not of 1", "a response is a list of names", NO_NOTE.partition(" ")[2],
             REPLICA + 'the string "' + "1" * 40 + '"..', "an id of a change is a string or a number, not a Symbol",
-            'name "a b" ' + NAME, "count of a clock is not a whole number from 0 to 4294967295 but undefined"]}
+            'name "a b" ' + NAME, "count of a clock is not a whole number from 0 to 4294967295 but undefined",
+            "a recording is told of weak with `stop` alone: else tell judge() and explain()"]}
 
 ELEMENTS = [f"e{i}" for i in range(4097)]
 FULL = "the most that a trace takes"

@@ -45,6 +45,7 @@ const UNTYPED = [
   () => new Recording(2).delete(0, "a", [], Symbol("x")),
   () => new Recording(2).read(0, ["a b"]),
   () => changed().receivedClock(0, 1, [, 1]),
+  () => new Recording(2, null, { weak: true }),
 ]
 
 function changed() {

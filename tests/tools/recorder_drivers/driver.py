@@ -38,6 +38,7 @@ UNTYPED = [
     lambda: Recording(2).delivered([[], 7]),
     lambda: Recording(2).note(7),
     lambda: Recording(2).read("1" * 41, []),
+    lambda: Recording(2, weak=True),
 ]
 
 
