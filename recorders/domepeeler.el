@@ -26,6 +26,9 @@
 ;;
 ;; Then a recording passes where weak holds; `contents', `position', `doubled' and `refused 2' still fail, and so do warnings.
 ;;
+;; `(domepeeler-new 2 nil t)' has the session judged after each call that takes a list, and signals `domepeeler-not-accepted' in
+;; the call that answered wrong; with `weak' in the place of t, in that after which weak doesn't hold.
+;;
 ;; Where updates have vector clocks, `domepeeler-received-clock' writes the receipts, and refuses what is not causal.
 ;;
 ;; Each call that a trace can't say signals `domepeeler-refused', or `domepeeler-full' at a limit, and leaves the
@@ -64,6 +67,8 @@ They are those that a replica lacks, or has made nothing of.")
 (define-error 'domepeeler-not-causal "A change that the author had seen is lacking" 'domepeeler-refused)
 (define-error 'domepeeler-full "A limit of traces is reached" 'domepeeler-refused)
 
+(define-error 'domepeeler-not-accepted "The session is not accepted")
+
 (cl-defstruct (domepeeler--replica (:copier nil))
   (entries 0) (operations 0) (inserts 0) (places 0)
   (changes (make-hash-table))  ; by place from 1: which of its operations insert or delete
@@ -77,6 +82,8 @@ They are those that a replica lacks, or has made nothing of.")
   (ids (make-hash-table :test #'equal))    ; by name: the id that has it, where another might come to the same name
   (short (make-hash-table :test #'equal))  ; by id: its name, where that is a shorter one
   known     ; the names among the ids, the last one first
+  stop      ; whether the session is judged after each call that takes a list; `weak' where weak is enough
+  stopped   ; what is wrong with it, in words
   notes     ; the last one first
   deliveries)  ; of each call of `domepeeler-delivered' the first line that it wrote, and the last; the last call first
 
@@ -102,13 +109,22 @@ They are those that a replica lacks, or has made nothing of.")
    ((symbolp value) (format "the symbol %s" value))
    (t (format "a value of type %s" (type-of value)))))
 
-(defun domepeeler-new (replicas &optional only)
+(defun domepeeler-new (replicas &optional only stop)
   "A session of so many REPLICAS.
-With ONLY, the log that this replica keeps on its own machine."
+With ONLY, the log that this replica keeps on its own machine.
+With STOP the session is judged after each call that takes a list.  The
+first after which it is not accepted, or where STOP is the symbol `weak',
+weak doesn't hold, signals `domepeeler-not-accepted' with the words of
+`domepeeler-explain'; its line is recorded.  Later calls that record signal
+that again, and record nothing.  A program that can't be run signals as in
+`domepeeler-judge'."
+  (when (and only stop)
+    (domepeeler--refuse "one replica's log can't stop in a wrong call: it is judged only when the logs are merged"))
   (unless (domepeeler--whole replicas 1 domepeeler--replicas "number of replicas")
     (domepeeler--refuse "replicas are 1 to %d, not %d" domepeeler--replicas replicas))
   (let ((recording (domepeeler--make
                     :lines (list (format "replicas %d" replicas) "trace 1")
+                    :stop stop
                     :replicas (cl-map 'vector (lambda (_) (make-domepeeler--replica :others (make-vector replicas 0)))
                                       (make-vector replicas nil)))))
     (when only
@@ -116,29 +132,56 @@ With ONLY, the log that this replica keeps on its own machine."
       (setf (domepeeler-recording-only recording) only))
     recording))
 
+(defun domepeeler--go-on (recording)
+  "Signal again what has stopped RECORDING, if anything has."
+  (when (domepeeler-recording-stopped recording)
+    (signal 'domepeeler-not-accepted (list (domepeeler-recording-stopped recording)))))
+
+(defun domepeeler--answered (recording)
+  "Signal what is wrong with RECORDING, where each call is to be judged."
+  (when (domepeeler-recording-stop recording)
+    (let* ((report (domepeeler--report recording nil))
+           (weak (eq (domepeeler-recording-stop recording) 'weak))
+           (verdict (alist-get 'verdict report)))
+      (unless (or (equal verdict "accepted") (and weak (eq (alist-get 'weak report) t)))
+        (setf (domepeeler-recording-stopped recording)
+              (condition-case why
+                  (string-trim-right (domepeeler-explain recording nil weak))
+                (error (format "The recording is not accepted: %s. There is no explanation: %s" verdict (error-message-string why)))))
+        (domepeeler--go-on recording)))))
+
 (defun domepeeler-insert (recording replica name position response)
   "REPLICA inserted NAME at POSITION and then had the list RESPONSE.
 Answers the operation's number."
-  (domepeeler--operation recording replica "ins" response name position))
+  (domepeeler--go-on recording)
+  (prog1 (domepeeler--operation recording replica "ins" response name position)
+    (domepeeler--answered recording)))
 
 (defun domepeeler-delete (recording replica name response)
   "REPLICA deleted NAME and then had the list RESPONSE.
 Answers the operation's number."
-  (domepeeler--operation recording replica "del" response name))
+  (domepeeler--go-on recording)
+  (prog1 (domepeeler--operation recording replica "del" response name)
+    (domepeeler--answered recording)))
 
 (defun domepeeler-read (recording replica response)
   "REPLICA read its list, RESPONSE.  Answers the operation's number."
-  (domepeeler--operation recording replica "read" response))
+  (domepeeler--go-on recording)
+  (prog1 (domepeeler--operation recording replica "read" response)
+    (domepeeler--answered recording)))
 
 (defun domepeeler-view (recording replica part)
   "REPLICA showed PART of its list, the window of an editor say.
 Answers the operation's number."
+  (domepeeler--go-on recording)
   (prog1 (domepeeler--operation recording replica "view" part)
-    (setcar (last (domepeeler-recording-lines recording)) "trace 2")))
+    (setcar (last (domepeeler-recording-lines recording)) "trace 2")
+    (domepeeler--answered recording)))
 
 (defun domepeeler-received (recording replica author n)
   "AUTHOR's operation N was applied at REPLICA.
 With it came all that AUTHOR had seen by then."
+  (domepeeler--go-on recording)
   (domepeeler--acts recording replica)
   (domepeeler--known recording author)
   (unless (domepeeler--whole n 1 domepeeler--position "operation number")
@@ -157,6 +200,7 @@ It carries the last of AUTHOR's changes that CLOCK counts, or the last CHANGES.
 CLOCK is a list or a vector: for each replica how many of its inserts and
 deletes AUTHOR had seen, its own with the carried ones among them.
 Writes the receipt, unless REPLICA has it already."
+  (domepeeler--go-on recording)
   (domepeeler--acts recording replica)
   (domepeeler--known recording author)
   (when (= author replica)
@@ -185,6 +229,7 @@ Each replica, from 0 upward, shows its list of LISTS, a list or a vector.
 Writes for each replica the receipts that are missing, and a read.  So a
 change that an editor has lost, or still holds back, is `contents' there.
 RECORDING keeps which lines it wrote."
+  (domepeeler--go-on recording)
   (when (domepeeler-recording-only recording)
     (domepeeler--refuse "one replica's log can't say that everything has arrived: the others are recorded elsewhere"))
   (let* ((replicas (domepeeler-recording-replicas recording))
@@ -205,6 +250,7 @@ RECORDING keeps which lines it wrote."
          (seq-do-indexed (lambda (own replica) (domepeeler--undo recording replica own)) before)
          (signal (car why) (cdr why))))
       (push (cons first (domepeeler-lines recording)) (domepeeler-recording-deliveries recording))
+      (domepeeler--answered recording)
       nil)))
 
 (defun domepeeler-note (recording text)
@@ -323,13 +369,18 @@ linear in the text."
 It has one more key, `warnings': where the verdict is accepted, or with
 WEAK where weak holds, a list of what that may hide, and else nil.
 PROGRAM is by default that of the environment's DOMEPEELER, or \"domepeeler\"."
+  (let* ((report (domepeeler--report recording program))
+         (is-passing (or (equal (alist-get 'verdict report) "accepted") (and weak (eq (alist-get 'weak report) t)))))
+    (append report (list (cons 'warnings (and is-passing (domepeeler-warnings recording)))))))
+
+(defun domepeeler--report (recording program)
+  "PROGRAM's own report on RECORDING, as an alist."
   (let* ((programs (list program (getenv "DOMEPEELER") "domepeeler"))
          (said (domepeeler--ask recording programs "the program's path in DOMEPEELER" "{" "report" "verdict" "--json" "-"))
          (report (ignore-errors (json-read-from-string said))))
     (unless (alist-get 'verdict report)
       (error "%s printed a report without a verdict" (domepeeler--first programs)))
-    (let ((is-passing (or (equal (alist-get 'verdict report) "accepted") (and weak (eq (alist-get 'weak report) t)))))
-      (append report (list (cons 'warnings (and is-passing (domepeeler-warnings recording))))))))
+    report))
 
 (defun domepeeler-explain (recording &optional explainer weak)
   "What the report on RECORDING means, in words.

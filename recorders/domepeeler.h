@@ -31,6 +31,9 @@
  *
  * A recording passes then where weak holds; `contents`, `position`, `doubled` and `refused 2` still fail, and so do warnings.
  *
+ * domepeeler_stop(recording, 0, call_back, data) has the session judged after each call that takes a list. The call that answered wrong
+ * calls back, where a debugger can stop, and answers 0; with 1, that after which weak doesn't hold.
+ *
  * Where updates have vector clocks, domepeeler_received_clock() writes the receipts, and refuses what is not causal.
  *
  * An explanation names the line of code that made each call, since the calls that record are macros too, which hand in __FILE__ and
@@ -136,6 +139,10 @@ struct domepeeler {
     const char *file; /* from where the call comes that is under way, or NULL */
     int line;
     size_t refused; /* calls, but for limits and what is not causal, after which a session may well go on */
+    int stops, is_weak_enough, is_wrong; /* whether calls are judged, and how; whether one was wrong */
+    void (*call_back)(const char *words, void *data);
+    void *data;
+    char *wrong; /* the words for that, or NULL without memory */
     int full;
     char why[512], first[512]; /* of the last call that answered 0, and of the first one that was refused so */
 };
@@ -193,6 +200,11 @@ static inline unsigned domepeeler_fail(struct domepeeler *d, const char *format,
     va_end(words);
     d->full = 0;
     return 0;
+}
+
+/* Puts the first line of the text into domepeeler_why(). Answers 0. */
+static inline unsigned domepeeler_fail_by_line(struct domepeeler *d, const char *text) {
+    return domepeeler_fail(d, "%.*s", (int)strcspn(text, "\n"), text);
 }
 
 /* Room for so many more bytes and the zero after them. */
@@ -295,6 +307,7 @@ static inline void domepeeler_free(struct domepeeler *d) {
     free(d->places);
     free(d->deliveries);
     free(d->text);
+    free(d->wrong);
     free(d);
 }
 
@@ -341,6 +354,42 @@ static inline void domepeeler_come_from(struct domepeeler *d, const char *file, 
     d->file = file;
     d->line = line;
 }
+
+/* From now on the session is judged after each call that takes a list. The first after which it is not accepted, or with is_weak, weak
+ * doesn't hold, answers 0; its line is recorded. The call-back, unless it is NULL, gets the words of domepeeler_explain() in that call, and
+ * may end the program, or in C++ throw; domepeeler_stopped() keeps them. Later calls that record do the same, and record nothing. Where the
+ * program can't be run, each such call answers 0, calls back with the reason, and keeps nothing but domepeeler_why(). Answers 1; 0 of one
+ * replica's log. */
+DOMEPEELER_CHECKED static inline unsigned domepeeler_stop(struct domepeeler *d, int is_weak, void (*call_back)(const char *words, void *data),
+                                                          void *data) {
+    if (d->only >= 0) return domepeeler_fail(d, "one replica's log can't stop in a wrong call: it is judged only when the logs are merged");
+    d->stops = 1;
+    d->is_weak_enough = is_weak;
+    d->call_back = call_back;
+    d->data = data;
+    return 1;
+}
+
+/* What is wrong with the session, if a call has stopped; else NULL. */
+static inline const char *domepeeler_stopped(const struct domepeeler *d) {
+    return !d->is_wrong ? NULL : d->wrong ? d->wrong : "The recording is not accepted. There is no memory for an explanation";
+}
+
+/* Ends a call whose answer is wrong, or was not judged. */
+static inline unsigned domepeeler_stop_by(struct domepeeler *d, const char *words) {
+    domepeeler_come_from(d, NULL, 0); /* the call-back need not return */
+    domepeeler_fail_by_line(d, words);
+    if (d->call_back) d->call_back(words, d->data);
+    return 0;
+}
+
+/* Whether no call was wrong so far. */
+static inline unsigned domepeeler_goes_on(struct domepeeler *d) {
+    return !d->is_wrong || domepeeler_stop_by(d, domepeeler_stopped(d));
+}
+
+/* Behind a call that takes a list and answers so much; it stands below. */
+static inline unsigned domepeeler_answered(struct domepeeler *d, unsigned said);
 
 /* Keeps from where the line comes that is written next. Answers 1, or 0 without memory. */
 static inline int domepeeler_keep_caller(struct domepeeler *d) {
@@ -721,12 +770,12 @@ DOMEPEELER_CHECKED static inline unsigned domepeeler_insert(struct domepeeler *d
                                          const char *const *response, size_t names) {
     char words[80];
     size_t known = d->known;
-    if (!domepeeler_acts(d, replica) || !(name = domepeeler_name(d, name))) return 0;
+    if (!domepeeler_goes_on(d) || !domepeeler_acts(d, replica) || !(name = domepeeler_name(d, name))) return 0;
     int is_right = position >= 0 && position <= DOMEPEELER_POSITION;
     if (!is_right)
         domepeeler_refuse(d, 0, "position %lld is not a whole number from 0 to %lld", position, DOMEPEELER_POSITION);
     snprintf(words, sizeof words, "ins %s %lld", name, position);
-    return domepeeler_operation(d, replica, is_right ? words : NULL, 1, response, names, known);
+    return domepeeler_answered(d, domepeeler_operation(d, replica, is_right ? words : NULL, 1, response, names, known));
 }
 
 /* The replica deleted the name and then had this list. Answers the operation's number. */
@@ -734,23 +783,23 @@ DOMEPEELER_CHECKED static inline unsigned domepeeler_delete(struct domepeeler *d
                                          const char *const *response, size_t names) {
     char words[80];
     size_t known = d->known;
-    if (!domepeeler_acts(d, replica) || !(name = domepeeler_name(d, name))) return 0;
+    if (!domepeeler_goes_on(d) || !domepeeler_acts(d, replica) || !(name = domepeeler_name(d, name))) return 0;
     snprintf(words, sizeof words, "del %s", name);
-    return domepeeler_operation(d, replica, words, 0, response, names, known);
+    return domepeeler_answered(d, domepeeler_operation(d, replica, words, 0, response, names, known));
 }
 
 /* The replica read its list. Answers the operation's number. */
 DOMEPEELER_CHECKED static inline unsigned domepeeler_read(struct domepeeler *d, int replica, const char *const *response, size_t names) {
-    if (!domepeeler_acts(d, replica)) return 0;
-    return domepeeler_operation(d, replica, "read", 0, response, names, d->known);
+    if (!domepeeler_goes_on(d) || !domepeeler_acts(d, replica)) return 0;
+    return domepeeler_answered(d, domepeeler_operation(d, replica, "read", 0, response, names, d->known));
 }
 
 /* The replica showed this part of its list, the window of an editor say. Answers the operation's number. */
 DOMEPEELER_CHECKED static inline unsigned domepeeler_view(struct domepeeler *d, int replica, const char *const *part, size_t names) {
-    if (!domepeeler_acts(d, replica)) return 0;
+    if (!domepeeler_goes_on(d) || !domepeeler_acts(d, replica)) return 0;
     unsigned n = domepeeler_operation(d, replica, "view", 0, part, names, d->known);
     if (n) d->text[strlen("trace ")] = '2';
-    return n;
+    return domepeeler_answered(d, n);
 }
 
 /* Writes a receipt that may be written. */
@@ -771,7 +820,7 @@ static inline unsigned domepeeler_receipt(struct domepeeler *d, int replica, int
 
 /* The author's operation n, and with it all that the author had seen by then, was applied at the replica. Answers 1. */
 DOMEPEELER_CHECKED static inline unsigned domepeeler_received(struct domepeeler *d, int replica, int author, long long n) {
-    if (!domepeeler_acts(d, replica) || !domepeeler_known(d, author)) return 0;
+    if (!domepeeler_goes_on(d) || !domepeeler_acts(d, replica) || !domepeeler_known(d, author)) return 0;
     if (n < 1 || n > DOMEPEELER_POSITION)
         return domepeeler_refuse(d, 0, "operation number %lld is not a whole number from 1 to %lld", n,
                                  DOMEPEELER_POSITION);
@@ -808,6 +857,7 @@ DOMEPEELER_CHECKED static inline unsigned domepeeler_delivered(struct domepeeler
                                                                const size_t *names, size_t count) {
     struct domepeeler_replica before[DOMEPEELER_REPLICAS];
     size_t length = d->length, known = d->known, called = d->called, first = domepeeler_lines(d) + 1;
+    if (!domepeeler_goes_on(d)) return 0;
     if (d->only >= 0)
         return domepeeler_refuse(d, 0, "one replica's log can't say that everything has arrived: the others are recorded elsewhere");
     if (count != (size_t)d->replicas)
@@ -827,7 +877,7 @@ DOMEPEELER_CHECKED static inline unsigned domepeeler_delivered(struct domepeeler
     if (is_said) {
         d->deliveries[d->delivered][0] = first;
         d->deliveries[d->delivered++][1] = domepeeler_lines(d);
-        return 1;
+        return domepeeler_answered(d, 1);
     }
     d->text[d->length = length] = 0;
     domepeeler_forget(d, known);
@@ -917,7 +967,7 @@ static inline unsigned domepeeler_check_causal(struct domepeeler *d, int replica
  * with the carried ones among them. Writes the receipt, unless the replica has it already. Answers 1. */
 DOMEPEELER_CHECKED static inline unsigned domepeeler_received_clock(struct domepeeler *d, int replica, int author, const unsigned *clock,
                                                  size_t counts, unsigned changes) {
-    if (!domepeeler_acts(d, replica) || !domepeeler_known(d, author)) return 0;
+    if (!domepeeler_goes_on(d) || !domepeeler_acts(d, replica) || !domepeeler_known(d, author)) return 0;
     if (author == replica) return domepeeler_refuse(d, 0, "replica %d receives no operation of its own", replica);
     if (!domepeeler_check_clock(d, clock, counts)) return 0;
     unsigned most = clock[author], *own = d->of[author].changes, have = domepeeler_has(d, replica, author);
@@ -1434,31 +1484,30 @@ static inline char *domepeeler_with_warnings(struct domepeeler *d, char *report,
     return domepeeler_said(d, &said);
 }
 
-/* The report, as JSON, of the program on this recording; free() it. NULL where there is none. It has one more key, `warnings`: where the
- * verdict is accepted a list of what that may hide, and else an empty one. The program is that of the environment's DOMEPEELER, or
- * domepeeler, where NULL is given. */
-DOMEPEELER_CHECKED static inline char *domepeeler_judge(struct domepeeler *d, const char *program) {
+/* The program's own report, as JSON; free() it. NULL where there is none. */
+static inline char *domepeeler_report(struct domepeeler *d, const char *program) {
     if (!program) program = getenv("DOMEPEELER");
     if (!program || !*program) program = "domepeeler";
     const char *many[] = {program, "verdict", "--json", "-", NULL}, *few[] = {program, "verdict", "--workers", "1", "--json", "-", NULL};
     int is_short = domepeeler_lines(d) < DOMEPEELER_SHORT;
     char *report = domepeeler_ask(d, is_short ? few : many, "the program's path in DOMEPEELER", "report", '{');
+    if (!report || (strrchr(report, '}') && strstr(report, "\"verdict\":\""))) return report;
+    domepeeler_fail(d, "%s printed a report without a verdict", program);
+    free(report);
+    return NULL;
+}
+
+/* The report, as JSON, of the program on this recording; free() it. NULL where there is none. It has one more key, `warnings`: where the
+ * verdict is accepted a list of what that may hide, and else an empty one. The program is that of the environment's DOMEPEELER, or
+ * domepeeler, where NULL is given. */
+DOMEPEELER_CHECKED static inline char *domepeeler_judge(struct domepeeler *d, const char *program) {
+    char *report = domepeeler_report(d, program);
     if (!report) return NULL;
-    if (!strrchr(report, '}') || !strstr(report, "\"verdict\":\"")) {
-        domepeeler_fail(d, "%s printed a report without a verdict", program);
-        free(report);
-        return NULL;
-    }
     char *warnings = strstr(report, "\"verdict\":\"accepted\"") ? domepeeler_warnings(d) : (char *)calloc(1, 1);
     if (warnings) return domepeeler_with_warnings(d, report, warnings);
     free(report);
     domepeeler_fail(d, "no memory");
     return NULL;
-}
-
-/* Puts the first line of the text into domepeeler_why(). Answers 0. */
-static inline unsigned domepeeler_fail_by_line(struct domepeeler *d, const char *text) {
-    return domepeeler_fail(d, "%.*s", (int)strcspn(text, "\n"), text);
 }
 
 /* Whether the recording passes where the editor promises the weak list specification alone: weak holds, by the program's report, and no
@@ -1609,6 +1658,33 @@ DOMEPEELER_CHECKED static inline char *domepeeler_explain(struct domepeeler *d, 
 /* The same where the editor promises the weak list specification alone: it says first where that holds, and what comes with it. */
 DOMEPEELER_CHECKED static inline char *domepeeler_explain_weak(struct domepeeler *d, const char *explainer) {
     return domepeeler_explained(d, explainer, "--weak");
+}
+
+/* Keeps what is wrong with the session by this report. */
+static inline void domepeeler_keep_wrong(struct domepeeler *d, const char *report) {
+    const char *verdict = strstr(report, "\"verdict\":\"") + strlen("\"verdict\":\"");
+    d->is_wrong = 1;
+    d->wrong = domepeeler_explained(d, NULL, d->is_weak_enough ? "--weak" : NULL);
+    if (!d->wrong) {
+        struct domepeeler_words untold = {NULL, 0, 0, 0};
+        domepeeler_say(&untold, "The recording is not accepted: %.*s. There is no explanation: %s", (int)strcspn(verdict, "\""), verdict, d->why);
+        d->wrong = domepeeler_said(d, &untold);
+    }
+    for (size_t end = d->wrong ? strlen(d->wrong) : 0; end && d->wrong[end - 1] == '\n'; end--) d->wrong[end - 1] = 0;
+}
+
+/* What a call answers that takes a list and was to answer so much, when the session up to it is judged, where that is asked for. */
+static inline unsigned domepeeler_answered(struct domepeeler *d, unsigned said) {
+    if (!said || !d->stops) return said;
+    char *report = domepeeler_report(d, NULL), why[sizeof d->why];
+    if (!report) {
+        memcpy(why, d->why, sizeof why);
+        return domepeeler_stop_by(d, why);
+    }
+    int is_right = strstr(report, "\"verdict\":\"accepted\"") || (d->is_weak_enough && strstr(report, "\"weak\":true"));
+    if (!is_right) domepeeler_keep_wrong(d, report);
+    free(report);
+    return is_right ? said : domepeeler_stop_by(d, domepeeler_stopped(d));
 }
 
 /* The calls that record, each with the line of code from which it comes; the file's name is copied. */

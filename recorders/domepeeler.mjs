@@ -25,6 +25,9 @@
 // Where updates have vector clocks, or ids, `receivedClock` and `receivedChanges` write the receipts, and refuse what is not causal.
 // Where a log is read, `at` says from which of its lines the next calls come. `note` keeps a word for the whole recording, as "seed 17".
 //
+// `new Recording(2, null, { stop: true })` judges the session after each call that takes a list, and throws NotAccepted in the call that
+// answered wrong; with `weak: true` too, in that after which weak doesn't hold.
+//
 // Each call that a trace can't say throws Refused, or Full at a limit, and leaves the recording as it was.
 
 const MOST_REPLICAS = 16, MOST_ENTRIES = 16384, MOST_INSERTS = 4096
@@ -35,6 +38,7 @@ const WITH_SIGNS = /^[A-Za-z0-9_.@,-]+$/ // an id that is translated
 const UUID = /^[0-9A-Fa-f]{8}(-[0-9A-Fa-f]{4}){3}-[0-9A-Fa-f]{12}$/
 const MOST_PRINTED = 1 << 28 // bytes: no report is as long
 const ONE_LOG = "one replica's log is no recording: merge the logs first"
+const NOT_STOPPED = "one replica's log can't stop in a wrong call: it is judged only when the logs are merged"
 const MORE_CHANGES = "; if the update carried more than one change, say how many (`changes`)"
 const MOST_CALLERS = 3, MOST_FRAMES = 50 // of an entry: callers that are kept, and frames that are looked at for them
 const MOST_STACKS = 1000 // that are remembered
@@ -67,7 +71,14 @@ export class Full extends Refused {}
 /** An update was applied at a replica that lacks a change which the update's author had seen. */
 export class NotCausal extends Refused {}
 
-/** A session of so many replicas; with `only`, the log that this one replica keeps on its own machine. */
+/** With `stop`: the session is not accepted up to here, or with `weak` too, weak doesn't hold. Says what explain() says. */
+export class NotAccepted extends Error {}
+
+/** A session of so many replicas; with `only`, the log that this one replica keeps on its own machine.
+ *
+ * With `stop` the session is judged after each call that takes a list. The first after which it is not accepted, or with `weak` too, weak
+ * doesn't hold, throws NotAccepted; its line is recorded. Later calls throw that again, and record nothing. `weak` is for an editor that
+ * promises the weak list specification alone. A program that can't be run throws as in judge(). It needs Node.js from 20.16 or 22.3 on. */
 export class Recording {
   #lines
   #callers = [] // of each entry: the lines of code from which it was recorded, or the log's line
@@ -82,7 +93,11 @@ export class Recording {
   #notes = []
   #delivered = [] // of each call of `delivered`, the first and the last line of the trace that it wrote
 
-  constructor(replicas, only = null) {
+  #stop
+  #weak
+  #stopped = "" // what is wrong with the session, in words
+
+  constructor(replicas, only = null, { stop = false, weak = false } = {}) {
     if (!whole(replicas, 1, MOST_REPLICAS)) {
       throw new Refused(Number.isInteger(replicas) ? `replicas are 1 to ${MOST_REPLICAS}, not ${replicas}`
         : notWhole("number of replicas", replicas, 1, MOST_REPLICAS))
@@ -94,6 +109,11 @@ export class Recording {
     this.#replicas = Array.from({ length: replicas }, replica)
     if (only !== null) this.#known(only)
     this.#only = only
+    if (stop && only !== null) throw new Refused(NOT_STOPPED)
+    if (weak && !stop) throw new Refused("a recording is told of weak with `stop` alone: else tell judge() and explain()")
+    if (stop && !globalThis.process?.getBuiltinModule) throw new Error("`stop` needs Node.js from 20.16 or 22.3 on")
+    this.#stop = stop
+    this.#weak = weak
   }
 
   /** What is recorded from now on comes from this line of this file, a log's: `save` and `explain` name it, and not the lines of your
@@ -108,29 +128,32 @@ export class Recording {
   /** The replica inserted the name at the position and then had this list. Answers the operation's number. The change's id is for
    * receivedChanges(). */
   insert(replica, name, position, response, changeId = null) {
-    return this.#operation(replica, "ins", response, name, position, changeId)
+    return this.#answered(Recording.prototype.insert, () => this.#operation(replica, "ins", response, name, position, changeId))
   }
 
   /** The replica deleted the name and then had this list. Answers the operation's number. The change's id is for
    * receivedChanges(). */
   delete(replica, name, response, changeId = null) {
-    return this.#operation(replica, "del", response, name, null, changeId)
+    return this.#answered(Recording.prototype.delete, () => this.#operation(replica, "del", response, name, null, changeId))
   }
 
   /** The replica read its list. Answers the operation's number. */
   read(replica, response) {
-    return this.#operation(replica, "read", response)
+    return this.#answered(Recording.prototype.read, () => this.#operation(replica, "read", response))
   }
 
   /** The replica showed this part of its list, the window of an editor say. Answers the operation's number. */
   view(replica, part) {
-    const n = this.#operation(replica, "view", part)
-    this.#lines[0] = "trace 2"
-    return n
+    return this.#answered(Recording.prototype.view, () => {
+      const n = this.#operation(replica, "view", part)
+      this.#lines[0] = "trace 2"
+      return n
+    })
   }
 
   /** The author's operation n, and with it all that the author had seen by then, was applied at the replica. */
   received(replica, author, n) {
+    this.#goOn(Recording.prototype.received)
     this.#acts(replica)
     this.#known(author)
     if (!whole(n, 1, MOST_POSITION)) {
@@ -149,6 +172,7 @@ export class Recording {
    * counts, or so many of the last. The clock has for each replica how many of its inserts and deletes the author had seen, its own
    * with the carried ones among them: a list, a Map by replica, or an object. Writes the receipt, unless the replica has it already. */
   receivedClock(replica, author, clock, changes = 1) {
+    this.#goOn(Recording.prototype.receivedClock)
     this.#acts(replica)
     this.#known(author)
     this.#ofAnother(replica, author)
@@ -166,6 +190,7 @@ export class Recording {
   /** An update that carries the changes with these ids, and no others, was applied at the replica. Writes a receipt for each author of
    * them, unless the replica has it already. */
   receivedChanges(replica, changeIds) {
+    this.#goOn(Recording.prototype.receivedChanges)
     this.#acts(replica)
     this.#inOneRecording()
     if (typeof changeIds === "string" || typeof changeIds?.[Symbol.iterator] !== "function") {
@@ -184,6 +209,10 @@ export class Recording {
    * Writes for each replica the receipts that are missing, and a read with its list: what an editor has lost, or still holds back, is
    * then missing there. */
   delivered(lists) {
+    this.#answered(Recording.prototype.delivered, () => this.#recordDelivered(lists))
+  }
+
+  #recordDelivered(lists) {
     if (this.#only !== null) {
       throw new Refused("one replica's log can't say that everything has arrived: the others are recorded elsewhere")
     }
@@ -244,7 +273,7 @@ export class Recording {
     const { stat, writeFile } = await import("node:fs/promises")
     const { fileURLToPath } = await import("node:url")
     const name = path.href ? fileURLToPath(path) : path
-    const text = this.text(), places = await this.#places()
+    const text = this.text(), places = this.#places(await modules())
     const notes = this.#notes.map((note) => `note ${note}`)
     const delivered = this.#delivered.map(([first, last]) => `delivered ${first} ${last}`)
     const beside = [this.#lines.length, "language javascript", ...notes, ...delivered, ...(this.#hasLog ? ["log"] : []),
@@ -260,41 +289,85 @@ export class Recording {
    * a list. */
   async warnings() {
     if (this.#only !== null) throw new Refused(ONE_LOG)
-    const found = hidden(this.#lines), withNearest = await this.#nearest()
+    const found = hidden(this.#lines), withNearest = this.#nearest(await modules())
     return found.map(withNearest)
   }
 
   /** A promise of the program's report on this recording, and as `warnings` what it may hide where it says `accepted`; with `weak`, where
    * weak holds. The program is the words that are given, that of $DOMEPEELER, or `domepeeler`. */
   async judge(program = null, { weak = false } = {}) {
-    const { name, done } = await this.#ask(program, "DOMEPEELER", "domepeeler", "the program's", ["verdict", "--json", "-"])
+    const report = this.#report(await modules(), program)
+    const isPassing = report.verdict === "accepted" || (weak && report.weak === true)
+    return { ...report, warnings: isPassing ? await this.warnings() : [] }
+  }
+
+  // The program's report on this recording.
+  #report(node, program) {
+    const { name, done } = this.#ask(node, program, "DOMEPEELER", "domepeeler", "the program's", ["verdict", "--json", "-"])
     if ((done.status !== 0 && done.status !== 1) || !done.stdout.startsWith("{")) throw ended(name, done, "report")
     const report = reportIn(name, done.stdout)
-    const isAccepted = report.verdict === "accepted", isPassing = isAccepted || (weak && report.weak === true)
+    const isAccepted = report.verdict === "accepted"
     const operations = this.#replicas.reduce((sum, one) => sum + one.operations, 0)
     if (isAccepted !== (done.status === 0) || report.operations !== operations)
       throw new Error(`${name} ended with status ${done.status} and printed a report that is not on this recording`)
-    return { ...report, warnings: isPassing ? await this.warnings() : [] }
+    return report
+  }
+
+  // Records by this function what the editor answered; where that is asked for, the session up to it is judged. An error begins at the
+  // caller of the method.
+  #answered(method, record) {
+    this.#goOn(method)
+    const answer = record()
+    const why = this.#stop ? this.#wrong() : null
+    if (why) throw from(method, why)
+    return answer
+  }
+
+  // Throws again what stopped the session, if anything did.
+  #goOn(method) {
+    if (this.#stopped) throw from(method, new NotAccepted(this.#stopped))
+  }
+
+  // What is wrong with the session up to here, which is then remembered; or why it was not judged.
+  #wrong() {
+    const node = modulesAtOnce()
+    let report
+    try {
+      report = this.#report(node, null)
+    } catch (why) {
+      return why
+    }
+    if (report.verdict === "accepted" || (this.#weak && report.weak === true)) return null
+    try {
+      this.#stopped = this.#explained(node, null, this.#weak).trimEnd()
+    } catch (why) {
+      this.#stopped = `The recording is not accepted: ${report.verdict}. There is no explanation: ${why.message}`
+    }
+    return new NotAccepted(this.#stopped)
   }
 
   /** A promise of what the report means, in words, and behind them the lines of your code or log, the ids of the numbered names, and your
    * notes. With `weak`, where the weak list specification alone is asked for. The tool is the words that are given, that of
    * $DOMEPEELER_EXPLAIN, or `domepeeler-explain`, beside the program of $DOMEPEELER or on the PATH. */
   async explain(explainer = null, { weak = false } = {}) {
-    const command = await besideProgram("domepeeler-explain")
+    return this.#explained(await modules(), explainer, weak)
+  }
+
+  #explained(node, explainer, weak) {
+    const command = besideProgram(node, "domepeeler-explain")
     const delivered = this.#delivered.slice(-MOST_DELIVERED).flatMap(([first, last]) => ["--delivered", `${first}-${last}`])
-    const { name, done } = await this.#ask(explainer, "DOMEPEELER_EXPLAIN", command, "the tool's",
+    const { name, done } = this.#ask(node, explainer, "DOMEPEELER_EXPLAIN", command, "the tool's",
       [...(weak ? ["--weak"] : []), "--language", "javascript", ...delivered, "-"])
     if ((done.status !== 0 && done.status !== 1) || !done.stdout) throw ended(name, done, "words")
     const words = new Set(done.stdout.match(/[A-Za-z0-9]+/g))
     const named = [...this.ids()].filter(([short]) => words.has(short) && short.startsWith("long"))
     const told = named.map(([short, given]) => `${short}: ${given}`)
-    return await this.#withPlaces(done.stdout) + section("Ids that were too long for a name", told) + section("Noted", this.#notes)
+    return this.#withPlaces(node, done.stdout) + section("Ids that were too long for a name", told) + section("Noted", this.#notes)
   }
 
   // What puts behind each line of the trace that a warning names in brackets its nearest place in your code or log.
-  async #nearest() {
-    const callers = [...this.#callers], place = await placing()
+  #nearest(node) {
+    const callers = [...this.#callers], place = placing(node)
     return (warning) => warning.replace(NAMED, (all, line) => {
       const [nearest] = callers[line - HEAD_LINES - 1]
       return nearest ? `(line ${line}, ${place(nearest)})` : all
@@ -302,10 +375,10 @@ export class Recording {
   }
 
   // The words, and behind them the places of the lines of the trace that they name.
-  async #withPlaces(said) {
-    said = said.replace(WARNINGS, await this.#nearest())
+  #withPlaces(node, said) {
+    said = said.replace(WARNINGS, this.#nearest(node))
     const named = new Set([...said.matchAll(LINE)].map(([, line]) => Number(line)))
-    const found = (await this.#places()).filter(([line]) => named.has(line))
+    const found = this.#places(node).filter(([line]) => named.has(line))
     if (!found.length) return said
     if (this.#hasLog) { // then the editor is not this program, which a debugger might stop
       const places = new Map(found), at = (line) => places.get(Number(line))
@@ -319,21 +392,19 @@ export class Recording {
   }
 
   // By line of the trace the places in your code, where there are some.
-  async #places() {
-    const place = await placing(), told = new Map()
+  #places(node) {
+    const place = placing(node), told = new Map()
     for (const callers of this.#callers) if (!told.has(callers)) told.set(callers, callers.map(place).join(", called from "))
     return this.#callers.map((callers, at) => [at + HEAD_LINES + 1, told.get(callers)]).filter(([, places]) => places)
   }
 
   // How a program ended that had the text on its standard input, and its name.
-  async #ask(given, variable, command, whose, more) {
+  #ask(node, given, variable, command, whose, more) {
     if (this.#only !== null) throw new Refused(ONE_LOG)
     const asked = given || process.env[variable] || command
     const [name, ...words] = Array.isArray(asked) ? asked : [asked]
-    const { spawnSync } = await import("node:child_process")
-    const done = spawnSync(name, [...words, ...more], { input: this.text(), maxBuffer: MOST_PRINTED, encoding: "utf8" })
-    const { constants } = await import("node:os")
-    done.signalNumber = constants.signals[done.signal]
+    const done = node.childProcess.spawnSync(name, [...words, ...more], { input: this.text(), maxBuffer: MOST_PRINTED, encoding: "utf8" })
+    done.signalNumber = node.os.constants.signals[done.signal]
     if (done.error && done.status === null && done.signal === null) {
       throw new Error(`${name} cannot be run (${done.error.code}): name ${whose} path in ${variable}`)
     }
@@ -591,6 +662,28 @@ export class Recording {
   }
 }
 
+// What judging takes of Node.js.
+async function modules() {
+  const [childProcess, fs, os, path, url] = await Promise.all(
+    [import("node:child_process"), import("node:fs"), import("node:os"), import("node:path"), import("node:url")])
+  return { childProcess, fs, os, path, url }
+}
+
+// The same in a call that promises nothing.
+function modulesAtOnce() {
+  const [childProcess, fs, os, path, url] = ["child_process", "fs", "os", "path", "url"].map(
+    (name) => process.getBuiltinModule(`node:${name}`))
+  return { childProcess, fs, os, path, url }
+}
+
+// The error, whose stack then begins where the method was called.
+function from(method, why) {
+  try {
+    Error.captureStackTrace?.(why, method)
+  } catch { /* an error that may not be changed */ }
+  return why
+}
+
 // The calls that led here, as the engine tells them; "" where it doesn't.
 function stackHere() {
   const before = Error.stackTraceLimit
@@ -668,9 +761,7 @@ function telling(why, path) {
 }
 
 // What says a place from the current folder.
-async function placing() {
-  const { fileURLToPath } = await import("node:url")
-  const { sep } = await import("node:path")
+function placing({ path: { sep }, url: { fileURLToPath } }) {
   const here = folderHere()
   return (caller) => {
     const path = pathOf(caller, fileURLToPath)
@@ -860,9 +951,7 @@ function checkId(changeId) {
 }
 
 // The command's path where it lies beside the program of $DOMEPEELER; else the command.
-async function besideProgram(command) {
-  const { dirname, join } = await import("node:path")
-  const { accessSync, constants, statSync } = await import("node:fs")
+function besideProgram({ fs: { accessSync, constants, statSync }, path: { dirname, join } }, command) {
   const program = process.env.DOMEPEELER ?? ""
   const path = join(dirname(program), command)
   if (!/[/\\]/.test(program) || !statSync(path, { throwIfNoEntry: false })?.isFile()) return command

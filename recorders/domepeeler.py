@@ -26,6 +26,9 @@ Where updates have vector clocks, or ids, `received_clock` and `received_changes
 Where a log is read, `at` says from which of its lines the next calls come. `note` keeps a word for the whole recording, as "seed 17".
 Threads may share a recording: each call is whole before the next one begins.
 
+`Recording(2, stop=True)` judges the session after each call that takes a list, and raises `NotAccepted` in the call that answered wrong;
+with `weak=True` too, in that after which weak doesn't hold.
+
 Each call that a trace can't say raises `Refused`, or `Full` at a limit, and leaves the recording as it was."""
 from __future__ import annotations
 
@@ -48,6 +51,7 @@ WITH_SIGNS = re.compile(r"[A-Za-z0-9_.@,-]+", re.ASCII)  # an id that is transla
 UUID = re.compile(r"[0-9A-Fa-f]{8}(-[0-9A-Fa-f]{4}){3}-[0-9A-Fa-f]{12}", re.ASCII)
 __tracebackhide__ = True  # pytest shows a refused call where the test makes it
 ONE_LOG = "one replica's log is no recording: merge the logs first"
+NOT_STOPPED = "one replica's log can't stop in a wrong call: it is judged only when the logs are merged"
 MOST_NOTES, MOST_LETTERS = 20, 200  # of a recording, and of a note
 MOST_DELIVERED = 100  # calls of `delivered` of which the tool is told
 NO_NOTE = re.compile("[\0-\x1f\x7f-\x9f\u2028-\u202e\u2066-\u2069\ud800-\udfff]")  # what is no part of a printable line
@@ -82,6 +86,10 @@ class NotCausal(Refused):
     """An update was applied at a replica that lacks a change which the update's author had seen."""
 
 
+class NotAccepted(AssertionError):
+    """With `stop`: the session is not accepted up to here, or with `weak` too, weak doesn't hold. Says what `explain` says."""
+
+
 def _alone(call: Call) -> Call:
     """A call of a recording that no other thread's call interrupts."""
     @wraps(call)
@@ -90,6 +98,40 @@ def _alone(call: Call) -> Call:
             return call(recording, *given, **named)
 
     return cast(Call, alone)
+
+
+def _records(call: Call) -> Call:
+    """A call that records, if no call before it was wrong."""
+    @wraps(call)
+    def records(recording: Recording, *given: Any, **named: Any) -> Any:
+        __tracebackhide__ = True  # so that the debugger of pytest stops in the caller
+        with recording._lock:
+            wrong = recording._stopped
+            answer = None if wrong else call(recording, *given, **named)
+        if wrong:
+            raise NotAccepted(wrong)
+        return answer
+
+    return cast(Call, records)
+
+
+def _answers(call: Call) -> Call:
+    """A call that hands in what an editor answered: where that is asked for, the session up to it is judged."""
+    @wraps(call)
+    def answers(recording: Recording, *given: Any, **named: Any) -> Any:
+        __tracebackhide__ = True
+        why: Optional[Exception] = None
+        with recording._lock:
+            if recording._stopped:
+                why = NotAccepted(recording._stopped)
+            else:
+                answer = call(recording, *given, **named)
+                why = recording._wrong() if recording._stop else None
+        if why is not None:
+            raise why
+        return answer
+
+    return cast(Call, answers)
 
 
 class _Replica:
@@ -104,9 +146,13 @@ class _Replica:
 
 
 class Recording:
-    """A session of so many replicas; with `only`, the log that this one replica keeps on its own machine."""
+    """A session of so many replicas; with `only`, the log that this one replica keeps on its own machine.
 
-    def __init__(self, replicas: int, only: Optional[int] = None) -> None:
+    With `stop` the session is judged after each call that takes a list. The first after which it is not accepted, or with `weak` too,
+    weak doesn't hold, raises `NotAccepted`; its line is recorded. Later calls raise that again, and record nothing. `weak` is for an
+    editor that promises the weak list specification alone. A program that can't be run raises as in `judge`."""
+
+    def __init__(self, replicas: int, only: Optional[int] = None, stop: bool = False, weak: bool = False) -> None:
         self._lock = threading.RLock()
         if not _whole(replicas, 1, MOST_REPLICAS):
             raise Refused(f"replicas are 1 to {MOST_REPLICAS}, not {replicas}" if _is_int(replicas) else
@@ -123,8 +169,14 @@ class Recording:
         self._changes: Dict[Hashable, List[Tuple[int, int]]] = {}  # by the id of a change: its operations
         self._notes: List[str] = []
         self._delivered: List[Tuple[int, int]] = []  # of each call of `delivered`, the first and the last line of the trace that it wrote
+        self._stop, self._weak = stop, weak
+        self._stopped = ""  # what is wrong with the session, in words
         if only is not None:
             self._only = self._known(only)
+        if stop and only is not None:
+            raise Refused(NOT_STOPPED)
+        if weak and not stop:
+            raise Refused("a recording is told of weak with `stop` alone: else tell `judge` and `explain`")
 
     def __getstate__(self) -> Dict[str, Any]:
         return {name: value for name, value in vars(self).items() if name != "_lock"}  # a copy has its own
@@ -142,31 +194,31 @@ class Recording:
             raise Refused(_not_whole("line", line, 1, MOST_POSITION, " of a file"))
         self._log_line = () if file is None else ((os.fsdecode(file), int(line)),)
 
-    @_alone
+    @_answers
     def insert(self, replica: int, name: str, position: int, response: Iterable[str], change_id: Optional[Hashable] = None) -> int:
         """The replica inserted the name at the position and then had this list. Answers the operation's number. The change's id is for
         `received_changes`."""
         return self._operation(replica, "ins", response, name, position, change_id)
 
-    @_alone
+    @_answers
     def delete(self, replica: int, name: str, response: Iterable[str], change_id: Optional[Hashable] = None) -> int:
         """The replica deleted the name and then had this list. Answers the operation's number. The change's id is for
         `received_changes`."""
         return self._operation(replica, "del", response, name, None, change_id)
 
-    @_alone
+    @_answers
     def read(self, replica: int, response: Iterable[str]) -> int:
         """The replica read its list. Answers the operation's number."""
         return self._operation(replica, "read", response)
 
-    @_alone
+    @_answers
     def view(self, replica: int, part: Iterable[str]) -> int:
         """The replica showed this part of its list, the window of an editor say. Answers the operation's number."""
         n = self._operation(replica, "view", part)
         self._lines[0] = "trace 2"
         return n
 
-    @_alone
+    @_records
     def received(self, replica: int, author: int, n: int) -> None:
         """The author's operation n, and with it all that the author had seen by then, was applied at the replica."""
         replica, author = self._acts(replica), self._known(author)
@@ -179,7 +231,7 @@ class Recording:
         self._room(replica)
         self._receipt(replica, author, n)
 
-    @_alone
+    @_records
     def received_clock(self, replica: int, author: int, clock: Clock, changes: int = 1) -> None:
         """The author's update with this vector clock was applied at the replica: it carries the last of the author's changes that the
         clock counts, or so many of the last. The clock has for each replica how many of its inserts and deletes the author had seen,
@@ -196,7 +248,7 @@ class Recording:
         carried = {(author, n) for n in own[counts[author] - int(changes):counts[author]]}
         self._take(replica, carried, [of.changes[count - 1] if count else 0 for of, count in zip(self._replicas, counts)])
 
-    @_alone
+    @_records
     def received_changes(self, replica: int, change_ids: Iterable[Hashable]) -> None:
         """An update that carries the changes with these ids, and no others, was applied at the replica. Writes a receipt for each
         author of them, unless the replica has it already."""
@@ -212,7 +264,7 @@ class Recording:
             carried.update(self._changes[change_id])
         self._take(replica, carried, [])
 
-    @_alone
+    @_answers
     def delivered(self, lists: Lists) -> None:
         """By now everything has arrived everywhere, and these are the lists that the replicas show: one for each, in their order or by
         replica. Writes for each replica the receipts that are missing, and a read with its list: what an editor has lost, or still
@@ -296,16 +348,34 @@ class Recording:
     def judge(self, program: Optional[Words] = None, weak: bool = False) -> Dict[str, Any]:
         """The program's report on this recording, and as `warnings` what it may hide where it says `accepted`; with `weak`, where weak
         holds. The program is the words that are given, that of $DOMEPEELER, or `domepeeler`."""
+        report = self._report(program)
+        report["warnings"] = self.warnings() if report["verdict"] == "accepted" or (weak and report.get("weak") is True) else []
+        return report
+
+    def _report(self, program: Optional[Words] = None) -> Dict[str, Any]:
+        """The program's report on this recording."""
         name, done = self._ask(program, "DOMEPEELER", "domepeeler", "the program's", ["verdict", "--json", "-"])
         if done.returncode not in (0, 1) or not done.stdout.startswith(b"{"):
             _ended(name, done, "report")
         report = _report_in(name, done.stdout)
         is_accepted, operations = report["verdict"] == "accepted", sum(one.operations for one in self._replicas)
-        is_passing = is_accepted or (weak and report.get("weak") is True)
         if is_accepted != (done.returncode == 0) or report.get("operations") != operations:
             raise RuntimeError(f"{name} ended with status {done.returncode} and printed a report that is not on this recording")
-        report["warnings"] = self.warnings() if is_passing else []
         return report
+
+    def _wrong(self) -> Optional[Exception]:
+        """What is wrong with the session up to here, which is then remembered; or why it was not judged."""
+        try:
+            report = self._report()
+        except RuntimeError as why:
+            return why.with_traceback(None)
+        if report["verdict"] == "accepted" or (self._weak and report.get("weak") is True):
+            return None
+        try:
+            self._stopped = self.explain(weak=self._weak).rstrip("\n")
+        except RuntimeError as why:
+            self._stopped = f"The recording is not accepted: {report['verdict']}. There is no explanation: {why}"
+        return NotAccepted(self._stopped)
 
     @_alone
     def explain(self, explainer: Optional[Words] = None, weak: bool = False) -> str:

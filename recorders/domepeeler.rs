@@ -24,6 +24,9 @@
 //! `refused 3` or more. For such a one end with `recording.assert_weak()`: it passes where weak holds. `contents`, `position`, `doubled`
 //! and `refused 2` still panic, and so do warnings.
 //!
+//! `Recording::new(2)?.stop()?` has the session judged after each call that takes a list, and panics in the call that answered wrong;
+//! `stop_weak` in that after which weak doesn't hold.
+//!
 //! Where updates have vector clocks, `received_clock` writes the receipts, and refuses what is not causal.
 //!
 //! Each call that a trace can't say is `Refused`, and leaves the recording as it was.
@@ -83,6 +86,7 @@ pub enum Refused {
     NotCausal { replica: usize, change: (usize, u32), lacking: (usize, u32) },
     Lists { lists: usize, replicas: usize },
     Others,
+    Stop,
     Note,
     Notes,
     EntriesFull { replica: usize },
@@ -144,6 +148,9 @@ impl Display for Refused {
             }
             Refused::Others => {
                 write!(f, "one replica's log can't say that everything has arrived: the others are recorded elsewhere")
+            }
+            Refused::Stop => {
+                write!(f, "one replica's log can't stop in a wrong call: it is judged only when the logs are merged")
             }
             Refused::Note => write!(f, "a note is one line of 1 to {MOST_LETTERS} printable characters"),
             Refused::Notes => write!(f, "a recording has {MOST_NOTES} notes, the most that it takes"),
@@ -283,7 +290,14 @@ pub struct Recording {
     notes: Vec<String>,
     /// Of each call of `delivered` the first and the last line of the trace that it wrote.
     deliveries: Vec<(usize, usize)>,
+    /// What the session must be after each call that takes a list, where that is asked for.
+    goal: Option<Goal>,
+    /// What is wrong with it, once it isn't so.
+    stopped: Option<String>,
 }
+
+/// Which verdicts are right, and what the explainer is told of that.
+type Goal = (fn(&Verdict) -> bool, &'static [&'static str]);
 
 impl Recording {
     pub fn new(replicas: usize) -> Result<Recording, Refused> {
@@ -296,7 +310,25 @@ impl Recording {
         let callers = Vec::new();
         let names = Names::default();
         let replicas = vec![new; replicas];
-        Ok(Recording { lines, callers, replicas, only: None, names, notes: vec![], deliveries: vec![] })
+        let (notes, deliveries) = (vec![], vec![]);
+        Ok(Recording { lines, callers, replicas, only: None, names, notes, deliveries, goal: None, stopped: None })
+    }
+
+    /// From now on the session is judged after each call that takes a list. The first after which it is not accepted panics, with the
+    /// words of `explain`; its line is recorded. Later calls that record panic with the same words, and record nothing. Where the program
+    /// can't be run, each such call panics with the reason. The log of one replica is refused.
+    pub fn stop(self) -> Result<Recording, Refused> {
+        self.stopping((Verdict::is_accepted, &[]))
+    }
+
+    /// The same for an editor that promises the weak list specification alone: it panics where weak doesn't hold.
+    pub fn stop_weak(self) -> Result<Recording, Refused> {
+        self.stopping((Verdict::is_weak, &["--weak"]))
+    }
+
+    fn stopping(mut self, goal: Goal) -> Result<Recording, Refused> {
+        self.goal = Some(goal);
+        if self.only.is_some() { Err(Refused::Stop) } else { Ok(self) }
     }
 
     /// The log of one replica of so many, on its own machine.
@@ -316,32 +348,44 @@ impl Recording {
         position: u32,
         response: &[N],
     ) -> Result<u32, Refused> {
-        self.operation(replica, "ins", Some((name, Some(position))), response)
+        self.go_on();
+        let n = self.operation(replica, "ins", Some((name, Some(position))), response)?;
+        self.check_answer();
+        Ok(n)
     }
 
     /// The replica deleted the name and then had this list. Answers the operation's number.
     #[track_caller]
     pub fn delete<N: AsRef<str>>(&mut self, replica: usize, name: &str, response: &[N]) -> Result<u32, Refused> {
-        self.operation(replica, "del", Some((name, None)), response)
+        self.go_on();
+        let n = self.operation(replica, "del", Some((name, None)), response)?;
+        self.check_answer();
+        Ok(n)
     }
 
     /// The replica read its list. Answers the operation's number.
     #[track_caller]
     pub fn read<N: AsRef<str>>(&mut self, replica: usize, response: &[N]) -> Result<u32, Refused> {
-        self.operation(replica, "read", None, response)
+        self.go_on();
+        let n = self.operation(replica, "read", None, response)?;
+        self.check_answer();
+        Ok(n)
     }
 
     /// The replica showed this part of its list, the window of an editor say. Answers the operation's number.
     #[track_caller]
     pub fn view<N: AsRef<str>>(&mut self, replica: usize, part: &[N]) -> Result<u32, Refused> {
+        self.go_on();
         let n = self.operation(replica, "view", None, part)?;
         self.lines.replace_range(.."trace 1".len(), "trace 2");
+        self.check_answer();
         Ok(n)
     }
 
     /// The author's operation n, and with it all that the author had seen by then, was applied at the replica.
     #[track_caller]
     pub fn received(&mut self, replica: usize, author: usize, n: u32) -> Result<(), Refused> {
+        self.go_on();
         self.acts(replica)?;
         self.known(author)?;
         if n == 0 {
@@ -370,6 +414,7 @@ impl Recording {
         clock: &[u32],
         changes: u32,
     ) -> Result<(), Refused> {
+        self.go_on();
         self.acts(replica)?;
         self.known(author)?;
         if author == replica {
@@ -401,6 +446,7 @@ impl Recording {
     /// recording keeps which lines it wrote.
     #[track_caller]
     pub fn delivered<L: AsRef<[N]>, N: AsRef<str>>(&mut self, lists: &[L]) -> Result<(), Refused> {
+        self.go_on();
         if self.only.is_some() {
             return Err(Refused::Others);
         }
@@ -416,6 +462,7 @@ impl Recording {
             }
         }
         self.deliveries.push((before.entries + HEAD_LINES + 1, self.lines()));
+        self.check_answer();
         Ok(())
     }
 
@@ -513,15 +560,47 @@ impl Recording {
 
     /// The verdict of the program at this path.
     pub fn verdict_by(&self, program: &str) -> Result<Verdict, String> {
-        let done = self.ask(program, &["verdict", "-"], "the program's path in DOMEPEELER", "no report")?;
-        let read = Verdict::read(&String::from_utf8_lossy(&done.stdout));
-        let mut verdict = read.ok_or_else(|| ended(program, &done, "no report"))?;
-        let (is_accepted, head) = (verdict.is_accepted(), printed(program, &done)?);
-        self.check_agrees(program, &done, is_accepted, head.lines().next().unwrap_or(""), " operations ", " ")?;
+        let mut verdict = self.verdict_alone(program)?;
         if let Verdict::Accepted { warnings, .. } = &mut verdict {
             *warnings = self.warnings()?;
         }
         Ok(verdict)
+    }
+
+    /// The same without warnings.
+    fn verdict_alone(&self, program: &str) -> Result<Verdict, String> {
+        let done = self.ask(program, &["verdict", "-"], "the program's path in DOMEPEELER", "no report")?;
+        let read = Verdict::read(&String::from_utf8_lossy(&done.stdout));
+        let verdict = read.ok_or_else(|| ended(program, &done, "no report"))?;
+        let (is_accepted, head) = (verdict.is_accepted(), printed(program, &done)?);
+        self.check_agrees(program, &done, is_accepted, head.lines().next().unwrap_or(""), " operations ", " ")?;
+        Ok(verdict)
+    }
+
+    /// Panics again where the session has stopped.
+    #[track_caller]
+    fn go_on(&self) {
+        if let Some(words) = &self.stopped {
+            panic!("{words}");
+        }
+    }
+
+    /// Panics where the session was to stop in the call that answered wrong, and this one did, or was not judged.
+    #[track_caller]
+    fn check_answer(&mut self) {
+        let (is_right, goal) = match self.goal {
+            Some(goal) => goal,
+            None => return,
+        };
+        let verdict = match self.verdict_alone(&named("DOMEPEELER", "domepeeler")) {
+            Ok(verdict) if is_right(&verdict) => return,
+            Ok(verdict) => verdict,
+            Err(why) => panic!("{why}"),
+        };
+        let said = self.explained(&explainer(), goal);
+        let untold = |why| format!("The recording is not accepted: {verdict}. There is no explanation: {why}");
+        self.stopped = Some(said.map_or_else(untold, |said| said.trim_end().to_string()));
+        self.go_on();
     }
 
     /// For a test: panics unless the program accepts the recording and no warning says what that may hide, with the warnings and the words

@@ -7,6 +7,9 @@ export class Full extends Refused {}
 /** An update was applied at a replica that lacks a change which the update's author had seen. */
 export class NotCausal extends Refused {}
 
+/** With `stop`: the session is not accepted up to here, or with `weak` too, weak doesn't hold. Says what explain() says. */
+export class NotAccepted extends Error {}
+
 /** The program's report, as docs/formats.md has it. Which fields there are is up to the verdict. */
 export interface Report {
   verdict: "accepted" | "contents" | "position" | "refused" | "doubled"
@@ -25,6 +28,12 @@ export interface Goal {
   weak?: boolean
 }
 
+/** With `stop` the session is judged after each call that takes a list, which throws NotAccepted if it answered wrong; with `weak` too, if
+ * weak then doesn't hold. */
+export interface Stop extends Goal {
+  stop?: boolean
+}
+
 /** For each replica how many of its inserts and deletes an author had seen. */
 export type Clock = readonly number[] | ReadonlyMap<number, number> | Readonly<Record<number, number>>
 
@@ -33,7 +42,7 @@ export type Lists = readonly (readonly string[])[] | ReadonlyMap<number, readonl
 
 /** A session of so many replicas; with `only`, the log that this one replica keeps on its own machine. */
 export class Recording {
-  constructor(replicas: number, only?: number | null)
+  constructor(replicas: number, only?: number | null, options?: Stop)
 
   /** What is recorded from now on comes from this line of this file, a log's: `save` and `explain` name it, and not the lines of your
    * code. Without a file, from your code again. */

@@ -14,12 +14,14 @@
 // saved before is removed, and what the verdict may hide stands in its diagnostics. For a property of fast-check or another library, let
 // the property end with: await accepted(recording, "failed.trace")
 //
+// With { stop: true } as a last argument of recorded() the test fails in the call that answered wrong, and its error's stack begins there.
+//
 // An editor with a server that orders changes promises the weak list specification alone. With { weak: true } as a last argument of
 // both, a recording is taken for accepted where weak holds; `contents`, `position`, `doubled` and `refused 2` still fail.
 import { createHash } from "node:crypto"
 import { mkdir, rm, stat, writeFile } from "node:fs/promises"
 import { basename, dirname, join, relative, resolve } from "node:path"
-import { Recording } from "./domepeeler.mjs"
+import { NotAccepted as Stopped, Recording } from "./domepeeler.mjs"
 
 const FOLDER = "failed_traces", MOST_LETTERS = 150
 const FIRST_LINES = 2 // of each trace: its version, and how many replicas there are
@@ -36,7 +38,7 @@ process.on("exit", () => {
 })
 
 /** The recording is not accepted, or was not judged. */
-export class NotAccepted extends Error {
+export class NotAccepted extends Stopped {
   constructor(told) {
     super(told)
     this.name = "NotAccepted"
@@ -45,10 +47,10 @@ export class NotAccepted extends Error {
 }
 
 /** A function for test(): it begins a recording of so many replicas, hands it to the body, and has it judged when that has ended; with
- * `weak` it passes where weak holds. */
-export function recorded(replicas, body, { folder = FOLDER, weak = false } = {}) {
+ * `weak` it passes where weak holds; with `stop` it fails in the call that answered wrong. */
+export function recorded(replicas, body, { folder = FOLDER, weak = false, stop = false } = {}) {
   return async (context) => {
-    const recording = new Recording(replicas)
+    const recording = new Recording(replicas, null, { stop, weak: stop && weak })
     const test = context.fullName ?? context.name // with the suites' names where Node tells them
     const path = resolve(folder, fileName(test))
     const tell = (told) => `${test}: ${told}`.split("\n").forEach((line) => context.diagnostic(line)) // TAP shows each as one line
@@ -65,7 +67,7 @@ export function recorded(replicas, body, { folder = FOLDER, weak = false } = {})
     try {
       await body(recording, context)
     } catch (why) {
-      tell((await judged(recording, path, weak, true)).told)
+      tell((await judged(recording, path, weak, true, why?.message)).told)
       throw why
     }
     await judge()
@@ -83,9 +85,9 @@ export async function accepted(recording, path, { weak = false } = {}) {
   process.emitWarning(`a recording of ${path} is accepted, and may hide something: ${warnings[0]}`)
 }
 
-// The verdict on a recording in words, which is then saved; nothing where it passes, unless its test has failed by itself. And of what a
-// verdict that passes warns.
-async function judged(recording, path, weak, hasFailed = false) {
+// The verdict on a recording in words, if these aren't known, which is then saved; nothing where it passes, unless its test has failed by
+// itself. And of what a verdict that passes warns.
+async function judged(recording, path, weak, hasFailed = false, known = "") {
   let told, warnings = []
   try {
     const report = await recording.judge(null, { weak }), isAccepted = report.verdict === "accepted"
@@ -97,7 +99,8 @@ async function judged(recording, path, weak, hasFailed = false) {
   } catch (why) {
     told = `The recording was not judged: ${why.message}`
   }
-  return { told: `${told.trimEnd()}\n\n${await saved(recording, resolve(path))}`, warnings }
+  const words = told.trimEnd() === known ? "" : `${told.trimEnd()}\n\n`
+  return { told: words + await saved(recording, resolve(path)), warnings }
 }
 
 async function saved(recording, path) {

@@ -8,6 +8,9 @@ Needs Debian's python3-hypothesis and python3-pytest, and the program's path in 
 For an editor whose server orders all changes, ask in `check` for `recording.judge(weak=True)`, and in the place of the verdict for
 `report.get("weak")`.
 
+To stop a debugger in the call that answered wrong, run the steps that failed alone, with `Recording(replicas, stop=True)` in `Group`: it starts
+the program at each call.
+
 The second test fails, and is meant to: it shows what a failure looks like, and leaves the recording in failed.trace."""
 import sys
 from pathlib import Path

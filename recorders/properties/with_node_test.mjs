@@ -10,6 +10,9 @@
 // For an editor whose server orders all changes, ask in `failing` for { weak, warnings } of judge(null, { weak: true }), and for `!weak` in
 // the place of the verdict.
 //
+// To stop a debugger in the call that answered wrong, run the steps that failed alone, with `new Recording(REPLICAS, null, { stop: true })`
+// in `session`: it starts the program at each call.
+//
 // The second test fails, and is meant to: it shows what a failure looks like, and leaves the recording in failed.trace.
 import assert from "node:assert"
 import { createRequire } from "node:module"

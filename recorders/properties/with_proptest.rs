@@ -3,6 +3,9 @@
 //!
 //! For an editor whose server orders all changes, ask in `check` for `recording.verdict()`, and of that for `is_weak()`.
 //!
+//! To stop a debugger in the call that answered wrong, run the steps that failed alone, with `Recording::new(REPLICAS)?.stop()?` in
+//! `Group::new`: it starts the program at each call.
+//!
 //! The second test fails, and is meant to: it shows what a failure looks like, and leaves the recording in failed.trace.
 //! There an operation may arrive before what its author had seen, which this list doesn't bear.
 #![cfg(test)]

@@ -379,6 +379,82 @@ test("awaited", async () => {
   if (!why.startsWith("refused 3: ")) throw new Error(`not so: ${why}`)
 })
 '''}
+# Tests that stop in the call that answers wrong. One catches what it throws, and passes by itself.
+STOP = {
+    "python": '''
+import pytest
+
+
+def lose(recording):
+    n = recording.insert(0, "a", 0, ["a"])
+    recording.received(1, 0, n)
+    recording.read(1, [])  # answers wrong
+    raise ValueError("went on")
+
+
+def test_stops(domepeeler):
+    lose(domepeeler(2, stop=True))
+
+
+def test_is_caught(domepeeler):
+    with pytest.raises(AssertionError):
+        lose(domepeeler(2, stop=True))
+
+
+def test_right(domepeeler):
+    recording = domepeeler(2, stop=True)
+    recording.insert(0, "a", 0, ["a"])
+    recording.delivered([["a"], ["a"]])
+
+
+@pytest.mark.parametrize("weak", [False, True])
+def test_weak(domepeeler, weak):
+    recording = domepeeler(3, weak=weak, stop=True)
+    recording.insert(0, "x", 0, ["x"])
+    recording.received(1, 0, 1)
+    recording.received(2, 0, 1)
+    recording.insert(1, "a", 0, ["a", "x"])
+    recording.insert(2, "b", 1, ["x", "b"])
+    recording.delete(0, "x", [])
+    recording.received(0, 1, 1)
+    recording.received(0, 2, 1)
+    recording.read(0, ["b", "a"])  # strong fails
+    recording.delivered([["b", "a"]] * 3)
+''',
+    "javascript": '''
+import assert from "node:assert"
+import { test } from "node:test"
+import { NotAccepted } from "domepeeler"
+import { recorded } from "domepeeler/node_test"
+
+function lose(recording) {
+  const n = recording.insert(0, "a", 0, ["a"])
+  recording.received(1, 0, n)
+  recording.read(1, []) // answers wrong
+  throw new Error("went on")
+}
+
+test("stops", recorded(2, lose, { stop: true }))
+test("is caught", recorded(2, (recording) => assert.throws(() => lose(recording), NotAccepted), { stop: true }))
+test("right", recorded(2, (recording) => {
+  recording.insert(0, "a", 0, ["a"])
+  recording.delivered([["a"], ["a"]])
+}, { stop: true }))
+for (const weak of [false, true]) {
+  test(`weak ${weak}`, recorded(3, (recording) => {
+    recording.insert(0, "x", 0, ["x"])
+    recording.received(1, 0, 1)
+    recording.received(2, 0, 1)
+    recording.insert(1, "a", 0, ["a", "x"])
+    recording.insert(2, "b", 1, ["x", "b"])
+    recording.delete(0, "x", [])
+    recording.received(0, 1, 1)
+    recording.received(0, 2, 1)
+    recording.read(0, ["b", "a"]) // strong fails
+    recording.delivered([["b", "a"], ["b", "a"], ["b", "a"]])
+  }, { weak, stop: true }))
+}
+'''}
 FAILS_WEAK = {"strong": "refused 3: ", "opposite": "refused 2: ", "lost": "contents 2.2: "}
 ALONE = "weak holds, strong doesn't: this passes"
 
@@ -752,6 +828,7 @@ def check_python(tally: Tally, place: Place) -> None:
                 "test_nothing" in said and all(words in said for words in warnings_of("accepted", b"trace 1\nreplicas 2\n").all), said)
     check_ends_of_pytest(tally, place, [*command[:-1], "test_ends.py"])
     check_weak_of_pytest(tally, place, [*command[:-1], "test_weak.py"])
+    check_stop_of_pytest(tally, place, [*command[:-1], "test_stop.py"])
     check_beside(tally, place, "Python", [python, "-c", EXPLAINING["python"]], "python")
     script = place.make("python/use.py", USES["python"])
     check_used(tally, "Python", place.run([python, script, place.make("no_explainer", NO_EXPLAINER, 0o755)], "python"))
@@ -812,6 +889,36 @@ def check_weak_of_pytest(tally: Tally, place: Place, command: list) -> None:
                 done.stdout, done.stdout)
 
 
+def line_with(text: str, words: str) -> int:
+    return next(number for number, line in enumerate(text.splitlines(), 1) if words in line)
+
+
+def check_stop_of_pytest(tally: Tally, place: Place, command: list) -> None:
+    """A test that stops in the wrong call fails there: pytest and its debugger show that line and none of the recorder, and the words once. One
+    that catches this fails at its end. A program that can't be run is an error of the first call."""
+    text = STOP["python"]
+    place.make("python/test_stop.py", text)
+    done = place.run(command, "python")
+    tally.check("pytest: counts of stops", "3 failed, 2 passed" in done.stdout, done.stdout)
+    said = sections(done.stdout)
+    for name, words, line in ("test_stops", LOST, "# answers wrong"), ("test_weak[False]", "refused 3: ", "# strong fails"):
+        told, shown = said.get(name, ""), re.escape(text.splitlines()[line_with(text, line) - 1].strip())
+        tally.check(f"pytest: {name}: the editor's line", re.search(rf"^> +{shown}$", told, re.MULTILINE) and "__init__.py" not in told and
+                    f"\ntest_stop.py:{line_with(text, line)}: NotAccepted\n" in told, told)
+        tally.check(f"pytest: {name}: the words, once", f"NotAccepted: {words}" in told and told.count("Where to look") == 1 and
+                    told.count("The trace is saved: ") == 1, told)
+    saved = place.folder / "python/failed_traces/test_stop.py--test_stops.trace"
+    tally.check("pytest: the trace ends with the wrong line", saved.is_file() and saved.read_text() == LOST_TRACE, done.stdout)
+    tally.check("pytest: a test that catches the stop", said.get("test_is_caught", "").lstrip().startswith(LOST), said.get("test_is_caught"))
+    words = " ".join([*command, "-k", "stops", "--pdb"])
+    done = place.run(["sh", "-c", f"printf 'p recording.lines() * 1000\nq\n' | {words}"], "python")
+    tally.check("pytest: the debugger stands in the editor's line", "(Pdb) 5000\n" in done.stdout and re.search(
+        rf"> .*/test_stop\.py\({line_with(text, '# answers wrong')}\)lose\(\)", done.stdout), done.stdout)
+    done = place.run([*command, "-k", "stops"], "python", DOMEPEELER="nowhere")
+    tally.check("pytest: stops without a program", f"\ntest_stop.py:{line_with(text, 'insert(0')}: RuntimeError\n" in done.stdout and
+                "RuntimeError: nowhere cannot be run" in done.stdout and "__init__.py" not in done.stdout, done.stdout)
+
+
 NO_EXPLAINER = "#!/bin/sh\ncat > /dev/null\necho 'not today' >&2\nexit 2\n"
 
 
@@ -867,6 +974,7 @@ def check_javascript(tally: Tally, place: Place) -> None:
     tally.check("node --test: a path of its own", own == [".gitignore", "awaited.trace", "awaited.trace.lines"], own)
     check_ends_of_node(tally, place)
     check_weak_of_node(tally, place)
+    check_stop_of_node(tally, place)
     place.make("folder/editor.test.mjs", NODE_TEST)
     linked = place.run(["node", "--test", "--test-reporter=tap", "editor.test.mjs"], "folder").stdout.split("not ok 2 - lost")[-1]
     check_places(tally, "node --test: of a folder that is a link", re.sub("^    ", "", linked, flags=re.MULTILINE), "editor.test.mjs", NODE_TEST)
@@ -941,6 +1049,32 @@ def check_weak_of_node(tally: Tally, place: Place) -> None:
     done = place.run(words, "packed", DOMEPEELER_EXPLAIN="nowhere")
     tally.check("node --test: weak, without an explainer", "The recording is refused, and weak holds. There is no explanation: nowhere cannot" in
                 done.stdout, done.stdout)
+
+
+def check_stop_of_node(tally: Tally, place: Place) -> None:
+    """The same for Node's test runner, without a debugger: the error's stack begins in the editor's line."""
+    text = STOP["javascript"]
+    place.make("packed/stop.test.mjs", text)
+    words = ["node", "--test", "--test-reporter=tap", "stop.test.mjs"]
+    done = place.run(words, "packed")
+    tally.check("node --test: counts of stops", "# pass 2\n" in done.stdout and "# fail 3\n" in done.stdout and
+                "\nok 3 - right\n" in done.stdout and "\nok 5 - weak true\n" in done.stdout, done.stdout)
+    for number, name, begins, line in (1, "stops", LOST, "// answers wrong"), (4, "weak false", "refused 3: ", "// strong fails"):
+        told = done.stdout.split(f"not ok {number} - {name}\n")[-1].split(f"ok {number + 1} - ")[0]
+        place_of = rf"stack: \|-\n[^\n]*stop\.test\.mjs:{line_with(text, line)}:"
+        tally.check(f"node --test: {name}: the editor's line", re.search(place_of, told), told)
+        tally.check(f"node --test: {name}: the words, once", re.search(rf"error: \|-\n *{begins}", told) and
+                    told.count("Where to look") == 1 and f"# {name}: The trace is saved: " in done.stdout, done.stdout)
+    told = done.stdout.split("not ok 2 - is caught\n")[-1].split("ok 3 - ")[0]
+    tally.check("node --test: a test that catches the stop", re.search(rf"error: [^\n]*\n *{LOST}", told) and "The trace is saved: " in told,
+                told)
+    script = "process.getBuiltinModule = undefined; const { Recording } = await import('domepeeler'); new Recording(2, null, { stop: true })"
+    done = place.run(["node", "--input-type=module", "-e", script], "packed")
+    tally.check("JavaScript: stops in no Node.js that is older", "Error: `stop` needs Node.js from 20.16 or 22.3 on" in done.stdout, done.stdout)
+    done = place.run(words, "packed", DOMEPEELER="nowhere")
+    told = done.stdout.split("not ok 1 - stops\n")[-1].split("ok 2 - ")[0]
+    tally.check("node --test: stops without a program", "nowhere cannot be run" in told and
+                re.search(rf"stack: \|-\n[^\n]*stop\.test\.mjs:{line_with(text, 'insert(0')}:", told), told)
 
 
 def check_rust(tally: Tally, place: Place) -> None:

@@ -249,6 +249,30 @@ CHANGES = [
      "one replica's log does not know the changes of the others: send each operation's number, and call received\n", ["1 ins a 0 : a"]),
 ]
 
+# Sessions that are judged after each call that takes a list. An answer that begins with `stopped` is followed by what else `explain` says of
+# the trace up to there; `again` stands for the same answer.
+STOPS = [
+    ("right", "stop 2 -> ok\ninsert 0 a 0 a -> ok 1\nreceived 1 0 1 -> ok\nread 1 a -> ok 1\ndelete 1 a -> ok 2\nview 0 a -> ok 2\n"
+     "delivered / -> ok\n"),
+    ("a lost element", "stop 2 -> ok\ninsert 0 a 0 a -> ok 1\nreceived 1 0 1 -> ok\nread 1 -> stopped contents 1.1:\nread 1 a -> again\n"
+     "insert 0 b 1 a b -> again\ndelete 0 a -> again\nview 1 -> again\nreceived 0 1 1 -> again\nreceived_clock 0 1 1 0 0 -> again\n"
+     "delivered a / a -> again\nnote seed -> ok\nlines -> ok 5\n"),
+    ("a wrong insert", "stop 1 -> ok\ninsert 0 a 0 a -> ok 1\ninsert 0 b 1 b a -> stopped position 0.2:\nread 0 -> again\nlines -> ok 4\n"),
+    ("a wrong delete", "stop 1 -> ok\ninsert 0 a 0 a -> ok 1\ndelete 0 a a -> stopped contents 0.2:\nlines -> ok 4\n"),
+    ("a wrong view", "stop 2 -> ok\ninsert 0 a 0 a -> ok 1\nread 0 a -> ok 2\nview 1 a -> stopped contents 1.1:\nlines -> ok 5\n"),
+    ("wrong lists in the end", "stop 2 -> ok\ninsert 0 a 0 a -> ok 1\ndelivered a / -> stopped contents 1.1:\nread 0 a -> again\n"
+     "lines -> ok 6\n"),
+    ("a name twice", "stop 1 -> ok\ninsert 0 a 0 a -> ok 1\ninsert 0 a 0 a -> stopped doubled: 0.1 and 0.2 insert the same name\nlines -> ok 4\n"),
+    ("opposite orders", "stop 2 -> ok\ninsert 0 a 0 a -> ok 1\ninsert 1 b 0 b -> ok 1\nreceived 0 1 1 -> ok\nreceived 1 0 1 -> ok\n"
+     "read 0 a b -> ok 2\nread 1 b a -> stopped refused 2:\nlines -> ok 8\n"),
+    ("a cycle of three", CYCLE.replace("new 3", "stop 3").replace("b a -> ok 3", "b a -> stopped refused 3:") + "lines -> ok 11\n"),
+    ("a cycle of three where weak is enough", CYCLE.replace("new 3", "stop_weak 3") + "delivered b a / b a / b a -> ok\n"),
+    ("opposite orders where weak is enough", CYCLE.replace("new 3", "stop_weak 3") + "delivered b a / b a / a b -> stopped refused 2:\n"
+     "lines -> ok 18\n"),
+    ("what is refused is not judged", "stop 2 -> ok\nread 7 -> refused no replica 7 among 0 to 1\nread 0 -> ok 1\n"),
+    ("one replica's log", "stop 2 1 -> refused one replica's log can't stop in a wrong call: it is judged only when the logs are merged\n"),
+]
+
 # Calls that are refused, behind calls that are not; the recording stays what it was.
 REFUSED = [
     ("replica 2 of 2", "new 2 -> ok\nread 2 -> refused no replica 2 among 0 to 1\n"),
@@ -312,7 +336,7 @@ OWN_TYPES = {
            "number of changes is not a whole number from 1 to 1 but None", "delivered wants the list of each of the 2 replicas, not None",
            'delivered wants the list of each of the 2 replicas, not the string "ab"', "no replica 2 among 0 to 1",
            "delivered wants the list of each of the 2 replicas, not of 1", "a response is a list of names", NO_NOTE.partition(" ")[2],
-           REPLICA + 'the string "' + "1" * 40 + '"..'],
+           REPLICA + 'the string "' + "1" * 40 + '"..', "a recording is told of weak with `stop` alone: else tell `judge` and `explain`"],
     "mjs": [REPLICA + "a Symbol", POSITION + "the BigInt 2", "a name is a string, not a Symbol", "a name is a string, not the BigInt 3",
             "a name is a string, not undefined", "a name is a string, not undefined", POSITION + "null", POSITION + "the number NaN",
             POSITION + "an array", POSITION + "an object", POSITION + "a function",
@@ -321,7 +345,8 @@ OWN_TYPES = {
             'delivered wants the list of each of the 2 replicas, not the string "ab"', "no replica 2 among 0 to 1",
             "delivered wants the list of each of the 2 replicas, not of 1", "a response is a list of names", NO_NOTE.partition(" ")[2],
             REPLICA + 'the string "' + "1" * 40 + '"..', "an id of a change is a string or a number, not a Symbol",
-            'name "a b" ' + NAME, "count of a clock is not a whole number from 0 to 4294967295 but undefined"]}
+            'name "a b" ' + NAME, "count of a clock is not a whole number from 0 to 4294967295 but undefined",
+            "a recording is told of weak with `stop` alone: else tell judge() and explain()"]}
 
 ELEMENTS = [f"e{i}" for i in range(4097)]
 FULL = "the most that a trace takes"
@@ -2009,6 +2034,41 @@ def check_weak(tally: Tally, recorder: Recorder) -> None:
                     told["warnings"] == [], report)
 
 
+def check_stop(tally: Tally, recorder: Recorder, folder: Path) -> None:
+    """A session stops in the call that answered wrong, in no other, and with the words of `explain`; its line stays the last. Where there is
+    no verdict, each call says so."""
+    for name, script in STOPS:
+        pairs = [line.split(" -> ") for line in script.split("\n")[:-1]]
+        if recorder.language not in CLOCKED:
+            pairs = [pair for pair in pairs if not pair[0].startswith("received_clock")]
+        weak = "explain_weak" if script.startswith("stop_weak") else "explain"
+        asked = [weak] if "stopped" in script else []
+        got = recorder.answers([*(fields(call) for call, _ in pairs), *asked], DOMEPEELER_EXPLAIN=EXPLAIN)
+        answers, told = got[:len(pairs)], " / ".join(line[2:] for line in got[len(pairs):-1])
+        at = next((at for at, (_, wanted) in enumerate(pairs) if wanted.startswith("stopped")), len(pairs))
+        says = answers[at] if at < len(answers) else ""
+        wanted = [says if wanted == "again" or number == at else wanted for number, (_, wanted) in enumerate(pairs)]
+        tally.check(f"{recorder.language}: stops, {name}", answers == wanted, got)
+        if at == len(pairs):
+            continue
+        told = told.partition(" /  / Noted")[0]  # what was noted when it had stopped
+        tally.check(f"{recorder.language}: stops, {name}: the words", says.startswith(pairs[at][1]) and says == f"stopped {told}" and
+                    (recorder.language == "el" or " / In your code / " in says), got)
+    calls = [fields(call) for call in ("stop 2", "insert 0 a 0 a", "received 1 0 1", "read 1 a", "lines")]
+    killed = folder / "killed"
+    killed.write_text("#!/bin/sh\ncat > /dev/null\necho no >&2\nexit 3\n")
+    killed.chmod(0o755)
+    for program, why in (str(folder / "nowhere"), "cannot be run"), (str(killed), "ended with status 3: no"):
+        got = recorder.answers(calls, DOMEPEELER=program)
+        is_told = [answer.startswith(f"failed {program} {why}") for answer in got]
+        tally.check(f"{recorder.language}: stops where the program {why}", is_told == [False, True, False, True, False] and
+                    got[::2] == ["ok", "ok", "ok 5"], got)
+    calls[3] = "read\t1"
+    got = recorder.answers(calls, DOMEPEELER_EXPLAIN="nowhere")
+    tally.check(f"{recorder.language}: stops without an explainer", re.match(
+        r"stopped The recording is not accepted: contents( 1\.1)?\. There is no explanation: nowhere cannot be run", got[3]), got)
+
+
 def check_jupiter(tally: Tally, program: str, folder: Path) -> None:
     """Random sessions of an editor with a server. A right one passes where weak alone is asked for, though some of its sessions are refused; with
     each of four bugs sessions fail. Both languages record the same."""
@@ -2192,6 +2252,17 @@ fn nothing_is_recorded() {{
 }}
 
 #[test]
+fn it_stops() {{
+    let mut recording = Recording::new(2).unwrap().stop().unwrap();
+    recording.insert(0, "a", 0, &["a"]).unwrap();
+    recording.received(1, 0, 1).unwrap();
+    recording.read(1, if std::env::var_os("LOST").is_some() {{ NONE }} else {{ &["a"] }}).unwrap(); // stops
+    if std::env::var_os("LOST").is_some() {{
+        println!("it went on");
+    }}
+}}
+
+#[test]
 fn there_is_no_program() {{
     assert!(session().verdict_by("/nowhere/domepeeler").unwrap_err().starts_with("/nowhere/domepeeler cannot be run ("));
     assert_eq!(session().verdict_by("true").unwrap_err(), "true ended with status 0 and printed no report");
@@ -2269,10 +2340,13 @@ def check_rust_tests(tally: Tally, program: str, folder: Path) -> None:
     subprocess.run(["rustc", "--edition", "2021", "-D", "warnings", "--test", "-o", "editor-0123456789abcdef", "editor.rs"], cwd=place,
                    check=True)
     surroundings = {**os.environ, "DOMEPEELER": program, "DOMEPEELER_EXPLAIN": EXPLAIN, "RUST_BACKTRACE": "0", "LC_ALL": "C.UTF-8"}
-    line = {word: next(number for number, text in enumerate(RUST_TESTS.splitlines(), 1) if f"// {word}" in text) for word in ("asks", "reads", "weak")}
+    line = {word: next(number for number, text in enumerate(RUST_TESTS.splitlines(), 1) if f"// {word}" in text) for word in ("asks", "reads", "stops", "weak")}
     saved = place / "failed_traces" / "editor-inner-a_list_is_lost.trace"
     done = subprocess.run(["./editor-0123456789abcdef"], cwd=place, env={**surroundings, "LOST": "1"}, capture_output=True, text=True)
-    tally.check("Rust tests: counts", done.returncode != 0 and "test result: FAILED. 3 passed; 5 failed;" in done.stdout, done)
+    tally.check("Rust tests: counts", done.returncode != 0 and "test result: FAILED. 3 passed; 6 failed;" in done.stdout, done)
+    tally.check("Rust tests: one that stops names the line of its call", re.search(
+        rf"editor\.rs:{line['stops']}:\d+:\ncontents 1\.1: [^\0]*editor\.rs:{line['stops']}: line 5\n", done.stdout) and
+        "it went on" not in done.stdout, done)
     tally.check("Rust tests: a lost list is explained", f"editor.rs:{line['asks']}:" in done.stdout and "contents 1.1: " in done.stdout and
                 f"\nIn your code\n  editor.rs:9: line 3\n  editor.rs:10: line 4\n  editor.rs:{line['reads']}: line 5\n" in done.stdout and
                 f"\nThe trace is saved: failed_traces/{saved.name}\n" in done.stdout, done)
@@ -2308,7 +2382,7 @@ def check_rust_tests(tally: Tally, program: str, folder: Path) -> None:
         tally.check(f"Rust tests: a report of {operations} operations with status {status}", "0 passed; 1 failed;" in done.stdout and
                     f"./liar ended with status {status} and printed a report that is not on this recording" in done.stdout, done)
     done = subprocess.run(["./editor-0123456789abcdef"], cwd=place, env=surroundings, capture_output=True, text=True)
-    tally.check("Rust tests: one that passes removes what it saved before", "7 passed; 1 failed;" in done.stdout and
+    tally.check("Rust tests: one that passes removes what it saved before", "8 passed; 1 failed;" in done.stdout and
                 [path.name for path in saved.parent.iterdir()] == [".gitignore"], done)
     need("clippy-driver", "rust-clippy")
     (place / "tests/domepeeler").mkdir(parents=True)
@@ -2342,7 +2416,7 @@ HEADERS = ["", "#include <stdio.h>\n#include <string.h>\n", "#include <unistd.h>
 STRICT = ["-Wall", "-Wextra", "-Wconversion", "-Wcast-qual", "-pedantic", "-Werror", "-fsyntax-only"]
 CHECKED = ['insert(d, 0, "a", 0, list, 1)', 'delete(d, 0, "a", list, 1)', "read(d, 0, list, 1)", "view(d, 0, list, 1)", "received(d, 1, 0, 1)",
            "received_clock(d, 1, 0, clock, 2, 1)", "clock(d, 0, clock)", "delivered(d, lists, names, 2)", 'note(d, "seed 17")', 'save(d, "x")',
-           "passes_weak(d, NULL)", *(f"{call}_from(__FILE__, __LINE__, d, {rest})" for call, rest in (
+           "passes_weak(d, NULL)", "stop(d, 0, NULL, NULL)", *(f"{call}_from(__FILE__, __LINE__, d, {rest})" for call, rest in (
                ("insert", '0, "a", 0, list, 1'), ("delete", '0, "a", list, 1'), ("read", "0, list, 1"), ("view", "0, list, 1"),
                ("received", "1, 0, 1"), ("received_clock", "1, 0, clock, 2, 1"), ("delivered", "lists, names, 2")))]
 USES_C = """{}#include "{}"
@@ -2426,6 +2500,56 @@ def check_places_c(tally: Tally, program: str, folder: Path) -> None:
     tally.check("C: a place for each line of which it is known", beside ==
                 "8\nlanguage c\n3 editor.y:7\n6 a??\u00e4 b.c:12\n7 other.y:20\n8 other.y:20\n", beside)
     tally.check("C: explain names these", done.stdout.endswith("\n\nIn your code\n  editor.y:7: line 3\n  other.y:20: lines 7 and 8\n\n"), done)
+
+
+# A program in C++ whose call-back throws, and one that has none.
+STOP_CPP = f"""#include "{ROOT / 'recorders'}/domepeeler.h"
+#include <string>
+static void raise_it(const char *words, void *data) {{
+    ++*static_cast<int *>(data);
+    throw std::string(words);
+}}
+static void lose(struct domepeeler *d) {{
+    const char *list[] = {{"a"}};
+    if (!domepeeler_insert(d, 0, "a", 0, list, 1) || !domepeeler_received(d, 1, 0, 1)) puts("refused");
+    if (!domepeeler_read(d, 1, NULL, 0)) puts(domepeeler_why(d)); // answers wrong
+}}
+int main() {{
+    int called = 0;
+    struct domepeeler *d = domepeeler_new(2);
+    if (!domepeeler_stop(d, 0, raise_it, &called)) return 1;
+    for (int i = 0; i < 2; i++) {{
+        try {{
+            lose(d);
+        }} catch (const std::string &words) {{
+            printf("%d %zu %s\\n", called, domepeeler_lines(d), i ? "again" : words.c_str());
+        }}
+    }}
+    domepeeler_free(d);
+    d = domepeeler_new(2);
+    if (!domepeeler_stop(d, 0, NULL, NULL)) return 1;
+    lose(d);
+    puts(domepeeler_stopped(d) ? "stopped" : "not stopped");
+    char *warnings = domepeeler_warnings(d);
+    printf("%s", warnings);
+    free(warnings);
+    domepeeler_free(d);
+    return 0;
+}}
+"""
+
+
+def check_stop_cpp(tally: Tally, program: str, folder: Path) -> None:
+    """A call-back may throw: nothing is lost by that, and the session is stopped. Without one the call answers 0, which is no refusal."""
+    Path(folder, "stop.cpp").write_text(STOP_CPP)
+    words = ["g++", "-std=c++11", "-Wall", "-Wextra", "-Werror", "-fsanitize=address,undefined", "-o", "stop", "stop.cpp"]
+    subprocess.run(words, cwd=folder, check=True)
+    done = subprocess.run(["./stop"], cwd=folder, capture_output=True, text=True, env={
+        **os.environ, "DOMEPEELER": program, "DOMEPEELER_EXPLAIN": EXPLAIN, "LC_ALL": "C.UTF-8"})
+    line = next(number for number, text in enumerate(STOP_CPP.splitlines(), 1) if "// answers wrong" in text)
+    tally.check("C++: a call-back that throws", done.returncode == 0 and done.stdout.startswith("1 5 contents 1.1: ") and
+                f"  stop.cpp:{line}: line 5\n2 5 again\n" in done.stdout, done)
+    tally.check("C++: no call-back", re.search(r"\n2 5 again\ncontents 1\.1: [^\n]*\nstopped\nin the end replicas 0 and 1 show different lists\n$", done.stdout), done)
 
 
 # Four threads that share a recording under a lock.
@@ -2611,6 +2735,7 @@ def main() -> None:
             if language in EXPLAINING:
                 check_explain(tally, recorder, folder)
             check_weak(tally, recorder)
+            check_stop(tally, recorder, folder)
         check_jupiter(tally, program, folder)
         check_python(tally)
         check_users(tally, program, folder)
@@ -2631,6 +2756,7 @@ def main() -> None:
         check_rust_tests(tally, program, folder)
         check_compilers(tally, folder)
         check_places_c(tally, program, folder)
+        check_stop_cpp(tally, program, folder)
         check_threads_c(tally, folder)
         check_hostile_c(tally, Recorder("c", drivers["c"], program), folder)
     tally.close()

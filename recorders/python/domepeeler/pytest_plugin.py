@@ -7,6 +7,8 @@
 For an editor that promises the weak list specification alone, as one with a server that orders changes, begin `domepeeler(2, weak=True)`:
 then a recording is taken for accepted where weak holds. `contents`, `position`, `doubled` and `refused 2` still fail.
 
+Begin `domepeeler(2, stop=True)`, and the test fails in the call that answered wrong; `pytest --pdb` stops in the line that made it.
+
 Where a recording is not accepted the test fails, and its report has the explanation and the path of the saved trace. What other
 fixtures record while they are torn down is judged too, when that is done; pytest tells it as an error of the test. The report of a
 test that fails by itself has the verdict on its recordings, accepted or not, in a section of its own, and they are saved. Where a test
@@ -69,12 +71,13 @@ def pytest_addoption(parser: pytest.Parser) -> None:
 
 @pytest.fixture
 def domepeeler(request: pytest.FixtureRequest) -> Callable[..., Recording]:
-    """Begins a recording of so many replicas, which is judged when the test ends; with `weak`, where it passes if weak holds."""
+    """Begins a recording of so many replicas, which is judged when the test ends; with `weak`, where it passes if weak holds; and with
+    `stop`, also after each call that takes a list."""
     begun = Begun()
     setattr(request.node, BEGUN, begun)
 
-    def begin(replicas: int, weak: bool = False) -> Recording:
-        begun.recordings.append(Judged(Recording(replicas), weak))
+    def begin(replicas: int, weak: bool = False, stop: bool = False) -> Recording:
+        begun.recordings.append(Judged(Recording(replicas, stop=stop, weak=weak and stop), weak))
         return begun.recordings[-1].recording
 
     return begin
@@ -108,7 +111,8 @@ def pytest_runtest_makereport(item: pytest.Item, call: pytest.CallInfo[None]) ->
     outcome = yield
     report, begun = outcome.get_result(), getattr(item, BEGUN, Begun())
     if report.failed and begun.recordings:
-        told = [told_of(item, one, number, True) for number, one in begun.numbered()]
+        known = str(call.excinfo.value) if call.excinfo else ""  # what `stop` has said already
+        told = [told_of(item, one, number, True, known) for number, one in begun.numbered()]
         report.sections.append(("Domepeeler", "\n\n".join(told)))
         begun.recordings = []
 
@@ -121,8 +125,9 @@ def fail_by_faults(item: pytest.Item, begun: Begun) -> None:
         pytest.fail("\n\n".join(filter(None, told)), pytrace=False)
 
 
-def told_of(item: pytest.Item, one: Judged, number: Optional[int], has_failed: bool) -> str:
-    """The verdict on a recording in words, which is then saved; nothing where it is accepted, unless its test has failed by itself."""
+def told_of(item: pytest.Item, one: Judged, number: Optional[int], has_failed: bool, known: str = "") -> str:
+    """The verdict on a recording in words, if these aren't known, which is then saved; nothing where it is accepted, unless its test has
+    failed by itself."""
     one.lines = one.recording.lines()
     try:
         report = one.recording.judge(weak=one.weak)
@@ -134,7 +139,7 @@ def told_of(item: pytest.Item, one: Judged, number: Optional[int], has_failed: b
         if is_passing and not has_failed:
             return ""
         told = explained(one, report["verdict"], is_passing)
-    return f"{told}\n\n{saved(item, one.recording, number)}"
+    return ("" if told == known else f"{told}\n\n") + saved(item, one.recording, number)
 
 
 def explained(one: Judged, verdict: str, is_passing: bool) -> str:

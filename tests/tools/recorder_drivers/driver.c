@@ -20,7 +20,24 @@ static void split(char *line) {
 
 static int is(const char *word) { return strcmp(words[0], word) == 0; }
 
+static const char *called_back; /* with these words */
+
+static void call_back(const char *words, void *data) { *(const char **)data = words; }
+
+/* Says what stopped a call, in one line, if it was told to the call-back too; else why there was no verdict. */
+static void stopped(struct domepeeler *d) {
+    const char *words = domepeeler_stopped(d), *letter = words && words == called_back ? words : "and was not called back";
+    if (!words) printf("failed %s\n", domepeeler_why(d));
+    else printf("stopped ");
+    for (; words && *letter; letter++)
+        if (*letter == '\n') printf(" / ");
+        else putchar(*letter);
+    if (words) puts("");
+    called_back = NULL;
+}
+
 static void answer(struct domepeeler *d, unsigned n, int numbered) {
+    if (!n && (called_back || domepeeler_stopped(d))) return stopped(d);
     if (n && numbered) printf("ok %u\n", n);
     if (n && !numbered) printf("ok\n");
     int is_uncausal = strncmp(domepeeler_why(d), "not causal: ", 12) == 0;
@@ -93,6 +110,12 @@ static void delivered(struct domepeeler *d) {
 
 static struct domepeeler *begin(struct domepeeler *old) {
     struct domepeeler *d = domepeeler_new_only(atoi(words[1]), count > 2 ? atoi(words[2]) : -1);
+    int is_stopping = strncmp(words[0], "stop", 4) == 0;
+    if (d && is_stopping && !domepeeler_stop(d, is("stop_weak"), call_back, &called_back)) {
+        printf("refused %s\n", domepeeler_why(d));
+        domepeeler_free(d);
+        return old;
+    }
     puts(d ? "ok" : "refused");
     if (!d) return old;
     domepeeler_free(old);
@@ -107,7 +130,7 @@ int main(void) {
         split(line);
         int replica = count > 1 ? atoi(words[1]) : 0;
         const char *const *list = (const char *const *)words;
-        if (is("new")) d = begin(d);
+        if (is("new") || is("stop") || is("stop_weak")) d = begin(d);
         if (is("insert")) answer(d, domepeeler_insert(d, replica, words[2], atoll(words[3]), list + 4, count - 4), 1);
         if (is("delete")) answer(d, domepeeler_delete(d, replica, words[2], list + 3, count - 3), 1);
         if (is("read")) answer(d, domepeeler_read(d, replica, list + 2, count - 2), 1);

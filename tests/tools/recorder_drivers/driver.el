@@ -30,6 +30,10 @@
   (let ((number (string-to-number (or (nth 1 words) "0"))))
     (pcase (car words)
       ("new" (setq driver-recording (apply #'domepeeler-new (mapcar #'string-to-number (cdr words)))) "ok")
+      ((or "stop" "stop_weak")
+       (setq driver-recording (domepeeler-new number (and (nth 2 words) (string-to-number (nth 2 words)))
+                                              (if (equal (car words) "stop") t 'weak)))
+       "ok")
       ("insert" (format "ok %d" (domepeeler-insert driver-recording number (nth 2 words)
                                                    (string-to-number (nth 3 words)) (nthcdr 4 words))))
       ("delete" (format "ok %d" (domepeeler-delete driver-recording number (nth 2 words) (nthcdr 3 words))))
@@ -74,6 +78,7 @@ If not, the first reason."
     (domepeeler-not-causal (concat "uncausal " (cadr why)))
     (domepeeler-full (concat "full " (cadr why)))
     (domepeeler-refused (concat "refused " (cadr why)))
+    (domepeeler-not-accepted (concat "stopped " (string-join (split-string (cadr why) "\n") " / ")))
     (error (concat "failed " (error-message-string why)))))
 
 (with-temp-buffer

@@ -1,6 +1,6 @@
 // Makes the calls that stand on standard input, in fields between tabs, of the JavaScript recorder: see tests/tools/recorders.py.
 import { readFileSync } from "node:fs"
-import { Full, NotCausal, Recording, Refused } from "../../../recorders/domepeeler.mjs"
+import { Full, NotAccepted, NotCausal, Recording, Refused } from "../../../recorders/domepeeler.mjs"
 
 // Calls that only a language without types can make, and that a trace can't say.
 const UNTYPED = [
@@ -45,6 +45,7 @@ const UNTYPED = [
   () => new Recording(2).delete(0, "a", [], Symbol("x")),
   () => new Recording(2).read(0, ["a b"]),
   () => changed().receivedClock(0, 1, [, 1]),
+  () => new Recording(2, null, { weak: true }),
 ]
 
 function changed() {
@@ -60,6 +61,10 @@ async function call(words, changeId = null) {
   switch (words[0]) {
     case "new":
       recording = new Recording(...words.slice(1).map(Number))
+      return "ok"
+    case "stop":
+    case "stop_weak":
+      recording = new Recording(number, words.length > 2 ? Number(words[2]) : null, { stop: true, weak: words[0] === "stop_weak" })
       return "ok"
     case "as":
       return call(words.slice(2), words[1])
@@ -135,6 +140,10 @@ for (const line of readFileSync(0, "utf8").split("\n").slice(0, -1)) {
   try {
     console.log(await call(line.split("\t")))
   } catch (why) {
+    if (why instanceof NotAccepted) {
+      console.log(`stopped ${why.message.replaceAll("\n", " / ")}`)
+      continue
+    }
     const kind = why instanceof Full ? "full" : why instanceof NotCausal ? "uncausal" : why instanceof Refused ? "refused" : "failed"
     console.log(`${kind} ${why.message}`)
   }

@@ -4,7 +4,7 @@ import sys
 from pathlib import Path
 
 sys.path.insert(0, str(Path(__file__).parents[3] / "recorders"))
-from domepeeler import Full, NotCausal, Recording, Refused
+from domepeeler import Full, NotAccepted, NotCausal, Recording, Refused
 
 # Calls that only a language without types can make, and that a trace can't say.
 UNTYPED = [
@@ -38,6 +38,7 @@ UNTYPED = [
     lambda: Recording(2).delivered([[], 7]),
     lambda: Recording(2).note(7),
     lambda: Recording(2).read("1" * 41, []),
+    lambda: Recording(2, weak=True),
 ]
 
 
@@ -126,6 +127,8 @@ def answer(act) -> str:
         return f"uncausal {why}"
     except Refused as why:
         return f"refused {why}"
+    except NotAccepted as why:
+        return "stopped " + str(why).replace("\n", " / ")
     except (OSError, RuntimeError) as why:
         return f"failed {why}"
 
@@ -135,7 +138,10 @@ def main() -> None:
 
     def begin(words: list) -> str:
         nonlocal recording
-        recording = Recording(*map(int, words[1:]))
+        if words[0] == "new":
+            recording = Recording(*map(int, words[1:]))
+        else:
+            recording = Recording(*map(int, words[1:]), stop=True, weak=words[0] == "stop_weak")
         return "ok"
 
     for line in sys.stdin.read().split("\n")[:-1]:
@@ -143,7 +149,7 @@ def main() -> None:
         if words[0] == "untyped":
             print(answer(UNTYPED[int(words[1])]))
         else:
-            print(answer(lambda: begin(words) if words[0] == "new" else call(recording, words)))
+            print(answer(lambda: begin(words) if words[0] in ("new", "stop", "stop_weak") else call(recording, words)))
 
 
 main()

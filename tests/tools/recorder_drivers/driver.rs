@@ -4,6 +4,11 @@ mod domepeeler;
 
 use domepeeler::{Recording, Refused};
 use std::io::Read;
+use std::panic::{catch_unwind, AssertUnwindSafe};
+use std::sync::Mutex;
+
+/// Where the last panic came from.
+static PLACE: Mutex<String> = Mutex::new(String::new());
 
 fn number<N: std::str::FromStr>(word: &str) -> N
 where
@@ -14,6 +19,9 @@ where
 
 fn begin(words: &[&str]) -> Result<Recording, Refused> {
     match words {
+        ["stop", replicas] => Recording::new(number(replicas))?.stop(),
+        ["stop_weak", replicas] => Recording::new(number(replicas))?.stop_weak(),
+        ["stop", replicas, only] => Recording::only(number(replicas), number(only))?.stop(),
         [_, replicas] => Recording::new(number(replicas)),
         _ => Recording::only(number(words[1]), number(words[2])),
     }
@@ -92,19 +100,39 @@ fn answer(done: Result<String, Refused>) -> String {
     done.unwrap_or_else(|why| format!("{} {why}", kind(&why)))
 }
 
+/// What a call that panicked has said, in one line, if it did so where this file made the call.
+fn stopped(why: Box<dyn std::any::Any + Send>) -> String {
+    let place = PLACE.lock().map(|place| place.clone()).unwrap_or_default();
+    let words = why.downcast_ref::<String>().map_or("no words", |words| words.as_str());
+    let is_failed = std::env::var("DOMEPEELER").map_or(false, |program| words.starts_with(&program));
+    match (place == file!(), is_failed) {
+        (false, _) => format!("panicked in {place}: {words}"),
+        (true, false) => format!("stopped {}", words.replace('\n', " / ")),
+        (true, true) => format!("failed {words}"),
+    }
+}
+
 fn main() {
+    std::panic::set_hook(Box::new(|info| {
+        if let (Ok(mut place), Some(at)) = (PLACE.lock(), info.location()) {
+            *place = at.file().to_string();
+        }
+    }));
     let mut script = String::new();
     std::io::stdin().read_to_string(&mut script).expect("a script");
     let mut recording = Recording::new(1).expect("a recording");
     for line in script.split_terminator('\n') {
         let words: Vec<&str> = line.split('\t').collect();
-        let done = if words[0] == "new" {
+        let done = if ["new", "stop", "stop_weak"].contains(&words[0]) {
             begin(&words).map(|new| {
                 recording = new;
                 "ok".to_string()
             })
         } else {
-            call(&mut recording, &words)
+            match catch_unwind(AssertUnwindSafe(|| call(&mut recording, &words))) {
+                Ok(done) => done,
+                Err(why) => Ok(stopped(why)),
+            }
         };
         println!("{}", answer(done));
     }
