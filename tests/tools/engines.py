@@ -290,7 +290,7 @@ def played(plan: str, variables: dict) -> str:
 
 
 def logs(tally: Tally, program: str) -> None:
-    """What a process without a recorder writes, by docs/formats.md: reads and views count, receipts don't; the version is the greatest."""
+    """What a process without a recorder writes, by docs/engines.md: reads and views count, receipts don't; the version is the greatest."""
     one = "trace 1\nreplicas 2\n0 read :\n0 ins a 0 : a\n0 recv 1 2\n0 read : a\n"
     two = "trace 2\nreplicas 2\n1 view :\n1 recv 0 2\n1 del a :\n"
     wrong = one.replace("0 read : a\n", "0 read :\n")
