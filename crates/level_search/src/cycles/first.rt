@@ -119,7 +119,7 @@ fn least_of_source(
 /// where the elements come so far, the least on such a cycle through a source. It takes at most two searches
 /// for each element up to the one, or for each source; and two for distances from each source that is on such
 /// a cycle.
-pub fn first_on_ring(
+fn first_on_ring(
     graph: &OrderGraph,
     way: &Way,
     sources: &[u32],
@@ -164,4 +164,57 @@ pub fn first_on_ring(
         );
     }
     least
+}
+
+/// The same by searches from the elements in order of their numbers alone.
+fn first_in_order(
+    graph: &OrderGraph,
+    way: &Way,
+    k: u32,
+    room: &mut Room,
+    looked: &mut Looked,
+) -> u32
+    requires way { IsWay graph.now way.now }
+    requires fits { FitsRoom graph.now room.old }
+    requires shortest { IsShortestLength graph.now k }
+    ensures known { result < length graph.now.elements }
+    ensures cycle { HasCycle (lists_of graph.now) result k }
+    ensures lowest { (t : ℕ) → t < length graph.now.elements → HasCycle (lists_of graph.now) t k
+        → result ≤ t }
+{
+    for i in 0..graph.elements() {
+        if is_on_ring(graph, way, i, k, room, looked) {
+            return i;
+        }
+    }
+    unreachable!()
+}
+
+/// The least element through which a shortest cycle leads, as is cheaper. Over a table a search is cheap beside
+/// the distances of a source, which go over the lists, so there the elements are searched from alone.
+pub fn first_element(
+    graph: &OrderGraph,
+    way: &Way,
+    sources: &[u32],
+    k: u32,
+    room: &mut Room,
+    distances: &mut Distances,
+    looked: &mut Looked,
+) -> u32
+    requires way { IsWay graph.now way.now }
+    requires known { All (λ s. s < length graph.now.elements) sources.now }
+    requires met { MeetsCycles (lists_of graph.now) (length graph.now.elements) sources.now }
+    requires fits { FitsRoom graph.now room.old }
+    requires distances { FitsDistances graph.now distances.old }
+    requires shortest { IsShortestLength graph.now k }
+    ensures distances { FitsDistances graph.now distances.new }
+    ensures known { result < length graph.now.elements }
+    ensures cycle { HasCycle (lists_of graph.now) result k }
+    ensures lowest { (t : ℕ) → t < length graph.now.elements → HasCycle (lists_of graph.now) t k
+        → result ≤ t }
+{
+    if way.table.is_some() {
+        return first_in_order(graph, way, k, room, looked);
+    }
+    first_on_ring(graph, way, sources, k, room, distances, looked)
 }

@@ -12,7 +12,7 @@ ghost use Rattle.list_search.specs.Walks.{HasCycle, NoneShorter};
 
 use super::choose::next_of_ring;
 use super::distances::Distances;
-use super::first::first_on_ring;
+use super::first::first_element;
 use crate::ways::{Room, Way};
 use events::Memory;
 use order_graph::{Looked, OrderGraph};
@@ -72,7 +72,7 @@ pub fn least_ring(
     let mut room = Room::new(alloc, graph)?;
     let mut looked = Looked::new();
     let mut distances = Distances::new(alloc, graph)?;
-    let element = first_on_ring(
+    let element = first_element(
         graph,
         way,
         sources,

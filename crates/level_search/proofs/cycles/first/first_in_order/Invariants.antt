@@ -1,0 +1,11 @@
+use Rattle.std.proofs.Common.{ℕ, ◌<◌}
+use Rattle.order_graph.specs.Lists.{lists_of}
+use Rattle.list_search.specs.Walks.{HasCycle}
+use Rattle.level_search.specs.Ways.{FitsRoom}
+use Rattle.level_search.proofs.cycles.first.first_in_order.Given as goal
+
+abbrev pub invariant-loop-i : goal.invariant-loop-i
+invariant-loop-i l = record {
+  fits : FitsRoom l.graph l.room;
+  none : (t : ℕ) → t < l.i → ¬ HasCycle (lists_of l.graph) t l.k;
+}
