@@ -193,7 +193,7 @@ def of_the_page(tally: Tally, folder: str) -> None:
     done = subprocess.run([f"{folder}/c_right"], input=plan[0] * 2, capture_output=True, text=True)
     tally.check("page: answered so, each time", done.stdout == answer[0] * 2 and done.returncode == 0, done)
     words = len(PAGE.read_text().split())
-    tally.check("page: one page", words <= 700, words)
+    tally.check("page: one page", words <= 800, words)
 
 
 def servers(tally: Tally, program: str, folder: str) -> None:
