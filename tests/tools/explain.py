@@ -96,7 +96,9 @@ WORDS = [
      "b was put behind x. When it arrived at replica 0 in line 10, x was deleted there by 0.2 (line 8)|"
      "x arrived at replica 1 in line 4, x at replica 2 in line 5, a at replica 0 in line 9, b at replica 0 in line 10|"
      "Look at positions beside deleted elements: any two of 2.1, 0.3 and 1.1 fit together, but an insert beside an element that "
-     "another replica has deleted has perhaps lost its place. The lines above say which elements are deleted for which of them."
+     "another replica has deleted has perhaps lost its place. The lines above say which elements are deleted for which of them.|"
+     "An editor whose server orders all changes, as Jupiter's does, promises the weak list specification alone, which holds up to here. "
+     "Ask for that with --weak."
      + stop(10, "replica 0 applies 2.1", 9, 5, 4)),
     ("an insert that arrives beside a deleted element", 2, BESIDE_DELETED,
      "[d] before [c]: line 9 of the trace, 0.3: replica 0 inserted d at position 1, answered b [d] [c]|"
@@ -148,7 +150,9 @@ WORDS = [
      "Of the whole trace: Look at inserts beside deleted elements, if replicas throw these away: the lines above name one that arrived where "
      "its neighbour was deleted. Without its neighbour its place is lost.|"
      "Look at positions beside deleted elements: any two of 2.1, 0.3 and 1.1 fit together, but an insert beside an element that "
-     "another replica has deleted has perhaps lost its place. The lines above say which elements are deleted for which of them."
+     "another replica has deleted has perhaps lost its place. The lines above say which elements are deleted for which of them.|"
+     "An editor whose server orders all changes, as Jupiter's does, promises the weak list specification alone, which holds up to here. "
+     "Ask for that with --weak."
      + stop(10, "replica 0 applies 2.1", 9, 5, 4) + "||What the whole trace shows, each element before the next, and round again|"
      "[a] before [b]: line 14, 1.2: replica 1 read the list, answered [a] [b]|"
      "[b] before [a]: line 11, 0.3: replica 0 read the list, answered [b] [a]"),

@@ -53,6 +53,8 @@ SEVERAL_DELETED = ("Look at positions beside deleted elements: any two of {named
 SEVERAL_APART = ("Look at how a replica orders elements when it has only some of them: any two of {named} fit together, and none of the "
                  "elements is deleted for any of them, so each replica still lacks some. Often the rule that orders concurrent inserts "
                  "is not the same everywhere.")
+WEAK_ALONE_HOLDS = ("An editor whose server orders all changes, as Jupiter's does, promises the weak list specification alone, which holds up to "
+                    "here. Ask for that with --weak.")
 CONCURRENT = ("Look at the order of concurrent inserts: {first} and {then} were inserted without knowing of each other, and were shown "
               "in two different orders. Use a rule that gives the same order everywhere (by the replicas' numbers, say), and not the "
               "order in which they arrive.{moved}")
@@ -199,7 +201,7 @@ def of_position(evidence: Evidence) -> list:
 def of_refusal(evidence: Evidence) -> list:
     """Concurrent inserts first; then inserts beside deleted elements, then two elements of which one's author had seen the other."""
     if evidence.report["k"] > 2:
-        return [*lost(evidence), of_several(evidence)]
+        return [*lost(evidence), of_several(evidence), Cause("weak alone", WEAK_ALONE_HOLDS)]
     first, then = (evidence.recording.inserts[name][0] for name in evidence.elements)
     if not first.has_seen(then) and not then.has_seen(first):
         told = CONCURRENT.format(first=first.element, then=then.element, moved=moved_over(evidence))
