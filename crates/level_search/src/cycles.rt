@@ -27,9 +27,9 @@ use witnesses::Steps;
 /// their numbers, of all cycles of k elements, and each step names the least operation that shows it.
 ///
 /// It leaves out the elements through which no cycle leads. It searches from elements up to the cycle's first,
-/// and from few through which all cycles lead, by turns, as `conflict_number` does. The rest is linear in the
-/// elements and places that are left, for each of these few that is on a shortest cycle and for the first:
-/// searches for distances, and what stands after each element of the cycle.
+/// as `conflict_number` does; over the lists also from few through which all cycles lead, by turns. The rest
+/// is linear in the elements and places that are left, for each of these few that is on a shortest cycle and
+/// for the first: searches for distances, and what stands after each element of the cycle.
 pub fn least_cycle(alloc: Global, graph: &OrderGraph, k: u32) -> Result<Steps, Memory>
     requires { IsShortestLength graph.now k }
     ensures { IfOk result (λ steps. AreLeastSteps graph.now steps × (length steps ≡ k)) }
