@@ -52,8 +52,8 @@ fn places_of(graph: &OrderGraph) -> u64 {
     places
 }
 
-/// Whether the table of a graph has no more words than the lists have places. Then a search reads no more of
-/// the table than it would of the lists.
+/// Whether the table of a graph has no more words than the lists have places. It weighs the memory alone: a
+/// search by the table unites each row of it once at most, and sweeps its sets besides.
 fn is_table_small(graph: &OrderGraph) -> bool {
     let elements = graph.elements() as u64;
     let words = elements.saturating_mul(elements / 64 + 1);

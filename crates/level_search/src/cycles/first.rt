@@ -190,8 +190,8 @@ fn first_in_order(
     unreachable!()
 }
 
-/// The least element through which a shortest cycle leads, as is cheaper. Over a table a search is cheap beside
-/// the distances of a source, which go over the lists, so there the elements are searched from alone.
+/// The least element through which a shortest cycle leads. Over the lists, elements and sources are searched from
+/// by turns. Over a table the elements alone are, since the distances of a source always go over the lists.
 pub fn first_element(
     graph: &OrderGraph,
     way: &Way,
