@@ -4,6 +4,7 @@ mod before;
 mod conflicts;
 mod gates;
 mod graphs;
+mod held;
 mod many;
 mod plain;
 mod searches;

@@ -1,8 +1,8 @@
 -- A core has the cycles of the whole: what is shortest or least there is so here. And the elements through
 -- which a cycle leads are a core.
-use Rattle.std.proofs.Common.{◌≡◌, ◌≢◌, ℕ, zero, suc, ◌+◌, ◌<◌, ◌≤◌, ◌⊎◌, inl, inr, Some, List, [], ◌∷◌}
+use Rattle.std.proofs.Common.{◌≡◌, ◌≢◌, ℕ, ◌<◌, ◌⊎◌, inl, inr, Some, List, [], ◌∷◌}
 use Rattle.std.proofs.Common.{length, map, get_or, refl, sym, ◌∙◌, ap, subst, arith}
-use Rattle.std.specs.Prelude.{All, AllPairs, Contains, IsTrue, slice_get, unwrap_or, nat_lt}
+use Rattle.std.specs.Prelude.{All, AllPairs, Contains, IsTrue, slice_get, nat_lt}
 use Rattle.std.specs.Prelude.{◌==◌, ◌&&◌}
 use Rattle.std.proofs.lemmas.Bool.{or_cases, or_left, or_right, and_parts, and_from, ltb-true, eqb-true}
 use Rattle.std.proofs.lemmas.Bool.{lt-ltb, eq-eqb}
@@ -19,7 +19,7 @@ use Rattle.specification.specs.Orders.{dictionary_lt}
 use Rattle.specification.specs.Search.{IsCycleThrough, IsShortestLength}
 use Rattle.specification.proofs.Members.{In, Before, In-from_Contains, Contains-from_In, In-from_place}
 use Rattle.specification.proofs.Members.{In-map, All-member, All-from_members, Before-cases}
-use Rattle.specification.proofs.Members.{Before-from_places, places_of_Before, place_of_In}
+use Rattle.specification.proofs.Members.{Before-from_places, places_of_Before}
 use Rattle.specification.proofs.OperationNames.{In_map-from}
 use Rattle.specification.proofs.Numbers.{number, number-rises}
 use Rattle.specification.proofs.Dictionary.{same_number}
@@ -27,17 +27,13 @@ use Rattle.specification.proofs.Shown.{ShowsIn-from_Shows, Shows-from_ShowsIn, e
 use Rattle.specification.proofs.Cycles.{IsShownPair, cycle-elements}
 use Rattle.specification.proofs.Narrowed.{narrowed-shows, narrowed_shows-from}
 use Rattle.order_graph.specs.Kept.{names_at}
-use Rattle.order_graph.specs.Lists.{lists_of, BeforeIn}
 use Rattle.element_numbers.proofs.NameNumbers.{number-some}
 use Rattle.level_search.specs.Conflicts.{IsFound}
 use Rattle.level_search.specs.Cores.{IsCoreOf, LiesOnCycle}
 use Rattle.level_search.specs.declared.conflict.Found.{Found}
-use Rattle.list_search.specs.Graph as by_number
 use Rattle.level_search.specs.Team.{IsLeastLength}
-use Rattle.list_search.specs.Walks.{HasCycle, Walk}
-use Rattle.list_search.proofs.Joining.{name, ring_of_cycle}
+use Rattle.list_search.proofs.Joining.{name}
 use Rattle.level_search.proofs.Lengths.{none, some}
-use Rattle.list_search.proofs.RingWalks.{ring_through}
 
 -- a pair of a ring has two of its elements
 ring_from-members : (first last : NameBytes) (rest : List NameBytes) (p : NameBytes × NameBytes)

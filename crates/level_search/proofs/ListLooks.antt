@@ -1,12 +1,12 @@
 -- Searches over the lists: none finds a cycle under a bound of two, and how much they look at.
 use Rattle.std.proofs.Common.{◌≡◌, ℕ, zero, suc, ◌+◌, ◌*◌, ◌<◌, ◌≤◌, min, Option, Some, None, length, subst, arith}
-use Rattle.std.specs.Prelude.{IfNone, sum_by}
+use Rattle.std.specs.Prelude.{IfNone}
 use Rattle.specification.specs.Responses.{Responses, AreProper, place_count}
 use Rattle.order_graph.specs.Lists.{lists_of}
 use Rattle.order_graph.proofs.Shown.{lists-total}
 use Rattle.list_search.specs.Graph.{Before}
 use Rattle.list_search.specs.ScratchView.{LooksWithin}
-use Rattle.list_search.specs.Walks.{HasCycle, NoneShorter}
+use Rattle.list_search.specs.Walks.{NoneShorter}
 use Rattle.level_search.specs.LayerSizes.{counted}
 use Rattle.level_search.specs.Looks.{HasLookedInLists, IsListCount}
 use Rattle.level_search.proofs.Counts.{list-most}

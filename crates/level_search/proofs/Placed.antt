@@ -1,5 +1,5 @@
 -- Numbers that stand at places of lists are no more than the places.
-use Rattle.std.proofs.Common.{◌≡◌, ℕ, zero, suc, ◌+◌, ◌*◌, ◌<◌, ◌≤◌, Some, List, [], ◌∷◌, ◌++◌, length}
+use Rattle.std.proofs.Common.{◌≡◌, ℕ, zero, suc, ◌+◌, ◌<◌, ◌≤◌, Some, List, [], ◌∷◌, ◌++◌, length}
 use Rattle.std.proofs.Common.{Bool, filter, refl, ap, ◌∙◌, arith, length-append}
 use Rattle.std.specs.Prelude.{AllPairs, Contains, bytes_eq, sum_by}
 use Rattle.std.specs.List.{range_with_len, list_any}

@@ -1,8 +1,8 @@
 -- On a shortest cycle through s the elements are those between: as many steps lead to them from s, and from
 -- them to s, as the cycle has together.
-use Rattle.std.proofs.Common.{◌≡◌, ℕ, zero, suc, ◌+◌, ◌-◌, ◌<◌, ◌≤◌, ◌⊎◌, inl, inr, List, length, get_or, map}
-use Rattle.std.proofs.Common.{sym, ◌∙◌, ap, subst, arith}
-use Rattle.std.specs.Prelude.{◌↔◌, All, Contains, Option, Bool, true, false, is_some, reverse}
+use Rattle.std.proofs.Common.{◌≡◌, ℕ, ◌+◌, ◌<◌, ◌≤◌, ◌⊎◌, inl, inr, List, length, get_or, map}
+use Rattle.std.proofs.Common.{sym, ◌∙◌, subst, arith}
+use Rattle.std.specs.Prelude.{◌↔◌, Option, true, is_some, reverse}
 use Rattle.std.proofs.lemmas.Bool.{cases_Bool, cases_eq, cases_lt}
 use Rattle.std.proofs.lemmas.Grind.{get_or_default_zero}
 use Rattle.std.proofs.lemmas.List.{length-map}
@@ -10,8 +10,8 @@ use Rattle.specification.specs.Responses.{Responses, Returned, AreProper}
 use Rattle.specification.specs.Search.{IsShortestLength}
 use Rattle.order_graph.specs.Lists.{lists_of}
 use Rattle.order_graph.specs.Turned.{turned}
-use Rattle.list_search.specs.Distances.{AreDistances, IsDistanceBelow}
-use Rattle.list_search.specs.Rings.{AreDistancesTo, IsDistanceTo, Reaches}
+use Rattle.list_search.specs.Distances.{IsDistanceBelow}
+use Rattle.list_search.specs.Rings.{IsDistanceTo, Reaches}
 use Rattle.list_search.specs.ScratchView.{Fits, ScratchView}
 use Rattle.list_search.specs.Walks.{HasCycle, IsSearchAnswer, NoneShorter, Walk}
 use Rattle.list_search.proofs.Firsts.{reaches_walk, walk_reaches}

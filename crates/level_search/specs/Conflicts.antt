@@ -9,7 +9,9 @@ use Rattle.level_search.specs.Ways.{IsWay}
 use Rattle.level_search.specs.Cores.{IsCoreOf}
 use Rattle.level_search.specs.Sources.{MeetsCycles}
 use Rattle.level_search.specs.Team.{AreLooksOf, IsLeastLength}
+use Rattle.level_search.specs.Thinned.{searched_of, IsThinned}
 use Rattle.level_search.specs.declared.conflict.Conflict.{Conflict}
+use Rattle.level_search.specs.declared.cycle_core.Core.{Core}
 use Rattle.level_search.specs.declared.conflict.Found.{Found}
 
 -- so many looks at most as a search from each element would make that makes at most one for each place and
@@ -17,13 +19,18 @@ use Rattle.level_search.specs.declared.conflict.Found.{Found}
 abbrev pub IsWithinSearches : Responses → ℕ → Type 0
 IsWithinSearches v looked = looked ≤ length v.elements * (place_count v + length v.elements)
 
--- just the looks of searches in a core of these responses, under bounds of no less than `least`
+-- just the looks of searches in a core of these responses, of which some may be empty, since others show all
+-- that they show; under bounds of no less than `least`
 pub record AreLooksIn (v : Responses) (least looked : ℕ) : Type 0 where
   pub numbers : List ℕ
   pub core : IsCoreOf v numbers
   pub part : Responses
-  pub is_part : part ≡ narrowed v (names_at v.elements numbers)
+  pub is_part : IsThinned (narrowed v (names_at v.elements numbers)) part
   pub looks : AreLooksOf (length part.elements) (lists_of part) least looked
+
+-- in which of its graphs a core is searched
+abbrev pub searched_in : Core → Responses
+searched_in c = searched_of c.graph c.thinned
 
 -- the core is one of these responses, the way is the core's, and the length that of a shortest cycle there
 pub record IsFound (v : Responses) (s : Found) : Type 0 where
@@ -31,12 +38,13 @@ pub record IsFound (v : Responses) (s : Found) : Type 0 where
   pub core : IsCoreOf v s.core.elements.items
   pub part : s.core.graph ≡ narrowed v (names_at v.elements s.core.elements.items)
   pub part_proper : AreProper s.core.graph
-  pub way : IsWay s.core.graph s.way
+  pub thin : IsThinned s.core.graph (searched_in s.core)
+  pub way : IsWay (searched_in s.core) s.way
   pub least : IsLeastLength s.core.graph s.least
-  pub looked : AreLooksOf (length s.core.graph.elements) (lists_of s.core.graph) s.least s.looked
+  pub looked : AreLooksOf (length (searched_in s.core).elements) (lists_of (searched_in s.core)) s.least s.looked
   pub few : IsWithinSearches v s.looked
-  pub known : All (λ x. x < length s.core.graph.elements) s.sources.items
-  pub met : MeetsCycles (lists_of s.core.graph) (length s.core.graph.elements) s.sources.items
+  pub known : All (λ x. x < length (searched_in s.core).elements) s.sources.items
+  pub met : MeetsCycles (lists_of (searched_in s.core)) (length (searched_in s.core).elements) s.sources.items
 
 -- the conflict number and the steps of the least cycle, as many; none where there is no conflict
 abbrev pub IsLeastConflict : Responses → Option Conflict → Type 0

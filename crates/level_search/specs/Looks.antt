@@ -1,5 +1,5 @@
 -- How many rows of its table a search has looked at, or places and elements of the lists.
-use Rattle.std.specs.Prelude.{◌≡◌, ℕ, zero, suc, ◌+◌, ◌*◌, ◌<◌, ◌≤◌, ◌⊎◌, Option, Some, None, List, [], ◌∷◌}
+use Rattle.std.specs.Prelude.{◌≡◌, ℕ, ◌+◌, ◌*◌, ◌<◌, ◌≤◌, ◌⊎◌, Option, Some, None, List, [], ◌∷◌}
 use Rattle.std.specs.Prelude.{length, slice_index, sum_by}
 use Rattle.level_search.specs.Balls.{IsBall, IsInLayer}
 use Rattle.list_search.specs.Graph.{Before}

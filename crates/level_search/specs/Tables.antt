@@ -1,5 +1,5 @@
 -- Which elements stand before which in some lists, and tables of that.
-use Rattle.std.specs.Prelude.{◌≡◌, ℕ, ◌<◌, ◌+◌, ◌/◌, ◌↔◌, List, [], length, slice_index_or}
+use Rattle.std.specs.Prelude.{◌≡◌, ℕ, ◌<◌, ◌+◌, ◌/◌, ◌↔◌, List, length}
 use Rattle.order_graph.specs.Lists.{BeforeIn}
 use Rattle.bit_tables.specs.Lists.{HaveWidth, row_of}
 use Rattle.bit_tables.specs.Sets.{Has}

@@ -1,5 +1,5 @@
 -- What workers that search for cycles over one bound have found, and teams of them.
-use Rattle.std.specs.Prelude.{◌≡◌, ℕ, ◌+◌, ◌*◌, ◌<◌, ◌≤◌, ◌⊎◌, max, true, false, List, [], ◌∷◌, length}
+use Rattle.std.specs.Prelude.{◌≡◌, ℕ, ◌+◌, ◌<◌, ◌≤◌, ◌⊎◌, max, true, false, List, [], ◌∷◌, length}
 use Rattle.std.specs.Prelude.{slice_index, slice_index_or, IsPermutation, All}
 use Rattle.std.specs.List.{range_with_len}
 use Rattle.shared_bound.specs.Seats.{BoundView, SeatView}

@@ -47,10 +47,12 @@ fn search_core<H: Threads + Sync, G: Gate>(
     let _ = graph.elements();
     let core = Core::of(alloc, graph)?;
     let _ = core.graph.elements();
-    let way = Way::of(alloc, &core.graph)?;
-    let sources = feedback_vertex_set(alloc, &core.graph, &way)?;
+    let part = core.searched();
+    let _ = part.elements();
+    let way = Way::of(alloc, part)?;
+    let sources = feedback_vertex_set(alloc, part, &way)?;
     let gate = core.gate(gate);
-    let searched = least_length(rt, alloc, &core.graph, &way, &sources, workers, &gate)?;
+    let searched = least_length(rt, alloc, part, &way, &sources, workers, &gate)?;
     let Searched { least, looked } = searched;
     Ok(Found {
         core,
@@ -128,6 +130,7 @@ pub fn least_conflict<H: Threads + Sync, G: Gate>(
     let steps = least_cycle_from(
         alloc,
         &found.core.graph,
+        found.core.searched(),
         &found.way,
         &found.sources,
         found.least,

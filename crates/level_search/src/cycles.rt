@@ -5,6 +5,7 @@ ghost use Rattle.specification.specs.Conflict.{AreLeastSteps};
 ghost use Rattle.specification.specs.Search.{IsShortestLength};
 ghost use Rattle.order_graph.specs.Lists.{lists_of};
 ghost use Rattle.level_search.specs.Sources.{MeetsCycles};
+ghost use Rattle.level_search.specs.Thinned.{IsThinned};
 ghost use Rattle.level_search.specs.Ways.{IsWay};
 
 mod choose;
@@ -38,26 +39,33 @@ pub fn least_cycle(alloc: Global, graph: &OrderGraph, k: u32) -> Result<Steps, M
     let _ = graph.elements();
     let core = Core::of(alloc, graph)?;
     let _ = core.graph.elements();
-    let way = Way::of(alloc, &core.graph)?;
-    let sources = feedback_vertex_set(alloc, &core.graph, &way)?;
-    least_cycle_from(alloc, &core.graph, &way, &sources, k)
+    let searched = core.searched();
+    let _ = searched.elements();
+    let way = Way::of(alloc, searched)?;
+    let sources = feedback_vertex_set(alloc, searched, &way)?;
+    least_cycle_from(alloc, &core.graph, searched, &way, &sources, k)
 }
 
-/// The same, where each cycle leads through one of these sources, and searches go this way.
+/// The same, where searches go in a graph with fewer lists, which shows the same, and this way; and each cycle
+/// leads through one of these sources. The operations of the steps are those of the whole.
 pub fn least_cycle_from(
     alloc: Global,
     graph: &OrderGraph,
+    searched: &OrderGraph,
     way: &Way,
     sources: &[u32],
     k: u32,
 ) -> Result<Steps, Memory>
-    requires way { IsWay graph.now way.now }
-    requires known { All (λ s. s < length graph.now.elements) sources.now }
-    requires met { MeetsCycles (lists_of graph.now) (length graph.now.elements) sources.now }
+    requires thin { IsThinned graph.now searched.now }
+    requires way { IsWay searched.now way.now }
+    requires known { All (λ s. s < length searched.now.elements) sources.now }
+    requires met { MeetsCycles (lists_of searched.now) (length searched.now.elements) sources.now }
     requires shortest { IsShortestLength graph.now k }
     ensures { IfOk result (λ steps. AreLeastSteps graph.now steps × (length steps ≡ k)) }
 {
-    let ring = least_ring(alloc, graph, way, sources, k)?;
+    // Its contract has that the responses are proper.
+    let _ = graph.elements();
+    let ring = least_ring(alloc, searched, way, sources, k)?;
     let steps = steps_of(alloc, graph, &ring)?;
     Ok(Steps::from_items(steps))
 }

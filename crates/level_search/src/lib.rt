@@ -27,6 +27,7 @@ mod laws;
 mod search_fault;
 mod sources;
 mod tabled;
+mod thinning;
 mod ways;
 mod workers;
 

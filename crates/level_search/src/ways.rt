@@ -44,7 +44,7 @@ impl Room {
 }
 
 /// How many places all lists have together.
-fn places_of(graph: &OrderGraph) -> u64 {
+pub fn places_of(graph: &OrderGraph) -> u64 {
     let mut places: u64 = 0;
     for list in 0..graph.lists() {
         places = places.saturating_add(graph.length(list) as u64);

@@ -13,3 +13,4 @@ pub mod Renumbered
 pub mod NewNumbers
 pub mod OneSpot
 pub mod Turned
+pub mod Emptied

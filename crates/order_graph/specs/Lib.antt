@@ -4,5 +4,6 @@ pub mod Lists
 pub mod Spots
 pub mod Kept
 pub mod Covers
+pub mod Emptied
 pub mod Renumbered
 pub mod Turned

@@ -5,6 +5,7 @@
 //! in the places.
 #![tactic(auto)]
 
+mod emptying;
 mod looked;
 mod narrowing;
 mod order_graph;

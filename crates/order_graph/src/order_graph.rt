@@ -8,8 +8,10 @@ ghost use Rattle.specification.specs.Faults.{IsSound};
 ghost use Rattle.specification.specs.Elements.{elements, number_in};
 ghost use Rattle.specification.specs.LayerRule.{narrowed};
 ghost use Rattle.specification.specs.Responses.{responses_of, AreProper, IsLeastShowing};
+ghost use Rattle.order_graph.specs.Emptied.{emptied};
 ghost use Rattle.order_graph.specs.Turned.{turned};
 
+use super::emptying::rows_emptied;
 use super::looked::Looked;
 use super::narrowing::{names_kept, new_numbers, number_of, places_left};
 use super::pairs::stands_behind;
@@ -159,6 +161,18 @@ impl OrderGraph {
         let names = Vec::from_slice(alloc, self.names.as_slice())?;
         let shown = Vec::from_slice(alloc, self.shown.as_slice())?;
         let places = rows_turned(alloc, &self.places)?;
+        OrderGraph::with_spots(alloc, names, shown, places)
+    }
+
+    /// The graph of the same elements and operations where the lists that are marked are empty; marks past the
+    /// last list are of none, and a list past the last mark stays. Time and memory are linear in the elements,
+    /// the lists and the places that are left.
+    pub fn emptied(&self, alloc: Global, marks: &[bool]) -> Result<OrderGraph, Memory>
+        ensures { IfOk result (λ g. g ≡ emptied self.now marks.now) }
+    {
+        let names = Vec::from_slice(alloc, self.names.as_slice())?;
+        let shown = Vec::from_slice(alloc, self.shown.as_slice())?;
+        let places = rows_emptied(alloc, &self.places, marks)?;
         OrderGraph::with_spots(alloc, names, shown, places)
     }
 

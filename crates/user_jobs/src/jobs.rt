@@ -5,8 +5,8 @@ use super::short::{count_of_entries, leave_out, line_begins, new_session};
 use super::user::{Form, User, WORKERS};
 use anyhow::Result;
 use made_sessions::{
-    DAY, NEAR_ALL, NEAR_NAMES, Random, SMALL_TEAM, Seeds, Shape, accepted, concurrent, exchanged,
-    lacking, long_responses, nameless, ring, short_lived, small_cycle,
+    DAY, FrontShape, NEAR_ALL, NEAR_NAMES, Random, SMALL_TEAM, Seeds, Shape, accepted, concurrent,
+    exchanged, front, lacking, long_responses, nameless, ring, short_lived, small_cycle,
 };
 use std::sync::Wait;
 use std::thread::Threads;
@@ -51,6 +51,17 @@ const SOMETIMES: &[usize] = &[4, 8, 12];
 
 /// When one is judged in which groups have heard of each other.
 const HEARD: &[usize] = &[10, 11, 12, 13, 14, 15];
+
+/// Sessions with a conflict at the front: writers, elements of each in a phase, phases at most, the elements of
+/// the cycle, and whether all elements are in its component.
+const FRONTS: &[(usize, usize, usize, usize, bool)] = &[
+    (8, 16, 256, 8, false),
+    (13, 4, 1024, 3, false),
+    (12, 16, 256, 4, false),
+    (8, 16, 256, 8, true),
+    (13, 4, 1024, 3, true),
+    (12, 16, 256, 4, true),
+];
 
 /// Long sessions, accepted or with a first fault, from the text of the trace to the report, as they grow.
 pub fn long<H: Threads + Sync>(user: &mut User<H>, seed: u64, scale: Scale) -> Result<()> {
@@ -123,6 +134,30 @@ pub fn refused<H: Threads + Sync>(user: &mut User<H>, seed: u64, scale: Scale) -
     for _ in 0..scale.times(2) {
         let trace = ring(alloc, scale.of(shape), seeds.take())?;
         user.verdict_as_it_grows(&trace, HEARD, WORKERS, Form::Json)?;
+    }
+    Ok(())
+}
+
+/// Sessions whose conflict stands first in a long document: alone, or in a component of all elements. The seed
+/// says how many phases each has beyond half of what fits.
+pub fn fronts<H: Threads + Sync>(user: &mut User<H>, seed: u64, scale: Scale) -> Result<()> {
+    let alloc = user.alloc;
+    let mut seeds = Seeds::new(seed, 6);
+    let mut random = Random::new(seeds.take());
+    for (writers, inserts, most, k, closed) in FRONTS.iter().copied() {
+        let phases = match scale {
+            Scale::Full => random.below(most / 2).saturating_add(most / 2),
+            Scale::Small => 2,
+        };
+        let shape = FrontShape {
+            writers,
+            inserts,
+            phases,
+            ring: k,
+            closed,
+        };
+        let trace = front(alloc, shape)?;
+        user.verdict(&trace, WORKERS, Form::Text)?;
     }
     Ok(())
 }

@@ -11,7 +11,7 @@ mod user;
 
 use anyhow::{Context, Result, anyhow};
 use digest::Digest;
-use jobs::{Scale, awkward, certificates, lively, long, refused, short};
+use jobs::{Scale, awkward, certificates, fronts, lively, long, refused, short};
 use std::alloc::Global;
 use std::env;
 use std::sync::Wait;
@@ -19,13 +19,14 @@ use std::thread::Threads;
 use user::User;
 
 /// The jobs.
-const JOBS: [&str; 6] = [
+const JOBS: [&str; 7] = [
     "long",
     "short",
     "refused",
     "certificates",
     "live",
     "awkward",
+    "front",
 ];
 
 /// Does the job of this name, and answers the digest of its results.
@@ -44,6 +45,7 @@ fn work<H: Threads + Wait + Sync>(
         "certificates" => certificates(&mut user, seed, scale)?,
         "live" => lively(&mut user, seed, scale)?,
         "awkward" => awkward(&mut user, seed, scale)?,
+        "front" => fronts(&mut user, seed, scale)?,
         _ => return Err(anyhow!("no such job: {job}")),
     }
     Ok(user.digest)

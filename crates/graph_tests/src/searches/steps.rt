@@ -39,7 +39,7 @@ fn steps_of(
 }
 
 /// The least conflict of a graph. A call that finds no memory is made again.
-fn conflict_of(
+pub fn conflict_of(
     rt: &(impl Threads + Sync),
     alloc: Global,
     graph: &OrderGraph,

@@ -1,5 +1,5 @@
 -- A search under a bound above all lengths tells.
-use Rattle.std.proofs.Common.{◌≡◌, ℕ, ◌<◌, Bool, true, length, subst, sym, arith}
+use Rattle.std.proofs.Common.{◌≡◌, ◌<◌, Bool, true, length, subst, sym, arith}
 use Rattle.std.specs.Prelude.{◌↔◌}
 use Rattle.specification.specs.Responses.{Responses}
 use Rattle.level_search.specs.Cores.{LiesOnCycle}

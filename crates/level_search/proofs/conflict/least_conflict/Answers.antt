@@ -1,5 +1,9 @@
+use Rattle.std.proofs.Common.{subst}
+use Rattle.specification.specs.Responses.{Responses}
 use Rattle.level_search.proofs.Cores.{least_steps, no_conflict, some_conflict}
 use Rattle.level_search.proofs.Lengths.{shortest}
+use Rattle.level_search.specs.Conflicts.{searched_in}
+use Rattle.level_search.specs.Thinned.{IsThinned}
 use Rattle.level_search.proofs.conflict.least_conflict.Goals as goal
 
 pub least_cycle_from-requires-clause-shortest : goal.least_cycle_from-requires-clause-shortest
@@ -26,8 +30,9 @@ returns-clause-looked g c =
     record {
       numbers = c.in_ok-found.found.core.elements.items;
       core = is.core;
-      part = c.in_ok-found.found.core.graph;
-      is_part = is.part;
+      part = searched_in c.in_ok-found.found.core;
+      is_part =
+          subst (λ (w : Responses). IsThinned w (searched_in c.in_ok-found.found.core)) is.part is.thin;
       looks = is.looked;
     }
 

@@ -1,9 +1,9 @@
 -- One place more, whose element has no rank or a higher one than those before it.
-use Rattle.std.proofs.Common.{◌≡◌, ℕ, ◌+◌, ◌<◌, ◌≤◌, length, slice_index, subst, sym, ap, ◌∙◌, arith, inl}
+use Rattle.std.proofs.Common.{◌≡◌, ℕ, ◌<◌, ◌≤◌, length, slice_index, subst, sym, ap, ◌∙◌, arith, inl}
 use Rattle.std.proofs.Common.{inr}
 use Rattle.std.proofs.lemmas.Bool.{cases_eq}
 use Rattle.order_graph.specs.Lists.{lists_of, Stands}
-use Rattle.level_search.specs.Sources.{AreFewerRanks, IsRanked}
+use Rattle.level_search.specs.Sources.{IsRanked}
 use Rattle.level_search.proofs.Rising.{fewer-ranked, fewer-then}
 use Rattle.level_search.proofs.sources.rise_in.Goals as goal
 

@@ -1,8 +1,7 @@
 -- One place more, along which the components don't fall.
-use Rattle.std.proofs.Common.{◌≡◌, ℕ, ◌+◌, ◌-◌, ◌<◌, ◌≤◌, length, subst, sym, ap, arith, inl, inr}
+use Rattle.std.proofs.Common.{◌≡◌, ℕ, ◌+◌, ◌-◌, length, subst, ap, arith, inl, inr}
 use Rattle.std.proofs.lemmas.Bool.{cases_eq}
-use Rattle.order_graph.specs.Lists.{lists_of, row, Stands}
-use Rattle.level_search.specs.StrongComponents.{rank}
+use Rattle.order_graph.specs.Lists.{lists_of, Stands}
 use Rattle.level_search.proofs.components.tested.note_list.Goals as goal
 
 pub loop-j-preserved : goal.loop-j-preserved

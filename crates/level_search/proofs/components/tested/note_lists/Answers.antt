@@ -1,12 +1,11 @@
 -- One list more, along which the components don't fall.
-use Rattle.std.proofs.Common.{◌≡◌, ℕ, ◌+◌, ◌<◌, ◌≤◌, List, [], length, map, get_or, subst, ap, arith, inl}
+use Rattle.std.proofs.Common.{◌≡◌, ℕ, ◌+◌, List, [], length, subst, ap, arith, inl}
 use Rattle.std.proofs.Common.{inr}
 use Rattle.std.proofs.lemmas.Bool.{cases_eq, cases_lt}
 use Rattle.std.proofs.lemmas.List.{get_or_past, length-map}
 use Rattle.specification.specs.Responses.{Responses, Returned}
 use Rattle.specification.specs.Elements.{numbers_in}
 use Rattle.order_graph.specs.Lists.{lists_of, row, Stands}
-use Rattle.level_search.specs.StrongComponents.{rank}
 use Rattle.level_search.proofs.components.tested.note_lists.Goals as goal
 
 pub loop-list-preserved : goal.loop-list-preserved

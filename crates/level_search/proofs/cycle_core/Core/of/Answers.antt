@@ -1,5 +1,5 @@
 -- The elements through which a cycle leads are the core, and each stands at a place.
-use Rattle.std.proofs.Common.{◌≡◌, ℕ, zero, suc, ◌<◌, ◌≤◌, List, length, ◌∙◌, ap, arith, rules}
+use Rattle.std.proofs.Common.{ℕ, List, rules}
 use Rattle.std.specs.Prelude.{Contains}
 use Rattle.specification.specs.Responses.{Responses}
 use Rattle.specification.proofs.Members.{All-member, In-from_Contains}
@@ -23,4 +23,5 @@ returns c =
       elements = core_of v proper left found.rising found.known found.on_cycles found.whole;
       graph = search rules;
       few = (found.few, placed-few v left found.rising placed);
+      thin = c.in_ok-fewer.ensures;
     }

@@ -1,5 +1,5 @@
 -- What stands after the element and leads back is as deep as asked, and so the least of this depth is least.
-use Rattle.std.proofs.Common.{◌≡◌, ℕ, suc, ◌<◌, ◌≤◌, length, add-one, subst, arith, inl, inr}
+use Rattle.std.proofs.Common.{suc, ◌≤◌, add-one, subst, arith, inl, inr}
 use Rattle.order_graph.specs.Lists.{lists_of}
 use Rattle.list_search.specs.Rings.{Reaches}
 use Rattle.list_search.proofs.Joining.{before-known}

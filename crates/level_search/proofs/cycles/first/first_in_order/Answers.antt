@@ -1,5 +1,5 @@
 -- One element more; and some element is on a shortest cycle.
-use Rattle.std.proofs.Common.{◌≡◌, ℕ, ◌<◌, length, sym, subst, arith, inl, inr, ◌∙◌}
+use Rattle.std.proofs.Common.{ℕ, sym, subst, arith, inl, inr, ◌∙◌}
 use Rattle.std.proofs.lemmas.Bool.{cases_eq, false≢true}
 use Rattle.order_graph.specs.Lists.{lists_of}
 use Rattle.list_search.specs.Walks.{HasCycle}

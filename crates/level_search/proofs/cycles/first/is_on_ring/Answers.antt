@@ -1,10 +1,8 @@
 -- A search under a bound of one more than the shortest length tells.
-use Rattle.std.proofs.Common.{◌≡◌, ℕ, Bool, true, false, refl, sym, arith, subst}
-use Rattle.std.specs.Prelude.{◌↔◌, Option, is_some}
-use Rattle.specification.specs.Responses.{Responses, AreProper}
-use Rattle.specification.specs.Search.{IsShortestLength}
+use Rattle.std.proofs.Common.{◌≡◌, Bool, true, sym, arith, subst}
+use Rattle.std.specs.Prelude.{◌↔◌}
 use Rattle.order_graph.specs.Lists.{lists_of}
-use Rattle.list_search.specs.Walks.{HasCycle, IsSearchAnswer}
+use Rattle.list_search.specs.Walks.{HasCycle}
 use Rattle.level_search.proofs.Rounds.{ring-told}
 use Rattle.level_search.proofs.ShortestFew.{shortest-fits}
 use Rattle.level_search.proofs.cycles.first.is_on_ring.Goals as goal

@@ -1,9 +1,7 @@
 -- Where the source is on no shortest cycle, nothing is on one through it.
-use Rattle.std.proofs.Common.{◌≡◌, ℕ, ◌<◌, ◌≤◌, Bool, true, false, length, sym, ◌∙◌, arith}
+use Rattle.std.proofs.Common.{sym, ◌∙◌, arith}
 use Rattle.std.proofs.lemmas.Bool.{false≢true}
 use Rattle.specification.specs.Responses.{Responses}
-use Rattle.order_graph.specs.Lists.{lists_of}
-use Rattle.list_search.specs.Walks.{HasCycle}
 use Rattle.list_search.proofs.Joining.{shortest_of_all}
 use Rattle.level_search.proofs.Rounds.{round-source}
 use Rattle.level_search.proofs.cycles.first.least_of_source.Goals as goal

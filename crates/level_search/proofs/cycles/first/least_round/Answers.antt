@@ -1,12 +1,11 @@
 -- The elements of shortest cycles through the element are those between, and the element itself.
-use Rattle.std.proofs.Common.{◌≡◌, ℕ, ◌<◌, ◌≤◌, List, length, get_or, sym, ◌∙◌, ap, subst, arith, inl, inr}
+use Rattle.std.proofs.Common.{ℕ, ◌<◌, ◌≤◌, List, length, get_or, sym, ◌∙◌, ap, subst, arith, inl, inr}
 use Rattle.specification.specs.Responses.{Responses}
 use Rattle.order_graph.specs.Lists.{lists_of}
 use Rattle.list_search.specs.Distances.{IsDistanceBelow}
 use Rattle.list_search.specs.Rings.{IsDistanceTo}
 use Rattle.list_search.specs.Walks.{HasCycle}
 use Rattle.list_search.proofs.Joining.{cycle-known}
-use Rattle.level_search.specs.Rounds.{IsBetween}
 use Rattle.level_search.proofs.Rounds.{between-cycle, round-between, round-cycle}
 use Rattle.level_search.proofs.cycles.first.least_round.Goals.{After-first_between}
 use Rattle.level_search.proofs.cycles.first.least_round.Goals as goal

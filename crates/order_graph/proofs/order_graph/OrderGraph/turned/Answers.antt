@@ -1,12 +1,11 @@
 -- What is turned reads as the responses in the other direction.
-use Rattle.std.proofs.Common.{◌≡◌, ℕ, List, map, sym, ◌∙◌, ap, subst}
-use Rattle.std.specs.Prelude.{reverse}
+use Rattle.std.proofs.Common.{◌≡◌, ℕ, List, sym, ◌∙◌, subst}
 use Rattle.std.proofs.lemmas.Result.{IfOk-weaker}
 use Rattle.events.specs.Names.{NameBytes}
 use Rattle.events.specs.Operation.{Operation}
 use Rattle.specification.specs.Responses.{Responses}
 use Rattle.element_numbers.specs.Cuts.{rows_of}
-use Rattle.order_graph.specs.Kept.{responses_kept, AreListed}
+use Rattle.order_graph.specs.Kept.{responses_kept}
 use Rattle.order_graph.proofs.Turned.{AreTurned, are-turned}
 use Rattle.order_graph.proofs.order_graph.OrderGraph.turned.Goals.{In_ok-places}
 use Rattle.order_graph.proofs.order_graph.OrderGraph.turned.Goals as goal
