@@ -1,4 +1,4 @@
-//! A ring whose lists hold one another: a search looks at the longest of each replica alone.
+//! A ring of layers whose lists hold one another: a search looks at no list that another holds.
 ghost use Rattle.std.specs.Prelude.{◌<◌};
 
 use super::graphs::ask_of;
@@ -10,78 +10,166 @@ use std::alloc::Global;
 use std::test::Fail;
 use std::thread::Threads;
 
-const FOUR_REPLICAS: &str = "trace 1\nreplicas 4\n";
+const SIXTEEN_REPLICAS: &str = "trace 2\nreplicas 16\n";
 
-/// How many elements each replica puts.
-const SIZE: u8 = 32;
+/// How many replicas write the layers but the first, two elements of each.
+const WRITERS: u32 = 12;
 
-/// The name of an element of a replica's block.
-fn named(block: u8, n: u8) -> Result<Name, Fail>
-    requires block { block < 4 }
-    requires n { n < 100 }
+/// How many elements a layer has, and how many layers there are.
+const LAYER: u32 = 24;
+
+const LAYERS: u32 = 32;
+
+/// The replica that shows each layer before the next one.
+const VIEWER: u32 = 15;
+
+/// The digit that counts so many.
+fn digit(number: u32, place: u32) -> u8
+    requires { 0 < place }
 {
-    Ok(Name::new(&[b'a' + block, b'0' + n / 10, b'0' + n % 10])?)
+    b'0' + (number / place % 10) as u8
 }
 
-/// Adds the first n elements of a block.
-fn push_block(response: &mut Response, block: u8, n: u8) -> Result<(), Fail>
-    requires block { block < 4 }
-    requires n { n < 100 }
-{
-    for i in 0..n {
-        push(response, named(block, i)?)?;
+/// The name of the element with this number.
+fn named(number: u32) -> Result<Name, Fail> {
+    Ok(Name::new(&[
+        b'e',
+        digit(number, 100),
+        digit(number, 10),
+        digit(number, 1),
+    ])?)
+}
+
+/// Adds the elements from one number to another.
+fn push_from(response: &mut Response, from: u32, to: u32) -> Result<(), Fail> {
+    for number in from..to {
+        push(response, named(number)?)?;
     }
     Ok(())
 }
 
-/// Lets a replica put its block, element behind element.
-fn put_block(alloc: Global, recording: &mut Recording, block: u8) -> Result<(), Fail>
-    requires { block < 4 }
-{
-    for n in 0..SIZE {
-        let name = named(block, n)?;
-        let mut response = Response::new(alloc);
-        push_block(&mut response, block, n)?;
-        let at = u32::from(n);
-        push(&mut response, name)?;
-        add(
-            recording,
-            u32::from(block),
-            Body::Ins { name, at, response },
-        )?;
-    }
-    Ok(())
-}
-
-/// Lets a replica read its block before another one's.
-fn show_before(alloc: Global, recording: &mut Recording, block: u8, next: u8) -> Result<(), Fail>
-    requires block { block < 4 }
-    requires next { next < 4 }
-{
-    let seen = OpName::new(u32::from(next), u32::from(SIZE)).ok_or("no operation")?;
-    add(recording, u32::from(block), Body::Recv { seen })?;
+/// A replica inserts the element with this number behind these, which it shows.
+fn insert(
+    alloc: Global,
+    recording: &mut Recording,
+    replica: u32,
+    before: [(u32, u32); 2],
+    number: u32,
+) -> Result<(), Fail> {
     let mut response = Response::new(alloc);
-    push_block(&mut response, block, SIZE)?;
-    push_block(&mut response, next, SIZE)?;
-    add(recording, u32::from(block), Body::Read { response })?;
+    for (from, to) in before {
+        push_from(&mut response, from, to)?;
+    }
+    let at = u32::try_from(response.len())?;
+    let name = named(number)?;
+    push(&mut response, name)?;
+    add(recording, replica, Body::Ins { name, at, response })?;
     Ok(())
 }
 
-/// Four blocks, each shown before the next one, and the last before the first.
-fn ring_of_blocks(alloc: Global) -> Result<Recording, Fail> {
-    let mut recording = recording(alloc, FOUR_REPLICAS)?;
-    for block in 0..4 {
-        put_block(alloc, &mut recording, block)?;
+/// The viewer hears of an operation.
+fn hear(recording: &mut Recording, replica: u32, n: u32) -> Result<(), Fail> {
+    let seen = OpName::new(replica, n).ok_or("no operation")?;
+    add(recording, VIEWER, Body::Recv { seen })?;
+    Ok(())
+}
+
+/// The viewer shows one layer before another.
+fn show(alloc: Global, recording: &mut Recording, first: u32, second: u32) -> Result<(), Fail> {
+    let mut response = Response::new(alloc);
+    for layer in [first, second] {
+        let from = layer.saturating_mul(LAYER);
+        push_from(&mut response, from, from.saturating_add(LAYER))?;
     }
-    for (block, next) in [(0, 1), (1, 2), (2, 3), (3, 0)] {
-        show_before(alloc, &mut recording, block, next)?;
+    add(recording, VIEWER, Body::View { response })?;
+    Ok(())
+}
+
+/// Three replicas insert the first layer.
+fn put_first(alloc: Global, recording: &mut Recording) -> Result<(), Fail> {
+    for silent in 0..3u32 {
+        let from = silent.saturating_mul(8);
+        for i in 0..8u32 {
+            let number = from.saturating_add(i);
+            let replica = WRITERS.saturating_add(silent);
+            insert(alloc, recording, replica, [(from, number), (0, 0)], number)?;
+        }
+        hear(recording, WRITERS.saturating_add(silent), 8)?;
     }
+    Ok(())
+}
+
+/// Where the two elements of a writer begin in a layer.
+fn own(layer: u32, writer: u32) -> u32 {
+    layer
+        .saturating_mul(LAYER)
+        .saturating_add(writer.saturating_mul(2))
+}
+
+/// The elements of the writer in the layer before, which it shows; none in the layer behind the first.
+fn own_before(layer: u32, writer: u32) -> (u32, u32) {
+    if layer < 2 {
+        return (0, 0);
+    }
+    let from = own(layer.saturating_sub(1), writer);
+    (from, from.saturating_add(2))
+}
+
+/// A writer deletes its two elements of the layer before, if it shows any.
+fn delete_before(
+    alloc: Global,
+    recording: &mut Recording,
+    layer: u32,
+    writer: u32,
+) -> Result<(), Fail> {
+    let (from, to) = own_before(layer, writer);
+    for number in from..to {
+        let mut response = Response::new(alloc);
+        push_from(&mut response, number.saturating_add(1), to)?;
+        let here = own(layer, writer);
+        push_from(&mut response, here, here.saturating_add(2))?;
+        let name = named(number)?;
+        add(recording, writer, Body::Del { name, response })?;
+    }
+    Ok(())
+}
+
+/// The writers insert a layer, the viewer shows it behind the one before, and that is deleted.
+fn put_layer(alloc: Global, recording: &mut Recording, layer: u32) -> Result<(), Fail> {
+    for writer in 0..WRITERS {
+        let from = own(layer, writer);
+        for number in from..from.saturating_add(2) {
+            let before = [own_before(layer, writer), (from, number)];
+            insert(alloc, recording, writer, before, number)?;
+        }
+    }
+    // Each has inserted two elements a layer, and deleted those of all layers but the last two.
+    let inserted = layer.saturating_mul(2);
+    let deleted = layer.saturating_sub(2).saturating_mul(2);
+    for writer in 0..WRITERS {
+        hear(recording, writer, inserted.saturating_add(deleted))?;
+    }
+    show(alloc, recording, layer.saturating_sub(1), layer)?;
+    for writer in 0..WRITERS {
+        delete_before(alloc, recording, layer, writer)?;
+    }
+    Ok(())
+}
+
+/// Layers of elements, each shown before the next one, and the last before the first.
+fn ring_of_layers(alloc: Global) -> Result<Recording, Fail> {
+    let mut recording = recording(alloc, SIXTEEN_REPLICAS)?;
+    put_first(alloc, &mut recording)?;
+    for layer in 1..LAYERS {
+        put_layer(alloc, &mut recording, layer)?;
+    }
+    show(alloc, &mut recording, LAYERS.saturating_sub(1), 0)?;
     Ok(recording)
 }
 
 /// The conflict number of the ring, and how many looks the searches took.
-fn looks_in_blocks(rt: &(impl Threads + Sync), alloc: Global) -> Result<(u32, u64), Fail> {
-    let recording = ring_of_blocks(alloc)?;
+fn looks_in_layers(rt: &(impl Threads + Sync), alloc: Global) -> Result<(u32, u64), Fail> {
+    let recording = ring_of_layers(alloc)?;
     ask_of(rt, alloc, &recording, |graph| {
         match conflict_of(rt, alloc, graph, 1, &NoGate)? {
             Some(found) => Ok((found.k, found.looked)),
@@ -90,12 +178,13 @@ fn looks_in_blocks(rt: &(impl Threads + Sync), alloc: Global) -> Result<(u32, u6
     })
 }
 
-/// The lists that no other holds have 256 places, and there are 128 elements: so many looks a search takes at
-/// most. Each cycle leads through one of the 32 elements of a block. All lists have 2,368 places.
+/// Searches look at 3,000 places: those of the viewer's 32 lists of 48, and 1,464 of what writers show, which
+/// are four of each of 12 writers in 30 layers, and 24 in the first. Each cycle leads through one of the 24
+/// elements of a layer, and a search looks at each place and each of the 768 elements once at most.
 #[test]
 fn lists_that_others_hold_are_not_looked_at(rt: HostRuntime) -> Result<(), Fail> {
-    let (k, looked) = looks_in_blocks(&rt, rt.alloc())?;
-    assert_eq!(rt; k, 4);
-    assert!(rt; looked <= 32 * (256 + 128), "{looked} looks");
+    let (k, looked) = looks_in_layers(&rt, rt.alloc())?;
+    assert_eq!(rt; k, 32);
+    assert!(rt; looked <= 24 * (32 * 48 + 1464 + 768), "{looked} looks");
     Ok(())
 }
