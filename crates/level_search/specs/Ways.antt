@@ -2,7 +2,7 @@
 use Rattle.std.specs.Prelude.{IfSome, length}
 use Rattle.specification.specs.Responses.{Responses}
 use Rattle.order_graph.specs.Lists.{lists_of}
-use Rattle.list_search.specs.ScratchView.{Fits}
+use Rattle.list_search.specs.Clean.{IsReady}
 use Rattle.level_search.specs.Balls.{FitsSets}
 use Rattle.level_search.specs.Tables.{IsBeforeTable}
 use Rattle.level_search.specs.declared.ways.Way.{Way}
@@ -15,4 +15,4 @@ IsWay v way = IfSome way.table (λ t. IsBeforeTable (length v.elements) (lists_o
 -- searches of these responses may write on it
 pub record FitsRoom (v : Responses) (room : Room) : Type 0 where
   pub sets : FitsSets (length v.elements) room.sets
-  pub scratch : Fits room.scratch v
+  pub scratch : IsReady room.scratch v

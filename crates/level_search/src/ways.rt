@@ -7,12 +7,12 @@ ghost use Rattle.order_graph.specs.Lists.{lists_of};
 ghost use Rattle.list_search.specs.Walks.{IsSearchAnswer};
 ghost use Rattle.level_search.specs.Looks.{HasLookedBy, HasLookedInLists};
 ghost use Rattle.level_search.specs.Ways.{FitsRoom, IsWay};
-ghost use Rattle.list_search.specs.ScratchView.{Fits};
+ghost use Rattle.list_search.specs.Clean.{IsReady};
 
 use crate::before_table::BeforeTable;
 use crate::tabled::{Sets, search_by_table};
 use events::Memory;
-use list_search::{BoundSource, Scratch, search_by_number};
+use list_search::{BoundSource, ReadyScratch, search_ready};
 use order_graph::{Looked, OrderGraph};
 use std::alloc::Global;
 
@@ -29,7 +29,7 @@ pub struct Way {
 #[derive(Drop)]
 pub struct Room {
     pub sets: Sets,
-    pub scratch: Scratch,
+    pub scratch: ReadyScratch,
 }
 
 impl Room {
@@ -38,7 +38,7 @@ impl Room {
         ensures { IfOk result (FitsRoom graph.now) }
     {
         let sets = Sets::new(alloc, graph)?;
-        let scratch = Scratch::new(alloc, graph)?;
+        let scratch = ReadyScratch::new(alloc, graph)?;
         Ok(Room { sets, scratch })
     }
 }
@@ -79,7 +79,7 @@ impl Way {
 ///
 /// By the lists it makes at most as many looks as there are places and elements, and where it finds a cycle of
 /// m elements, 2 * m at least; by the table just as many as are said at `search_by_table`. Under a bound of two
-/// it looks at nothing in the lists, since no cycle is shorter.
+/// it looks at nothing in the lists, since no cycle is shorter. Over the lists it sets back only what it wrote.
 pub fn search_through<B: BoundSource>(
     graph: &OrderGraph,
     way: &Way,
@@ -109,16 +109,16 @@ pub fn search_through<B: BoundSource>(
 fn search_by_lists<B: BoundSource>(
     graph: &OrderGraph,
     element: u32,
-    scratch: &mut Scratch,
+    scratch: &mut ReadyScratch,
     looked: &mut Looked,
     bound: &mut B,
 ) -> Option<u32>
     requires element { element < length graph.now.elements }
-    requires fits { Fits scratch.old graph.now }
+    requires ready { IsReady scratch.old graph.now }
     ensures answer { IsSearchAnswer (lists_of graph.now) element (B.last bound.new) result }
     ensures bound { B.last bound.new ≤ B.last bound.old }
     ensures reads { B.reads bound.old bound.new }
-    ensures fits { Fits scratch.new graph.now }
+    ensures ready { IsReady scratch.new graph.now }
     ensures looks { HasLookedInLists (length graph.now.elements) (lists_of graph.now) (B.last bound.new) result
         looked.old looked.new }
 {
@@ -127,7 +127,7 @@ fn search_by_lists<B: BoundSource>(
     if bound.best() <= SHORTEST {
         return None;
     }
-    let found = search_by_number(graph, element, scratch, bound);
+    let found = search_ready(graph, element, scratch, bound);
     looked.add(scratch.looked());
     found
 }

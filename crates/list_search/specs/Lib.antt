@@ -4,4 +4,5 @@ pub mod Walks
 pub mod Distances
 pub mod Rings
 pub mod Progress
+pub mod Clean
 pub mod ScratchView

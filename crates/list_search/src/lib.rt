@@ -8,4 +8,7 @@
 mod searching;
 
 pub use order_graph::Looked;
-pub use searching::{BoundSource, PlainBound, Scratch, distances, search, search_by_number};
+pub use searching::{
+    BoundSource, PlainBound, ReadyScratch, Scratch, distances, search, search_by_number,
+    search_ready,
+};

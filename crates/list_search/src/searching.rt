@@ -12,6 +12,7 @@ mod distance;
 mod expand;
 mod levels;
 mod plain_bound;
+mod restore;
 mod start;
 mod state;
 mod sweep;
@@ -19,9 +20,11 @@ mod sweep;
 pub use bound_source::BoundSource;
 use distance::distances_in;
 use events::Memory;
-use levels::search_in;
+use levels::{search_in, search_on};
 use order_graph::{Looked, OrderGraph};
 pub use plain_bound::PlainBound;
+use restore::{begin, settle};
+use start::clear;
 use state::State;
 use std::alloc::Global;
 use std::marker::Model;
@@ -93,7 +96,90 @@ impl Scratch {
     }
 }
 
+/// What searches of one graph write on, one after another. It is clean between two: each sets back what it
+/// wrote, and touches nothing else.
+#[derive(Drop)]
+pub struct ReadyScratch {
+    state: State,
+    looked: Looked,
+}
+
+impl Model for ReadyScratch {
+    ghost use Rattle.std.specs.Prelude.{◌≡◌, vec_len};
+    ghost use Rattle.list_search.specs.Clean.{ReadyView};
+
+    ghost Value = { ReadyView };
+
+    ghost view = { λ a. record {
+      marks = a.state.marks.items;
+      seen = a.state.seen.items;
+      places = vec_len a.state.queue;
+      looked = a.looked;
+    } };
+
+    ghost invariant = { λ a. vec_len a.state.queue ≡ vec_len a.state.seen };
+}
+
+impl ReadyScratch {
+    ghost use Rattle.list_search.specs.Clean.{IsReady};
+
+    /// A scratch for searches of this graph. It takes time and memory linear in the elements and the lists.
+    pub fn new(alloc: Global, graph: &OrderGraph) -> Result<ReadyScratch, Memory>
+        ensures { IfOk result (λ s. IsReady s graph.now) }
+    {
+        let elements = graph.elements() as usize;
+        let mut state = State {
+            marks: Vec::from_elem(alloc, 0, graph.lists() as usize)?,
+            seen: Vec::from_elem(alloc, false, elements)?,
+            queue: Vec::from_elem(alloc, 0, elements)?,
+            tail: 0,
+            found: false,
+        };
+        clear(graph, &mut state);
+        Ok(ReadyScratch {
+            state,
+            looked: Looked::new(),
+        })
+    }
+
+    /// How many places the last search read, and elements it expanded, together; 0 before the first. The
+    /// count stays at 18446744073709551615 once it is there.
+    pub fn looked(&self) -> u64
+        ensures { result ≡ self.now.looked }
+    {
+        self.looked.count()
+    }
+}
+
+ghost use Rattle.list_search.specs.Clean.{IsReady};
 ghost use Rattle.list_search.specs.ScratchView.{Fits, LooksWithin};
+
+/// As `search_by_number`, on a scratch that is clean and stays so. Beside its looks a search takes a step for
+/// each place of each element that it reached, or sets back a mark for each list and element, where those are
+/// fewer.
+pub fn search_ready<B: BoundSource>(
+    graph: &OrderGraph,
+    element: u32,
+    ready: &mut ReadyScratch,
+    bound: &mut B,
+) -> Option<u32>
+    requires element { element < length graph.now.elements }
+    requires ready { IsReady ready.old graph.now }
+    ensures answer { by_number.IsSearchAnswer (lists_of graph.now) element (B.last bound.new) result }
+    ensures bound { B.last bound.new ≤ B.last bound.old }
+    ensures reads { B.reads bound.old bound.new }
+    ensures none { IfNone result (length graph.now.elements < B.last bound.new → (n : ℕ)
+        → ¬ by_number.HasCycle (lists_of graph.now) element n) }
+    ensures ready { IsReady ready.new graph.now }
+    ensures looked { LooksWithin graph.now ready.new.looked result }
+    ensures expanded { IfNone result (1 < B.last bound.new → 0 < ready.new.looked) }
+{
+    ready.looked = Looked::new();
+    begin(graph, element, &mut ready.state);
+    let found = search_on(graph, element, &mut ready.state, &mut ready.looked, bound);
+    settle(graph, element, &mut ready.state);
+    found
+}
 
 /// As `search`, with cycles told by the elements' numbers.
 pub fn search_by_number<B: BoundSource>(

@@ -12,9 +12,9 @@ returns-then-best-le-SHORTEST-clause-looks g c = (0, (omega arith, λ lt. omega 
 
 pub returns-clause-looks : goal.returns-clause-looks
 returns-clause-looks g c =
-    let e = c.search_by_number-found.ensures in (
+    let e = c.search_ready-found.ensures in (
       c.looked.result,
       rw c.looked.ensures
-          (list-count c.args.graph.now _ c.search_by_number-found.result _ e.looked e.expanded),
+          (list-count c.args.graph.now _ c.search_ready-found.result _ e.looked e.expanded),
       c.add.ensures.added ∙ counted-from _ _ c.add.ensures.small,
     )

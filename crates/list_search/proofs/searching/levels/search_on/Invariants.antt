@@ -2,7 +2,7 @@ use Rattle.std.proofs.Common.{◌≡◌, ◌+◌, ◌-◌, ◌*◌, ◌<◌, ◌
 use Rattle.specification.specs.Responses.{place_count}
 use Rattle.list_search.specs.Graph.{graph_of}
 use Rattle.list_search.proofs.Layers.{IsLayered}
-use Rattle.list_search.proofs.searching.levels.search_in.Given as goal
+use Rattle.list_search.proofs.searching.levels.search_on.Given as goal
 
 abbrev pub invariant-levels : goal.invariant-levels
 invariant-levels g l = record {

@@ -1,7 +1,7 @@
 use Rattle.std.proofs.Common.{arith}
 use Rattle.list_search.specs.Graph.{graph_of}
 use Rattle.list_search.proofs.Layers.{cycle_found, cycle_long, layered_next, no_cycle}
-use Rattle.list_search.proofs.searching.levels.search_in.Goals as goal
+use Rattle.list_search.proofs.searching.levels.search_on.Goals as goal
 
 -- the bound is not above the least length that is left
 pub returns-then-least-level-clause-answer : goal.returns-then-least-level-clause-answer
