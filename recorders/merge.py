@@ -170,9 +170,12 @@ def read(path: str) -> str:
 
 
 def shown(text: str) -> str:
-    """A name or a log's text for a message: what can't be printed stands as `\\x1b` and the like."""
-    return "".join(letter if letter.isprintable() else f"\\x{ord(letter) - 0xdc00:02x}" if "\udc80" <= letter <= "\udcff" else ascii(letter)[1:-1]
+    """A name or a log's text for a message: what can't be printed stands as `\\x1b` and the like. So does the first letter of what CI
+    would read as a command of its own."""
+    told = "".join(letter if letter.isprintable() else f"\\x{ord(letter) - 0xdc00:02x}" if "\udc80" <= letter <= "\udcff" else ascii(letter)[1:-1]
                    for letter in text)
+    at = len(told) - len(told.lstrip())
+    return f"{told[:at]}\\x{ord(told[at]):02x}{told[at + 1:]}" if told[at:at + 2] in ("::", "##") else told
 
 
 def say(words: str) -> None:

@@ -51,9 +51,12 @@ def ended(*words):
 
 
 def shown(text):
-    """A file's name: what can't be printed stands as `\\x1b` and the like, so that no name writes lines of its own into a log."""
-    return "".join(letter if letter.isprintable() else f"\\x{ord(letter) - 0xdc00:02x}" if "\udc80" <= letter <= "\udcff" else ascii(letter)[1:-1]
+    """A file's name: what can't be printed stands as `\\x1b` and the like, so that no name writes lines of its own into a log. So does the
+    first letter of what CI would read as a command."""
+    told = "".join(letter if letter.isprintable() else f"\\x{ord(letter) - 0xdc00:02x}" if "\udc80" <= letter <= "\udcff" else ascii(letter)[1:-1]
                    for letter in text)
+    at = len(told) - len(told.lstrip())
+    return f"{told[:at]}\\x{ord(told[at]):02x}{told[at + 1:]}" if told[at:at + 2] in ("::", "##") else told
 
 
 def escaped(text, marks):
@@ -138,7 +141,10 @@ def judge(folder, options):
         told = "keep the weak list specification" if goal else "are accepted"
         print(f"all recordings below {shown(folder)} {told}")
     if rows:
-        print(f"{len(rows)} {'failed' if goal else 'not accepted'}: {JUDGED}/junit.xml has them all, and {JUDGED}/1.html is the page of the first")
+        made = [f"{JUDGED}/{number}.html" for number in range(1, len(rows) + 1) if (JUDGED / f"{number}.html").exists()]
+        first = "of the first" if made[:1] == [f"{JUDGED}/1.html"] else "of the first that has one"
+        page = f", and {made[0]} is the page {first}" if made else ""
+        print(f"{len(rows)} {'failed' if goal else 'not accepted'}: {JUDGED}/junit.xml has them all{page}")
     if done.returncode not in (0, 1, 2) or done.returncode == 1 and not rows:
         raise Failed(f"domepeeler-judge-many ended with status {done.returncode}, and listed {len(rows)} recordings")
     return done.returncode

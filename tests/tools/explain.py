@@ -447,7 +447,7 @@ FAULTS = [
     (b"trace 1\nreplicas 2\n0 ins a 0 : a\n1 recv 0 2\n", "line 4: not yet, have 1",
      "replica 0 has 1 operations in the lines before, and operation 2 is not among them"),
     (b"trace 1\nreplicas 2\n0 ins a 0 : a\n0 recv 0 1\n", "line 4: own receipt",
-     "a replica receives what others did: its own operations are visible to it without a receipt"),
+     "a replica receives what others did: its own operations it has without a receipt"),
     (b"trace 1\nreplicas 1\n" + b"0 read :\n" * 16385, "line 16387: entries full",
      "a replica has at most 16,384 entries, receipts counted: record shorter sessions, or fewer reads"),
 ]

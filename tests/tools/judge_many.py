@@ -67,6 +67,7 @@ OTHERS = [("echo hello", f"{NO_REPORT}0"), ("echo '[]'", f"{NO_REPORT}0"), ("ech
 STRANGERS = [("echo 'GNU coreutils 9.1'", "it ended with status 0: GNU coreutils 9.1"), ("exit 3", "it ended with status 3"),
              ("echo 'domepeelers 0.2.0'", "it ended with status 0: domepeelers 0.2.0"), ("kill -9 $$", "it was ended by signal 9 (SIGKILL)"),
              ("printf '\\033[31m\\n'", "it ended with status 0: \\x1b[31m")]
+CI_COMMAND = re.compile(rb"^\s*(::|##)", re.MULTILINE)  # a line that GitHub and others read as a command
 VERSION = "[ \"$1\" != --version ] || exec echo domepeeler 0.2.0\n"  # what a program that is asked for its version answers
 
 SEED, SESSIONS, EXCHANGED = 20261128, 120, 40
@@ -260,6 +261,8 @@ def jobs_of_ci(tally: Tally, program: str, folder: str) -> None:
     done = in_ci(project, path, step, {})
     told = "judge_recordings: cannot write judged: File exists\n"
     tally.check("CI: it can't write", (done.returncode, done.stdout, done.stderr) == (2, "", told), done)
+    done = in_ci(project_of(folder, {"unread.trace": "0 reads :"}), path, step, {})
+    tally.check("CI: no page, and none is named", done.returncode == 2 and done.stdout.endswith("1 not accepted: judged/junit.xml has them all\n"), done)
     done = in_ci(project_of(folder, {}), path, step, {"GITHUB_ACTIONS": "true"})
     tally.check("CI: no recording", done.returncode == 2 and done.stderr.startswith("domepeeler-judge-many: "), done)
     done = in_ci(project_of(folder, ACCEPTED), path.partition(os.pathsep)[2], step, {})
@@ -295,6 +298,8 @@ def in_gitlab(tally: Tally, project: str, path: str, step: str) -> None:
     tally.check("CI: GitLab: its links", [(link["label"], link["url"]) for link in links] == wanted, links)
     kept = {"2.html", "2.trace", "junit.xml", "annotations.json"}
     tally.check("CI: GitLab: what is kept", set(os.listdir(f"{project}/judged")) == kept, os.listdir(f"{project}/judged"))
+    told = "2 not accepted: judged/junit.xml has them all, and judged/2.html is the page of the first that has one\n"
+    tally.check("CI: GitLab: the page that is named", done.stdout.endswith(told), done.stdout[-300:])
     suite = xml.parse(f"{project}/judged/junit.xml").getroot().find("testsuite")
     counts = {key: suite.get(key) for key in ("tests", "failures", "errors")}
     tally.check("CI: GitLab: the counts of JUnit's file", counts == {"tests": "4", "failures": "1", "errors": "1"}, counts)
@@ -828,6 +833,23 @@ def odd_names(tally: Tally, program: str, folder: str) -> None:
         tally.check(f"odd names: {shown} missing", missing.stderr == f"domepeeler-explain: cannot read {folder}/no{shown}: No such file or directory\n", missing)
 
 
+def names_like_commands(tally: Tally, program: str, folder: str) -> None:
+    """A name, a place or a note that begins as a line that CI reads as a command is shown otherwise."""
+    write(folder, {"::error::forged.trace": "0 ins a 0 : a|0 read :", "##[error]forged.trace": "0 reads :"})
+    trace = Path(folder, "::error::forged.trace")
+    Path(f"{trace}.lines").write_text("4\n3 ::add-mask::x\nnote ::stop-commands::x\n")
+    told = {b"\\x3a:error::forged.trace", b"\\x23#[error]forged.trace"}
+    for words in (), ("--json",):
+        done = subprocess.run([TOOL, "--program", program, *words, "."], cwd=folder, capture_output=True)
+        tally.check(f"names like commands: {words or 'the table'}", done.returncode == 2 and not CI_COMMAND.search(done.stdout + done.stderr), done)
+        tally.check(f"names like commands: {words or 'the table'}: each is told", words or all(name in done.stdout for name in told), done)
+    done = subprocess.run([str(ROOT / "tools" / "explain"), "--program", program, "--html", "::page.html", trace.name], cwd=folder, capture_output=True)
+    tally.check("names like commands: explained", done.returncode == 1 and not CI_COMMAND.search(done.stdout + done.stderr)
+                and b"\\x3a:stop-commands::x" in done.stdout and b"\\x3a:add-mask::x" in done.stdout, done)
+    done = subprocess.run([sys.executable, str(ROOT / "recorders" / "merge.py"), "::warning::no.log"], cwd=folder, capture_output=True)
+    tally.check("names like commands: merge.py", done.returncode == 2 and not CI_COMMAND.search(done.stdout + done.stderr), done)
+
+
 def stopped(tally: Tally, folder: str, other: str) -> None:
     """SIGTERM and SIGHUP end it, and what judges for it."""
     slow, begun = Path(other, "slow"), Path(other, "begun")
@@ -1225,7 +1247,7 @@ def main() -> None:
         warnings(tally, program, folder)
         warnings_of_sessions(tally, program, other)
     for check in (pythons, little_memory, not_looked_at, changing, weak, weak_junit, weak_in_ci, known_as_cut, grouped, no_files, overwriting,
-                  odd_names, tasks, script_of_ci, big_traces):
+                  odd_names, names_like_commands, tasks, script_of_ci, big_traces):
         with tempfile.TemporaryDirectory() as folder:
             check(tally, program, folder)
     with tempfile.TemporaryDirectory() as folder, tempfile.TemporaryDirectory() as other, tempfile.TemporaryDirectory() as third:

@@ -106,6 +106,10 @@ def main() -> None:
     front = (ROOT / FRONT).read_text()
     for line, reason in NOT_RUN.items():
         tally.check(f"README.md shows `{line}`, not run since {reason}", f"\n    {line}\n" in front)
+    for page in "README.md", "docs/recording.md":
+        text = (ROOT / page).read_text()
+        ids, by_number = text.find("#receipts-made-for-you"), text.find("recording.received(")
+        tally.check(f"{page}: calls that take ids and clocks come first", 0 < ids < by_number, (ids, by_number))
     tally.close()
 
 

@@ -114,7 +114,7 @@ def right(cause: str, have: str | None, line: bytes, lines: list) -> list:
         count = lines[1].decode().split()[1]
         return [f"line 2 says {count} replicas, and they count from 0: their numbers are below {count}"]
     if cause == "own receipt":
-        return ["a replica receives what others did: its own operations are visible to it without a receipt"]
+        return ["a replica receives what others did: its own operations it has without a receipt"]
     if cause == "not yet":
         return [f"replica {words[2]} has {have} operations in the lines before, and operation {words[3]} is not among them",
                 "a receipt stands after the operation that it names, also where logs of several machines are merged;",

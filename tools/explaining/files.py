@@ -7,6 +7,7 @@ import os
 import stat
 
 MOST_BYTES = 152_305_684  # of a trace that reaches every limit
+COMMANDS = ("::", "##")  # so do lines begin that GitHub and others read as commands
 CHANGED = "it changed while it was judged"
 
 
@@ -15,8 +16,13 @@ class Unread(Exception):
 
 
 def shown(text: str) -> str:
-    """A name or a log's text for a message, a table or a page: what can't be printed stands as `\\x1b` and the like."""
-    return "".join(letter if letter.isprintable() else escaped(letter) for letter in text)
+    """A name or a log's text for a message, a table or a page: what can't be printed stands as `\\x1b` and the like. So does the first
+    letter of what CI would read as a command of its own."""
+    told = "".join(letter if letter.isprintable() else escaped(letter) for letter in text)
+    if told.lstrip().startswith(COMMANDS):
+        at = len(told) - len(told.lstrip())
+        return f"{told[:at]}\\x{ord(told[at]):02x}{told[at + 1:]}"
+    return told
 
 
 def escaped(letter: str) -> str:

@@ -173,7 +173,7 @@ def print_table(rows: list, listed: list) -> None:
     for head, told in (("alike", [more for _, more in rows_told]), ("warnings", [len(row.warnings or []) for row, _ in rows_told])):
         columns += [(head, list(map(str, told)))] if any(told) else []
     if any(row.notes for row, _ in rows_told):
-        columns.append(("noted", ["; ".join(row.notes or ["-"]) for row, _ in rows_told]))
+        columns.append(("noted", ["; ".join(map(shown, row.notes or ["-"])) for row, _ in rows_told]))
     cells = [[head, *told] for head, told in columns] if rows_told else []
     widths = [max(map(len, column)) for column in cells]
     for line in zip(*cells):

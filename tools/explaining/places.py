@@ -12,7 +12,7 @@ import re
 from typing import NamedTuple
 
 from . import debuggers
-from .files import Unread, read_file
+from .files import Unread, read_file, shown
 from .recordings import FIRST_ENTRY
 from .telling import joined
 from .warnings import MOST_BESIDE, SIDE
@@ -91,7 +91,7 @@ def with_places(told: Explanation, known: Beside) -> Explanation:
         sections = [without_statement(section, found if is_log else {}) for section in sections]
     if found:
         sections = [*sections, Section(LOG if is_log else CODE, by_place(found))]
-    return told._replace(sections=sections + ([Section(NOTED, list(known.notes))] if known.notes else []))
+    return told._replace(sections=sections + ([Section(NOTED, [shown(note) for note in known.notes])] if known.notes else []))
 
 
 def by_place(found: dict) -> list:
@@ -99,7 +99,7 @@ def by_place(found: dict) -> list:
     lines = {}
     for line, place in found.items():
         lines.setdefault(place, []).append(str(line))
-    return [f"{place}: line{'' if len(same) == 1 else 's'} {joined(same)}" for place, same in lines.items()]
+    return [f"{shown(place)}: line{'' if len(same) == 1 else 's'} {joined(same)}" for place, same in lines.items()]
 
 
 def without_statement(section: Section, places: dict) -> Section:

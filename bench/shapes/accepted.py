@@ -1,0 +1,40 @@
+#!/usr/bin/env python3
+"""accepted.py PROGRAM TRACE: prints a refused trace without reads and views of its least cycle, so that it is accepted.
+
+It has PROGRAM judge the trace, leaves out the last of the cycle's steps that a read or a view shows, and goes on so until no cycle is
+left. It ends with 2 where a cycle has no such step. What such a trace costs is the measure for what its refusal costs."""
+import os
+import subprocess
+import sys
+import tempfile
+
+program, path = sys.argv[1:3]
+lines = open(path, encoding="ascii").read().splitlines()
+
+
+def line_of(replica: int, n: int) -> int:
+    """Where the n-th operation of a replica stands."""
+    for at, line in enumerate(lines[2:], 2):
+        words = line.split(" ", 2)
+        if int(words[0]) == replica and words[1] != "recv":
+            n -= 1
+            if n == 0:
+                return at
+    sys.exit("accepted.py: no such operation")
+
+
+with tempfile.TemporaryDirectory() as folder:
+    trace = os.path.join(folder, "a.trace")
+    while True:
+        with open(trace, "w", encoding="ascii") as out:
+            out.write("\n".join(lines) + "\n")
+        report = subprocess.run([program, "verdict", trace], capture_output=True, text=True, check=False).stdout.splitlines()
+        if report[1].startswith("accepted"):
+            break
+        shown = [line.split(" ", 4)[3] for line in report if line.startswith("step ")]
+        reads = [at for at in (line_of(*map(int, name.split("."))) for name in shown) if lines[at].split(" ", 2)[1] in ("read", "view")]
+        if not reads:
+            sys.stderr.write("accepted.py: no step of the cycle is a read or a view\n")
+            sys.exit(2)
+        del lines[reads[-1]]
+print("\n".join(lines))
