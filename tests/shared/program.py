@@ -134,6 +134,22 @@ def need(command: str, package: str) -> None:
         sys.exit(f"{command} is needed, and apt-get could not install the package {package}")
 
 
+NODE = {"NODE_PATH": f"/usr/share/nodejs:{os.environ.get('NODE_PATH', '')}"}  # where Debian keeps Node's modules
+
+
+def need_module(module: str, package: str) -> None:
+    """The same of a module of Node."""
+    def is_there() -> bool:
+        return subprocess.run(["node", "-e", f"require('{module}')"], env=os.environ | NODE, capture_output=True).returncode == 0
+
+    need("node", "nodejs")
+    if not is_there() and shutil.which("apt-get") is not None:
+        for words in ["update"], ["install", "-y", "--no-install-recommends", package]:
+            subprocess.run(["apt-get", *words], stdout=subprocess.DEVNULL, stderr=subprocess.DEVNULL, check=False)
+    if not is_there():
+        sys.exit(f"Node's module {module} is needed, and apt-get could not install the package {package}")
+
+
 def library_of(source: Path, folder: str) -> str:
     """The library that a C source makes, built in the folder, for LD_PRELOAD."""
     path = os.path.join(folder, f"{source.stem}.so")

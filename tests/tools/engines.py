@@ -1,6 +1,6 @@
 #!/usr/bin/env python3
 """engines.py PROGRAM: engines in any language that `recorders/engines/record.py` asks for sessions, by docs/engines.md: the examples in C
-and Rust, bugs planted in them, and engines that do not answer; and ProseMirror, where the machine has its libraries.
+and Rust, bugs planted in them, and engines that do not answer; and ProseMirror and Yjs, as Debian packs them.
 
 What is expected was written by hand from docs/engines.md."""
 import os
@@ -15,7 +15,7 @@ from typing import NamedTuple
 
 ROOT = Path(__file__).resolve().parents[2]
 sys.path.insert(0, str(ROOT / "tests"))
-from shared.program import Tally, need, program_of  # noqa: E402
+from shared.program import NODE, Tally, need, need_module, program_of  # noqa: E402
 
 sys.path[:0] = [str(ROOT / "recorders")]
 import merge  # noqa: E402
@@ -263,25 +263,29 @@ def small_sessions(tally: Tally) -> None:
 
 
 def prosemirror(tally: Tally, program: str) -> None:
-    """The gallery's recordings of ProseMirror as they are explained, and made anew where the machine has its libraries."""
-    variables = os.environ | {"NODE_PATH": f"/usr/share/nodejs:{os.environ.get('NODE_PATH', '')}"}
-    asked = ["node", "-e", "require('prosemirror-transform')"]
-    has = shutil.which("node") and subprocess.run(asked, env=variables, capture_output=True).returncode == 0
-    if not has:
-        print("ProseMirror is not on this machine: its recordings are judged as they were kept")
+    """The gallery's recordings of ProseMirror as they are explained, and made anew."""
+    need_module("prosemirror-transform", "node-prosemirror-transform")
+    variables = os.environ | NODE
     for name, (plan, wanted) in PROSEMIRROR.items():
         path = ROOT / "examples" / f"prosemirror_{name}.trace"
         lines = iter(line.strip() for line in explain(program, path).splitlines())
         tally.check(f"ProseMirror: {name} explained", all(line in lines for line in wanted.split("|")), explain(program, path))
-        if has:
-            tally.check(f"ProseMirror: {name} made anew", played(plan, variables) == path.read_text() + "end\n", played(plan, variables))
-    if has:
-        told = played(CONFIRMED, variables)
-        tally.check("ProseMirror: text that was confirmed stays", told.endswith("\n1 recv 0 2\n1 read : a b\nend\n"), told)
-        done = record("prosemirror", program, "--sessions", "10")
-        said = counted(done.stdout)
-        is_right = all(re.fullmatch(r"accepted: \d+", one) for one in said.values())
-        tally.check("ProseMirror: by record.py", done.returncode == (0 if is_right else 1) and not done.stderr and list(said) == SERVER_KINDS, done)
+        tally.check(f"ProseMirror: {name} made anew", played(plan, variables) == path.read_text() + "end\n", played(plan, variables))
+    told = played(CONFIRMED, variables)
+    tally.check("ProseMirror: text that was confirmed stays", told.endswith("\n1 recv 0 2\n1 read : a b\nend\n"), told)
+    done = record("prosemirror", program, "--sessions", "10")
+    said = counted(done.stdout)
+    is_right = all(re.fullmatch(r"accepted: \d+", one) for one in said.values())
+    tally.check("ProseMirror: by record.py", done.returncode == (0 if is_right else 1) and not done.stderr and list(said) == SERVER_KINDS, done)
+
+
+def yjs(tally: Tally, program: str) -> None:
+    """Yjs by its recorder, also where messages overtake those that they build on: it holds these back, and no receipt is written before."""
+    need_module("yjs", "node-yjs")
+    done = record("yjs", program, "--sessions", "10")
+    said = counted(done.stdout)
+    tally.check("Yjs: by record.py", done.returncode == 0 and not done.stderr and list(said)[:len(KINDS)] == KINDS and len(said) > len(KINDS)
+                and all(re.fullmatch(r"accepted: \d+", one) for one in said.values()), done)
 
 
 def played(plan: str, variables: dict) -> str:
@@ -308,6 +312,7 @@ def main() -> None:
     small_sessions(tally)
     logs(tally, program)
     prosemirror(tally, program)
+    yjs(tally, program)
     with tempfile.TemporaryDirectory() as folder:
         examples(tally, program, folder)
         of_the_page(tally, folder)

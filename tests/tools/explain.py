@@ -24,7 +24,7 @@ from pathlib import Path
 ROOT = Path(__file__).resolve().parents[2]
 sys.path.insert(0, str(ROOT / "tests"))
 from reference.traces import has_view, written  # noqa: E402
-from shared.program import Ended, Tally, is_running, program_of, run  # noqa: E402
+from shared.program import NODE, Ended, Tally, is_running, need_module, program_of, run  # noqa: E402
 from shared.sessions import session, with_fault  # noqa: E402
 from shared.traces import trace as long_trace  # noqa: E402
 
@@ -1090,36 +1090,32 @@ def saved(tally: Tally, program: str, folder: str) -> None:
 
 
 def from_yjs(tally: Tally, program: str, folder: str) -> None:
-    """From a plain test of Yjs to the explanation: its recordings as they are kept, and made anew where the machine has Yjs; and its
-    recorder runs as it is copied, beside the one file that it needs."""
-    variables = os.environ | {"DOMEPEELER": program, "NODE_PATH": f"/usr/share/nodejs:{os.environ.get('NODE_PATH', '')}"}
-    has_yjs = shutil.which("node") and subprocess.run(["node", "-e", "require('yjs')"], env=variables, capture_output=True).returncode == 0
-    if not has_yjs:
-        print("Yjs is not on this machine: its recordings are judged as they were kept")
+    """From a plain test of Yjs to the explanation: its recordings as they are kept, and made anew; and its recorder runs as it is copied,
+    beside the one file that it needs."""
+    need_module("yjs", "node-yjs")
+    variables = os.environ | NODE | {"DOMEPEELER": program}
     for kept, planted, wanted in YJS_TOLD:
         path = Path(folder, kept)
-        if has_yjs:
-            done = subprocess.run(["node", "--test", "--test-reporter=tap", YJS / "page.test.mjs"], capture_output=True, text=True,
-                                  env=variables | {"RECORDING": str(path), "PLANTED": planted})
-            tally.check(f"Yjs: {kept}, its test", done.returncode == 0 and "# pass 1\n" in done.stdout, done)
-            tally.check(f"Yjs: {kept} as it was kept", path.read_bytes() == (YJS / kept).read_bytes())
-            places = Path(f"{path}.lines").read_text().splitlines()[2:]
-            tally.check(f"Yjs: {kept}, places of the test alone", len(places) == path.read_bytes().count(b"\n") - 2 and
-                        all("page.test.mjs:" in line and "nodejs" not in line for line in places), places)
+        done = subprocess.run(["node", "--test", "--test-reporter=tap", YJS / "page.test.mjs"], capture_output=True, text=True,
+                              env=variables | {"RECORDING": str(path), "PLANTED": planted})
+        tally.check(f"Yjs: {kept}, its test", done.returncode == 0 and "# pass 1\n" in done.stdout, done)
+        tally.check(f"Yjs: {kept} as it was kept", path.read_bytes() == (YJS / kept).read_bytes())
+        places = Path(f"{path}.lines").read_text().splitlines()[2:]
+        tally.check(f"Yjs: {kept}, places of the test alone", len(places) == path.read_bytes().count(b"\n") - 2 and
+                    all("page.test.mjs:" in line and "nodejs" not in line for line in places), places)
         got = explain(program, [str(YJS / kept)])
         missing = stand_in_order(got.out.decode().splitlines(), wanted.split("|"))
         tally.check(f"Yjs: {kept} explained", missing is None and got.status == 0 and not warned(got) and not got.err, got)
-    if has_yjs:
-        copied = Path(folder, "copied")
-        copied.mkdir()
-        for file in YJS / "recorded_yjs.mjs", YJS / "page.test.mjs", ROOT / "recorders/domepeeler.mjs":
-            shutil.copy(file, copied)
-        done = subprocess.run(["node", "--test", "--test-reporter=tap", "page.test.mjs"], capture_output=True, text=True, cwd=copied,
-                              env=variables | {"RECORDING": "page.trace"})
-        tally.check("Yjs: as it is copied", done.returncode == 0 and
-                    Path(copied, "page.trace").read_bytes() == (YJS / "page.trace").read_bytes(), done)
-        done = subprocess.run(["node", "--test", YJS / "recorded_yjs.test.mjs"], capture_output=True, text=True, env=variables)
-        tally.check("Yjs: what is recorded", done.returncode == 0, done.stdout)
+    copied = Path(folder, "copied")
+    copied.mkdir()
+    for file in YJS / "recorded_yjs.mjs", YJS / "page.test.mjs", ROOT / "recorders/domepeeler.mjs":
+        shutil.copy(file, copied)
+    done = subprocess.run(["node", "--test", "--test-reporter=tap", "page.test.mjs"], capture_output=True, text=True, cwd=copied,
+                          env=variables | {"RECORDING": "page.trace"})
+    tally.check("Yjs: as it is copied", done.returncode == 0 and
+                Path(copied, "page.trace").read_bytes() == (YJS / "page.trace").read_bytes(), done)
+    done = subprocess.run(["node", "--test", YJS / "recorded_yjs.test.mjs"], capture_output=True, text=True, env=variables)
+    tally.check("Yjs: what is recorded", done.returncode == 0, done.stdout)
 
 
 def from_own_engine(tally: Tally, program: str, folder: str) -> None:
