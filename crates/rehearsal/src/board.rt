@@ -1,8 +1,8 @@
 //! What the recorders of a rehearsal tell each other: how many operations each has recorded, and who has
 //! ended.
 //!
-//! A recorder waits only for one that has not ended, and whoever ends wakes all that wait for it. Why nobody
-//! waits for ever stands in docs/DECISIONS.md.
+//! A recorder waits only for one that has not ended, and whoever ends wakes all that wait for it. Who is not
+//! woken looks again after a second. Why nobody waits for ever stands in docs/DECISIONS.md.
 ghost use Rattle.std.specs.Prelude.{◌≡◌};
 
 use events::{Memory, OpName};
@@ -10,10 +10,14 @@ use sessions::Waiter;
 use std::alloc::Global;
 use std::hint;
 use std::sync::atomic::{AtomicU64, Ordering};
-use std::sync::{Condvar, Mutex, Wait};
+use std::sync::{Mutex, Wait};
+use std::time::Duration;
 
 /// How often a recorder looks for an operation before it sleeps.
 const LOOKS: u32 = 100;
+
+/// How many seconds a recorder sleeps at most before it looks again.
+const NAP: u64 = 1;
 
 /// Nobody sleeps.
 const NOBODY: u64 = u64::MAX;
@@ -28,8 +32,8 @@ struct Desk {
     wanted: AtomicU64,
     /// Whether it records no more; and the lock under which others go to sleep.
     has_ended: Mutex<bool>,
-    /// Where they sleep.
-    told: Condvar,
+    /// How often sleepers were woken. They sleep on this word, for as long as it stays.
+    calls: AtomicU64,
 }
 
 impl Desk {
@@ -38,7 +42,7 @@ impl Desk {
             made: AtomicU64::new(0),
             wanted: AtomicU64::new(NOBODY),
             has_ended: Mutex::new(false),
-            told: Condvar::new(),
+            calls: AtomicU64::new(0),
         }
     }
 
@@ -51,7 +55,8 @@ impl Desk {
     /// No wake-up is lost. A sleeper writes `wanted`, and then looks at `made`; here `made` is written, and
     /// then `wanted` is looked at. All threads see these words change in one order, so one of the two sees
     /// the other. `wanted` is wiped under the lock and all are woken, since each that still lacks its
-    /// operation writes it again before it sleeps on.
+    /// operation writes it again before it sleeps on. Were one lost all the same, a sleeper would look again
+    /// after a second.
     fn tell<R: Wait>(&self, rt: &R, made: u64) {
         self.made.store(made, Ordering::SeqCst);
         if self.wanted.load(Ordering::SeqCst) > made {
@@ -60,13 +65,19 @@ impl Desk {
         let has_ended = self.has_ended.lock(rt);
         self.wanted.store(NOBODY, Ordering::SeqCst);
         drop(has_ended);
-        self.told.notify_all();
+        self.wake();
     }
 
     /// It records no more. All that sleep for it are woken.
     fn end<R: Wait>(&self, rt: &R) {
         *self.has_ended.lock(rt) = true;
-        self.told.notify_all();
+        self.wake();
+    }
+
+    /// Wakes all that sleep, or are about to.
+    fn wake(&self) {
+        self.calls.fetch_add(1, Ordering::SeqCst);
+        self.calls.wake_all();
     }
 
     /// Notes that somebody wants this operation, and then answers whether it is not there. It is called under
@@ -78,6 +89,16 @@ impl Desk {
         !self.has(n)
     }
 
+    /// The low half of `calls`, to sleep on, where this operation is not there and may still come.
+    fn lacks<R: Wait>(&self, rt: &R, n: u64) -> Option<u32> {
+        let has_ended = self.has_ended.lock(rt);
+        if self.wants(n) && !*has_ended {
+            Some((self.calls.load(Ordering::SeqCst) & 0xffff_ffff) as u32)
+        } else {
+            None
+        }
+    }
+
     /// Waits for this operation. Answers whether it is there; if it is not, it never comes.
     fn waits_for<R: Wait>(&self, rt: &R, n: u64) -> bool {
         for _ in 0..LOOKS {
@@ -86,10 +107,12 @@ impl Desk {
             }
             hint::spin_loop();
         }
-        let has_ended = self.has_ended.lock(rt);
-        let _has_ended = self
-            .told
-            .wait_while(rt, has_ended, |has_ended| self.wants(n) && !*has_ended);
+        for _ in rt.forever() {
+            let Some(calls) = self.lacks(rt, n) else {
+                break;
+            };
+            self.calls.park_timeout(rt, calls, Duration::from_secs(NAP));
+        }
         self.has(n)
     }
 }
@@ -157,3 +180,6 @@ impl<'a> Waiter for Seat<'a> {
         }
     }
 }
+
+#[cfg(test)]
+mod tests;

@@ -1,9 +1,9 @@
 //! Observers see what is recorded, and a session waits for them.
 ghost use Rattle.std.specs.Prelude.{◌≡◌};
 
-use super::{both, comes_too_early, inserts_a, pair, receives};
+use super::{both, comes_too_early, inserts_a, pair, receives, recorded};
 use crate::{Missing, Observer, Pass, SearchFault, Session, Verdict, Verdicts};
-use events::{Memory, Recording};
+use events::{Body, Memory, Recording, Response};
 use std::alloc::Global;
 use std::sync::Wait;
 use std::thread::Threads;
@@ -172,4 +172,40 @@ fn a_session_waits_for_its_observers(rt: HostRuntime) {
         .expect(&rt, "an observer is out");
     let Missing { session, passes } = missing;
     assert!(rt; passes.len() == 2 && session.close(passes).is_err());
+}
+
+/// Whether the pass records that its replica reads an empty document.
+fn reads<R: Wait>(rt: &R, alloc: Global, session: &Session, pass: &mut Pass) -> bool
+    requires { pass.old.session ≡ session.now }
+    ensures session { pass.new.session ≡ session.now }
+    ensures made { pass.new.made ≡ pass.old.made }
+{
+    let response = Response::new(alloc);
+    recorded(rt, session, pass, Body::Read { response }).is_ok()
+}
+
+/// Whether a pass records after each of so many observers that it makes, the first ones of its own.
+fn records_beside<R: Wait>(
+    rt: &R,
+    alloc: Global,
+    session: &Session,
+    pass: &mut Pass,
+    observers: u32,
+) -> bool
+    requires { (pass.old.session ≡ session.now) × (pass.old.made ≡ 0) }
+{
+    for _ in 0..observers {
+        let _observer = session.observer(pass);
+        if !reads(rt, alloc, session, pass) {
+            return false;
+        }
+    }
+    pass.made() == observers
+}
+
+#[test]
+fn a_pass_records_however_many_observers_it_made(rt: HostRuntime) {
+    let alloc = rt.alloc();
+    let (session, mut first, _) = pair(alloc).expect(&rt, "a session");
+    assert!(rt; records_beside(&rt, alloc, &session, &mut first, 100));
 }

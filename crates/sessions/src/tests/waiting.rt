@@ -2,12 +2,17 @@
 ghost use Rattle.std.specs.Prelude.{◌≡◌, [], IfSome};
 ghost use Rattle.sessions.specs.Shown.{mine};
 
-use super::{opened, three_way};
+use super::opened;
 use crate::waiting::Yields;
 use crate::{Pass, ReplayFault, Session, Waiter};
 use events::{OpName, Refusal};
+use sample_recordings::{THREE_WAY_CYCLE, recording};
 use std::alloc::Global;
 use std::sync::Wait;
+
+/// Replica 0 receives the second operation of replica 1, after two of its own.
+const LATER_OPERATION: &str =
+    "trace 1\nreplicas 3\n1 read :\n1 read :\n0 read :\n0 read :\n0 recv 1 2\n";
 
 /// Counts what it is told and asked, and lets so many tries be made.
 #[derive(Clone, Copy, Debug, PartialEq, Eq)]
@@ -42,14 +47,15 @@ fn first_of_three(alloc: Global) -> Option<(Session, Pass)>
     Some((session, first))
 }
 
-/// How the first replica's part of the three-way cycle is replayed with nobody else there, who waits, and how
-/// many entries there are then.
+/// How the first replica's part of the recording is replayed with nobody else there, who waits, and how many
+/// entries there are then.
 fn alone<H: AllocGlobal + Wait>(
     rt: &H,
+    text: &str,
     tries: u32,
 ) -> Option<(Result<u32, ReplayFault>, Counts, u64)> {
     let alloc = rt.alloc();
-    let recording = three_way(alloc)?;
+    let recording = recording(alloc, text).ok()?;
     let (session, mut first) = first_of_three(alloc)?;
     let mut counts = Counts {
         tries,
@@ -65,10 +71,11 @@ fn alone<H: AllocGlobal + Wait>(
 /// The same, made again where it finds no memory.
 fn alone_with_memory<H: AllocGlobal + Wait>(
     rt: &H,
+    text: &str,
     tries: u32,
 ) -> Option<(Result<u32, ReplayFault>, Counts, u64)> {
-    match alone(rt, tries) {
-        None => alone(rt, tries),
+    match alone(rt, text, tries) {
+        None => alone(rt, text, tries),
         Some(
             (
                 Err(
@@ -80,23 +87,31 @@ fn alone_with_memory<H: AllocGlobal + Wait>(
                 _,
                 _,
             ),
-        ) => alone(rt, tries),
+        ) => alone(rt, text, tries),
         answer => answer,
     }
+}
+
+/// Whether the replay stalls at the first replica's third entry, which lacks this operation of replica 1, and
+/// the waiter was asked for that so many times.
+fn asks_for<H: AllocGlobal + Wait>(rt: &H, text: &str, n: u32, tries: u32) -> bool {
+    let Some((answer, counts, count)) = alone_with_memory(rt, text, tries) else {
+        return false;
+    };
+    let wanted = Counts {
+        tries,
+        told: 2,
+        asked: tries,
+        lacking: OpName::new(1, n),
+    };
+    answer == Err(ReplayFault::Stalled { at: 2 }) && count == 2 && counts == wanted
 }
 
 #[test]
 fn waiter_says_how_often(rt: HostRuntime) {
     for tries in 1..4 {
-        let (answer, counts, count) = alone_with_memory(&rt, tries).expect(&rt, "memory");
-        assert!(rt; answer == Err(ReplayFault::Stalled { at: 2 }) && count == 2);
-        let wanted = Counts {
-            tries,
-            told: 2,
-            asked: tries,
-            lacking: OpName::new(1, 1),
-        };
-        assert!(rt; counts == wanted);
+        assert!(rt; asks_for(&rt, THREE_WAY_CYCLE, 1, tries));
+        assert!(rt; asks_for(&rt, LATER_OPERATION, 2, tries));
     }
 }
 
