@@ -111,10 +111,10 @@ impl Display for Refused {
             Refused::NotOfThisLog { replica, only } => {
                 write!(f, "this log is of replica {only} alone, not of {replica}")
             }
-            Refused::Name { name } => write!(f, "name \"{name}\" is not 1 to 32 of A-Z a-z 0-9 _ - ."),
-            Refused::ShortFor { name, id } => write!(f, "name \"{name}\" is short for the id \"{id}\" already"),
+            Refused::Name { name } => write!(f, "name \"{}\" is not 1 to 32 of A-Z a-z 0-9 _ - .", escaped(name)),
+            Refused::ShortFor { name, id } => write!(f, "name \"{name}\" is short for the id \"{}\" already", escaped(id)),
             Refused::NoNumber { id } => {
-                write!(f, "one replica's log can't number the id \"{id}\", ")?;
+                write!(f, "one replica's log can't number the id \"{}\", ", escaped(id))?;
                 write!(f, "since the other machines would number on their own")
             }
             Refused::OperationZero => write!(f, "operation number 0 is not a whole number from 1 to {}", u32::MAX),
@@ -1310,6 +1310,22 @@ fn failed_trace(caller: &Location) -> PathBuf {
         asked.push(path.clone());
     }
     path
+}
+
+/// A name or an id for an error: a byte that is no printable ASCII stands as `\x1b`, and so does the first of `::` or `##` that begins it,
+/// behind spaces too, since CI services take a line that begins so for a command.
+fn escaped(text: &str) -> String {
+    let begin = text.trim_start_matches(' ');
+    let is_command = begin.starts_with("::") || begin.starts_with("##");
+    let first = if is_command { text.len() - begin.len() } else { text.len() };
+    let mut told = String::new();
+    for (at, byte) in text.bytes().enumerate() {
+        match byte {
+            b' '..=b'~' if at != first => told.push(byte.into()),
+            _ => told += &format!("\\x{byte:02x}"),
+        }
+    }
+    told
 }
 
 /// The operation of this name, as `2.1`.

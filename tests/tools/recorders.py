@@ -63,6 +63,9 @@ UUID, UUID_DIGITS = "123e4567-e89b-12d3-a456-426614174000", "123e4567e89b12d3a45
 ALMOST_UUIDS = ["123e4567-e89b-12d3-a456-42661417400g", "123e4567e-89b-12d3-a456-426614174000", "123e4567_e89b_12d3_a456_426614174000"]
 ONE_NUMBER = "one replica's log can't number the id \"{}\", since the other machines would number on their own"
 
+# A long id, and how an error shows it: what is no printable ASCII by its bytes, and so the first sign of what a CI service takes for a command.
+ODD_ID, ODD_SHOWN = "%20::%0A%1B%C3%A4%7F" + "a" * 30, " \\x3a:\\x0a\\x1b\\xc3\\xa4\\x7f" + "a" * 30
+
 # Calls, each with its answer, and the lines of the trace behind the first two. `%` and two digits stand for a byte.
 SAID = [
     ("the textbook cycle", CYCLE, (EXAMPLES / "libinfinity_three_way_cycle.trace").read_text().splitlines()[2:]),
@@ -125,6 +128,9 @@ SAID = [
     ("long ids behind a translated one", f"new 1 -> ok\nread 0 a@b {LETTERS32}x -> ok 1\n", ["0 read : a-b long2"]),
     ("a refused call keeps no translation", f"new 1 -> ok\nread 0 a@b a:b -> refused name \"a:b\" {NAME}\nid_of a-b -> none\n"
      f"read 0 c-d a:b -> refused name \"a:b\" {NAME}\nread 0 a-b c@d -> ok 1\nid_of c-d -> ok c@d\n", ["0 read : a-b c-d"]),
+    ("a long id of odd letters", f"new 1 -> ok\nread 0 {ODD_ID} -> ok 1\n"
+     f'read 0 long1 -> refused name "long1" is short for the id "{ODD_SHOWN}" already\n', ["0 read : long1"]),
+    ("a long id of odd letters in one replica's log", f"new 3 1 -> ok\nread 1 {ODD_ID} -> refused {ONE_NUMBER.format(ODD_SHOWN)}\n", []),
     ("one replica's log translates, and numbers nothing", "new 3 1 -> ok\nread 1 2@alice -> ok 1\n"
      f"read 1 2,alice -> refused {ONE_NUMBER.format('2,alice')}\nread 1 2@bob -> ok 2\n", ["1 read : e2-alice", "1 read : e2-bob"]),
 ]
@@ -243,6 +249,9 @@ CHANGES = [
     ("a paste, whose inserts have one id", "new 2 -> ok\nas p insert 0 a 0 a -> ok 1\nas p insert 0 b 1 a b -> ok 2\n"
      'as p insert 1 c 0 c -> refused the id "p" is that of 0.1 already\nreceived_changes 1 p -> ok\n',
      ["0 ins a 0 : a", "0 ins b 1 : a b", "1 recv 0 2"]),
+    ("odd letters in an id", "new 2 -> ok\nas ##a%1B insert 0 a 0 a -> ok 1\n"
+     'as ##a%1B insert 1 b 0 b -> refused the id "\\x23#a\\x1b" is that of 0.1 already\n'
+     'received_changes 1 ::%0A%C3%A4 -> refused no change with the id "\\x3a:\\x0a\\xc3\\xa4" has been recorded\n', ["0 ins a 0 : a"]),
     ("a refused call gives no id", 'new 2 -> ok\nas x insert 0 a 0 a:b -> refused name "a:b" ' + NAME + "\n"
      'received_changes 1 x -> refused no change with the id "x" has been recorded\nas x insert 1 a 0 a -> ok 1\n', ["1 ins a 0 : a"]),
     ("one replica's log", "new 2 1 -> ok\nas x insert 1 a 0 a -> ok 1\nreceived_changes 1 x -> refused "
@@ -297,10 +306,12 @@ REFUSED = [
      "received 1 1 1 -> refused replica 1 receives no operation of its own\n"
      "received 1 3 1 -> refused no replica 3 among 0 to 2\n"),
 ] + [
-    (f"the name {word!r}", f'new 1 -> ok\ninsert 0 {word} 0 b -> refused name "{unquote(shown)}" {NAME}\n'
-     f'delete 0 {word} -> refused name "{unquote(shown)}" {NAME}\nread 0 b {word} -> refused name "{unquote(shown)}" {NAME}\n')
-    for word, shown in [("(empty)", ""), ("a%20b", "a b"), ("a:1", "a:1"), ("%C3%A4", "ä"), ("a%0D", "a\r"), ("a,%20@", "a, @"),
-                        ("2@%C3%A4", "2@ä"), ("2@alice%0D", "2@alice\r")]
+    (f"the name {word!r}", f'new 1 -> ok\ninsert 0 {word} 0 b -> refused name "{shown}" {NAME}\n'
+     f'delete 0 {word} -> refused name "{shown}" {NAME}\nread 0 b {word} -> refused name "{shown}" {NAME}\n')
+    for word, shown in [("(empty)", ""), ("a%20b", "a b"), ("a:1", "a:1"), ("%C3%A4", "\\xc3\\xa4"), ("a%0D", "a\\x0d"), ("a,%20@", "a, @"),
+                        ("2@%C3%A4", "2@\\xc3\\xa4"), ("2@alice%0D", "2@alice\\x0d"), ("a%0A::error::%1B[2Jb%7F", "a\\x0a::error::\\x1b[2Jb\\x7f"),
+                        ("::error::a", "\\x3a:error::a"), ("%20%20::a", "  \\x3a:a"), ("##vso[a]", "\\x23#vso[a]"), ("%20##a", " \\x23#a"),
+                        (":a", ":a"), ("%20#a", " #a"), (":#a", ":#a"), ("~%20!", "~ !"), ("%C2%85%E2%80%A8", "\\xc2\\x85\\xe2\\x80\\xa8")]
 ]
 
 # The same, where a typed language can't say the call.
@@ -330,13 +341,16 @@ VALUES = {
     "mjs": {"true": "the boolean true", "float": "the number 0.5", "none": "undefined", "half": "the number 0.5",
             "id": "a string or a number", "list": "an array", "object": "an object"},
     "el": {"true": "the symbol t", "float": "the float 1.0", "none": "nil", "half": "the float 0.5"}}
+ODD_REPLICA = REPLICA + 'the string "\\x3a:\\x1b\\x0a' + "1" * 36 + '"..'
 OWN_TYPES = {
     "py": [POSITION + "the float nan", POSITION + "a value of type list", "a name is a string, not a value of type bytes",
            'operation number is not a whole number from 1 to 4294967295 but the string "1"',
            "number of changes is not a whole number from 1 to 1 but None", "delivered wants the list of each of the 2 replicas, not None",
            'delivered wants the list of each of the 2 replicas, not the string "ab"', "no replica 2 among 0 to 1",
            "delivered wants the list of each of the 2 replicas, not of 1", "a response is a list of names", NO_NOTE.partition(" ")[2],
-           REPLICA + 'the string "' + "1" * 40 + '"..', "a recording is told of weak with `stop` alone: else tell `judge` and `explain`"],
+           REPLICA + 'the string "' + "1" * 40 + '"..', "a recording is told of weak with `stop` alone: else tell `judge` and `explain`",
+           ODD_REPLICA, "no change with the id ('a', '\\xc3\\xa4\\n') has been recorded"],
+    "el": [ODD_REPLICA, REPLICA + "the symbol \\x3a:a\\x0ab"],
     "mjs": [REPLICA + "a Symbol", POSITION + "the BigInt 2", "a name is a string, not a Symbol", "a name is a string, not the BigInt 3",
             "a name is a string, not undefined", "a name is a string, not undefined", POSITION + "null", POSITION + "the number NaN",
             POSITION + "an array", POSITION + "an object", POSITION + "a function",
@@ -346,7 +360,7 @@ OWN_TYPES = {
             "delivered wants the list of each of the 2 replicas, not of 1", "a response is a list of names", NO_NOTE.partition(" ")[2],
             REPLICA + 'the string "' + "1" * 40 + '"..', "an id of a change is a string or a number, not a Symbol",
             'name "a b" ' + NAME, "count of a clock is not a whole number from 0 to 4294967295 but undefined",
-            "a recording is told of weak with `stop` alone: else tell judge() and explain()"]}
+            "a recording is told of weak with `stop` alone: else tell judge() and explain()", ODD_REPLICA]}
 
 ELEMENTS = [f"e{i}" for i in range(4097)]
 FULL = "the most that a trace takes"
@@ -394,8 +408,8 @@ def has_hypothesis() -> bool:
 
 
 def fields(call: str) -> str:
-    """A call of the table as a line for the drivers."""
-    return "\t".join("" if word == "(empty)" else unquote(word) for word in call.split(" "))
+    """A call of the table as a line for the drivers, in which a record separator stands for a line feed."""
+    return "\t".join("" if word == "(empty)" else unquote(word).replace("\n", "\x1e") for word in call.split(" "))
 
 
 def bytes_of(call: str) -> bytes:
@@ -2655,7 +2669,7 @@ REFUSED_C = [
      "a call was refused, so what it says is not recorded: 1.1 cannot have arrived: replica 1 has 0 operations so far"),
     ("several, with signs that JSON escapes", ["new 2", "insert 0 a 0 a", "read 0 %22%5C%01%C3%A4%FF", "read 7", "read 0 a%20b",
                                                "delivered a / a"],
-     "3 calls were refused, so what they say is not recorded; the first: name \"\"\\?\u00e4?\" " + NAME),
+     '3 calls were refused, so what they say is not recorded; the first: name ""\\\\x01\\xc3\\xa4\\xff" ' + NAME),
     ("what is not causal, and limits", ["new 3", *["read 2"] * 16385, "insert 0 a 0 a", "delete 0 a", "received_clock 1 0 1 2 0 0",
                                         "received_clock 1 0 2 2 0 0", "read 1"], None),
 ]
@@ -2685,6 +2699,9 @@ def check_hostile_c(tally: Tally, recorder: Recorder, folder: Path) -> None:
     for reads, words in (997, "--workers 1 --json -"), (998, "--json -"):
         got = recorder.answers(["new\t1", *["read\t0"] * reads, "judge"], DOMEPEELER=str(asked))[-1]
         tally.check(f"C: {reads} reads are judged by {words}", got == f"failed {asked} ended with status 2: verdict {words}", got)
+    got = recorder.answers(["new\t3\t1", "read\t1\t" + "\x1b" * 600])[-1]
+    tally.check("C: the front of a long id is shown", len(got) == len("refused ") + 511 and
+                got.startswith("refused one replica's log can't number the id \"" + "\\x1b" * 100), got)
     teller = folder / "teller"
     teller.write_text("#!/bin/sh\ncat > /dev/null\necho told\n")
     teller.chmod(0o755)
