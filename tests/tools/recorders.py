@@ -2423,6 +2423,152 @@ fn main() {{
         "read at the end"], done)
 
 
+# Tests in Rust that fail by themselves where the variable says so.
+OWN_PANICS = f"""#[path = "{ROOT / 'recorders'}/domepeeler.rs"]
+mod domepeeler;
+use domepeeler::Recording;
+
+fn reading(names: &[&str]) -> Recording {{
+    let mut recording = Recording::new(1).unwrap();
+    recording.read(0, names).unwrap(); // reads
+    recording
+}}
+
+fn fails() {{
+    assert!(std::env::var_os("FAILS").is_none(), "by itself");
+}}
+
+#[test]
+fn by_itself() {{
+    let mut recording = reading(&[]);
+    recording.insert(0, "a", 0, &["a"]).unwrap(); // inserts
+    fails();
+    recording.assert_accepted();
+}}
+
+#[test]
+fn with_three() {{
+    let first = reading(&["first"]);
+    let copy = reading(&["second"]).clone();
+    let third = reading(&["third"]);
+    fails();
+    drop((first, copy, third));
+}}
+
+#[test]
+fn in_the_second() {{
+    let first = reading(&["first"]);
+    let second = reading(if std::env::var_os("FAILS").is_some() {{ &["lost"] }} else {{ &[] }});
+    second.assert_accepted();
+    first.verdict().unwrap();
+}}
+
+#[test]
+fn after_it_was_saved() {{
+    let mut recording = reading(&[]);
+    recording.save("by_hand.trace").unwrap();
+    recording.read(0, &["later"]).unwrap();
+    fails();
+}}
+
+#[test]
+fn in_a_log() {{
+    let mut log = Recording::only(3, 1).unwrap();
+    log.received(1, 0, 7).unwrap();
+    fails();
+}}
+
+#[test]
+fn saved() {{
+    let recording = reading(&[]);
+    recording.save("by_hand.trace").unwrap();
+    fails();
+}}
+
+#[test]
+fn judged() {{
+    let recordings = [reading(&["judged"]), reading(&["judged"]), reading(&["judged"])];
+    recordings[0].judge().unwrap();
+    recordings[1].verdict().unwrap();
+    recordings[2].explain().unwrap();
+    fails();
+}}
+
+#[test]
+fn of_nothing() {{
+    let _recording = Recording::new(1).unwrap();
+    fails();
+}}
+
+#[test]
+fn caught() {{
+    drop(reading(&[]));
+    assert!(std::panic::catch_unwind(|| panic!("before")).is_err());
+    drop(reading(&[]));
+}}
+
+#[test]
+fn of_three_cases() {{
+    for case in ["one", "two", "three"] {{
+        let tried = std::panic::catch_unwind(|| {{
+            let _recording = reading(&[case]);
+            fails();
+        }});
+        assert_eq!(tried.is_ok(), std::env::var_os("FAILS").is_none());
+    }}
+}}
+"""
+
+
+def check_own_panics(tally: Tally, program: str, folder: Path) -> None:
+    """A test in Rust that fails by itself has the traces saved that it neither saved nor judged, whose paths stand on standard error; and a
+    passing one saves nothing. Where they can't be saved or told of, the tests end as they would."""
+    place = folder / "own panics"
+    place.mkdir()
+    (place / "own.rs").write_text(OWN_PANICS)
+    subprocess.run(["rustc", "--edition", "2021", "-D", "warnings", "--test", "-o", "own", "own.rs"], cwd=place, check=True)
+    surroundings = {**os.environ, "DOMEPEELER": program, "DOMEPEELER_EXPLAIN": EXPLAIN, "RUST_BACKTRACE": "0", "LC_ALL": "C.UTF-8"}
+    line = {word: next(number for number, text in enumerate(OWN_PANICS.splitlines(), 1) if f"// {word}" in text) for word in ("reads", "inserts")}
+    traces = place / "failed_traces"
+
+    def ended(*words: str, **more: str) -> subprocess.CompletedProcess:
+        return subprocess.run(["./own", *words], cwd=place, env={**surroundings, **more}, capture_output=True, text=True)
+
+    done = ended()
+    tally.check("Rust: tests that pass save nothing", done.returncode == 0 and done.stderr == "" and not traces.exists(), done)
+    done = ended(FAILS="1")
+    head = "trace 1\nreplicas 1\n"
+    wanted = {"own-by_itself": f"{head}0 read :\n0 ins a 0 : a\n", "own-with_three": f"{head}0 read : third\n",
+              "own-with_three-2": f"{head}0 read : second\n", "own-with_three-3": f"{head}0 read : first\n",
+              "own-in_the_second": f"{head}0 read : lost\n", "own-in_the_second-2": f"{head}0 read : first\n",
+              "own-of_three_cases": f"{head}0 read : three\n", "own-after_it_was_saved": f"{head}0 read :\n0 read : later\n", "own-in_a_log": "trace 1\nreplicas 3\n1 recv 0 7\n"}
+    tally.check("Rust: tests that fail by themselves", done.returncode == 101 and "2 passed; 8 failed;" in done.stdout, done)
+    found = {path.stem: path.read_text() for path in traces.glob("*.trace")}
+    tally.check("Rust: their traces are saved", found == wanted and (traces / ".gitignore").read_text() == "*\n", found)
+    told = [f"The trace is saved: failed_traces/{name}.trace" for name in [*wanted, *["own-of_three_cases"] * 2] if name != "own-in_the_second"]
+    tally.check("Rust: their paths are told", sorted(done.stderr.splitlines()) == sorted(told) and
+                "The trace is saved: failed_traces/own-in_the_second.trace" in done.stdout, done)
+    beside = Path(traces, "own-by_itself.trace.lines").read_text() if "own-by_itself" in found else ""
+    tally.check("Rust: and their lines of code", beside == f"4\nlanguage rust\n3 own.rs:{line['reads']}\n4 own.rs:{line['inserts']}\n", beside)
+    done = ended("in_the_second")
+    left = sorted(path.stem for path in traces.glob("*.trace"))
+    tally.check("Rust: a passing one removes what it saved before", done.returncode == 0 and left == sorted(
+        name for name in wanted if not name.startswith("own-in_the_second")), (done, left))
+    shutil.rmtree(traces, ignore_errors=True)
+    done = ended("by_itself", DOMEPEELER="/nowhere/domepeeler")
+    tally.check("Rust: where there is no program, the trace is saved", done.returncode == 101 and "/nowhere/domepeeler cannot be run" in done.stdout
+                and [path.stem for path in traces.glob("*.trace")] == ["own-by_itself"], done)
+    shutil.rmtree(traces, ignore_errors=True)
+    traces.write_text("no folder")
+    done = ended("by_itself", FAILS="1")
+    tally.check("Rust: a trace that can't be saved", done.returncode == 101 and "0 passed; 1 failed;" in done.stdout and
+                done.stderr.startswith("The trace can't be saved: failed_traces/own-by_itself.trace: "), done)
+    with open("/dev/full", "w") as full:
+        done = subprocess.run(["./own", "--nocapture", "by_itself"], cwd=place, env={**surroundings, "FAILS": "1"}, stdout=subprocess.PIPE,
+                              stderr=full, text=True)
+    tally.check("Rust: where standard error takes nothing", done.returncode == 101 and "0 passed; 1 failed;" in done.stdout, done)
+
+
 # Compilers and the standards that they follow; and headers that a user may include before the recorder.
 COMPILERS = {"gcc": ["c99", "c11", "c17"], "clang": ["c99", "c11", "c17"],
              "g++": ["c++11", "c++14", "c++17", "c++20"], "clang++": ["c++11", "c++14", "c++17", "c++20"]}
@@ -2771,6 +2917,7 @@ def main() -> None:
         check_heads(tally, program, folder)
         check_weak_heads(tally, program, folder)
         check_rust_tests(tally, program, folder)
+        check_own_panics(tally, program, folder)
         check_compilers(tally, folder)
         check_places_c(tally, program, folder)
         check_stop_cpp(tally, program, folder)
