@@ -8,6 +8,7 @@ import json
 import os
 import pickle
 import re
+import resource
 import select
 import shlex
 import shutil
@@ -1243,6 +1244,29 @@ def check_long_updates(tally: Tally, recorder: Recorder) -> None:
     took = time.monotonic() - started
     tally.check(f"{recorder.language}: very many updates with all ids", got[2001:2301] == ["ok"] * 300 and
                 got[-2:] == ["ok", "ok 14005"] and took < MOST_SECONDS, (took, got[-5:]))
+
+
+MOST_PROCESSOR = 2  # seconds of it, where 20,000 calls take 0.5 at most; by joining the text, or by counting its lines, over 3
+
+
+def check_many_lines(tally: Tally, recorder: Recorder) -> None:
+    """How many lines there are, which a debugger's statement asks before each entry, is answered at once in a long recording too: the calls
+    take little more than the session without them."""
+    session = ["new\t1", *["\t".join(["view", "0", *(f"{'a' * 28}{number:03}" for number in range(50))])] * 2000]
+
+    def used(asked: int) -> float:
+        """Seconds of processor, of the children that have ended."""
+        before = resource.getrusage(resource.RUSAGE_CHILDREN)
+        try:
+            got = recorder.answers([*session, *["lines"] * asked])
+        except subprocess.TimeoutExpired as why:
+            got = [str(why)]
+        after = resource.getrusage(resource.RUSAGE_CHILDREN)
+        tally.check(f"{recorder.language}: {asked} times how many lines", got[2001:] == ["ok 2002"] * asked, got[-1:])
+        return after.ru_utime + after.ru_stime - before.ru_utime - before.ru_stime
+
+    took = used(20000) - used(0)
+    tally.check(f"{recorder.language}: how many lines is answered at once", took < MOST_PROCESSOR, took)
 
 
 NOTHING = "nothing was recorded: the trace has no entry, so the verdict says nothing of an editor"
@@ -2886,6 +2910,7 @@ def main() -> None:
             check_explains_file(tally, recorder, folder)
             check_full_delivery(tally, recorder)
             check_long_updates(tally, recorder)
+            check_many_lines(tally, recorder)
             texts[language] = check_limits(tally, recorder)
             tally.check(f"{language}: texts at the limits", texts[language] == texts["py"])
             if language in CLOCKED:
