@@ -2643,6 +2643,20 @@ def check_compilers(tally: Tally, folder: Path) -> None:
         tally.check(f"C: {compiler} warns of answers that are ignored", said.count(": warning: ignoring return value") == len(CHECKED), said)
 
 
+# What copies a process: of a large program that takes long, and of one with threads it leaves locks behind that nobody opens.
+COPIES = {"fork", "vfork", "_Fork", "clone", "clone3", "forkpty", "syscall"}
+
+
+def check_spawns(tally: Tally, folder: Path) -> None:
+    """The recorder of C begins the program and the tool by `posix_spawn`, and nothing in it copies the process: by what the driver, which
+    makes all its calls, wants of the system."""
+    for compiler in "gcc", "clang":
+        subprocess.run([compiler, "-std=c99", "-D_POSIX_C_SOURCE=200809L", "-c", "-o", "wants.o", DRIVERS / "driver.c"], cwd=folder, check=True)
+        listed = subprocess.run(["nm", "-u", "wants.o"], cwd=folder, capture_output=True, text=True, check=True).stdout
+        wants = {line.split()[-1] for line in listed.splitlines()}
+        tally.check(f"C: {compiler}: judges by posix_spawn", wants & {"posix_spawn", "posix_spawnp"} and not wants & COPIES, wants)
+
+
 # Calls in C from lines that other programs wrote, from none, and from a wrapper as the recorder's head has it; what is refused names none.
 PLACES_C = f"""#include "{ROOT / 'recorders'}/domepeeler.h"
 static struct domepeeler *recording;
@@ -2944,6 +2958,7 @@ def main() -> None:
         check_rust_tests(tally, program, folder)
         check_own_panics(tally, program, folder)
         check_compilers(tally, folder)
+        check_spawns(tally, folder)
         check_places_c(tally, program, folder)
         check_stop_cpp(tally, program, folder)
         check_threads_c(tally, folder)
