@@ -102,12 +102,23 @@ They are those that a replica lacks, or has made nothing of.")
 (defun domepeeler--shown (value)
   "VALUE with its type, in words."
   (cond
-   ((stringp value) (format "the string \"%s\"%s" (substring value 0 (min 40 (length value))) (if (> (length value) 40) ".." "")))
+   ((stringp value)
+    (format "the string \"%s\"%s" (domepeeler--escaped (substring value 0 (min 40 (length value)))) (if (> (length value) 40) ".." "")))
    ((null value) "nil")
    ((integerp value) (format "the number %d" value))
    ((floatp value) (format "the float %s" value))
-   ((symbolp value) (format "the symbol %s" value))
-   (t (format "a value of type %s" (type-of value)))))
+   ((symbolp value) (format "the symbol %s" (domepeeler--escaped (symbol-name value))))
+   (t (format "a value of type %s" (domepeeler--escaped (symbol-name (type-of value)))))))
+
+(defun domepeeler--escaped (text)
+  "TEXT, such as a name or an id, for an error.
+A byte that is no printable ASCII stands as `\\x1b', and so does the first
+of `::' or `##' that begins it, behind spaces too, since CI services take a
+line that begins so for a command."
+  (let ((first (and (string-match "\\` *\\(::\\|##\\)" text) (match-beginning 1))))
+    (cl-loop for byte across (encode-coding-string text 'utf-8-unix)
+             for at from 0
+             concat (format (if (and (<= ?\s byte ?~) (not (eql at first))) "%c" "\\x%02x") byte))))
 
 (defun domepeeler-new (replicas &optional only stop)
   "A session of so many REPLICAS.
@@ -586,7 +597,7 @@ What is no name but an id gets a name that no other id has."
       (when (or (= (length given) domepeeler--bytes) (string-match-p "\\`long\\|-" given)) ; others never stand for an id
         (let ((had (gethash given ids)))
           (when (and had (not (string= had given)))
-            (domepeeler--refuse "name \"%s\" is short for the id \"%s\" already" given had))
+            (domepeeler--refuse "name \"%s\" is short for the id \"%s\" already" given (domepeeler--escaped had)))
           (unless had (domepeeler--keep recording given given))))
       given)
      ((or (> (string-bytes given) domepeeler--bytes) (string-match-p "\\`[A-Za-z0-9_.@,-]+\\'" given))
@@ -596,7 +607,7 @@ What is no name but an id gets a name that no other id has."
         (domepeeler--keep recording name given)
         (puthash given name (domepeeler-recording-short recording))))
      (t
-      (domepeeler--refuse "name \"%s\" is not 1 to 32 of A-Z a-z 0-9 _ - ." given)))))
+      (domepeeler--refuse "name \"%s\" is not 1 to 32 of A-Z a-z 0-9 _ - ." (domepeeler--escaped given))))))
 
 (defun domepeeler--become (id)
   "The name that ID becomes if no other id has it; nil where only a number will do.
@@ -610,7 +621,8 @@ A letter stands first, as `2-0' would look like an operation's name."
 (defun domepeeler--numbered (recording given)
   "The next name that stands for an id, GIVEN."
   (when (domepeeler-recording-only recording)
-    (domepeeler--refuse "one replica's log can't number the id \"%s\", since the other machines would number on their own" given))
+    (domepeeler--refuse "one replica's log can't number the id \"%s\", since the other machines would number on their own"
+                        (domepeeler--escaped given)))
   (let ((number (1+ (hash-table-count (domepeeler-recording-short recording)))))
     (while (gethash (format "long%d" number) (domepeeler-recording-ids recording))
       (setq number (1+ number)))

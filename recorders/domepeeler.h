@@ -179,6 +179,20 @@ static inline void domepeeler_clean(char *text) {
     *end = 0;
 }
 
+/* Puts a name or an id for an error into the room, or the front of it: a byte that is no printable ASCII stands as `\x1b`, and so does the
+ * first of `::` or `##` that begins it, behind spaces too, since CI services take a line that begins so for a command. */
+static inline const char *domepeeler_escaped(const char *text, char *room, size_t bytes) {
+    size_t first = strspn(text, " "), length = 0;
+    int is_command = !strncmp(text + first, "::", 2) || !strncmp(text + first, "##", 2);
+    *room = 0;
+    for (size_t at = 0; text[at] && length + 4 < bytes; at++) {
+        int is_shown = text[at] >= ' ' && text[at] <= '~' && !(is_command && at == first);
+        snprintf(room + length, bytes - length, is_shown ? "%c" : "\\x%02x", (unsigned char)text[at]);
+        length += strlen(room + length);
+    }
+    return room;
+}
+
 /* A call of the recording is refused. */
 static inline unsigned domepeeler_refuse(struct domepeeler *d, int full, const char *format, ...) {
     va_list words;
@@ -188,7 +202,6 @@ static inline unsigned domepeeler_refuse(struct domepeeler *d, int full, const c
     d->full = full;
     if (full || !strncmp(d->why, "not causal: ", 12) || d->refused++) return 0;
     memcpy(d->first, d->why, sizeof d->first);
-    domepeeler_clean(d->first);
     return 0;
 }
 
@@ -651,14 +664,15 @@ static inline void domepeeler_translate(const char *id, char *name) {
 
 /* Makes a name for an id, which no other id has. */
 static inline const char *domepeeler_shorten(struct domepeeler *d, const char *id) {
-    char name[DOMEPEELER_BYTES + 1] = "";
+    char name[DOMEPEELER_BYTES + 1] = "", shown[sizeof d->why];
     if (strlen(id) <= DOMEPEELER_BYTES) domepeeler_translate(id, name);
     else if (domepeeler_is_uuid(id))
         for (size_t i = 0, digits = 0; digits < DOMEPEELER_BYTES; i++)
             if (id[i] != '-') name[digits++] = id[i];
     for (size_t number = 1 + d->shortened; !*name || domepeeler_find(d, name, 1); number++) {
         if (d->only >= 0) {
-            domepeeler_refuse(d, 0, "one replica's log can't number the id \"%s\", since the other machines would number on their own", id);
+            domepeeler_refuse(d, 0, "one replica's log can't number the id \"%s\", since the other machines would number on their own",
+                              domepeeler_escaped(id, shown, sizeof shown));
             return NULL;
         }
         snprintf(name, sizeof name, "long%zu", number);
@@ -672,9 +686,10 @@ static inline const char *domepeeler_shorten(struct domepeeler *d, const char *i
 static inline const char *domepeeler_own_name(struct domepeeler *d, const char *given) {
     if (strlen(given) < DOMEPEELER_BYTES && strncmp(given, "long", 4) && !strchr(given, '-')) return given; /* it never stands for an id */
     const struct domepeeler_id *one = domepeeler_find(d, given, 1);
+    char shown[sizeof d->why];
     if (one ? strcmp(one->id, given) == 0 : domepeeler_keep(d, given, given)) return given;
-    if (one) domepeeler_refuse(d, 0, "name \"%s\" is short for the id \"%s\" already", given, one->id);
-    else domepeeler_refuse(d, 0, "no memory");
+    if (!one) domepeeler_refuse(d, 0, "no memory");
+    else domepeeler_refuse(d, 0, "name \"%s\" is short for the id \"%s\" already", given, domepeeler_escaped(one->id, shown, sizeof shown));
     return NULL;
 }
 
@@ -686,13 +701,14 @@ static inline const char *domepeeler_name(struct domepeeler *d, const char *give
         return NULL;
     }
     size_t length = strlen(given);
+    char shown[sizeof d->why];
     int is_long = length > DOMEPEELER_BYTES, is_id = length && strspn(given, allowed) == length;
     if (!is_long && is_id && strspn(given, allowed + 2) == length) return domepeeler_own_name(d, given);
     if (is_long || is_id) {
         const struct domepeeler_id *one = domepeeler_find(d, given, 0);
         return one ? one->name : domepeeler_shorten(d, given);
     }
-    domepeeler_refuse(d, 0, "name \"%s\" is not 1 to 32 of A-Z a-z 0-9 _ - .", given);
+    domepeeler_refuse(d, 0, "name \"%s\" is not 1 to 32 of A-Z a-z 0-9 _ - .", domepeeler_escaped(given, shown, sizeof shown));
     return NULL;
 }
 

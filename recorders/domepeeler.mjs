@@ -49,6 +49,7 @@ const MOST_DELIVERED = 100 // calls of delivered() of which the tool is told
 // What is no part of a printable line.
 const NO_NOTE = /[\0-\x1f\x7f-\x9f\u2028-\u202e\u2066-\u2069]|[\ud800-\udbff](?![\udc00-\udfff])|(?<![\ud800-\udbff])[\udc00-\udfff]/
 const MOST_SHOWN = 40 // letters of a wrong value in an error
+const COMMAND = /^ *(?=::|##)/ // stands before the signs with which a line of a CI service's commands begins
 const MOST_WARNED = 5 // deletes, or inserts, that are warned of one by one
 const MOST_LACKED = 3 // changes that are warned of one by one of those that a replica lacks, or has made nothing of
 const LINE = /\bline (\d+)(?=[,):]| of the trace,| \(\d+ recv )/g // a line of the trace in the explainer's words
@@ -199,7 +200,7 @@ export class Recording {
     const carried = []
     for (const changeId of changeIds) {
       checkId(changeId)
-      if (!this.#changes.has(changeId)) throw new Refused(`no change with the id ${JSON.stringify(changeId)} has been recorded`)
+      if (!this.#changes.has(changeId)) throw new Refused(`no change with the id ${quoted(changeId)} has been recorded`)
       for (const change of this.#changes.get(changeId)) carried.push(change)
     }
     this.#take(replica, carried, null)
@@ -556,14 +557,14 @@ export class Recording {
     if (NAME.test(given)) {
       if (given.length === MOST_BYTES || given.startsWith("long") || given.includes("-")) { // others never stand for an id
         const had = this.#ids.get(given) ?? given
-        if (had !== given) throw new Refused(`name "${given}" is short for the id "${had}" already`)
+        if (had !== given) throw new Refused(`name "${given}" is short for the id "${escaped(had)}" already`)
         this.#ids.set(given, given)
       }
       return given
     }
     let name = UUID.test(given) ? given.replaceAll("-", "") : ""
     if (new TextEncoder().encode(given).length <= MOST_BYTES) {
-      if (!WITH_SIGNS.test(given)) throw new Refused(`name "${given}" is not 1 to 32 of A-Z a-z 0-9 _ - .`)
+      if (!WITH_SIGNS.test(given)) throw new Refused(`name "${escaped(given)}" is not 1 to 32 of A-Z a-z 0-9 _ - .`)
       name = (/^[0-9]/.test(given) ? "e" : "") + given.replace(/[@,]/g, "-")
     }
     if (!name || name.length > MOST_BYTES || this.#ids.has(name)) name = this.#numbered(given)
@@ -575,7 +576,7 @@ export class Recording {
   // The next name that stands for an id.
   #numbered(given) {
     if (this.#only !== null) {
-      throw new Refused(`one replica's log can't number the id "${given}", since the other machines would number on their own`)
+      throw new Refused(`one replica's log can't number the id "${escaped(given)}", since the other machines would number on their own`)
     }
     let number = 1 + this.#short.size
     while (this.#ids.has(`long${number}`)) number += 1
@@ -585,7 +586,7 @@ export class Recording {
   #checkChange(replica, changeId) {
     checkId(changeId)
     const [had] = this.#changes.get(changeId) ?? []
-    if (had && had[0] !== replica) throw new Refused(`the id ${JSON.stringify(changeId)} is that of ${had[0]}.${had[1]} already`)
+    if (had && had[0] !== replica) throw new Refused(`the id ${quoted(changeId)} is that of ${had[0]}.${had[1]} already`)
   }
 
   // How many operations of each replica this one has.
@@ -936,12 +937,25 @@ function notWhole(what, number, least, most, of = "") {
 // A wrong value, with its type.
 function told(value) {
   if (value === null || value === undefined) return String(value)
-  if (typeof value === "string") return `the string "${value.slice(0, MOST_SHOWN)}"${value.length > MOST_SHOWN ? ".." : ""}`
+  if (typeof value === "string") return `the string "${escaped(value.slice(0, MOST_SHOWN))}"${value.length > MOST_SHOWN ? ".." : ""}`
   if (typeof value === "bigint") return `the BigInt ${String(value).slice(0, MOST_SHOWN)}`
   if (typeof value === "number" || typeof value === "boolean") return `the ${typeof value} ${value}`
   if (typeof value === "symbol") return "a Symbol"
   if (typeof value === "function") return "a function"
   return Array.isArray(value) ? "an array" : "an object"
+}
+
+// A name, an id or another text for an error: a byte that is no printable ASCII stands as `\x1b`, and so does the first sign of what a CI
+// service would take for a command.
+function escaped(text) {
+  const first = COMMAND.exec(text)?.[0].length ?? -1
+  const shown = (byte, at) => (byte >= 0x20 && byte < 0x7f && at !== first ? String.fromCharCode(byte) :
+    `\\x${byte.toString(16).padStart(2, "0")}`)
+  return Array.from(new TextEncoder().encode(text), shown).join("")
+}
+
+function quoted(changeId) {
+  return typeof changeId === "string" ? `"${escaped(changeId)}"` : String(changeId)
 }
 
 function checkId(changeId) {

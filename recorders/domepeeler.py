@@ -56,6 +56,7 @@ MOST_NOTES, MOST_LETTERS = 20, 200  # of a recording, and of a note
 MOST_DELIVERED = 100  # calls of `delivered` of which the tool is told
 NO_NOTE = re.compile("[\0-\x1f\x7f-\x9f\u2028-\u202e\u2066-\u2069\ud800-\udfff]")  # what is no part of a printable line
 MOST_SHOWN = 40  # letters of a wrong value in an error
+COMMAND = re.compile(" *(?=::|##)")  # stands before the signs with which a line of a CI service's commands begins
 MORE_CHANGES = "; if the update carried more than one change, say how many (`changes`)"
 MOST_CALLERS, MOST_FRAMES = 3, 100  # of an entry: callers that are kept, and frames that are looked at for them
 HEAD_LINES = 2  # of a trace, before its entries
@@ -552,12 +553,12 @@ class Recording:
         if NAME.fullmatch(given):
             if len(given) == MOST_BYTES or given.startswith("long") or "-" in given:  # others never stand for an id
                 if self._ids.setdefault(given, given) != given:
-                    raise Refused(f'name "{given}" is short for the id "{self._ids[given]}" already')
+                    raise Refused(f'name "{given}" is short for the id "{_escaped(self._ids[given])}" already')
             return given
         name = given.replace("-", "") if UUID.fullmatch(given) else ""
         if len(given.encode(errors="surrogatepass")) <= MOST_BYTES:
             if not WITH_SIGNS.fullmatch(given):
-                raise Refused(f'name "{given}" is not 1 to 32 of A-Z a-z 0-9 _ - .')
+                raise Refused(f'name "{_escaped(given)}" is not 1 to 32 of A-Z a-z 0-9 _ - .')
             name = ("e" if given[0].isdigit() else "") + given.replace("@", "-").replace(",", "-")
         if not name or len(name) > MOST_BYTES or name in self._ids:
             name = self._numbered(given)
@@ -568,7 +569,7 @@ class Recording:
     def _numbered(self, given: str) -> str:
         """The next name that stands for an id."""
         if self._only is not None:
-            raise Refused(f'one replica\'s log can\'t number the id "{given}", since the other machines would number on their own')
+            raise Refused(f'one replica\'s log can\'t number the id "{_escaped(given)}", since the other machines would number on their own')
         number = 1 + len(self._short)
         while f"long{number}" in self._ids:
             number += 1
@@ -873,10 +874,19 @@ def _told(value: Any) -> str:
     if value is None:
         return "None"
     if isinstance(value, str):
-        return f'the string "{value[:MOST_SHOWN]}"' + (".." if len(value) > MOST_SHOWN else "")
+        return f'the string "{_escaped(value[:MOST_SHOWN])}"' + (".." if len(value) > MOST_SHOWN else "")
     if isinstance(value, (bool, float)):
         return f"the {type(value).__name__} {value}"
-    return f"the number {value}" if isinstance(value, int) and abs(value) <= MOST_POSITION else f"a value of type {type(value).__name__}"
+    return f"the number {value}" if isinstance(value, int) and abs(value) <= MOST_POSITION else f"a value of type {_escaped(type(value).__name__)}"
+
+
+def _escaped(text: str) -> str:
+    """A name, an id or another text for an error: a byte that is no printable ASCII stands as `\\x1b`, and so does the first sign of what
+    a CI service would take for a command."""
+    command = COMMAND.match(text)
+    first = command.end() if command else -1
+    return "".join(chr(byte) if 0x20 <= byte < 0x7F and at != first else f"\\x{byte:02x}"
+                   for at, byte in enumerate(text.encode(errors="surrogatepass")))
 
 
 def _listed(response: Any) -> List[Any]:
@@ -897,7 +907,7 @@ def _check_id(change_id: Any) -> None:
 
 
 def _quoted(change_id: Hashable) -> str:
-    return f'"{change_id}"' if isinstance(change_id, str) else repr(change_id)
+    return f'"{_escaped(change_id)}"' if isinstance(change_id, str) else _escaped(repr(change_id))
 
 
 def _beside_program(command: str) -> str:

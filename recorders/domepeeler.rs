@@ -27,6 +27,8 @@
 //! `Recording::new(2)?.stop()?` has the session judged after each call that takes a list, and panics in the call that answered wrong;
 //! `stop_weak` in that after which weak doesn't hold.
 //!
+//! Where a test fails by itself, the trace of each recording that it drops then is saved, if it was neither saved nor judged.
+//!
 //! Where updates have vector clocks, `received_clock` writes the receipts, and refuses what is not causal.
 //!
 //! Each call that a trace can't say is `Refused`, and leaves the recording as it was.
@@ -35,6 +37,7 @@
 //! `#[track_caller]` before it, and it names theirs.
 #![allow(dead_code)]
 
+use std::cell::Cell;
 use std::collections::{BTreeSet, HashMap, HashSet};
 use std::ffi::OsString;
 use std::fmt::{self, Display, Write as _};
@@ -111,10 +114,10 @@ impl Display for Refused {
             Refused::NotOfThisLog { replica, only } => {
                 write!(f, "this log is of replica {only} alone, not of {replica}")
             }
-            Refused::Name { name } => write!(f, "name \"{name}\" is not 1 to 32 of A-Z a-z 0-9 _ - ."),
-            Refused::ShortFor { name, id } => write!(f, "name \"{name}\" is short for the id \"{id}\" already"),
+            Refused::Name { name } => write!(f, "name \"{}\" is not 1 to 32 of A-Z a-z 0-9 _ - .", escaped(name)),
+            Refused::ShortFor { name, id } => write!(f, "name \"{name}\" is short for the id \"{}\" already", escaped(id)),
             Refused::NoNumber { id } => {
-                write!(f, "one replica's log can't number the id \"{id}\", ")?;
+                write!(f, "one replica's log can't number the id \"{}\", ", escaped(id))?;
                 write!(f, "since the other machines would number on their own")
             }
             Refused::OperationZero => write!(f, "operation number 0 is not a whole number from 1 to {}", u32::MAX),
@@ -278,6 +281,21 @@ struct Names {
     order: Vec<String>,
 }
 
+/// How many lines the text had when it was last saved or judged; 0 of one that never was.
+#[derive(Default)]
+struct Seen(AtomicUsize);
+
+impl Clone for Seen {
+    fn clone(&self) -> Seen {
+        Seen(AtomicUsize::new(self.0.load(Ordering::Relaxed)))
+    }
+}
+
+thread_local! {
+    /// How many traces of tests that failed this thread has saved since it last began a recording.
+    static SAVED: Cell<usize> = const { Cell::new(0) };
+}
+
 /// A session of so many replicas, or the log that one of them keeps on its own machine.
 #[derive(Clone)]
 pub struct Recording {
@@ -294,6 +312,22 @@ pub struct Recording {
     goal: Option<Goal>,
     /// What is wrong with it, once it isn't so.
     stopped: Option<String>,
+    seen: Seen,
+}
+
+/// Where a thread panics, the trace of a recording that is dropped is saved as `assert_accepted` saves it, and its path told on standard
+/// error, if it has entries that were neither saved nor judged. Nothing here may panic, as that would end the program.
+impl Drop for Recording {
+    fn drop(&mut self) {
+        let last = match self.callers.last() {
+            Some(last) if std::thread::panicking() && self.seen.0.load(Ordering::Relaxed) != self.lines() => last,
+            _ => return,
+        };
+        let before = SAVED.try_with(Cell::get).unwrap_or(0); // by this thread in the same panic
+        let path = failed_trace(last);
+        let path = if before == 0 { path } else { numbered(&path, before + 1) };
+        let _ = writeln!(io::stderr(), "{}", self.save_failed(&path)); // where nobody hears it, nothing is to be done
+    }
 }
 
 /// Which verdicts are right, and what the explainer is told of that.
@@ -310,8 +344,9 @@ impl Recording {
         let callers = Vec::new();
         let names = Names::default();
         let replicas = vec![new; replicas];
-        let (notes, deliveries) = (vec![], vec![]);
-        Ok(Recording { lines, callers, replicas, only: None, names, notes, deliveries, goal: None, stopped: None })
+        let (notes, deliveries, seen) = (vec![], vec![], Seen::default());
+        let _ = SAVED.try_with(|saved| saved.set(0));
+        Ok(Recording { lines, callers, replicas, only: None, names, notes, deliveries, goal: None, stopped: None, seen })
     }
 
     /// From now on the session is judged after each call that takes a list. The first after which it is not accepted panics, with the
@@ -512,13 +547,21 @@ impl Recording {
     pub fn save(&self, path: impl AsRef<Path>) -> io::Result<()> {
         let path = path.as_ref();
         if matches!(fs::metadata(path), Ok(about) if !about.is_file()) {
-            return File::create(path)?.write_all(self.lines.as_bytes());
+            File::create(path)?.write_all(self.lines.as_bytes())?;
+        } else {
+            let mut beside = path.as_os_str().to_owned();
+            beside.push(".lines");
+            let trace = Fresh::written(path, &self.lines)?;
+            Fresh::written(Path::new(&beside), &self.beside())?.put()?;
+            trace.put()?;
         }
-        let mut beside = path.as_os_str().to_owned();
-        beside.push(".lines");
-        let trace = Fresh::written(path, &self.lines)?;
-        Fresh::written(Path::new(&beside), &self.beside())?.put()?;
-        trace.put()
+        self.see();
+        Ok(())
+    }
+
+    /// All that was recorded so far is saved, or judged.
+    fn see(&self) {
+        self.seen.0.store(self.lines(), Ordering::Relaxed);
     }
 
     /// What an accepted verdict on this recording may hide, a line each, with the places in your code: a change that never arrived,
@@ -550,6 +593,7 @@ impl Recording {
         let warnings = if is_accepted { self.warnings()? } else { vec![] };
         let told: Vec<String> = warnings.iter().map(|warning| quoted(warning)).collect();
         report.insert_str(end, &format!(",\"warnings\":[{}]", told.join(",")));
+        self.see();
         Ok(report)
     }
 
@@ -574,6 +618,7 @@ impl Recording {
         let verdict = read.ok_or_else(|| ended(program, &done, "no report"))?;
         let (is_accepted, head) = (verdict.is_accepted(), printed(program, &done)?);
         self.check_agrees(program, &done, is_accepted, head.lines().next().unwrap_or(""), " operations ", " ")?;
+        self.see();
         Ok(verdict)
     }
 
@@ -634,20 +679,20 @@ impl Recording {
             true => format!("{warnings}\n\n"),
         };
         let said = unsure + &self.explained(&explainer(), goal).unwrap_or_else(|why| format!("{verdict}\n{why}\n"));
-        match self.save_failed(&path) {
-            Ok(()) => panic!("{said}\nThe trace is saved: {}", path.display()),
-            Err(why) => panic!("{said}\nThe trace can't be saved: {}: {why}", path.display()),
-        }
+        panic!("{said}\n{}", self.save_failed(&path));
     }
 
-    /// Saves the trace in a folder that git does not look into.
-    fn save_failed(&self, path: &Path) -> io::Result<()> {
-        fs::create_dir_all(FAILED_TRACES)?;
+    /// Saves the trace in a folder that git does not look into. Answers in words where it is.
+    fn save_failed(&self, path: &Path) -> String {
+        let _ = SAVED.try_with(|saved| saved.set(saved.get() + 1));
         let ignored = Path::new(FAILED_TRACES).join(".gitignore");
-        if !ignored.exists() {
-            fs::write(ignored, "*\n")?;
+        let saved = fs::create_dir_all(FAILED_TRACES)
+            .and_then(|()| if ignored.exists() { Ok(()) } else { fs::write(ignored, "*\n") })
+            .and_then(|()| self.save(path));
+        match saved {
+            Ok(()) => format!("The trace is saved: {}", path.display()),
+            Err(why) => format!("The trace can't be saved: {}: {why}", path.display()),
         }
-        self.save(path)
     }
 
     /// What the report means, in words, with the lines of your code, and at the end the ids of the numbered names and the notes. The
@@ -677,6 +722,7 @@ impl Recording {
             return Err(ended(explainer, &done, "no words"));
         }
         let said = printed(explainer, &done)?;
+        self.see();
         let words: HashSet<&str> = said.split(|letter: char| !letter.is_ascii_alphanumeric()).collect();
         let ids = self.ids().into_iter().filter(|(name, _)| words.contains(name) && name.starts_with("long"));
         let long = section("Ids that were too long for a name", ids.map(|(name, id)| format!("{name}: {id}")));
@@ -1286,6 +1332,12 @@ fn behind_links(path: &Path) -> PathBuf {
     at
 }
 
+/// Where a test saves the trace of its second recording, or of a later one.
+fn numbered(path: &Path, number: usize) -> PathBuf {
+    let name = path.file_stem().unwrap_or_default().to_string_lossy();
+    path.with_file_name(format!("{name}-{number}.trace"))
+}
+
 /// Where a test saves its trace: by the name of the program that runs it and its own, or by the line that asks if it has none. What an
 /// earlier run of the test saved there is removed when it first asks; later in the run it stays, as a property's smallest case may fail
 /// before others pass.
@@ -1304,12 +1356,34 @@ fn failed_trace(caller: &Location) -> PathBuf {
     let path = Path::new(FAILED_TRACES).join(name + ".trace");
     let mut asked = ASKED.lock().unwrap_or_else(|poisoned| poisoned.into_inner());
     if !asked.contains(&path) {
-        for old in [path.clone(), path.with_extension("trace.lines")] {
-            let _ = fs::remove_file(old); // most often there is none
+        let mut old = path.clone();
+        for number in 2.. {
+            let is_removed = fs::remove_file(&old).is_ok(); // most often there is none
+            let _ = fs::remove_file(old.with_extension("trace.lines"));
+            if !is_removed && number > 2 {
+                break;
+            }
+            old = numbered(&path, number);
         }
         asked.push(path.clone());
     }
     path
+}
+
+/// A name or an id for an error: a byte that is no printable ASCII stands as `\x1b`, and so does the first of `::` or `##` that begins it,
+/// behind spaces too, since CI services take a line that begins so for a command.
+fn escaped(text: &str) -> String {
+    let begin = text.trim_start_matches(' ');
+    let is_command = begin.starts_with("::") || begin.starts_with("##");
+    let first = if is_command { text.len() - begin.len() } else { text.len() };
+    let mut told = String::new();
+    for (at, byte) in text.bytes().enumerate() {
+        match byte {
+            b' '..=b'~' if at != first => told.push(byte.into()),
+            _ => told += &format!("\\x{byte:02x}"),
+        }
+    }
+    told
 }
 
 /// The operation of this name, as `2.1`.

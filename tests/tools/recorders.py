@@ -8,6 +8,7 @@ import json
 import os
 import pickle
 import re
+import resource
 import select
 import shlex
 import shutil
@@ -62,6 +63,9 @@ LETTERS32 = "abcdefghijklmnopqrstuvwxyz_-.019"
 UUID, UUID_DIGITS = "123e4567-e89b-12d3-a456-426614174000", "123e4567e89b12d3a456426614174000"
 ALMOST_UUIDS = ["123e4567-e89b-12d3-a456-42661417400g", "123e4567e-89b-12d3-a456-426614174000", "123e4567_e89b_12d3_a456_426614174000"]
 ONE_NUMBER = "one replica's log can't number the id \"{}\", since the other machines would number on their own"
+
+# A long id, and how an error shows it: what is no printable ASCII by its bytes, and so the first sign of what a CI service takes for a command.
+ODD_ID, ODD_SHOWN = "%20::%0A%1B%C3%A4%7F" + "a" * 30, " \\x3a:\\x0a\\x1b\\xc3\\xa4\\x7f" + "a" * 30
 
 # Calls, each with its answer, and the lines of the trace behind the first two. `%` and two digits stand for a byte.
 SAID = [
@@ -125,6 +129,9 @@ SAID = [
     ("long ids behind a translated one", f"new 1 -> ok\nread 0 a@b {LETTERS32}x -> ok 1\n", ["0 read : a-b long2"]),
     ("a refused call keeps no translation", f"new 1 -> ok\nread 0 a@b a:b -> refused name \"a:b\" {NAME}\nid_of a-b -> none\n"
      f"read 0 c-d a:b -> refused name \"a:b\" {NAME}\nread 0 a-b c@d -> ok 1\nid_of c-d -> ok c@d\n", ["0 read : a-b c-d"]),
+    ("a long id of odd letters", f"new 1 -> ok\nread 0 {ODD_ID} -> ok 1\n"
+     f'read 0 long1 -> refused name "long1" is short for the id "{ODD_SHOWN}" already\n', ["0 read : long1"]),
+    ("a long id of odd letters in one replica's log", f"new 3 1 -> ok\nread 1 {ODD_ID} -> refused {ONE_NUMBER.format(ODD_SHOWN)}\n", []),
     ("one replica's log translates, and numbers nothing", "new 3 1 -> ok\nread 1 2@alice -> ok 1\n"
      f"read 1 2,alice -> refused {ONE_NUMBER.format('2,alice')}\nread 1 2@bob -> ok 2\n", ["1 read : e2-alice", "1 read : e2-bob"]),
 ]
@@ -243,6 +250,9 @@ CHANGES = [
     ("a paste, whose inserts have one id", "new 2 -> ok\nas p insert 0 a 0 a -> ok 1\nas p insert 0 b 1 a b -> ok 2\n"
      'as p insert 1 c 0 c -> refused the id "p" is that of 0.1 already\nreceived_changes 1 p -> ok\n',
      ["0 ins a 0 : a", "0 ins b 1 : a b", "1 recv 0 2"]),
+    ("odd letters in an id", "new 2 -> ok\nas ##a%1B insert 0 a 0 a -> ok 1\n"
+     'as ##a%1B insert 1 b 0 b -> refused the id "\\x23#a\\x1b" is that of 0.1 already\n'
+     'received_changes 1 ::%0A%C3%A4 -> refused no change with the id "\\x3a:\\x0a\\xc3\\xa4" has been recorded\n', ["0 ins a 0 : a"]),
     ("a refused call gives no id", 'new 2 -> ok\nas x insert 0 a 0 a:b -> refused name "a:b" ' + NAME + "\n"
      'received_changes 1 x -> refused no change with the id "x" has been recorded\nas x insert 1 a 0 a -> ok 1\n', ["1 ins a 0 : a"]),
     ("one replica's log", "new 2 1 -> ok\nas x insert 1 a 0 a -> ok 1\nreceived_changes 1 x -> refused "
@@ -297,10 +307,12 @@ REFUSED = [
      "received 1 1 1 -> refused replica 1 receives no operation of its own\n"
      "received 1 3 1 -> refused no replica 3 among 0 to 2\n"),
 ] + [
-    (f"the name {word!r}", f'new 1 -> ok\ninsert 0 {word} 0 b -> refused name "{unquote(shown)}" {NAME}\n'
-     f'delete 0 {word} -> refused name "{unquote(shown)}" {NAME}\nread 0 b {word} -> refused name "{unquote(shown)}" {NAME}\n')
-    for word, shown in [("(empty)", ""), ("a%20b", "a b"), ("a:1", "a:1"), ("%C3%A4", "ä"), ("a%0D", "a\r"), ("a,%20@", "a, @"),
-                        ("2@%C3%A4", "2@ä"), ("2@alice%0D", "2@alice\r")]
+    (f"the name {word!r}", f'new 1 -> ok\ninsert 0 {word} 0 b -> refused name "{shown}" {NAME}\n'
+     f'delete 0 {word} -> refused name "{shown}" {NAME}\nread 0 b {word} -> refused name "{shown}" {NAME}\n')
+    for word, shown in [("(empty)", ""), ("a%20b", "a b"), ("a:1", "a:1"), ("%C3%A4", "\\xc3\\xa4"), ("a%0D", "a\\x0d"), ("a,%20@", "a, @"),
+                        ("2@%C3%A4", "2@\\xc3\\xa4"), ("2@alice%0D", "2@alice\\x0d"), ("a%0A::error::%1B[2Jb%7F", "a\\x0a::error::\\x1b[2Jb\\x7f"),
+                        ("::error::a", "\\x3a:error::a"), ("%20%20::a", "  \\x3a:a"), ("##vso[a]", "\\x23#vso[a]"), ("%20##a", " \\x23#a"),
+                        (":a", ":a"), ("%20#a", " #a"), (":#a", ":#a"), ("~%20!", "~ !"), ("%C2%85%E2%80%A8", "\\xc2\\x85\\xe2\\x80\\xa8")]
 ]
 
 # The same, where a typed language can't say the call.
@@ -330,13 +342,16 @@ VALUES = {
     "mjs": {"true": "the boolean true", "float": "the number 0.5", "none": "undefined", "half": "the number 0.5",
             "id": "a string or a number", "list": "an array", "object": "an object"},
     "el": {"true": "the symbol t", "float": "the float 1.0", "none": "nil", "half": "the float 0.5"}}
+ODD_REPLICA = REPLICA + 'the string "\\x3a:\\x1b\\x0a' + "1" * 36 + '"..'
 OWN_TYPES = {
     "py": [POSITION + "the float nan", POSITION + "a value of type list", "a name is a string, not a value of type bytes",
            'operation number is not a whole number from 1 to 4294967295 but the string "1"',
            "number of changes is not a whole number from 1 to 1 but None", "delivered wants the list of each of the 2 replicas, not None",
            'delivered wants the list of each of the 2 replicas, not the string "ab"', "no replica 2 among 0 to 1",
            "delivered wants the list of each of the 2 replicas, not of 1", "a response is a list of names", NO_NOTE.partition(" ")[2],
-           REPLICA + 'the string "' + "1" * 40 + '"..', "a recording is told of weak with `stop` alone: else tell `judge` and `explain`"],
+           REPLICA + 'the string "' + "1" * 40 + '"..', "a recording is told of weak with `stop` alone: else tell `judge` and `explain`",
+           ODD_REPLICA, "no change with the id ('a', '\\xc3\\xa4\\n') has been recorded"],
+    "el": [ODD_REPLICA, REPLICA + "the symbol \\x3a:a\\x0ab"],
     "mjs": [REPLICA + "a Symbol", POSITION + "the BigInt 2", "a name is a string, not a Symbol", "a name is a string, not the BigInt 3",
             "a name is a string, not undefined", "a name is a string, not undefined", POSITION + "null", POSITION + "the number NaN",
             POSITION + "an array", POSITION + "an object", POSITION + "a function",
@@ -346,7 +361,7 @@ OWN_TYPES = {
             "delivered wants the list of each of the 2 replicas, not of 1", "a response is a list of names", NO_NOTE.partition(" ")[2],
             REPLICA + 'the string "' + "1" * 40 + '"..', "an id of a change is a string or a number, not a Symbol",
             'name "a b" ' + NAME, "count of a clock is not a whole number from 0 to 4294967295 but undefined",
-            "a recording is told of weak with `stop` alone: else tell judge() and explain()"]}
+            "a recording is told of weak with `stop` alone: else tell judge() and explain()", ODD_REPLICA]}
 
 ELEMENTS = [f"e{i}" for i in range(4097)]
 FULL = "the most that a trace takes"
@@ -394,8 +409,8 @@ def has_hypothesis() -> bool:
 
 
 def fields(call: str) -> str:
-    """A call of the table as a line for the drivers."""
-    return "\t".join("" if word == "(empty)" else unquote(word) for word in call.split(" "))
+    """A call of the table as a line for the drivers, in which a record separator stands for a line feed."""
+    return "\t".join("" if word == "(empty)" else unquote(word).replace("\n", "\x1e") for word in call.split(" "))
 
 
 def bytes_of(call: str) -> bytes:
@@ -1229,6 +1244,29 @@ def check_long_updates(tally: Tally, recorder: Recorder) -> None:
     took = time.monotonic() - started
     tally.check(f"{recorder.language}: very many updates with all ids", got[2001:2301] == ["ok"] * 300 and
                 got[-2:] == ["ok", "ok 14005"] and took < MOST_SECONDS, (took, got[-5:]))
+
+
+MOST_PROCESSOR = 2  # seconds of it, where 20,000 calls take 0.5 at most; by joining the text, or by counting its lines, over 3
+
+
+def check_many_lines(tally: Tally, recorder: Recorder) -> None:
+    """How many lines there are, which a debugger's statement asks before each entry, is answered at once in a long recording too: the calls
+    take little more than the session without them."""
+    session = ["new\t1", *["\t".join(["view", "0", *(f"{'a' * 28}{number:03}" for number in range(50))])] * 2000]
+
+    def used(asked: int) -> float:
+        """Seconds of processor, of the children that have ended."""
+        before = resource.getrusage(resource.RUSAGE_CHILDREN)
+        try:
+            got = recorder.answers([*session, *["lines"] * asked])
+        except subprocess.TimeoutExpired as why:
+            got = [str(why)]
+        after = resource.getrusage(resource.RUSAGE_CHILDREN)
+        tally.check(f"{recorder.language}: {asked} times how many lines", got[2001:] == ["ok 2002"] * asked, got[-1:])
+        return after.ru_utime + after.ru_stime - before.ru_utime - before.ru_stime
+
+    took = used(20000) - used(0)
+    tally.check(f"{recorder.language}: how many lines is answered at once", took < MOST_PROCESSOR, took)
 
 
 NOTHING = "nothing was recorded: the trace has no entry, so the verdict says nothing of an editor"
@@ -2409,6 +2447,152 @@ fn main() {{
         "read at the end"], done)
 
 
+# Tests in Rust that fail by themselves where the variable says so.
+OWN_PANICS = f"""#[path = "{ROOT / 'recorders'}/domepeeler.rs"]
+mod domepeeler;
+use domepeeler::Recording;
+
+fn reading(names: &[&str]) -> Recording {{
+    let mut recording = Recording::new(1).unwrap();
+    recording.read(0, names).unwrap(); // reads
+    recording
+}}
+
+fn fails() {{
+    assert!(std::env::var_os("FAILS").is_none(), "by itself");
+}}
+
+#[test]
+fn by_itself() {{
+    let mut recording = reading(&[]);
+    recording.insert(0, "a", 0, &["a"]).unwrap(); // inserts
+    fails();
+    recording.assert_accepted();
+}}
+
+#[test]
+fn with_three() {{
+    let first = reading(&["first"]);
+    let copy = reading(&["second"]).clone();
+    let third = reading(&["third"]);
+    fails();
+    drop((first, copy, third));
+}}
+
+#[test]
+fn in_the_second() {{
+    let first = reading(&["first"]);
+    let second = reading(if std::env::var_os("FAILS").is_some() {{ &["lost"] }} else {{ &[] }});
+    second.assert_accepted();
+    first.verdict().unwrap();
+}}
+
+#[test]
+fn after_it_was_saved() {{
+    let mut recording = reading(&[]);
+    recording.save("by_hand.trace").unwrap();
+    recording.read(0, &["later"]).unwrap();
+    fails();
+}}
+
+#[test]
+fn in_a_log() {{
+    let mut log = Recording::only(3, 1).unwrap();
+    log.received(1, 0, 7).unwrap();
+    fails();
+}}
+
+#[test]
+fn saved() {{
+    let recording = reading(&[]);
+    recording.save("by_hand.trace").unwrap();
+    fails();
+}}
+
+#[test]
+fn judged() {{
+    let recordings = [reading(&["judged"]), reading(&["judged"]), reading(&["judged"])];
+    recordings[0].judge().unwrap();
+    recordings[1].verdict().unwrap();
+    recordings[2].explain().unwrap();
+    fails();
+}}
+
+#[test]
+fn of_nothing() {{
+    let _recording = Recording::new(1).unwrap();
+    fails();
+}}
+
+#[test]
+fn caught() {{
+    drop(reading(&[]));
+    assert!(std::panic::catch_unwind(|| panic!("before")).is_err());
+    drop(reading(&[]));
+}}
+
+#[test]
+fn of_three_cases() {{
+    for case in ["one", "two", "three"] {{
+        let tried = std::panic::catch_unwind(|| {{
+            let _recording = reading(&[case]);
+            fails();
+        }});
+        assert_eq!(tried.is_ok(), std::env::var_os("FAILS").is_none());
+    }}
+}}
+"""
+
+
+def check_own_panics(tally: Tally, program: str, folder: Path) -> None:
+    """A test in Rust that fails by itself has the traces saved that it neither saved nor judged, whose paths stand on standard error; and a
+    passing one saves nothing. Where they can't be saved or told of, the tests end as they would."""
+    place = folder / "own panics"
+    place.mkdir()
+    (place / "own.rs").write_text(OWN_PANICS)
+    subprocess.run(["rustc", "--edition", "2021", "-D", "warnings", "--test", "-o", "own", "own.rs"], cwd=place, check=True)
+    surroundings = {**os.environ, "DOMEPEELER": program, "DOMEPEELER_EXPLAIN": EXPLAIN, "RUST_BACKTRACE": "0", "LC_ALL": "C.UTF-8"}
+    line = {word: next(number for number, text in enumerate(OWN_PANICS.splitlines(), 1) if f"// {word}" in text) for word in ("reads", "inserts")}
+    traces = place / "failed_traces"
+
+    def ended(*words: str, **more: str) -> subprocess.CompletedProcess:
+        return subprocess.run(["./own", *words], cwd=place, env={**surroundings, **more}, capture_output=True, text=True)
+
+    done = ended()
+    tally.check("Rust: tests that pass save nothing", done.returncode == 0 and done.stderr == "" and not traces.exists(), done)
+    done = ended(FAILS="1")
+    head = "trace 1\nreplicas 1\n"
+    wanted = {"own-by_itself": f"{head}0 read :\n0 ins a 0 : a\n", "own-with_three": f"{head}0 read : third\n",
+              "own-with_three-2": f"{head}0 read : second\n", "own-with_three-3": f"{head}0 read : first\n",
+              "own-in_the_second": f"{head}0 read : lost\n", "own-in_the_second-2": f"{head}0 read : first\n",
+              "own-of_three_cases": f"{head}0 read : three\n", "own-after_it_was_saved": f"{head}0 read :\n0 read : later\n", "own-in_a_log": "trace 1\nreplicas 3\n1 recv 0 7\n"}
+    tally.check("Rust: tests that fail by themselves", done.returncode == 101 and "2 passed; 8 failed;" in done.stdout, done)
+    found = {path.stem: path.read_text() for path in traces.glob("*.trace")}
+    tally.check("Rust: their traces are saved", found == wanted and (traces / ".gitignore").read_text() == "*\n", found)
+    told = [f"The trace is saved: failed_traces/{name}.trace" for name in [*wanted, *["own-of_three_cases"] * 2] if name != "own-in_the_second"]
+    tally.check("Rust: their paths are told", sorted(done.stderr.splitlines()) == sorted(told) and
+                "The trace is saved: failed_traces/own-in_the_second.trace" in done.stdout, done)
+    beside = Path(traces, "own-by_itself.trace.lines").read_text() if "own-by_itself" in found else ""
+    tally.check("Rust: and their lines of code", beside == f"4\nlanguage rust\n3 own.rs:{line['reads']}\n4 own.rs:{line['inserts']}\n", beside)
+    done = ended("in_the_second")
+    left = sorted(path.stem for path in traces.glob("*.trace"))
+    tally.check("Rust: a passing one removes what it saved before", done.returncode == 0 and left == sorted(
+        name for name in wanted if not name.startswith("own-in_the_second")), (done, left))
+    shutil.rmtree(traces, ignore_errors=True)
+    done = ended("by_itself", DOMEPEELER="/nowhere/domepeeler")
+    tally.check("Rust: where there is no program, the trace is saved", done.returncode == 101 and "/nowhere/domepeeler cannot be run" in done.stdout
+                and [path.stem for path in traces.glob("*.trace")] == ["own-by_itself"], done)
+    shutil.rmtree(traces, ignore_errors=True)
+    traces.write_text("no folder")
+    done = ended("by_itself", FAILS="1")
+    tally.check("Rust: a trace that can't be saved", done.returncode == 101 and "0 passed; 1 failed;" in done.stdout and
+                done.stderr.startswith("The trace can't be saved: failed_traces/own-by_itself.trace: "), done)
+    with open("/dev/full", "w") as full:
+        done = subprocess.run(["./own", "--nocapture", "by_itself"], cwd=place, env={**surroundings, "FAILS": "1"}, stdout=subprocess.PIPE,
+                              stderr=full, text=True)
+    tally.check("Rust: where standard error takes nothing", done.returncode == 101 and "0 passed; 1 failed;" in done.stdout, done)
+
+
 # Compilers and the standards that they follow; and headers that a user may include before the recorder.
 COMPILERS = {"gcc": ["c99", "c11", "c17"], "clang": ["c99", "c11", "c17"],
              "g++": ["c++11", "c++14", "c++17", "c++20"], "clang++": ["c++11", "c++14", "c++17", "c++20"]}
@@ -2457,6 +2641,20 @@ def check_compilers(tally: Tally, folder: Path) -> None:
     for compiler in "gcc", "clang":
         said = subprocess.run([compiler, "-std=c99", "-c", "-o", "/dev/null", source], capture_output=True, text=True).stderr
         tally.check(f"C: {compiler} warns of answers that are ignored", said.count(": warning: ignoring return value") == len(CHECKED), said)
+
+
+# What copies a process: of a large program that takes long, and of one with threads it leaves locks behind that nobody opens.
+COPIES = {"fork", "vfork", "_Fork", "clone", "clone3", "forkpty", "syscall"}
+
+
+def check_spawns(tally: Tally, folder: Path) -> None:
+    """The recorder of C begins the program and the tool by `posix_spawn`, and nothing in it copies the process: by what the driver, which
+    makes all its calls, wants of the system."""
+    for compiler in "gcc", "clang":
+        subprocess.run([compiler, "-std=c99", "-D_POSIX_C_SOURCE=200809L", "-c", "-o", "wants.o", DRIVERS / "driver.c"], cwd=folder, check=True)
+        listed = subprocess.run(["nm", "-u", "wants.o"], cwd=folder, capture_output=True, text=True, check=True).stdout
+        wants = {line.split()[-1] for line in listed.splitlines()}
+        tally.check(f"C: {compiler}: judges by posix_spawn", wants & {"posix_spawn", "posix_spawnp"} and not wants & COPIES, wants)
 
 
 # Calls in C from lines that other programs wrote, from none, and from a wrapper as the recorder's head has it; what is refused names none.
@@ -2655,7 +2853,7 @@ REFUSED_C = [
      "a call was refused, so what it says is not recorded: 1.1 cannot have arrived: replica 1 has 0 operations so far"),
     ("several, with signs that JSON escapes", ["new 2", "insert 0 a 0 a", "read 0 %22%5C%01%C3%A4%FF", "read 7", "read 0 a%20b",
                                                "delivered a / a"],
-     "3 calls were refused, so what they say is not recorded; the first: name \"\"\\?\u00e4?\" " + NAME),
+     '3 calls were refused, so what they say is not recorded; the first: name ""\\\\x01\\xc3\\xa4\\xff" ' + NAME),
     ("what is not causal, and limits", ["new 3", *["read 2"] * 16385, "insert 0 a 0 a", "delete 0 a", "received_clock 1 0 1 2 0 0",
                                         "received_clock 1 0 2 2 0 0", "read 1"], None),
 ]
@@ -2685,6 +2883,9 @@ def check_hostile_c(tally: Tally, recorder: Recorder, folder: Path) -> None:
     for reads, words in (997, "--workers 1 --json -"), (998, "--json -"):
         got = recorder.answers(["new\t1", *["read\t0"] * reads, "judge"], DOMEPEELER=str(asked))[-1]
         tally.check(f"C: {reads} reads are judged by {words}", got == f"failed {asked} ended with status 2: verdict {words}", got)
+    got = recorder.answers(["new\t3\t1", "read\t1\t" + "\x1b" * 600])[-1]
+    tally.check("C: the front of a long id is shown", len(got) == len("refused ") + 511 and
+                got.startswith("refused one replica's log can't number the id \"" + "\\x1b" * 100), got)
     teller = folder / "teller"
     teller.write_text("#!/bin/sh\ncat > /dev/null\necho told\n")
     teller.chmod(0o755)
@@ -2723,6 +2924,7 @@ def main() -> None:
             check_explains_file(tally, recorder, folder)
             check_full_delivery(tally, recorder)
             check_long_updates(tally, recorder)
+            check_many_lines(tally, recorder)
             texts[language] = check_limits(tally, recorder)
             tally.check(f"{language}: texts at the limits", texts[language] == texts["py"])
             if language in CLOCKED:
@@ -2754,7 +2956,9 @@ def main() -> None:
         check_heads(tally, program, folder)
         check_weak_heads(tally, program, folder)
         check_rust_tests(tally, program, folder)
+        check_own_panics(tally, program, folder)
         check_compilers(tally, folder)
+        check_spawns(tally, folder)
         check_places_c(tally, program, folder)
         check_stop_cpp(tally, program, folder)
         check_threads_c(tally, folder)

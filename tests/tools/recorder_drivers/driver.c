@@ -6,10 +6,12 @@ enum { MOST_WORDS = 5000 };
 static char *words[MOST_WORDS];
 static size_t count;
 
-/* Splits the line, without its end, at the tabs. */
+/* Splits the line, without its end, at the tabs; a record separator stands for a line feed. */
 static void split(char *line) {
     count = 0;
     line[strcspn(line, "\n")] = 0;
+    for (char *letter = line; *letter; letter++)
+        if (*letter == 0x1e) *letter = '\n';
     for (char *word = line; word; count++) {
         char *tab = strchr(word, '\t');
         if (tab) *tab = 0;

@@ -14,7 +14,9 @@
    (lambda () (domepeeler-read (domepeeler-new 2) 0 '("a" 7)))
    (lambda () (domepeeler-read (domepeeler-new 2) 0 "ab"))
    (lambda () (domepeeler-read (domepeeler-new 2) 0 t))
-   (lambda () (domepeeler-insert (domepeeler-new 2) 0 "a" 0 7)))
+   (lambda () (domepeeler-insert (domepeeler-new 2) 0 "a" 0 7))
+   (lambda () (domepeeler-read (domepeeler-new 2) (concat "::\e\n" (make-string 41 ?1)) nil))
+   (lambda () (domepeeler-read (domepeeler-new 2) (intern "::a\nb") nil)))
   "Calls that only a language without types can make, and that a trace can't say.")
 
 (defvar driver-recording nil)
@@ -84,4 +86,5 @@ If not, the first reason."
 (with-temp-buffer
   (insert-file-contents "/dev/stdin")
   (dolist (line (butlast (split-string (buffer-string) "\n")))
-    (princ (concat (driver-answer (split-string line "\t")) "\n"))))
+    ;; A record separator stands for a line feed in a field.
+    (princ (concat (driver-answer (split-string (string-replace "\x1e" "\n" line) "\t")) "\n"))))

@@ -1,4 +1,5 @@
-// Makes the calls that stand on standard input, in fields between tabs, of the JavaScript recorder: see tests/tools/recorders.py.
+// Makes the calls that stand on standard input, in fields between tabs, of the JavaScript recorder: see tests/tools/recorders.py. A record
+// separator stands for a line feed in a field.
 import { readFileSync } from "node:fs"
 import { Full, NotAccepted, NotCausal, Recording, Refused } from "../../../recorders/domepeeler.mjs"
 
@@ -46,6 +47,7 @@ const UNTYPED = [
   () => new Recording(2).read(0, ["a b"]),
   () => changed().receivedClock(0, 1, [, 1]),
   () => new Recording(2, null, { weak: true }),
+  () => new Recording(2).read("::\x1b\n" + "1".repeat(41), []),
 ]
 
 function changed() {
@@ -138,7 +140,7 @@ function listsOf(words) {
 
 for (const line of readFileSync(0, "utf8").split("\n").slice(0, -1)) {
   try {
-    console.log(await call(line.split("\t")))
+    console.log(await call(line.replaceAll("\x1e", "\n").split("\t")))
   } catch (why) {
     if (why instanceof NotAccepted) {
       console.log(`stopped ${why.message.replaceAll("\n", " / ")}`)

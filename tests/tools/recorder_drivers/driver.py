@@ -1,4 +1,5 @@
-"""Makes the calls that stand on standard input, in fields between tabs, of the Python recorder: see tests/tools/recorders.py."""
+"""Makes the calls that stand on standard input, in fields between tabs, of the Python recorder: see tests/tools/recorders.py. A record
+separator stands for a line feed in a field."""
 import json
 import sys
 from pathlib import Path
@@ -39,6 +40,8 @@ UNTYPED = [
     lambda: Recording(2).note(7),
     lambda: Recording(2).read("1" * 41, []),
     lambda: Recording(2, weak=True),
+    lambda: Recording(2).read("::\x1b\n" + "1" * 41, []),
+    lambda: Recording(2).received_changes(0, [("a", "ä\n")]),
 ]
 
 
@@ -145,7 +148,7 @@ def main() -> None:
         return "ok"
 
     for line in sys.stdin.read().split("\n")[:-1]:
-        words = line.split("\t")
+        words = line.replace("\x1e", "\n").split("\t")
         if words[0] == "untyped":
             print(answer(UNTYPED[int(words[1])]))
         else:

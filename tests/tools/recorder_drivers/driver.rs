@@ -122,6 +122,7 @@ fn main() {
     std::io::stdin().read_to_string(&mut script).expect("a script");
     let mut recording = Recording::new(1).expect("a recording");
     for line in script.split_terminator('\n') {
+        let line = line.replace('\x1e', "\n");
         let words: Vec<&str> = line.split('\t').collect();
         let done = if ["new", "stop", "stop_weak"].contains(&words[0]) {
             begin(&words).map(|new| {
