@@ -24,6 +24,7 @@ from pathlib import Path
 ROOT = Path(__file__).resolve().parents[2]
 sys.path.insert(0, str(ROOT / "tests"))
 from reference.traces import has_view, written  # noqa: E402
+from shared.measured import used  # noqa: E402
 from shared.program import Ended, Tally, is_running, program_of, run  # noqa: E402
 from shared.sessions import session, with_fault  # noqa: E402
 from shared.traces import trace as long_trace  # noqa: E402
@@ -451,6 +452,20 @@ FAULTS = [
     (b"trace 1\nreplicas 1\n" + b"0 read :\n" * 16385, "line 16387: entries full",
      "a replica has at most 16,384 entries, receipts counted: record shorter sessions, or fewer reads"),
 ]
+
+# Entries of millions of names, each with what stands behind these, and what is said of it.
+MILLIONS = [
+    ("0 read :", " b@", "the line is too long to be looked at whole: nothing is wrong with the words in its first 1,000,000 bytes, and of the whole "
+     "line the program says `shape`"),
+    ("0 reads :", "", "`reads`, the second word, is not `ins`, `del`, `read`, `view` or `recv`"),
+    ("0 ins a@ 0 :", "", "`a@`, after `ins`, is not a name (1 to 32 letters, digits, `_`, `-` or `.`)"),
+    ("0 view :", " b@", "a trace of version 1 has no views: line 1 is `trace 2` where there are some"),
+    ("0 read : " + "a " * 499_000 + "b@ b", "", "`b@`, in the response, is not a name (1 to 32 letters, digits, `_`, `-` or `.`)"),
+    ("0 read : " + "a " * 499_000 + " b", "", "there is a blank too many: two together, or one at an end of the line"),
+    ("0 read : " + "a " * 499_000 + "\t", "", "byte 998010 of the line is \\x09, which no word may have: words are of ASCII"),
+]
+NAMES = 4_000_000
+MOST_SECONDS, MOST_MEGABYTES = 2, 60  # of processor and of memory, for any of these
 
 CRLF = "the line ends with CR LF, where a trace has LF alone"
 MARK = "the file begins with a byte order mark, and a trace has none"
@@ -895,6 +910,20 @@ def faults(tally: Tally, program: str, folder: str) -> None:
                Ended(2, b"", b"domepeeler-explain: /bin/false printed no report that agrees with its status: is it domepeeler? It ended with status 1\n"))
     got = explain(program, ["--html", f"{folder}/no/such", good])
     tally.check("a page that can't be written", got.status == 2 and b"cannot write" in got.err and b"Traceback" not in got.err, got)
+
+
+def millions_of_names(tally: Tally, program: str, folder: str) -> None:
+    """A faulty line as long as can be is told of soon and in little memory, exactly where the fault stands in a long front of it."""
+    path = Path(folder, "millions.trace")
+    for begin, end, said in MILLIONS:
+        path.write_text(f"trace 1\nreplicas 1\n{begin}{' a' * NAMES}{end}\n")
+        got, seconds, megabytes = used([EXPLAIN, "--program", program, str(path)])
+        own, shown, what, *_ = got.err.decode().splitlines()
+        front, size = f"{begin} a a", len(begin) + 2 * NAMES + len(end)
+        tally.check(f"millions of names: {said}", got.status == 2 and not got.out and own == "finder: line 3: shape" and what == f"  {said}"
+                    and shown.startswith(f"  line 3 is: {front[:40]}") and shown.endswith(f".. ({size} bytes)"), (own, shown[-100:], what))
+        tally.check(f"millions of names: {said}, in little time and memory", seconds < MOST_SECONDS and megabytes < MOST_MEGABYTES,
+                    (seconds, megabytes))
 
 
 def warned(got: Ended) -> list:
@@ -1754,6 +1783,7 @@ def main() -> None:
         planted_bugs(tally, program, folder)
     with tempfile.TemporaryDirectory() as folder:
         faults(tally, program, folder)
+        millions_of_names(tally, program, folder)
         warnings(tally, program, folder)
         places(tally, program, folder)
         saved(tally, program, folder)

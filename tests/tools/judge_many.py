@@ -22,6 +22,7 @@ from pathlib import Path
 ROOT = Path(__file__).resolve().parents[2]
 sys.path.insert(0, str(ROOT / "tests"))
 from reference import verdicts  # noqa: E402
+from shared.measured import used  # noqa: E402
 from shared.program import Ended, Tally, is_running, need, program_of, run  # noqa: E402
 from shared.sessions import session  # noqa: E402
 
@@ -696,6 +697,25 @@ def which_traces(tally: Tally, program: str, folder: str, other: str) -> None:
 AS_USERS = ["setpriv", "--bounding-set", "-dac_override,-dac_read_search"] if os.geteuid() == 0 else []  # who may not read everything
 
 
+def millions_of_names(tally: Tally, program: str, folder: str) -> None:
+    """Faulty lines as long as can be are told of soon and in little memory, on the screen and in JUnit's file."""
+    long = " a" * 4_000_000
+    told = {"last": (f"0 read :{long} b@", "the line is too long to be looked at whole: nothing is wrong with the words in its first 1,000,000 bytes, "
+                     "and of the whole line the program says `shape`"),
+            "second": (f"0 reads :{long}", "`reads`, the second word, is not `ins`, `del`, `read`, `view` or `recv`")}
+    write(folder, {f"{name}.trace": line for name, (line, _) in told.items()})
+    for jobs in "1", "2":
+        got, seconds, megabytes = used([TOOL, "--program", program, "--jobs", jobs, "--junit", f"{folder}/judged.xml", folder])
+        lines = got.err.decode().splitlines()
+        tally.check(f"millions of names: {jobs} at a time", got.status == 2 and lines[::3] == [
+            f"domepeeler-judge-many: {folder}/{name}.trace: finder: line 3: shape" for name in told] and lines[2::3] == [
+                f"  {said}" for _, said in told.values()], [line[:200] for line in lines])
+        faults = [case[0].text.splitlines() for case in xml.parse(f"{folder}/judged.xml").getroot().iter("testcase")]
+        tally.check(f"millions of names: JUnit, {jobs} at a time", [fault[2] for fault in faults] == [f"  {said}" for _, said in told.values()],
+                    [fault[::2] for fault in faults])
+        tally.check(f"millions of names: little time and memory, {jobs} at a time", seconds < 4 and megabytes < 70, (seconds, megabytes))
+
+
 def not_looked_at(tally: Tally, program: str, folder: str) -> None:
     """Where there may be traces that can't be looked at, or are compressed, not all is well, though all others are accepted."""
     write(folder, {"a.trace": "0 ins a 0 : a", "locked/deep/b.trace": "0 ins a 0 : a|0 read :", "unread/c.trace": "0 ins a 0 : a"})
@@ -1225,7 +1245,7 @@ def main() -> None:
         warnings(tally, program, folder)
         warnings_of_sessions(tally, program, other)
     for check in (pythons, little_memory, not_looked_at, changing, weak, weak_junit, weak_in_ci, known_as_cut, grouped, no_files, overwriting,
-                  odd_names, tasks, script_of_ci, big_traces):
+                  millions_of_names, odd_names, tasks, script_of_ci, big_traces):
         with tempfile.TemporaryDirectory() as folder:
             check(tally, program, folder)
     with tempfile.TemporaryDirectory() as folder, tempfile.TemporaryDirectory() as other, tempfile.TemporaryDirectory() as third:
