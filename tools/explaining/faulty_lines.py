@@ -94,10 +94,10 @@ def about_fault(error: str, trace: bytes, name: str) -> list:
 
 
 def about_file(error: str, path: str) -> list:
-    """The same of a file that was judged before; nothing where it is no longer what was judged."""
+    """The same of a file that was judged before; nothing where it is no longer what was judged, or memory runs out."""
     try:
-        return about_fault(error, read_file(path), path)
-    except (Unread, ValueError, LookupError):
+        return about_fault(error, read_file(path), path) if CAUSE.search(error) else []
+    except (Unread, ValueError, LookupError, MemoryError):
         return []
 
 
