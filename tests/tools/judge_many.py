@@ -1034,7 +1034,7 @@ def pythons(tally: Tally, program: str, folder: str) -> None:
 
 
 def tasks(tally: Tally, program: str, folder: str) -> None:
-    """The scripts of clusters succeed only where each trace has its line."""
+    """The scripts of clusters succeed only where each trace has its line, whatever names its folder has."""
     subprocess.run([ROOT / "tools" / "install", f"{folder}/installed"], check=True, stdout=subprocess.DEVNULL, env=os.environ | {"DOMEPEELER": program})
     slurm = str(ROOT / "examples" / "ci" / "slurm_array.sh")
     command = re.search(r"        - \|\n((?:          .*\n)+)", (ROOT / "examples" / "ci" / "kubernetes_job.yml").read_text())[1].replace("cd /night", "cd night")
@@ -1046,6 +1046,12 @@ def tasks(tally: Tally, program: str, folder: str) -> None:
         here = {"PATH": f"{folder}/installed/bin:{os.path.dirname(sys.executable)}:/usr/bin:/bin"} | variables
         done = subprocess.run(words, cwd=place, capture_output=True, text=True, env=here)
         tally.check(f"tasks: {kind}: all are judged", done.returncode == 0 and len(Path(place, lines).read_text().splitlines()) == 7, done)
+        part = f"{place}/night/part0"
+        write(place, {"other/elsewhere.trace": "0 ins a 0 : a", "night/part0/folder.trace/in\nit.Trace": "0 ins a 0 : a"})
+        for target, name in ("deep", "again"), ("deep/er", "er"), (".", "round"), (f"{place}/other", "other"), ("lost.trace", "same.trace"):
+            os.symlink(target, f"{part}/{name}")
+        done = subprocess.run(words, cwd=place, capture_output=True, text=True, env=here)
+        tally.check(f"tasks: {kind}: each real folder is judged once", done.returncode == 0 and len(Path(place, lines).read_text().splitlines()) == 10, done)
         stranger = Path(folder, "stranger")
         stranger.mkdir(exist_ok=True)
         for what, text in (("a traceback", "import nowhere\n"), ("a tool that answers too little", "import sys\nprint('{}')\nsys.exit(1)\n"),
