@@ -1,7 +1,7 @@
 #!/bin/sh
 # An array of 100 tasks, of which each judges one of the folders night/part0 to night/part99 and leaves a file of lines in the folder
 # judged. It needs the installed tools. A task succeeds where its file has a line with a verdict for each trace, accepted or not: status 1
-# alone does not say so, since a shell and Python end with it too.
+# alone does not say so, since a shell and Python end with it too. Where a folder has two names, by a link, its traces are judged once.
 #SBATCH --array=0-99
 #SBATCH --cpus-per-task=4
 part="night/part$SLURM_ARRAY_TASK_ID" lines="judged/$SLURM_ARRAY_TASK_ID.jsonl"
@@ -9,4 +9,6 @@ mkdir -p judged && : > "$lines" || exit 2
 domepeeler-judge-many --json --jobs 4 -- "$part" > "$lines"
 status=$?
 [ "$status" -le 1 ] || exit "$status"
-[ "$(grep -c '^{.*}$' "$lines")" -eq "$(find -L "$part" -iname '*.trace' | wc -l)" ] || { echo "$lines has not a line for each trace" >&2; exit 2; }
+traces=$(find -L "$part" -type d -exec realpath -z {} + | sort -zu |
+    xargs -0 sh -c 'find -L "$@" -maxdepth 1 -iname "*.trace" ! -type d -printf .' sh | wc -c)
+[ "$(grep -c '^{.*}$' "$lines")" -eq "$traces" ] || { echo "$lines has not a line for each trace" >&2; exit 2; }

@@ -1,5 +1,6 @@
 #!/usr/bin/env python3
-"""record.py ENGINE PROGRAM [--sessions N] [--seed S] [--keep FOLDER] [--server] [--seconds N]: random sessions of an engine, judged.
+"""record.py ENGINE PROGRAM [--sessions N] [--seed S] [--keep FOLDER] [--server] [--weak] [--seconds N]: random sessions of an engine,
+judged.
 
 ENGINE is one of these; what each needs is installed from Debian 12 by apt-get where it is missing (as root), and built:
 
@@ -17,7 +18,10 @@ some were not accepted it makes the shortest of each verdict smaller, as long as
 with --keep it writes these traces into the folder, and of each kind the accepted one with most receipts as it is. By
 default it runs within a minute, with Debian's cargo, whose build of crdts is slower, in a minute and a half. It ends with
 status 0 where all sessions are accepted, 1 where some are not, and 2 where one gave no answer, or something else is wrong:
-so where a COMMAND does not answer a session with its trace, which is then made smaller and printed."""
+so where a COMMAND does not answer a session with its trace, which is then made smaller and printed.
+
+With --weak, of an engine that promises the weak list specification alone, as one with a server that orders (Jupiter), sessions pass of
+which that holds, though strong doesn't; these are counted as `weak alone`."""
 import argparse
 import os
 import random
@@ -33,7 +37,7 @@ import traceback
 from collections import Counter
 from concurrent.futures import FIRST_EXCEPTION, ThreadPoolExecutor, wait
 from pathlib import Path
-from typing import BinaryIO, Callable, NoReturn, Optional
+from typing import BinaryIO, Callable, NamedTuple, NoReturn, Optional
 
 if sys.version_info < (3, 9):
     sys.stderr.write("record.py: this needs Python 3.9 or later, and is run by %d.%d\n" % sys.version_info[:2])
@@ -46,7 +50,8 @@ HERE = Path(__file__).parent
 STOPPED = "no answer of the engine"
 LINE_FAULT = re.compile(rb"finder: line ([0-9]+): (.*)\n")
 COMMANDS = {"cargo": "cargo", "emacs-nox": "emacs", "gcc": "gcc", "nodejs": "node", "pkg-config": "pkg-config"}
-UNEQUAL = "accepted, unequal"  # of a whole session: in the end its replicas show different lists
+ACCEPTED, WEAK_ALONE = "accepted", "weak alone"  # what passes: the second where weak is enough, and holds though strong doesn't
+UNEQUAL = ", unequal"  # behind these, of a whole session: in the end its replicas show different lists
 JUDGES = 3  # how many programs run at the same time
 SECONDS = 0.2  # between two looks for a signal
 STOPS = [signal.SIGINT, signal.SIGTERM, signal.SIGHUP]
@@ -336,11 +341,18 @@ def shown(line: bytes) -> str:
     return f"`{text[:MOST_SHOWN]}{'..' if len(text) > MOST_SHOWN else ''}`{half}"
 
 
-def verdict(program: str, trace: Optional[str], plan: Plan) -> str:
-    """What the program says, in its own word, with k."""
+class Judge(NamedTuple):
+    """The program, and whether it is enough that the weak list specification holds."""
+
+    program: str
+    weak: bool
+
+
+def verdict(judge: Judge, trace: Optional[str], plan: Plan) -> str:
+    """What the program says, in its own word, with k; or that weak alone holds, where that is enough."""
     if trace is None:
         return STOPPED
-    done = judged(program, trace)
+    done = judged(judge.program, trace)
     if Stopped.by:
         return STOPPED
     fault = LINE_FAULT.fullmatch(done.stderr)
@@ -348,11 +360,14 @@ def verdict(program: str, trace: Optional[str], plan: Plan) -> str:
         line = trace.encode().splitlines(keepends=True)[int(fault[1]) - 1:int(fault[1])]
         said = f", {shown(line[0])}" if line else ""
         raise NoAnswer(NONSENSE, f"its answer is no trace: line {int(fault[1])}{said}: {fault[2].decode()}")
-    word, *rest = (done.stdout.decode(errors="replace").split("\n") + [""])[1].split(" ")
-    if done.returncode not in (0, 1) or (word == "accepted") != (done.returncode == 0):
+    report = done.stdout.decode(errors="replace").split("\n") + [""]
+    word, *rest = report[1].split(" ")
+    if done.returncode not in (0, 1) or (word == ACCEPTED) != (done.returncode == 0):
         said = done.stderr.decode(errors="replace").strip()
-        fail(f"{program} ended with status {done.returncode}, and with no verdict that agrees: {said}")
+        fail(f"{judge.program} ended with status {done.returncode}, and with no verdict that agrees: {said}")
     check_is_of(plan, trace)
+    if judge.weak and word == "refused" and "weak yes" in report:
+        return WEAK_ALONE
     return f"{word} {rest[0]}" if word == "refused" else word
 
 
@@ -391,22 +406,22 @@ def is_unequal(trace: str) -> bool:
     return len(set(last.values())) > 1
 
 
-def word_of(driver: Driver, program: str, plan: Plan) -> str:
+def word_of(driver: Driver, judge: Judge, plan: Plan) -> str:
     """What the engine's answer to a plan comes to."""
     try:
-        return verdict(program, driver.trace(plan.text()), plan)
+        return verdict(judge, driver.trace(plan.text()), plan)
     except NoAnswer as why:
         return why.cause
 
 
-def smallest(driver: Driver, program: str, session: Session, wanted: str) -> Session:
+def smallest(driver: Driver, judge: Judge, session: Session, wanted: str) -> Session:
     """A session of which no smaller one, with a part left out, comes to the same."""
     known = {Plan(session).text(): wanted}  # many smaller ones are the same plan
 
     def is_wanted(candidate: Session) -> bool:
         plan = Plan(candidate)
         if plan.text() not in known:
-            known[plan.text()] = word_of(driver, program, plan)
+            known[plan.text()] = word_of(driver, judge, plan)
         return known[plan.text()] == wanted
 
     found = session
@@ -415,22 +430,23 @@ def smallest(driver: Driver, program: str, session: Session, wanted: str) -> Ses
     return session
 
 
-def tried(kind: sessions.Kind, count: int, rnd: random.Random, driver: Driver, program: str) -> tuple:
+def tried(kind: sessions.Kind, count: int, rnd: random.Random, driver: Driver, judge: Judge) -> tuple:
     """Records so many sessions of a kind and prints what came out; answers the accepted one with most receipts and of
-    each other verdict the shortest, by verdict, and how many gave no answer."""
+    each verdict that does not pass the shortest, by verdict, and how many had which verdict."""
     found = [sessions.session(kind, rnd) for _ in range(count)]
     plans = [Plan(one) for one in found]
     traces = [of_session(plan.session, driver.trace, plan.text()) for plan in plans]
     with ThreadPoolExecutor(JUDGES) as pool:
         try:
-            waiting = [pool.submit(of_session, plan.session, verdict, program, trace, plan) for trace, plan in zip(traces, plans)]
+            waiting = [pool.submit(of_session, plan.session, verdict, judge, trace, plan) for trace, plan in zip(traces, plans)]
             while wait(waiting, SECONDS, FIRST_EXCEPTION).not_done and not any(one.done() and one.exception() for one in waiting):
                 pass  # a signal that another thread has got is heard now
             verdicts = [one.result() for one in waiting]
         except BaseException:
             pool.shutdown(wait=False, cancel_futures=True)
             raise
-    verdicts = [UNEQUAL if word == "accepted" and kind.causal and is_unequal(trace) else word for word, trace in zip(verdicts, traces)]
+    passing = ACCEPTED, WEAK_ALONE
+    verdicts = [word + UNEQUAL * (word in passing and kind.causal and is_unequal(trace)) for word, trace in zip(verdicts, traces)]
     sizes = [len(operations(trace)) for trace in traces if trace]
     said = ", ".join(f"{word}: {times}" for word, times in sorted(Counter(verdicts).items()))
     between = f"{min(sizes)} to {max(sizes)} operations" if sizes else "no recording"
@@ -440,10 +456,10 @@ def tried(kind: sessions.Kind, count: int, rnd: random.Random, driver: Driver, p
         print(f"the engine's last words: {printable(words)}", flush=True)
     firsts = {}
     for one, word in sorted(zip(found, verdicts), key=lambda both: len(both[0].steps)):
-        if word not in ("accepted", STOPPED):
+        if word not in (*passing, STOPPED):
             firsts.setdefault(word, one)
-    accepted = [(trace.count(" recv "), place) for place, trace in enumerate(traces) if verdicts[place] == "accepted"]
-    return {**firsts, **({"accepted": found[max(accepted)[1]]} if accepted else {})}, verdicts.count(STOPPED)
+    accepted = [(trace.count(" recv "), place) for place, trace in enumerate(traces) if verdicts[place] == ACCEPTED]
+    return {**firsts, **({ACCEPTED: found[max(accepted)[1]]} if accepted else {})}, Counter(verdicts)
 
 
 def of_session(session: Session, call: Callable, *given: object) -> str:
@@ -482,6 +498,8 @@ def main() -> None:
     parser.add_argument("--seed", type=int, default=1)
     parser.add_argument("--keep", type=Path, help="a folder for the smallest traces that were not accepted")
     parser.add_argument("--server", action="store_true", help="only sessions where all exchange goes through a server, the last replica")
+    parser.add_argument("--weak", action="store_true", help="the engine promises the weak list specification alone, as one with a server "
+                        "that orders (Jupiter): let sessions pass where that holds, though strong doesn't; these are counted by themselves")
     parser.add_argument("--seconds", type=number, help="after how many without an answer an engine is stopped")
     words = parser.parse_args()
     if sys.stdout is None:
@@ -504,25 +522,27 @@ def main() -> None:
         fail("no session gave an answer, so nothing was judged")
     if unanswered:
         fail(f"sessions that gave no answer, so were not judged: {unanswered}")
-    sys.exit(1 if seen != {"accepted"} else 0)
+    sys.exit(0 if seen <= {ACCEPTED, WEAK_ALONE} else 1)
 
 
 def try_kind(words: argparse.Namespace, kind: sessions.Kind, driver: Driver) -> tuple:
     """Records sessions of a kind, and shows the smallest of each verdict; answers which verdicts there were, and how many sessions gave no
     answer."""
     count = max(1, (words.sessions or driver.engine.count) // kind.share)
-    firsts, lost = tried(kind, count, random.Random(f"{words.seed} {kind.name}"), driver, words.program)
+    judge = Judge(words.program, words.weak)
+    firsts, counts = tried(kind, count, random.Random(f"{words.seed} {kind.name}"), driver, judge)
     for word, one in firsts.items():
-        kept = one if word in ("accepted", UNEQUAL) else smallest(driver, words.program, one, word)
+        kept = one if word == ACCEPTED or word.endswith(UNEQUAL) else smallest(driver, judge, one, word)
         show(words, kind, word, of_session(kept, driver.trace, Plan(kept).text()) or "")
-    return set(firsts), lost
+    return set(counts) - {STOPPED}, counts[STOPPED]
 
 
 def show(words: argparse.Namespace, kind: sessions.Kind, verdict_word: str, trace: str) -> None:
     """Prints a trace that was made smaller, and keeps each where that was asked for."""
-    if verdict_word == UNEQUAL:
+    is_unequal_in_the_end = verdict_word.endswith(UNEQUAL)
+    if is_unequal_in_the_end:
         print("all was exchanged, and the replicas end with different lists: messages were not applied, nor receipts written", flush=True)
-    if verdict_word != "accepted" and (verdict_word != UNEQUAL or kind.share == 1):  # which is not made smaller
+    if verdict_word != ACCEPTED and (not is_unequal_in_the_end or kind.share == 1):  # which is not made smaller
         print(f"the smallest found of {kind.name}, {verdict_word}:\n{trace}", flush=True)
     keep(words, f"{kind.name} {verdict_word}", "trace", trace)
 
@@ -548,13 +568,14 @@ def tell(words: argparse.Namespace, driver: Driver, why: NoAnswer) -> NoReturn:
     """Prints a session that the engine does not answer, made smaller where that takes no waiting, and ends the program."""
     said = driver.last_words()
     is_slow = why.cause in (LATE, LONG)
-    session = why.session if is_slow else smallest(driver, words.program, why.session, why.cause)
+    judge = Judge(words.program, words.weak)
+    session = why.session if is_slow else smallest(driver, judge, why.session, why.cause)
     plan = Plan(session)
     print(f"the plan that it does not answer:\n{plan.text()}", flush=True)
     keep(words, why.cause, "plan", plan.text())
     try:
         if not is_slow:
-            verdict(words.program, driver.trace(plan.text()), plan)
+            verdict(judge, driver.trace(plan.text()), plan)
     except NoAnswer as again:
         why, said = again, driver.last_words()
     fail(f"{words.engine}: {why}" + (f"; its last words: {said}" if said else ""))

@@ -1,12 +1,13 @@
-"""Runs the program on a text that is made on the fly, and measures its time and its memory."""
+"""Runs the program on a text that is made on the fly, and measures its time and its memory; and a tool with all that it starts."""
 import os
 import subprocess
+import sys
 import threading
 import time
 from pathlib import Path
 from typing import Iterable, NamedTuple
 
-from shared.program import Ended
+from shared.program import SECONDS, Ended
 
 # A run that has more bytes than this is stopped.
 MOST_MEMORY = 4_000_000_000
@@ -19,6 +20,36 @@ class Measured(NamedTuple):
     seconds: float
     memory: int
     given: int
+
+
+class Used(NamedTuple):
+    """A run of a tool: how it ended, the seconds of processor that it and all that it started took, and the megabytes that the greatest
+    of these processes had."""
+
+    ended: Ended
+    seconds: float
+    megabytes: float
+
+
+# The process that starts a tool, and is told what it used. Of one that the script itself started, the system would count the script's own
+# memory too, which it shares at first.
+STARTER = """
+import os, resource, subprocess, sys
+status = subprocess.run(sys.argv[2:]).returncode
+told = resource.getrusage(resource.RUSAGE_CHILDREN)
+os.write(int(sys.argv[1]), f"{status} {told.ru_utime + told.ru_stime} {told.ru_maxrss / 1000}".encode())
+"""
+
+
+def used(words: list) -> Used:
+    reader, writer = os.pipe()
+    try:
+        done = subprocess.run([sys.executable, "-c", STARTER, str(writer), *words], capture_output=True, pass_fds=[writer], timeout=SECONDS)
+        status, seconds, megabytes = os.read(reader, 100).split()
+    finally:
+        os.close(reader)
+        os.close(writer)
+    return Used(Ended(int(status), done.stdout, done.stderr), float(seconds), float(megabytes))
 
 
 def memory_of(process: subprocess.Popen) -> int:

@@ -289,6 +289,16 @@ FAMILIES = {
 }
 
 
+def two_rings(n: int) -> str:
+    """A trace whose least cycle has 2 n + 1 elements: replica 3 sees two at a time."""
+    lines = ["trace 2", "replicas 4", "2 ins g 0 : g", "3 recv 2 1"]
+    for i in range(1, n + 1):
+        lines += [f"0 ins e{i} 0 : e{i}", f"3 recv 0 {2 * i - 1}", f"3 view : {f'f{i - 1}' if i > 1 else 'g'} e{i}"]
+        lines += [f"1 del f{i - 1} :"] * (i > 1)
+        lines += [f"1 ins f{i} 0 : f{i}", f"3 recv 1 {2 * i - 1}", f"3 view : e{i} f{i}", f"0 del e{i} :"]
+    return "".join(f"{line}\n" for line in [*lines, f"3 view : f{n} g"])
+
+
 def trace(family: str, size: str, seed: int = 1) -> bytes:
     """The text of a legal recording."""
     session = FAMILIES[family].play(SIZES[size], random.Random(f"{family} {size} {seed}"))

@@ -1,6 +1,7 @@
 #!/usr/bin/env python3
 """engines.py PROGRAM: engines in any language that `recorders/engines/record.py` asks for sessions, by docs/engines.md: the examples in C
-and Rust, bugs planted in them, and engines that do not answer; and ProseMirror and Yjs, as Debian packs them.
+and Rust, bugs planted in them, and engines that do not answer; Jupiter, where weak is enough; and ProseMirror and Yjs, as Debian packs
+them.
 
 What is expected was written by hand from docs/engines.md."""
 import os
@@ -100,6 +101,24 @@ for line in sys.stdin:
             print(words[0], "ins", words[2], len(names) - 1, ":", *names)
         else:
             print(words[0], "read :", *names)
+"""
+
+# An engine that answers any plan with a cycle of three, of which weak alone holds, and then reads on; its replicas end with different lists.
+CYCLE = """
+import sys
+
+CYCLE = "0 ins x 0 : x|1 recv 0 1|2 recv 0 1|1 ins a 0 : a x|2 ins b 1 : x b|0 del x :|0 recv 1 1|0 recv 2 1|0 read : b a"
+for line in sys.stdin:
+    words = line.split()
+    if words[0] == "plan":
+        counts = [0] * int(words[1])
+    elif words[0] != "end":
+        counts[int(words[0])] += words[1] != "take"
+    else:
+        print("trace 1", f"replicas {len(counts)}", *CYCLE.split("|"), sep="\\n")
+        for replica, count in enumerate(counts):
+            print(f"{replica} read :{[' b a', ' a x', ' x b', '', '', ''][replica]}\\n" * count, end="")
+        print("end", flush=True)
 """
 
 # ProseMirror's recordings in the gallery: the plan of each, and lines that its explanation has one after the other.
@@ -214,6 +233,39 @@ def servers(tally: Tally, program: str, folder: str) -> None:
                 and "\nall was exchanged, and the replicas end with different lists: " in done.stdout, done.stdout[:2000])
 
 
+def weak(tally: Tally, program: str, folder: str) -> None:
+    """Of an engine that promises weak alone, sessions pass of which that holds, and are counted by themselves; what fails is made small as ever,
+    and so is what ends unequal."""
+    need("node", "nodejs")
+    engine = f"node {ROOT / 'tests' / 'tools' / 'jupiter' / 'engine.mjs'}"
+    asked = ["--server", "--sessions", "20"]
+    strong, passed = (record(f"{engine} none", program, *asked, *goal) for goal in ([], ["--weak"]))
+    tally.check("weak: not asked for", strong.returncode == 1 and "refused 3: " in strong.stdout and "the smallest found of " in strong.stdout
+                and "weak alone" not in strong.stdout, strong)
+    tally.check("weak: all pass", passed.returncode == 0 and not passed.stderr and passed.stdout.count("\n") == len(SERVER_KINDS), passed)
+    for kind, said in counted(strong.stdout).items():
+        words = [one.split(": ") for one in said.split(", ")]
+        refused = sum(int(count) for word, count in words if word.startswith("refused "))
+        wanted = ", ".join([f"accepted: {count}" for word, count in words if word == "accepted"] + [f"weak alone: {refused}"] * (refused > 0))
+        tally.check(f"weak: {kind}, by themselves", counted(passed.stdout).get(kind) == wanted and "refused 2" not in said, (said, passed.stdout))
+    kept = Path(folder, "kept weak")
+    done = record(f"{engine} tie", program, *asked, "--weak", "--keep", str(kept))
+    said = counted(done.stdout)
+    tally.check("weak: a bug is found", done.returncode == 1 and list(said) == SERVER_KINDS and "refused 2: " in said[SERVER_KINDS[0]]
+                and not re.search("refused (?!2)", done.stdout), done)
+    small = [path for path in kept.glob("*.trace") if not path.stem.endswith("_accepted")]
+    verdicts = [explain(program, "--weak", path).split(" ")[:2] for path in small]
+    tally.check("weak: and made small, as it fails so too", len(small) == done.stdout.count("the smallest found of ") > 0 and all(
+        first == "contents" or [first, second] == ["refused", "2:"] for first, second in verdicts), verdicts)
+    cycle = Path(folder, "cycle.py")
+    cycle.write_text(CYCLE)
+    done = record(f"{sys.executable} {cycle}", program, "--server", "--sessions", "5", "--weak")
+    said = counted(done.stdout)
+    tally.check("weak: unequal is no pass", done.returncode == 1 and list(said) == SERVER_KINDS
+                and all(re.fullmatch(r"weak alone, unequal: \d+", one) for one in said.values())
+                and "\nall was exchanged, and the replicas end with different lists: " in done.stdout, done)
+
+
 def run_wrong(wrong: Wrong, program: str, folder: Path) -> subprocess.CompletedProcess:
     folder.mkdir()
     engine = folder / "my engine"
@@ -317,6 +369,7 @@ def main() -> None:
         examples(tally, program, folder)
         of_the_page(tally, folder)
         servers(tally, program, folder)
+        weak(tally, program, folder)
         errors(tally, program, folder)
     tally.close()
 

@@ -24,9 +24,10 @@ from pathlib import Path
 ROOT = Path(__file__).resolve().parents[2]
 sys.path.insert(0, str(ROOT / "tests"))
 from reference.traces import has_view, written  # noqa: E402
+from shared.measured import used  # noqa: E402
 from shared.program import NODE, Ended, Tally, is_running, need_module, program_of, run  # noqa: E402
 from shared.sessions import session, with_fault  # noqa: E402
-from shared.traces import trace as long_trace  # noqa: E402
+from shared.traces import trace as long_trace, two_rings  # noqa: E402
 
 sys.path[:0] = [str(ROOT / "tools"), str(ROOT / "recorders"), str(ROOT / "examples" / "planted")]
 import domepeeler as recorder
@@ -210,6 +211,17 @@ WORDS = [
      "answered: [a]|it should hold, in any order: (nothing)|Extra|"
      "[a] inserted by 0.1 (line 3), arrived at replica 1 in line 5 (1 recv 0 2)|"
      "[a] deleted by 0.2 (line 4), arrived at replica 1 in line 5 (1 recv 0 2)"),
+    ("a deleted element shown, beside one that was there", 2, "0 ins a 0 : a|0 ins b 1 : a b|1 recv 0 2|1 read : a b|0 del b : a|1 recv 0 3|1 read : a b",
+     "contents 1.2: this response has one element that should not be there.|answered: a [b]|it should hold, in any order: a|Extra|"
+     "[b] inserted by 0.2 (line 4), arrived at replica 1 in line 5 (1 recv 0 2)|"
+     "[b] was put behind a, which was not deleted there when it arrived (line 5)|"
+     "[b] deleted by 0.3 (line 7), arrived at replica 1 in line 8 (1 recv 0 3)"),
+    ("a deleted element shown, beside one that was deleted", 2, "0 ins a 0 : a|1 recv 0 1|1 read : a|0 ins b 1 : a b|1 del a :|1 recv 0 2|1 read : b|"
+     "0 del b : a|1 recv 0 3|1 read : b",
+     "contents 1.4: this response has one element that should not be there.|answered: [b]|it should hold, in any order: (nothing)|Extra|"
+     "[b] inserted by 0.2 (line 6), arrived at replica 1 in line 8 (1 recv 0 2)|"
+     "[b] was put behind a. When it arrived at replica 1 in line 8, a was deleted there by 1.2 (line 7)|"
+     "[b] deleted by 0.3 (line 10), arrived at replica 1 in line 11 (1 recv 0 3)"),
     ("an element shown that never arrived", 2, "0 ins a 0 : a|1 read : a",
      "Extra|[a] inserted by 0.1 (line 3), and replica 1 has no receipt of it"),
     ("an element shown before it is inserted", 1, "0 read : a|0 ins a 0 : a",
@@ -451,6 +463,20 @@ FAULTS = [
     (b"trace 1\nreplicas 1\n" + b"0 read :\n" * 16385, "line 16387: entries full",
      "a replica has at most 16,384 entries, receipts counted: record shorter sessions, or fewer reads"),
 ]
+
+# Entries of millions of names, each with what stands behind these, and what is said of it.
+MILLIONS = [
+    ("0 read :", " b@", "the line is too long to be looked at whole: nothing is wrong with the words in its first 1,000,000 bytes, and of the whole "
+     "line the program says `shape`"),
+    ("0 reads :", "", "`reads`, the second word, is not `ins`, `del`, `read`, `view` or `recv`"),
+    ("0 ins a@ 0 :", "", "`a@`, after `ins`, is not a name (1 to 32 letters, digits, `_`, `-` or `.`)"),
+    ("0 view :", " b@", "a trace of version 1 has no views: line 1 is `trace 2` where there are some"),
+    ("0 read : " + "a " * 499_000 + "b@ b", "", "`b@`, in the response, is not a name (1 to 32 letters, digits, `_`, `-` or `.`)"),
+    ("0 read : " + "a " * 499_000 + " b", "", "there is a blank too many: two together, or one at an end of the line"),
+    ("0 read : " + "a " * 499_000 + "\t", "", "byte 998010 of the line is \\x09, which no word may have: words are of ASCII"),
+]
+NAMES = 4_000_000
+MOST_SECONDS, MOST_MEGABYTES = 2, 60  # of processor and of memory, for any of these
 
 CRLF = "the line ends with CR LF, where a trace has LF alone"
 MARK = "the file begins with a byte order mark, and a trace has none"
@@ -895,6 +921,20 @@ def faults(tally: Tally, program: str, folder: str) -> None:
                Ended(2, b"", b"domepeeler-explain: /bin/false printed no report that agrees with its status: is it domepeeler? It ended with status 1\n"))
     got = explain(program, ["--html", f"{folder}/no/such", good])
     tally.check("a page that can't be written", got.status == 2 and b"cannot write" in got.err and b"Traceback" not in got.err, got)
+
+
+def millions_of_names(tally: Tally, program: str, folder: str) -> None:
+    """A faulty line as long as can be is told of soon and in little memory, exactly where the fault stands in a long front of it."""
+    path = Path(folder, "millions.trace")
+    for begin, end, said in MILLIONS:
+        path.write_text(f"trace 1\nreplicas 1\n{begin}{' a' * NAMES}{end}\n")
+        got, seconds, megabytes = used([EXPLAIN, "--program", program, str(path)])
+        own, shown, what, *_ = got.err.decode().splitlines()
+        front, size = f"{begin} a a", len(begin) + 2 * NAMES + len(end)
+        tally.check(f"millions of names: {said}", got.status == 2 and not got.out and own == "finder: line 3: shape" and what == f"  {said}"
+                    and shown.startswith(f"  line 3 is: {front[:40]}") and shown.endswith(f".. ({size} bytes)"), (own, shown[-100:], what))
+        tally.check(f"millions of names: {said}, in little time and memory", seconds < MOST_SECONDS and megabytes < MOST_MEGABYTES,
+                    (seconds, megabytes))
 
 
 def warned(got: Ended) -> list:
@@ -1430,6 +1470,27 @@ def by_class(tree: ElementTree.Element, tag: str, name: str) -> list:
     return [node for node in tree.iter() if node.tag.endswith(tag) and name in node.get("class", "").split()]
 
 
+def circles(tree: ElementTree.Element) -> dict:
+    """By the row of an operation, of what kinds its circle in the picture of the session is; the picture's first row is the head."""
+    found = {}
+    for session in by_class(tree, "div", "session"):
+        height = int(re.search(r"--row: (\d+)px", session.get("style"))[1])
+        kinds = {float(circle.get("cy")): circle.get("class").split() for circle in by_class(session, "circle", "node")}
+        rows = [node.get("id") for node in session.iter("li")]
+        found |= {row: kinds.get((place + 1.5) * height) for place, row in enumerate(rows) if row}
+    return {row: set(classes) - {"node"} for row, classes in found.items() if classes}
+
+
+def lines_of(trace: str, names: set) -> set:
+    """The lines of a trace in which these operations stand."""
+    counts, found = Counter(), set()
+    for number, line in enumerate(trace.splitlines()[2:], 3):
+        replica, kind, *_ = line.split(" ", 2)
+        counts[replica] += kind != "recv"
+        found |= {number} if kind != "recv" and f"{replica}.{counts[replica]}" in names else set()
+    return found
+
+
 def told(node: ElementTree.Element) -> str:
     return " ".join("".join(node.itertext()).split())
 
@@ -1456,6 +1517,12 @@ def pages(tally: Tally, program: str, folder: str) -> None:
         named = {step["shown"] for step in steps} | {report[key] for key in ("at", "first", "again") if key in report}
         shown = {node.get("id") for node in by_class(tree, "li", "verdict") if node.get("id").startswith("line-")}
         tally.check(f"page of {example.name}: its responses marked", len(shown) == len(named), named)
+        red = {row for row, kinds in circles(tree).items() if "verdict" in kinds and row.startswith("line-")}
+        tally.check(f"page of {example.name}: their circles marked", red == {f"line-{line}" for line in lines_of(trace, named)}, red)
+        operations = [node.get("id") for node in by_class(tree, "li", "operation")]
+        tally.check(f"page of {example.name}: a circle for each operation", sorted(circles(tree)) == sorted(operations), circles(tree))
+        if report["verdict"] == "accepted":
+            tally.check(f"page of {example.name}: no circle marked", not any(circles(tree).values()), circles(tree))
         tally.check(f"page of {example.name}: its cycle", len(by_class(tree, "path", "step")) == len(steps), len(steps))
 
 
@@ -1465,9 +1532,13 @@ def pages(tally: Tally, program: str, folder: str) -> None:
         red = {node.get("id") for node in by_class(tree, "li", "verdict")}
         first = {"a wrong response before the one that the program names": {"line-4"}, "a beginning that shows something else": {"line-6", "line-7", "line-11"}}
         tally.check(f"page of {name}: what the words begin with is red", red == first[name], red)
+        kinds = circles(tree)
+        tally.check(f"page of {name}: its circles are red", {row for row, found in kinds.items() if "verdict" in found} == first[name], kinds)
         later = {node.get("id") for node in by_class(tree, "li", "matters")}
         named = {f"line-{line}" for line in re.findall(r"\bline (\d+), ", wanted.partition("hat the whole trace")[2] or wanted.partition("program names of")[2])}
         tally.check(f"page of {name}: what the whole trace names is marked", named and named <= later | red, (named, later))
+        ways = {row for row, found in kinds.items() if found == {"matters"}}
+        tally.check(f"page of {name}: its other circles", ways == (later - red) & set(kinds) and named <= ways | red, (ways, later))
     got = explain(program, ["--html", f"{folder}/page.html", "-"], text_of(2, "0 ins a 0 : a|1 recv 0 1|0 ins b 1 : a b|1 read : a").encode())
     tree = ElementTree.fromstring(Path(folder, "page.html").read_text())
     first = next(node for node in tree.iter("h2"))
@@ -1528,16 +1599,6 @@ def long_sessions(tally: Tally, program: str, folder: str) -> None:
     tally.check("longer: not folded but left out", not list(tree.iter("details")))
 
 
-def two_rings(n: int) -> str:
-    """A trace whose least cycle has 2 n + 1 elements: replica 3 sees two at a time."""
-    lines = ["2 ins g 0 : g", "3 recv 2 1"]
-    for i in range(1, n + 1):
-        lines += [f"0 ins e{i} 0 : e{i}", f"3 recv 0 {2 * i - 1}", f"3 view : {f'f{i - 1}' if i > 1 else 'g'} e{i}"]
-        lines += [f"1 del f{i - 1} :"] * (i > 1)
-        lines += [f"1 ins f{i} 0 : f{i}", f"3 recv 1 {2 * i - 1}", f"3 view : e{i} f{i}", f"0 del e{i} :"]
-    return text_of(4, "|".join([*lines, f"3 view : f{n} g"]))
-
-
 def long_cycles(tally: Tally, program: str, folder: str) -> None:
     """A cycle of over twenty steps is told by its first ten and last five, on the page and in the picture too, in time that grows with the
     trace."""
@@ -1556,6 +1617,8 @@ def long_cycles(tally: Tally, program: str, folder: str) -> None:
                     and drawn.count('class="element between"') == 1 and f"A cycle of {k}: " in drawn, drawn)
         tally.check(f"long cycle of {k}: no longer than that, and soon", len(said) < 12_000 and Path(folder, "page.html").stat().st_size < 1_000_000
                     and seconds < 10, (len(said), seconds))
+    got, seconds, _ = used([EXPLAIN, "--program", program, f"{folder}/500.trace"])
+    tally.check("long cycle of 1001: the words soon", got.status == 1 and got.out.startswith(b"refused 1001: ") and seconds < 2, (got.out[:80], seconds))
 
 
 def svg(tally: Tally, program: str, folder: str) -> None:
@@ -1750,6 +1813,7 @@ def main() -> None:
         planted_bugs(tally, program, folder)
     with tempfile.TemporaryDirectory() as folder:
         faults(tally, program, folder)
+        millions_of_names(tally, program, folder)
         warnings(tally, program, folder)
         places(tally, program, folder)
         saved(tally, program, folder)

@@ -22,8 +22,10 @@ from pathlib import Path
 ROOT = Path(__file__).resolve().parents[2]
 sys.path.insert(0, str(ROOT / "tests"))
 from reference import verdicts  # noqa: E402
+from shared.measured import used  # noqa: E402
 from shared.program import Ended, Tally, is_running, need, program_of, run  # noqa: E402
 from shared.sessions import session  # noqa: E402
+from shared.traces import two_rings  # noqa: E402
 
 sys.path[:0] = [str(ROOT / "recorders" / "engines"), str(ROOT / "tools")]
 import sessions as exchanged  # noqa: E402
@@ -236,6 +238,36 @@ def in_ci(project: str, path: str, step: str, variables: dict) -> subprocess.Com
     """A step of a job, where nothing is set but what CI sets, and no program is found but what was installed."""
     return subprocess.run(["sh", "-c", step], cwd=project, env={"PATH": path, "LC_ALL": "C.UTF-8"} | variables,
                           stdin=subprocess.DEVNULL, capture_output=True, text=True)
+
+
+# Of a name that writes lines and colours, how it is shown, and how GitHub's form has that.
+ODD = {"x\n::error::forged.trace": ("x\\n::error::forged.trace", "x\\n%3A%3Aerror%3A%3Aforged.trace"),
+       "y\x1b[31m.trace": ("y\\x1b[31m.trace", "y\\x1b[31m.trace")}
+
+
+def odd_names_in_ci(tally: Tally, folder: str, path: str, script: str) -> None:
+    """In a log of CI no name writes a line of its own, or colours: not of a trace, of those like it, of the folder or of what is in it."""
+    place = tempfile.mkdtemp(dir=folder)
+    write(place, {f"recordings/{name}": "0 ins a 0 : a|0 read :" for name in ODD} | {f"good\n::error::\x1b[31m/{name}": "0 ins a 0 : a" for name in ODD})
+    for name in ODD:
+        Path(place, "recordings", f"{name}.lines").write_text("4\n4 t.py:7\n")
+    done = in_ci(place, path, f"{script} recordings", {"GITHUB_ACTIONS": "true", "CI_JOB_URL": "https://gitlab.example/jobs/7"})
+    lines, (first, second) = done.stdout.splitlines(), ODD.values()
+    begins = [f"::error file=recordings/{name},title=recordings/{name}%3A contents::contents 0.2: " for _, name in ODD.values()]
+    tally.check("CI: odd names: annotations of GitHub", done.returncode == 1 and [line[:len(begin)] for line, begin in zip(lines, begins)] == begins
+                and not any(line.startswith("::") for line in lines[2:]) and "\x1b" not in done.stdout + done.stderr, done)
+    tally.check("CI: odd names: the log", lines[2].startswith(f"recordings/{first[0]}: contents 0.2: ")
+                and f"  and 1 more that looks alike: recordings/{second[0]}" in lines, done.stdout)
+    told = json.loads(Path(place, "judged/annotations.json").read_text())["recordings that are not accepted"]
+    tally.check("CI: odd names: links of GitLab", [link["external_link"]["label"] for link in told] == [
+        f"recordings/{name}: contents" for name, _ in ODD.values()], told)
+    done = in_ci(place, path, f"{script} good*", {})
+    tally.check("CI: odd names: the folder", (done.returncode, done.stdout, done.stderr) == (
+        0, "all recordings below good\\n::error::\\x1b[31m are accepted\n", ""), done)
+    Path(place, "judged", "z\n::error::\x1b[31m").write_text("mine\n")
+    done = in_ci(place, path, f"{script} recordings", {})
+    tally.check("CI: odd names: a file that is not its own", (done.returncode, done.stdout, done.stderr) == (
+        2, "", "judge_recordings: the folder judged holds what this script did not write (z\\n::error::\\x1b[31m): move it away\n"), done)
 
 
 def jobs_of_ci(tally: Tally, program: str, folder: str) -> None:
@@ -679,6 +711,21 @@ def little_memory(tally: Tally, program: str, folder: str) -> None:
             is_told = "accepted" in got.stdout if got.returncode == 0 else got.stderr.startswith(f"{name_of(tool)}: ")
             is_told = is_told and got.returncode in (0, 2, 3)
             tally.check(f"little memory: {name_of(tool)} in {kilobytes} KB", is_told and (kilobytes < 1_000_000 or not got.returncode), got)
+    write(folder, {"b.trace": "0 ins a 0 : a|0 read :"})
+    with open(f"{folder}/along.trace", "wb") as file:
+        file.truncate(152_000_000)
+    own = run(program, ["verdict", f"{folder}/along.trace"]).err.decode().rstrip("\n")
+    for kilobytes, ended, error in (160_000, ("failed", 3), "out of memory"), (1_000_000, ("unread", 2), own):
+        got = subprocess.run(["sh", "-c", f'ulimit -v {kilobytes}; exec "$@"', "sh", TOOL, "--program", program, "--jobs", "1", "--json", "--junit",
+                              f"{folder}/judged.xml", folder], capture_output=True, text=True)
+        rows = {Path(row["file"]).stem: (row["verdict"], row["status"], row.get("error")) for row in map(json.loads, got.stdout.splitlines())}
+        tally.check(f"little memory: for one of three, in {kilobytes} KB", got.returncode == 2 and rows == {
+            "a": ("accepted", 0, None), "along": (*ended, error), "b": ("contents", 1, None)} and got.stderr.startswith(
+                f"domepeeler-judge-many: {folder}/along.trace: {error}\n"), got)
+        cases = xml.parse(f"{folder}/judged.xml").getroot().iter("testcase") if Path(folder, "judged.xml").exists() else []
+        told = {case.get("name"): [fault.text.split(": this ")[0].split("\n")[0] for fault in case] for case in cases}
+        tally.check(f"little memory: JUnit, for one of three, in {kilobytes} KB", told == {
+            "a.trace": [], "along.trace": [error], "b.trace": ["contents 0.2"]}, told)
 
 
 def which_traces(tally: Tally, program: str, folder: str, other: str) -> None:
@@ -699,6 +746,25 @@ def which_traces(tally: Tally, program: str, folder: str, other: str) -> None:
 
 
 AS_USERS = ["setpriv", "--bounding-set", "-dac_override,-dac_read_search"] if os.geteuid() == 0 else []  # who may not read everything
+
+
+def millions_of_names(tally: Tally, program: str, folder: str) -> None:
+    """Faulty lines as long as can be are told of soon and in little memory, on the screen and in JUnit's file."""
+    long = " a" * 4_000_000
+    told = {"last": (f"0 read :{long} b@", "the line is too long to be looked at whole: nothing is wrong with the words in its first 1,000,000 bytes, "
+                     "and of the whole line the program says `shape`"),
+            "second": (f"0 reads :{long}", "`reads`, the second word, is not `ins`, `del`, `read`, `view` or `recv`")}
+    write(folder, {f"{name}.trace": line for name, (line, _) in told.items()})
+    for jobs in "1", "2":
+        got, seconds, megabytes = used([TOOL, "--program", program, "--jobs", jobs, "--junit", f"{folder}/judged.xml", folder])
+        lines = got.err.decode().splitlines()
+        tally.check(f"millions of names: {jobs} at a time", got.status == 2 and lines[::3] == [
+            f"domepeeler-judge-many: {folder}/{name}.trace: finder: line 3: shape" for name in told] and lines[2::3] == [
+                f"  {said}" for _, said in told.values()], [line[:200] for line in lines])
+        faults = [case[0].text.splitlines() for case in xml.parse(f"{folder}/judged.xml").getroot().iter("testcase")]
+        tally.check(f"millions of names: JUnit, {jobs} at a time", [fault[2] for fault in faults] == [f"  {said}" for _, said in told.values()],
+                    [fault[::2] for fault in faults])
+        tally.check(f"millions of names: little time and memory, {jobs} at a time", seconds < 4 and megabytes < 70, (seconds, megabytes))
 
 
 def not_looked_at(tally: Tally, program: str, folder: str) -> None:
@@ -990,7 +1056,7 @@ def pythons(tally: Tally, program: str, folder: str) -> None:
 
 
 def tasks(tally: Tally, program: str, folder: str) -> None:
-    """The scripts of clusters succeed only where each trace has its line."""
+    """The scripts of clusters succeed only where each trace has its line, whatever names its folder has."""
     subprocess.run([ROOT / "tools" / "install", f"{folder}/installed"], check=True, stdout=subprocess.DEVNULL, env=os.environ | {"DOMEPEELER": program})
     slurm = str(ROOT / "examples" / "ci" / "slurm_array.sh")
     command = re.search(r"        - \|\n((?:          .*\n)+)", (ROOT / "examples" / "ci" / "kubernetes_job.yml").read_text())[1].replace("cd /night", "cd night")
@@ -1002,6 +1068,12 @@ def tasks(tally: Tally, program: str, folder: str) -> None:
         here = {"PATH": f"{folder}/installed/bin:{os.path.dirname(sys.executable)}:/usr/bin:/bin"} | variables
         done = subprocess.run(words, cwd=place, capture_output=True, text=True, env=here)
         tally.check(f"tasks: {kind}: all are judged", done.returncode == 0 and len(Path(place, lines).read_text().splitlines()) == 7, done)
+        part = f"{place}/night/part0"
+        write(place, {"other/elsewhere.trace": "0 ins a 0 : a", "night/part0/folder.trace/in\nit.Trace": "0 ins a 0 : a"})
+        for target, name in ("deep", "again"), ("deep/er", "er"), (".", "round"), (f"{place}/other", "other"), ("lost.trace", "same.trace"):
+            os.symlink(target, f"{part}/{name}")
+        done = subprocess.run(words, cwd=place, capture_output=True, text=True, env=here)
+        tally.check(f"tasks: {kind}: each real folder is judged once", done.returncode == 0 and len(Path(place, lines).read_text().splitlines()) == 10, done)
         stranger = Path(folder, "stranger")
         stranger.mkdir(exist_ok=True)
         for what, text in (("a traceback", "import nowhere\n"), ("a tool that answers too little", "import sys\nprint('{}')\nsys.exit(1)\n"),
@@ -1047,6 +1119,7 @@ def script_of_ci(tally: Tally, program: str, folder: str) -> None:
     done = in_ci(str(place), path, f"{script} judged", {})
     tally.check("script of CI: its own folder", done.returncode == 2 and "is where the pages go" in done.stderr, done)
     script_ended(tally, str(place), path, script, folder)
+    odd_names_in_ci(tally, folder, path, script)
     write(str(place), {"apart/a.trace": "0 ins a 0 : a|1 ins b 0 : b"})
     done = in_ci(str(place), path, f"{script} apart --unequal", {"GITHUB_ACTIONS": "true"})
     tally.check("script of CI: unequal, where that fails", done.returncode == 1 and done.stdout.startswith(
@@ -1221,6 +1294,26 @@ def big_traces(tally: Tally, program: str, folder: str) -> None:
                 and min(sizes) > 1 << 20, (rows and rows[0].get("fails_at"), sizes))
 
 
+def long_cycles(tally: Tally, program: str, folder: str) -> None:
+    """A cycle of over a thousand steps is a row, and a failure of JUnit's with the same words as `explain` has, of a length that does not
+    grow with it, in time that grows with the trace."""
+    taken = []
+    for n in 500, 1000, 2000:
+        trace, k = Path(folder, f"{n}.trace"), 2 * n + 1
+        trace.write_text(two_rings(n))
+        got, seconds, megabytes = used([TOOL, "--program", program, "--json", "--junit", f"{folder}/judged.xml", str(trace)])
+        row, lines = json.loads(got.out), trace.read_text().count("\n")
+        tally.check(f"long cycle of {k}: its row", got.status == 1 and not got.err and (row["verdict"], row["k"], row["fails_at"], row["lines"]) == (
+            "refused", k, lines, lines), got.err)
+        failure = xml.parse(f"{folder}/judged.xml").getroot().find("testsuite/testcase/failure")
+        said = run(str(ROOT / "tools" / "explain"), ["--program", program, str(trace)]).out.decode()
+        tally.check(f"long cycle of {k}: JUnit", failure.text == said and said.startswith(f"refused {k}: ") and len(said) < 12_000
+                    and failure.get("message").startswith(f"refused {k}: ") and len(failure.get("message")) < 500, failure.attrib)
+        taken.append(seconds)
+        tally.check(f"long cycle of {k}: little memory", megabytes < 100, megabytes)
+    tally.check("long cycles: time grows with the trace", taken[2] < 6 * taken[0] and taken[0] < 4, taken)
+
+
 def main() -> None:
     program = program_of(sys.argv)
     need("parallel", "parallel")
@@ -1247,7 +1340,7 @@ def main() -> None:
         warnings(tally, program, folder)
         warnings_of_sessions(tally, program, other)
     for check in (pythons, little_memory, not_looked_at, changing, weak, weak_junit, weak_in_ci, known_as_cut, grouped, no_files, overwriting,
-                  odd_names, names_like_commands, tasks, script_of_ci, big_traces):
+                  millions_of_names, odd_names, names_like_commands, tasks, script_of_ci, big_traces, long_cycles):
         with tempfile.TemporaryDirectory() as folder:
             check(tally, program, folder)
     with tempfile.TemporaryDirectory() as folder, tempfile.TemporaryDirectory() as other, tempfile.TemporaryDirectory() as third:

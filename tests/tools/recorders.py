@@ -1707,6 +1707,13 @@ def check_merge_hostile(tally: Tally, folder: Path) -> None:
                        ("x\n::error::y", "x\\n::error::y is no text of a recorder, or was cut off"), ("\udcff", "cannot read \\xff: No such file or directory")):
         done = subprocess.run([sys.executable, ROOT / "recorders" / "merge.py", "0.log", log], cwd=place, capture_output=True, text=True, timeout=60)
         tally.check(f"merge.py: {log!r}", done.returncode in (1, 2) and done.stderr == f"merge.py: {words}\n" and not done.stdout, done)
+    with open(place / "larger.log", "wb") as file:
+        file.truncate((1 << 27) + 1)
+    for logs in ["larger.log"], ["0.log", "larger.log"]:  # it is not read: there is no memory for that
+        done = subprocess.run(["sh", "-c", 'ulimit -v 100000; exec "$@"', "sh", sys.executable, ROOT / "recorders" / "merge.py", *logs], cwd=place,
+                              capture_output=True, text=True, timeout=10)
+        tally.check(f"merge.py: too large, {logs}", (done.returncode, done.stdout, done.stderr) == (
+            2, "", "merge.py: cannot read larger.log: it has more than 134,217,728 bytes\n"), done)
     check_merge_stopped(tally, place)
 
 

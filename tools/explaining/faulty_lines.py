@@ -3,16 +3,24 @@ from __future__ import annotations
 
 import re
 import shlex
+from collections.abc import Iterator
+from itertools import islice
+from typing import NamedTuple
 
-from .files import Unread, read_file, shown as shown_name
+from .files import Unread, read_file
 
 CAUSE = re.compile(r"line (\d+): ([a-z ]+)(?:, have (\d+))?$")  # in the program's line on standard error
 MOST_SHOWN = 120  # bytes of a faulty line or word
+MOST_LOOKED = 1_000_000  # bytes of a faulty line: the words that begin in these are looked at
+MOST_WORDS = 5  # of an entry, as far as it differs by its kind
 FIRST_BYTES = 8000  # of a file that are looked at for bytes that no text has
 BINARY = re.compile(rb"[\x00-\x06\x0e-\x1a\x1c-\x1f]")
 PACKED = re.compile(rb"\x1f[\x8b\x9d]|BZh|\xfd7zXZ|\x28\xb5\x2f\xfd|\x04\x22\x4d\x18|PK\x03\x04")  # how compressed files begin
 UTF16 = b"\xff\xfe", b"\xfe\xff"  # the marks with which such texts begin
 MARK = b"\xef\xbb\xbf"  # that of UTF-8
+NO_WORD = re.compile(rb"[^\x20-\x7e]")  # a byte that no word may have
+NUMBER_WORD, NAME_WORD = re.compile(rb"0|[1-9][0-9]{0,9}"), re.compile(rb"[A-Za-z0-9_.-]{1,32}")
+NO_NAME = re.compile(rb" (?![A-Za-z0-9_.-]{1,32}(?: |\Z))")  # the blank before a word that is no name
 GREATEST = 4294967295
 NUMBER = "a number (digits without leading zeros, at most 4294967295)"
 NAME = "a name (1 to 32 letters, digits, `_`, `-` or `.`)"
@@ -31,6 +39,43 @@ LIMITS = {
 KINDS = {"ins": 4, "del": 3, "read": 2, "view": 2}  # how many words stand before the colon
 
 
+class Part(NamedTuple):
+    """A part of a text, from one place up to another. It is not copied, since a line may have millions of words."""
+
+    text: bytes
+    begin: int
+    end: int
+
+    def bytes(self) -> bytes:
+        return self.text[self.begin:self.end]
+
+    def words(self) -> Iterator[Part]:
+        """What stands between its blanks."""
+        begin = self.begin
+        while (end := self.text.find(b" ", begin, self.end)) >= 0:
+            yield Part(self.text, begin, end)
+            begin = end + 1
+        yield Part(self.text, begin, self.end)
+
+    def front(self) -> Part:
+        """All of it, or of a long one the words that begin in what is looked at."""
+        end = self.text.find(b" ", min(self.begin + MOST_LOOKED, self.end), self.end)
+        return self if end < 0 else self._replace(end=end)
+
+    def without_return(self) -> Part:
+        return self._replace(end=self.end - 1) if self.text.endswith(b"\r", self.begin, self.end) else self
+
+
+def line_of(trace: bytes, number: int) -> Part:
+    """The line of this number; nothing at the end of the trace, where it is missing."""
+    begin = 0
+    while number > 1 and begin < len(trace):
+        begin = trace.find(b"\n", begin) + 1 or len(trace)
+        number -= 1
+    end = trace.find(b"\n", begin)
+    return Part(trace, begin, len(trace) if end < 0 else end)
+
+
 def about_fault(error: str, trace: bytes, name: str) -> list:
     """What a faulty line of the file of this name is and what would be right, where the program's error names a line; else
     nothing. What is wrong with the whole file comes first."""
@@ -38,22 +83,21 @@ def about_fault(error: str, trace: bytes, name: str) -> list:
     if found is None:
         return []
     number, cause, have = int(found[1]), found[2].strip(), found[3]
-    lines = trace.split(b"\n")
-    line = lines[number - 1] if number <= len(lines) else b""
-    is_ended = number < len(lines)
-    is_there = is_ended or line
-    line_told = f"line {number} is: {readable(line)}" if is_there else f"line {number} is missing"
+    line = line_of(trace, number)
+    line_told = f"line {number} is: {readable(line)}" if line.begin < len(trace) else f"line {number} is missing"
     what = no_trace(trace) if number == 1 else None
     if what:
         return [what, line_told]
-    return [*mending(trace, is_ended and line.endswith(b"\r"), name), line_told, *right(cause, have, line.removesuffix(b"\r"), lines)]
+    alone = line.without_return()
+    is_crlf = alone != line and line.end < len(trace)
+    return [*mending(trace, is_crlf, name), line_told, *right(cause, have, alone)]
 
 
 def about_file(error: str, path: str) -> list:
-    """The same of a file that was judged before; nothing where it is no longer what was judged."""
+    """The same of a file that was judged before; nothing where it is no longer what was judged, or memory runs out."""
     try:
-        return about_fault(error, read_file(path), path)
-    except (Unread, ValueError, LookupError):
+        return about_fault(error, read_file(path), path) if CAUSE.search(error) else []
+    except (Unread, ValueError, LookupError, MemoryError):
         return []
 
 
@@ -89,19 +133,19 @@ def mending(trace: bytes, is_crlf: bool, name: str) -> list:
     return told
 
 
-def readable(text: bytes) -> str:
+def readable(part: Part) -> str:
     """A line or a word, cut where it is long. A byte that is no printable ASCII stands as `\\x` and two digits, and so does a
     backslash."""
-    told = "".join(map(shown, text[:MOST_SHOWN]))
-    return told + (f".. ({len(text)} bytes)" if len(text) > MOST_SHOWN else "")
+    size = part.end - part.begin
+    told = "".join(map(shown, part.text[part.begin:min(part.end, part.begin + MOST_SHOWN)]))
+    return told + (f".. ({size} bytes)" if size > MOST_SHOWN else "")
 
 
 def shown(byte: int) -> str:
     return chr(byte) if 32 <= byte < 127 and byte != ord("\\") else f"\\x{byte:02x}"
 
 
-def right(cause: str, have: str | None, line: bytes, lines: list) -> list:
-    words = line.decode("ascii", "replace").split(" ")
+def right(cause: str, have: str | None, line: Part) -> list:
     if cause in LIMITS:
         return [LIMITS[cause]]
     if cause == "header":
@@ -111,61 +155,71 @@ def right(cause: str, have: str | None, line: bytes, lines: list) -> list:
     if cause == "cut":
         return ["the last line has no line feed at its end: write one after each line, and see that the file is whole"]
     if cause == "no such replica":
-        count = lines[1].decode().split()[1]
+        count = line_of(line.text, 2).bytes().decode().split()[1]
         return [f"line 2 says {count} replicas, and they count from 0: their numbers are below {count}"]
     if cause == "own receipt":
         return ["a replica receives what others did: its own operations it has without a receipt"]
     if cause == "not yet":
-        return [f"replica {words[2]} has {have} operations in the lines before, and operation {words[3]} is not among them",
+        _, _, replica, operation = [word.bytes().decode("ascii", "replace") for word in islice(line.words(), 4)]
+        return [f"replica {replica} has {have} operations in the lines before, and operation {operation} is not among them",
                 "a receipt stands after the operation that it names, also where logs of several machines are merged;",
                 "operations count from 1, and receipts are not counted"]
-    return [*what_is_wrong(line, lines[0]), *ENTRIES]
+    return [*what_is_wrong(line, cause), *ENTRIES]
 
 
-def what_is_wrong(line: bytes, header: bytes) -> list:
-    """What keeps a line from being an entry, where that can be told."""
-    if not line:
+def what_is_wrong(line: Part, cause: str) -> list:
+    """What keeps a line from being an entry, where that can be told. Of a long one a front is looked at, and then the program's word for
+    the cause is told."""
+    looked = line.front()
+    if looked.begin == looked.end:
         return ["an empty line is no entry"]
-    other = next((place for place, byte in enumerate(line) if not 32 <= byte < 127), None)
+    other = NO_WORD.search(looked.text, looked.begin, looked.end)
     if other is not None:
-        return [f"byte {other + 1} of the line is {shown(line[other])}, which no word may have: words are of ASCII"]
-    words = line.decode().split(" ")
-    if "" in words:
+        byte = looked.text[other.start()]
+        return [f"byte {other.start() - looked.begin + 1} of the line is {shown(byte)}, which no word may have: words are of ASCII"]
+    text, begin, end = looked
+    if text.startswith(b" ", begin, end) or text.endswith(b" ", begin, end) or text.find(b"  ", begin, end) >= 0:
         return ["there is a blank too many: two together, or one at an end of the line"]
-    wrong = wrong_word(words)
-    if wrong is None and words[1] == "view" and header == b"trace 1":
+    words = list(islice(looked.words(), MOST_WORDS))
+    wrong = wrong_word(words, looked)
+    if wrong is None and words[1].bytes() == b"view" and text.startswith(b"trace 1\n"):
         return ["a trace of version 1 has no views: line 1 is `trace 2` where there are some"]
+    if wrong is None and looked != line:
+        return [f"the line is too long to be looked at whole: nothing is wrong with the words in its first {end - begin:,} bytes, and of the "
+                f"whole line the program says `{cause}`"]
     return [wrong] if wrong else []
 
 
-def wrong_word(words: list) -> str | None:
-    """The first word that can't stand where it does."""
+def wrong_word(words: list, looked: Part) -> str | None:
+    """The first word that can't stand where it does, of the first ones or in the response."""
     if not is_number(words[0]):
         return f"{quoted(words[0])}, the first word, is not {NUMBER}"
-    kind = words[1] if len(words) > 1 else ""
+    missing = Part(b"", 0, 0)
+    second, third, fourth, fifth = [*words[1:], *[missing] * MOST_WORDS][:MOST_WORDS - 1]
+    kind = readable(second)  # which is the word itself, where it is one of these
     if kind == "recv":
-        is_right = len(words) == 4 and is_number(words[2]) and is_number(words[3]) and words[3] != "0"
+        is_right = len(words) == 4 and is_number(third) and is_number(fourth) and fourth.bytes() != b"0"
         return None if is_right else "after `recv` stand a replica's number and that of its operation, from 1, and nothing else"
     if kind not in KINDS:
-        return f"{quoted(kind)}, the second word, is not `ins`, `del`, `read`, `view` or `recv`"
-    colon = KINDS[kind]
-    if kind in ("ins", "del") and not (len(words) > 2 and is_name(words[2])):
-        return f"{quoted(words[2] if len(words) > 2 else '')}, after `{kind}`, is not {NAME}"
-    if kind == "ins" and not (len(words) > 3 and is_number(words[3])):
-        return f"{quoted(words[3] if len(words) > 3 else '')}, after the element, is not {NUMBER}"
-    if len(words) <= colon or words[colon] != ":":
+        return f"{quoted(second)}, the second word, is not `ins`, `del`, `read`, `view` or `recv`"
+    if kind in ("ins", "del") and not is_name(third):
+        return f"{quoted(third)}, after `{kind}`, is not {NAME}"
+    if kind == "ins" and not is_number(fourth):
+        return f"{quoted(fourth)}, after the element, is not {NUMBER}"
+    colon = {2: third, 3: fourth, 4: fifth}[KINDS[kind]]
+    if readable(colon) != ":":
         return "the colon between the operation and its response is missing, or not a word by itself"
-    bad = next((word for word in words[colon + 1:] if not is_name(word)), None)
-    return None if bad is None else f"{quoted(bad)}, in the response, is not {NAME}"
+    bad = NO_NAME.search(looked.text, colon.end, looked.end)
+    return None if bad is None else f"{quoted(next(looked._replace(begin=bad.end()).words()))}, in the response, is not {NAME}"
 
 
-def quoted(word: str) -> str:
-    return f"`{readable(word.encode())}`"
+def quoted(word: Part) -> str:
+    return f"`{readable(word)}`"
 
 
-def is_number(word: str) -> bool:
-    return re.fullmatch("0|[1-9][0-9]{0,9}", word) is not None and int(word) <= GREATEST
+def is_number(word: Part) -> bool:
+    return NUMBER_WORD.fullmatch(*word) is not None and int(word.bytes()) <= GREATEST
 
 
-def is_name(word: str) -> bool:
-    return re.fullmatch("[A-Za-z0-9_.-]{1,32}", word) is not None
+def is_name(word: Part) -> bool:
+    return NAME_WORD.fullmatch(*word) is not None

@@ -8,6 +8,7 @@ import stat
 
 MOST_BYTES = 152_305_684  # of a trace that reaches every limit
 COMMANDS = ("::", "##")  # so do lines begin that GitHub and others read as commands
+MOST_GROWN = 1 << 16  # bytes that a file may have grown by, and still be read in one piece
 CHANGED = "it changed while it was judged"
 
 
@@ -51,10 +52,11 @@ def opened(path: str, most: int = MOST_BYTES) -> int:
 
 
 def content(descriptor: int) -> bytes:
-    """All bytes of an open file, wherever it was read up to."""
+    """All bytes of an open file, wherever it was read up to: in one piece, which is not copied, unless it grows."""
     parts, at = [], 0
     try:
-        while (part := os.pread(descriptor, 1 << 24, at)):
+        most = min(os.fstat(descriptor).st_size, MOST_BYTES) + MOST_GROWN
+        while (part := os.pread(descriptor, most, at)):
             parts.append(part)
             at += len(part)
             if at > MOST_BYTES:

@@ -14,11 +14,12 @@ from concurrent.futures.process import BrokenProcessPool
 from queue import Empty, SimpleQueue
 
 from .files import CHANGED, Unread, content, opened, shown, state
+from .programs import VERDICTS
 from .rows import Row, failed, row_of, unread
 
 WORDS = ["verdict", "--json", "--workers", "1"]  # for the program, before a trace
 SECONDS = 0.2  # between two looks for a signal
-BIG = 1 << 20  # bytes of a trace for whose row it pays to ask another process
+BIG = 1 << 20  # bytes of a trace for whose row it pays to ask another process, where it has a verdict
 
 
 class TooMany(Exception):
@@ -98,7 +99,7 @@ class Judges:
         if has_changed:
             return failed(file, time.monotonic() - begin, status, CHANGED, trace.count(b"\n"))
         answer = self.program, file, trace, time.monotonic() - begin, status, printed, errors.decode(errors="replace").strip(), self.weak
-        if len(trace) >= BIG and self.jobs > 1:
+        if len(trace) >= BIG and self.jobs > 1 and status in VERDICTS.values():
             try:
                 return self._looker().submit(row_of, *answer).result()
             except (BrokenProcessPool, OSError):  # no other process, or it was ended: it can be done here

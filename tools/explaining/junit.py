@@ -61,7 +61,7 @@ def add_fault(case: xml.Element, kind: str, verdict: str, told: str, about: str 
 
 def explanation_of(row: Row, program: str, weak: bool) -> tuple:
     """What `explain` says of the trace, and the elements of a refusal; or its verdict alone, where the file is no longer what was
-    judged."""
+    judged, or memory runs out."""
     try:
         trace = read_file(row.file)
         known = beside(trace, row.file)
@@ -70,7 +70,7 @@ def explanation_of(row: Row, program: str, weak: bool) -> tuple:
         warnings = placed_warnings(warnings_of(row.verdict, trace, row.file).all, known)
         about = listed(told.elements, MOST_STEPS) if told.report["verdict"] == "refused" else ""
         return text_of(with_places(with_warnings(words, warnings), known)), about
-    except (Unexplained, NoProgram, Unread, ValueError, LookupError):
+    except (Unexplained, NoProgram, Unread, ValueError, LookupError, MemoryError):
         return row.verdict, ""
 
 

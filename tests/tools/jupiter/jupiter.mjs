@@ -9,6 +9,9 @@
 //
 // A client applies its own changes at once and tells the server, which puts all changes into one order. Both map what they receive
 // over what the other side does not have yet. A client of an even number sends one change at a time, others all at once.
+//
+// engine.mjs plays its clients and its server by plans.
+import { pathToFileURL } from "node:url"
 import { Recording } from "../../../recorders/domepeeler.mjs"
 
 const [bug, sessions, folder] = process.argv.slice(2)
@@ -52,7 +55,7 @@ function apply(list, { kind, at, name }) {
   else if (kind === DELETE) list.splice(at, 1)
 }
 
-class Client {
+export class Client {
   constructor(number, server, recording) {
     Object.assign(this, { number, server, recording })
     this.list = []
@@ -98,7 +101,7 @@ class Client {
   }
 }
 
-class Server {
+export class Server {
   constructor(clients) {
     this.inbox = Array.from({ length: clients }, () => [])
     this.outbox = Array.from({ length: clients }, () => [])
@@ -152,7 +155,8 @@ function session(seed) {
   return recording
 }
 
-for (let seed = 1; seed <= Number(sessions); seed++) {
+const isRun = import.meta.url === pathToFileURL(process.argv[1]).href
+for (let seed = 1; isRun && seed <= Number(sessions); seed++) {
   const recording = session(seed)
   await recording.save(`${folder}/${bug}-${seed}.trace`)
   const { verdict, k, weak, warnings } = await recording.judge(null, { weak: true })
