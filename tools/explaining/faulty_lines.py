@@ -46,7 +46,7 @@ class Part(NamedTuple):
     begin: int
     end: int
 
-    def bytes(self) -> bytes:
+    def content(self) -> bytes:
         return self.text[self.begin:self.end]
 
     def words(self) -> Iterator[Part]:
@@ -155,12 +155,12 @@ def right(cause: str, have: str | None, line: Part) -> list:
     if cause == "cut":
         return ["the last line has no line feed at its end: write one after each line, and see that the file is whole"]
     if cause == "no such replica":
-        count = line_of(line.text, 2).bytes().decode().split()[1]
+        count = line_of(line.text, 2).content().decode().split()[1]
         return [f"line 2 says {count} replicas, and they count from 0: their numbers are below {count}"]
     if cause == "own receipt":
         return ["a replica receives what others did: its own operations it has without a receipt"]
     if cause == "not yet":
-        _, _, replica, operation = [word.bytes().decode("ascii", "replace") for word in islice(line.words(), 4)]
+        _, _, replica, operation = [word.content().decode("ascii", "replace") for word in islice(line.words(), 4)]
         return [f"replica {replica} has {have} operations in the lines before, and operation {operation} is not among them",
                 "a receipt stands after the operation that it names, also where logs of several machines are merged;",
                 "operations count from 1, and receipts are not counted"]
@@ -182,7 +182,7 @@ def what_is_wrong(line: Part, cause: str) -> list:
         return ["there is a blank too many: two together, or one at an end of the line"]
     words = list(islice(looked.words(), MOST_WORDS))
     wrong = wrong_word(words, looked)
-    if wrong is None and words[1].bytes() == b"view" and text.startswith(b"trace 1\n"):
+    if wrong is None and words[1].content() == b"view" and text.startswith(b"trace 1\n"):
         return ["a trace of version 1 has no views: line 1 is `trace 2` where there are some"]
     if wrong is None and looked != line:
         return [f"the line is too long to be looked at whole: nothing is wrong with the words in its first {end - begin:,} bytes, and of the "
@@ -198,7 +198,7 @@ def wrong_word(words: list, looked: Part) -> str | None:
     second, third, fourth, fifth = [*words[1:], *[missing] * MOST_WORDS][:MOST_WORDS - 1]
     kind = readable(second)  # which is the word itself, where it is one of these
     if kind == "recv":
-        is_right = len(words) == 4 and is_number(third) and is_number(fourth) and fourth.bytes() != b"0"
+        is_right = len(words) == 4 and is_number(third) and is_number(fourth) and fourth.content() != b"0"
         return None if is_right else "after `recv` stand a replica's number and that of its operation, from 1, and nothing else"
     if kind not in KINDS:
         return f"{quoted(second)}, the second word, is not `ins`, `del`, `read`, `view` or `recv`"
@@ -218,7 +218,7 @@ def quoted(word: Part) -> str:
 
 
 def is_number(word: Part) -> bool:
-    return NUMBER_WORD.fullmatch(*word) is not None and int(word.bytes()) <= GREATEST
+    return NUMBER_WORD.fullmatch(*word) is not None and int(word.content()) <= GREATEST
 
 
 def is_name(word: Part) -> bool:
