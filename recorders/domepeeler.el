@@ -412,7 +412,7 @@ are found.  With WEAK the weak list specification alone is asked for."
             (domepeeler--section "Ids that were too long for a name"
                                  (cl-loop for (name . id) in (domepeeler-ids recording)
                                           when (and (string-prefix-p "long" name) (gethash name words))
-                                          collect (format "%s: %s" name id)))
+                                          collect (format "%s: %s" name (domepeeler--escaped id))))
             (domepeeler--section "Noted" (reverse (domepeeler-recording-notes recording))))))
 
 (defun domepeeler--section (title lines)

@@ -1638,7 +1638,11 @@ static inline char *domepeeler_with_ids(struct domepeeler *d, char *said) {
     for (size_t i = 0; i < d->known; i++) {
         const struct domepeeler_id *one = d->ids[i];
         if (!domepeeler_is_told(said, one)) continue;
-        domepeeler_say(&whole, "%s  %s: %s\n", title, one->name, one->id);
+        size_t bytes = 4 * strlen(one->id) + 5;
+        char *shown = (char *)calloc(bytes, 1);
+        if (shown) domepeeler_say(&whole, "%s  %s: %s\n", title, one->name, domepeeler_escaped(one->id, shown, bytes));
+        whole.is_short |= !shown;
+        free(shown);
         title = "";
     }
     for (size_t i = 0; i < d->noted; i++) domepeeler_say(&whole, "%s  %s\n", i ? "" : "\nNoted\n", d->notes[i]);

@@ -362,7 +362,7 @@ export class Recording {
     if ((done.status !== 0 && done.status !== 1) || !done.stdout) throw ended(name, done, "words")
     const words = new Set(done.stdout.match(/[A-Za-z0-9]+/g))
     const named = [...this.ids()].filter(([short]) => words.has(short) && short.startsWith("long"))
-    const told = named.map(([short, given]) => `${short}: ${given}`)
+    const told = named.map(([short, given]) => `${short}: ${escaped(given)}`)
     return this.#withPlaces(node, done.stdout) + section("Ids that were too long for a name", told) + section("Noted", this.#notes)
   }
 

@@ -390,7 +390,7 @@ class Recording:
             _ended(name, done, "words")
         said = done.stdout.decode(errors="replace")
         words = set(re.findall("[A-Za-z0-9]+", said))
-        told = [f"{name}: {given}" for name, given in self.ids().items() if name in words and name.startswith("long")]
+        told = [f"{name}: {_escaped(given)}" for name, given in self.ids().items() if name in words and name.startswith("long")]
         return self._with_places(said) + _section("Ids that were too long for a name", told) + _section("Noted", self._notes)
 
     def _with_nearest(self, warnings: str) -> str:
