@@ -12,15 +12,15 @@ program, path = sys.argv[1:3]
 lines = open(path, encoding="ascii").read().splitlines()
 
 
-def line_of(replica: int, n: int) -> int:
-    """Where the n-th operation of a replica stands."""
+def operations() -> dict:
+    """Where the operation of each name, as 2.1, stands."""
+    found, counts = {}, {}
     for at, line in enumerate(lines[2:], 2):
-        words = line.split(" ", 2)
-        if int(words[0]) == replica and words[1] != "recv":
-            n -= 1
-            if n == 0:
-                return at
-    sys.exit("accepted.py: no such operation")
+        replica, kind, *_ = line.split(" ", 2)
+        if kind != "recv":
+            counts[replica] = counts.get(replica, 0) + 1
+            found[f"{replica}.{counts[replica]}"] = at
+    return found
 
 
 with tempfile.TemporaryDirectory() as folder:
@@ -32,7 +32,8 @@ with tempfile.TemporaryDirectory() as folder:
         if report[1].startswith("accepted"):
             break
         shown = [line.split(" ", 4)[3] for line in report if line.startswith("step ")]
-        reads = [at for at in (line_of(*map(int, name.split("."))) for name in shown) if lines[at].split(" ", 2)[1] in ("read", "view")]
+        places = operations()
+        reads = [places[name] for name in shown if lines[places[name]].split(" ", 2)[1] in ("read", "view")]
         if not reads:
             sys.stderr.write("accepted.py: no step of the cycle is a read or a view\n")
             sys.exit(2)
