@@ -111,6 +111,8 @@ TESTS = {
     "report::text": ("engines", "worked_recordings"),
     "report::json": ("engines", "reports_as_json"),
     "OrderGraph::turned": ("graph_tests", "ring_of_four_turned"),
+    "OrderGraph::emptied": ("graph_tests", "conflicts_of_worked_recordings"),
+    "ReadyScratch::new": ("graph_tests", "conflicts_of_worked_recordings"),
     "OrderGraph::narrowed": ("graph_tests", "two_none_and_all_of_the_ring_of_four"),
     "witness_order::taken": ("graph_tests", "neither_a_cycle_nor_what_stands_after_it_is_taken"),
     "witness_order::order": ("graph_tests", "the_least_of_several_orders"),
