@@ -6,7 +6,7 @@ bytes, binary bytes; and `verify`, beside a small trace, certificates of a gigab
 15 seconds with its one line, and with no more than 200 MB of memory, to which comes for `verify` the certificate's text. What the
 line says is written here from docs/formats.md, and the slow references must say it of a shorter text of the same shape. A run
 that has 4 GB of memory is stopped, and fails. Then names that were chosen to collide must cost about what other names cost, and
-refusals that are hard to find (bench/shapes) at most ten times the same trace without reads of its cycles. It
+refusals that are hard to find (bench/shapes) at most ten times the same trace without reads of its cycles, and of one shape thirty. It
 stands outside the gate: it takes some minutes on a quiet machine. A slow
 machine wants more --seconds; --megabytes makes the texts smaller, at least 128, and --only takes the shapes whose names have the
 word."""
@@ -52,15 +52,16 @@ STEPS = b"step x b 2.1\nstep b a 0.3\nstep a x 1.1\n"
 ROWS = b"layers x / b\nlayers a /\nlayers b /\n"
 
 SHAPES = ROOT / "bench" / "shapes"
-# Refusals that are hard to find: the script of the shape, its words, and the conflict number that its cycles are made for.
+# Refusals that are hard to find: the script of the shape, its words, the conflict number that its cycles are made for, and how many times
+# the processor of the same trace accepted it takes at most. Of the last the distances from thousands of sources take the most.
 HARD = [
-    ("front.py", ["8", "16", "256", "8"], 8), ("front.py", ["8", "16", "256", "8", "closed"], 8),
-    ("front.py", ["13", "4", "1024", "3"], 3), ("front.py", ["13", "4", "1024", "3", "closed"], 3),
-    ("front.py", ["12", "16", "256", "4"], 4), ("front.py", ["12", "16", "256", "4", "closed"], 4),
-    ("long_ring.py", ["28000"], 28000), ("thick_ring.py", ["16", "256"], 256), ("thick_ring.py", ["45", "40"], 40),
-    ("rotated_orders.py", ["256"], 2), ("clusters.py", ["8", "500"], 4), ("clusters.py", ["4", "1000"], 4), ("clusters.py", ["4", "1000", "8000"], 4),
+    ("front.py", ["8", "16", "256", "8"], 8, 10), ("front.py", ["8", "16", "256", "8", "closed"], 8, 10),
+    ("front.py", ["13", "4", "1024", "3"], 3, 10), ("front.py", ["13", "4", "1024", "3", "closed"], 3, 10),
+    ("front.py", ["12", "16", "256", "4"], 4, 10), ("front.py", ["12", "16", "256", "4", "closed"], 4, 10),
+    ("long_ring.py", ["28000"], 28000, 10), ("thick_ring.py", ["16", "256"], 256, 10), ("thick_ring.py", ["45", "40"], 40, 10),
+    ("clusters.py", ["8", "500"], 4, 10), ("clusters.py", ["4", "1000"], 4, 10), ("clusters.py", ["4", "1000", "8000"], 4, 30),
 ]
-MOST_TIMES, TURNS = 10, 3
+TURNS = 3
 
 Text = Callable[[int], Iterator[bytes]]
 
@@ -274,15 +275,21 @@ def attack_with_certificates(tally: Tally, program: str, asking: ProcessPoolExec
         attack(tally, f"a certificate: {shape.name}", words, shape.text(given.size), line(said), given.seconds, True)
 
 
+def accepted_beside(program: str, script: str, refused: str) -> bytes:
+    """The same trace without reads of its cycles; of clusters, which have thousands, without any view."""
+    if script == "clusters.py":
+        return b"".join(line for line in Path(refused).read_bytes().splitlines(keepends=True) if b" view :" not in line)
+    return subprocess.run([sys.executable, SHAPES / "accepted.py", program, refused], stdout=subprocess.PIPE, check=True).stdout
+
+
 def hard_refusals(tally: Tally, program: str, folder: str) -> None:
-    """Each takes at most ten times the processor of the same trace without reads of its cycles, and twice the memory; by turns."""
+    """Each takes at most so many times the processor of the same trace accepted; by turns, with one worker."""
     refused, accepted = os.path.join(folder, "refused.trace"), os.path.join(folder, "accepted.trace")
-    for script, words, k in HARD:
+    for script, words, k, most in HARD:
         name = " ".join([script, *words])
-        for path, command in (refused, [SHAPES / script, *words]), (accepted, [SHAPES / "accepted.py", program, refused]):
-            with open(path, "wb") as out:
-                made = subprocess.run([sys.executable, *command], stdout=out, stderr=subprocess.DEVNULL, check=False)
-            tally.check(f"{name}: {os.path.basename(path)} is made", made.returncode == 0, made)
+        with open(refused, "wb") as out:
+            subprocess.run([sys.executable, SHAPES / script, *words], stdout=out, stderr=subprocess.DEVNULL, check=True)
+        Path(accepted).write_bytes(accepted_beside(program, script, refused))
         used = {refused: [], accepted: []}
         for _ in range(TURNS):
             for path, runs in used.items():
@@ -292,13 +299,11 @@ def hard_refusals(tally: Tally, program: str, folder: str) -> None:
                     out.seek(0)
                     said = out.read().splitlines()[1].decode()
                 wanted = f"refused {k}" if path == refused else "accepted"
-                tally.check(f"{name}: {wanted}", said.split(" ")[0] == "accepted" if path == accepted else said == wanted, said[:80])
-                runs.append((took.ru_utime + took.ru_stime, took.ru_maxrss))
-        seconds, other = (min(run[0] for run in used[path]) for path in (refused, accepted))
-        peak, other_peak = (max(run[1] for run in used[path]) for path in (refused, accepted))
-        print(f"{name}: {seconds:.3f} s and {peak / 1000:.0f} MB, accepted {other:.3f} s and {other_peak / 1000:.0f} MB", flush=True)
-        tally.check(f"{name}: at most {MOST_TIMES} times the time, and twice the memory", seconds <= MOST_TIMES * other and peak <= 2 * other_peak,
-                    (seconds, other, peak, other_peak))
+                tally.check(f"{name}: {wanted}", said == wanted, said[:80])
+                runs.append(took.ru_utime + took.ru_stime)
+        seconds, other = min(used[refused]), min(used[accepted])
+        print(f"{name}: {seconds:.3f} s, accepted {other:.3f} s", flush=True)
+        tally.check(f"{name}: at most {most} times the time", seconds <= most * other, (seconds, other))
 
 
 def main() -> None:
