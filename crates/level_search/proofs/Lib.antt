@@ -14,6 +14,7 @@ pub mod Cores
 pub mod ShortestFew
 pub mod Lengths
 pub mod Rising
+pub mod LowerBounds
 pub mod Thinned
 pub mod ListLooks
 -- Lemmas on the workers.

@@ -1,18 +1,19 @@
 -- On a shortest cycle through s the elements are those between: as many steps lead to them from s, and from
 -- them to s, as the cycle has together.
 use Rattle.std.proofs.Common.{◌≡◌, ℕ, ◌+◌, ◌<◌, ◌≤◌, ◌⊎◌, inl, inr, List, length, get_or, map}
-use Rattle.std.proofs.Common.{sym, ◌∙◌, subst, arith}
+use Rattle.std.proofs.Common.{[], ◌∷◌, refl, ap, sym, ◌∙◌, subst, arith}
 use Rattle.std.specs.Prelude.{◌↔◌, Option, true, is_some, reverse}
 use Rattle.std.proofs.lemmas.Bool.{cases_Bool, cases_eq, cases_lt}
 use Rattle.std.proofs.lemmas.Grind.{get_or_default_zero}
-use Rattle.std.proofs.lemmas.List.{length-map}
-use Rattle.specification.specs.Responses.{Responses, Returned, AreProper}
+use Rattle.std.proofs.lemmas.List.{length-reverse}
+use Rattle.specification.specs.Responses.{Responses, AreProper}
 use Rattle.specification.specs.Search.{IsShortestLength}
 use Rattle.order_graph.specs.Lists.{lists_of}
 use Rattle.order_graph.specs.Turned.{turned}
+use Rattle.order_graph.proofs.Turned.{lists_turned}
 use Rattle.list_search.specs.Distances.{IsDistanceBelow}
 use Rattle.list_search.specs.Rings.{IsDistanceTo, Reaches}
-use Rattle.list_search.specs.ScratchView.{Fits, ScratchView}
+use Rattle.list_search.specs.Clean.{IsReady, ReadyView}
 use Rattle.list_search.specs.Walks.{HasCycle, IsSearchAnswer, NoneShorter, Walk}
 use Rattle.list_search.proofs.Firsts.{reaches_walk, walk_reaches}
 use Rattle.list_search.proofs.Joining.{found-here, none-here, shortest_of_all}
@@ -20,22 +21,33 @@ use Rattle.list_search.proofs.RingWalks.{reaches_both}
 use Rattle.level_search.specs.Rounds.{IsBetween, IsRoundOf}
 use Rattle.level_search.specs.Sources.{MeetsCycles}
 
-abbrev turn : Returned → Returned
-turn r = record { by = r.by; names = reverse r.names }
+lengths-turned : (rows : List (List ℕ))
+    → map (λ (r : List ℕ). length r) (map reverse rows) ≡ map (λ (r : List ℕ). length r) rows
+lengths-turned [] = refl
+lengths-turned (r ∷ rs) =
+    let here = length-reverse r in
+    let rest = lengths-turned rs in
+    λ i. here i ∷ rest i
 
--- a scratch fits the lists in the other direction too
-pub fits-turned : (s : ScratchView) (v : Responses) → Fits s v → Fits s (turned v)
-fits-turned s v fits = record {
-  elements = fits.elements;
-  lists = (let same : length (map turn v.returned) ≡ length v.returned = length-map v.returned turn in
-      let lists = fits.lists in omega arith);
+-- a scratch that is clean for lists is so for them in the other direction
+same-lengths : (v : Responses)
+    → map (λ (r : List ℕ). length r) (lists_of (turned v)) ≡ map (λ (r : List ℕ). length r) (lists_of v)
+same-lengths v =
+    ap (λ (rows : List (List ℕ)). map (λ (r : List ℕ). length r) rows) (lists_turned v)
+    ∙ lengths-turned (lists_of v)
+
+pub ready-turned : (s : ReadyView) (v : Responses) → IsReady s v → IsReady s (turned v)
+ready-turned s v ready = record {
+  marks = ready.marks ∙ sym (same-lengths v);
+  seen = ready.seen;
+  places = ready.places;
 }
 
-pub fits_turned-from : (s : ScratchView) (v : Responses) → Fits s (turned v) → Fits s v
-fits_turned-from s v fits = record {
-  elements = fits.elements;
-  lists = (let same : length (map turn v.returned) ≡ length v.returned = length-map v.returned turn in
-      let lists = fits.lists in omega arith);
+pub ready_turned-from : (s : ReadyView) (v : Responses) → IsReady s (turned v) → IsReady s v
+ready_turned-from s v ready = record {
+  marks = ready.marks ∙ same-lengths v;
+  seen = ready.seen;
+  places = ready.places;
 }
 
 module _ (rows : List (List ℕ)) (s k : ℕ) where

@@ -13,5 +13,6 @@ pub mod Cores
 pub mod Conflicts
 pub mod Rounds
 pub mod Sources
+pub mod LowerBounds
 pub mod Team
 pub mod BoundLaw

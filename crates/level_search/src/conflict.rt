@@ -51,6 +51,7 @@ fn search_core<H: Threads + Sync, G: Gate>(
     let _ = part.elements();
     let way = Way::of(alloc, part)?;
     let sources = feedback_vertex_set(alloc, part, &way)?;
+    let way = way.with_lower_bounds(alloc, part, &sources)?;
     let gate = core.gate(gate);
     let searched = least_length(rt, alloc, part, &way, &sources, workers, &gate)?;
     let Searched { least, looked } = searched;

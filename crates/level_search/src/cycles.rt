@@ -43,6 +43,7 @@ pub fn least_cycle(alloc: Global, graph: &OrderGraph, k: u32) -> Result<Steps, M
     let _ = searched.elements();
     let way = Way::of(alloc, searched)?;
     let sources = feedback_vertex_set(alloc, searched, &way)?;
+    let way = way.with_lower_bounds(alloc, searched, &sources)?;
     least_cycle_from(alloc, &core.graph, searched, &way, &sources, k)
 }
 

@@ -24,6 +24,7 @@ mod cycles;
 mod gate;
 mod guesses;
 mod laws;
+mod lower_bounds;
 mod search_fault;
 mod sources;
 mod tabled;

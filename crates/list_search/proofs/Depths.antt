@@ -3,7 +3,7 @@
 use Rattle.std.proofs.Common.{◌≡◌, ℕ, ◌+◌, ◌<◌, ◌≤◌, ◌⊎◌, List, length, slice_index, sym, ◌∙◌, subst, arith}
 use Rattle.std.proofs.Common.{inl, inr}
 use Rattle.std.proofs.lemmas.Bool.{cases_lt}
-use Rattle.list_search.specs.Distances.{IsDistanceBelow, IsAmong}
+use Rattle.list_search.specs.Distances.{AreReached, IsDistanceBelow, IsAmong}
 use Rattle.list_search.specs.Graph.{Graph}
 use Rattle.list_search.specs.Progress.{IsReached}
 use Rattle.list_search.specs.Walks.{Walk}
@@ -95,3 +95,31 @@ noted-all g s limit head level st depths levelled noted empty x inside =
         | inr below ↦ noted.near n x below w
       ];
     }
+
+-- what the next layer notes is among what is reached then
+pub reached_next : (limit level : ℕ) (old new queue queue' : List ℕ) (tail tail' : ℕ)
+    → ((k : ℕ) → k < tail → slice_index queue' k ≡ slice_index queue k) → tail ≤ tail'
+    → AreReached limit old queue tail → length new ≡ length old
+    → ((x : ℕ) → (slice_index new x ≡ slice_index old x)
+    ⊎ ((slice_index new x ≡ level) × IsAmong queue' tail tail' x))
+    → AreReached limit new queue' tail'
+reached_next limit level old new queue queue' tail tail' kept more reached count others x inside =
+    elim (others x) [
+      | inl same ↦ elim (reached x (omega arith)) [
+        | inl at ↦ inl (same ∙ at)
+        | inr among ↦
+            let early = among.to in
+            inr (record {
+              at = among.at;
+              from = among.from;
+              to = omega arith;
+              here = kept among.at among.to ∙ among.here;
+            })
+      ]
+      | inr now ↦ inr (record {
+        at = now.1.at;
+        from = omega arith;
+        to = now.1.to;
+        here = now.1.here;
+      })
+    ]

@@ -1,5 +1,5 @@
 -- How many steps lead from an element to each other one, at the least.
-use Rattle.std.specs.Prelude.{◌≡◌, ℕ, ◌<◌, ◌≤◌, List, length, slice_index}
+use Rattle.std.specs.Prelude.{◌≡◌, ℕ, ◌<◌, ◌≤◌, ◌⊎◌, List, length, slice_index}
 use Rattle.list_search.specs.Walks.{Walk}
 
 -- d is the least number of steps from s to x, or the limit where it takes as many steps or more, or there is
@@ -20,3 +20,8 @@ pub record IsAmong (queue : List ℕ) (head tail x : ℕ) : Type 0 where
   pub from : head ≤ at
   pub to : at < tail
   pub here : slice_index queue at ≡ x
+
+-- each element is among these first ones, or its depth is the limit
+abbrev pub AreReached : ℕ → List ℕ → List ℕ → ℕ → Type 0
+AreReached limit depths reached count =
+    (x : ℕ) → x < length depths → (slice_index depths x ≡ limit) ⊎ IsAmong reached 0 count x

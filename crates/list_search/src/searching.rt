@@ -1,10 +1,11 @@
 //! Searches by levels from one element: for a shortest cycle, and for distances.
 
 ghost use Rattle.std.specs.Prelude.{◌≡◌, ◌↔◌, ℕ, ◌<◌, ◌≤◌, IfOk, IfNone, IsTrue, List, None, length};
+ghost use Rattle.std.specs.Prelude.{replicate, slice_index};
 ghost use Rattle.order_graph.specs.Lists.{lists_of};
 ghost use Rattle.events.specs.Names.{NameBytes};
 ghost use Rattle.specification.specs.Search.{IsCycleThrough, IsSearchAnswer};
-ghost use Rattle.list_search.specs.Distances.{AreDistances};
+ghost use Rattle.list_search.specs.Distances.{AreDistances, AreReached};
 ghost use Rattle.list_search.specs.Walks as by_number;
 
 mod bound_source;
@@ -18,7 +19,7 @@ mod state;
 mod sweep;
 
 pub use bound_source::BoundSource;
-use distance::distances_in;
+use distance::{copy_reached, distances_in, distances_on};
 use events::Memory;
 use levels::{search_in, search_on};
 use order_graph::{Looked, OrderGraph};
@@ -267,4 +268,44 @@ pub fn distances(
         &mut scratch.looked,
         depths,
     )
+}
+
+/// As `distances`, on a scratch that is clean and stays so, where each depth is the limit before. It writes down
+/// the elements that it reached at the front of a list, and answers how many they are; the depths of others
+/// stay. Beside its looks it takes as many steps as `search_ready`, and one for each of these elements.
+pub fn distances_ready(
+    graph: &OrderGraph,
+    element: u32,
+    limit: u32,
+    ready: &mut ReadyScratch,
+    depths: &mut [u32],
+    reached: &mut [u32],
+) -> usize
+    requires element { element < length graph.now.elements }
+    requires ready { IsReady ready.old graph.now }
+    requires depths { depths.old ≡ replicate (length graph.now.elements) limit }
+    requires room { length reached.old ≡ length graph.now.elements }
+    ensures distances { AreDistances (lists_of graph.now) element limit depths.new }
+    ensures places { length depths.new ≡ length graph.now.elements }
+    ensures room { length reached.new ≡ length graph.now.elements }
+    ensures count { result ≤ length graph.now.elements }
+    ensures known { (k : ℕ) → k < result → slice_index reached.new k < length graph.now.elements }
+    ensures reached { AreReached limit depths.new reached.new result }
+    ensures ready { IsReady ready.new graph.now }
+    ensures looked { LooksWithin graph.now ready.new.looked None }
+    ensures expanded { 1 < limit → 0 < ready.new.looked }
+{
+    ready.looked = Looked::new();
+    begin(graph, element, &mut ready.state);
+    distances_on(
+        graph,
+        element,
+        limit,
+        &mut ready.state,
+        &mut ready.looked,
+        depths,
+    );
+    let count = copy_reached(&ready.state, reached);
+    settle(graph, element, &mut ready.state);
+    count
 }

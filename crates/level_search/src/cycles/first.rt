@@ -1,7 +1,7 @@
 //! The least element through which a shortest cycle leads.
 
 ghost use Rattle.std.specs.Prelude.{◌≡◌, ◌⊎◌, ◌↔◌, ℕ, ◌+◌, ◌*◌, ◌<◌, ◌≤◌, All, true, length};
-ghost use Rattle.specification.specs.Responses.{place_count};
+ghost use Rattle.specification.specs.Responses.{Responses, place_count};
 ghost use Rattle.specification.specs.Search.{IsShortestLength};
 ghost use Rattle.order_graph.specs.Lists.{lists_of};
 ghost use Rattle.list_search.specs.Walks.{HasCycle, NoneShorter};
@@ -48,29 +48,32 @@ fn is_between(to: &[u32], from: &[u32], k: u32, x: u32) -> bool
     away > 0 && away < k && to[x as usize] == k - away
 }
 
-/// The least of these; at most the element itself.
-fn first_between(to: &[u32], from: &[u32], k: u32, element: u32) -> u32
-    requires to { element < length to.now }
-    requires from { element < length from.now }
+/// The least of these; at most the element itself. It looks at those alone that the search from it reached.
+fn first_between(distances: &Distances, k: u32, element: u32) -> u32
+    requires fits { (v : Responses) × FitsDistances v k distances.now × (element < length v.elements) }
     ensures falls { result ≤ element }
-    ensures found { (result ≡ element) ⊎ IsBetween to.now from.now k result }
-    ensures least { (x : ℕ) → IsBetween to.now from.now k x → result ≤ x }
+    ensures found { (result ≡ element)
+        ⊎ IsBetween distances.now.to.depths.items distances.now.from.depths.items k result }
+    ensures least { (x : ℕ) → IsBetween distances.now.to.depths.items distances.now.from.depths.items k x
+        → result ≤ x }
 {
-    for x in 0..element {
-        if is_between(to, from, k, x) {
-            return x;
+    let mut least = element;
+    for i in 0..distances.from.count {
+        let x = distances.from.reached[i];
+        if x < least && is_between(&distances.to.depths, &distances.from.depths, k, x) {
+            least = x;
         }
     }
-    element
+    least
 }
 
 /// The least element of all shortest cycles through an element.
 fn least_round(graph: &OrderGraph, element: u32, k: u32, distances: &mut Distances) -> u32
     requires known { element < length graph.now.elements }
-    requires fits { FitsDistances graph.now distances.old }
+    requires fits { FitsDistances graph.now k distances.old }
     requires cycle { HasCycle (lists_of graph.now) element k }
     requires shortest { NoneShorter (lists_of graph.now) element k }
-    ensures fits { FitsDistances graph.now distances.new }
+    ensures fits { FitsDistances graph.now k distances.new }
     ensures cycle { HasCycle (lists_of graph.now) result k }
     ensures least { (t : ℕ) → IsRoundOf (lists_of graph.now) element k t → result ≤ t }
 {
@@ -78,7 +81,7 @@ fn least_round(graph: &OrderGraph, element: u32, k: u32, distances: &mut Distanc
     let _ = graph.elements();
     distances.find_to(graph, element, k);
     distances.find_from(graph, element, k);
-    first_between(&distances.to, &distances.from, k, element)
+    first_between(distances, k, element)
 }
 
 /// The lesser of the least so far and the least element of all shortest cycles through a source.
@@ -95,10 +98,10 @@ fn least_of_source(
     requires known { source < length graph.now.elements }
     requires way { IsWay graph.now way.now }
     requires fits { FitsRoom graph.now room.old }
-    requires distances { FitsDistances graph.now distances.old }
+    requires distances { FitsDistances graph.now k distances.old }
     requires shortest { IsShortestLength graph.now k }
     ensures fits { FitsRoom graph.now room.new }
-    ensures distances { FitsDistances graph.now distances.new }
+    ensures distances { FitsDistances graph.now k distances.new }
     ensures falls { result ≤ least }
     ensures found { (result ≡ least) ⊎ HasCycle (lists_of graph.now) result k }
     ensures round { (t : ℕ) → IsRoundOf (lists_of graph.now) source k t → result ≤ t }
@@ -132,9 +135,9 @@ fn first_on_ring(
     requires known { All (λ s. s < length graph.now.elements) sources.now }
     requires met { MeetsCycles (lists_of graph.now) (length graph.now.elements) sources.now }
     requires fits { FitsRoom graph.now room.old }
-    requires distances { FitsDistances graph.now distances.old }
+    requires distances { FitsDistances graph.now k distances.old }
     requires shortest { IsShortestLength graph.now k }
-    ensures distances { FitsDistances graph.now distances.new }
+    ensures distances { FitsDistances graph.now k distances.new }
     ensures known { result < length graph.now.elements }
     ensures cycle { HasCycle (lists_of graph.now) result k }
     ensures lowest { (t : ℕ) → t < length graph.now.elements → HasCycle (lists_of graph.now) t k
@@ -205,9 +208,9 @@ pub fn first_element(
     requires known { All (λ s. s < length graph.now.elements) sources.now }
     requires met { MeetsCycles (lists_of graph.now) (length graph.now.elements) sources.now }
     requires fits { FitsRoom graph.now room.old }
-    requires distances { FitsDistances graph.now distances.old }
+    requires distances { FitsDistances graph.now k distances.old }
     requires shortest { IsShortestLength graph.now k }
-    ensures distances { FitsDistances graph.now distances.new }
+    ensures distances { FitsDistances graph.now k distances.new }
     ensures known { result < length graph.now.elements }
     ensures cycle { HasCycle (lists_of graph.now) result k }
     ensures lowest { (t : ℕ) → t < length graph.now.elements → HasCycle (lists_of graph.now) t k

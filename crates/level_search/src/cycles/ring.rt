@@ -26,7 +26,7 @@ fn ring_from(
     k: u32,
     distances: &mut Distances,
 ) -> Result<Vec<u32>, Memory>
-    requires fits { FitsDistances graph.now distances.old }
+    requires fits { FitsDistances graph.now k distances.old }
     requires known { element < length graph.now.elements }
     requires cycle { HasCycle (lists_of graph.now) element k }
     requires shortest { NoneShorter (lists_of graph.now) element k }
@@ -46,7 +46,7 @@ fn ring_from(
     ring.push(element)?;
     let mut a = element;
     for i in 1..k {
-        a = next_of_ring(graph, element, k - i, a, &distances.to, &mut looked);
+        a = next_of_ring(graph, element, k - i, a, &distances.to.depths, &mut looked);
         ring.push(a)?;
     }
     Ok(ring)
@@ -71,7 +71,7 @@ pub fn least_ring(
     let _ = graph.elements();
     let mut room = Room::new(alloc, graph)?;
     let mut looked = Looked::new();
-    let mut distances = Distances::new(alloc, graph)?;
+    let mut distances = Distances::new(alloc, graph, k)?;
     let element = first_element(
         graph,
         way,

@@ -42,7 +42,7 @@ returns-clause-least g c =
       part = core.graph;
       part_proper = c.elements-2.ensures.proper;
       thin = thin;
-      way = subst (λ (w : Responses). IsWay w c.in_ok-way.way) here c.in_ok-way.ensures;
+      way = subst (λ (w : Responses). IsWay w c.in_ok-way-2.way) here c.in_ok-way-2.ensures;
       least =
           least-whole whole part thin c.elements-2.ensures.proper c.in_ok-searched.searched.least
           (subst (λ (w : Responses). IsLeastLength w c.in_ok-searched.searched.least) here

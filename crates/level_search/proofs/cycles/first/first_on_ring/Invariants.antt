@@ -9,7 +9,7 @@ use Rattle.level_search.proofs.cycles.first.first_on_ring.Given as goal
 abbrev pub invariant-loop-i : goal.invariant-loop-i
 invariant-loop-i l = record {
   fits : FitsRoom l.graph l.room;
-  distances : FitsDistances l.graph l.distances;
+  distances : FitsDistances l.graph l.k l.distances;
   none : (t : ℕ) → t < l.i → ¬ HasCycle (lists_of l.graph) t l.k;
   found : (l.least ≡ length l.graph.elements) ⊎ HasCycle (lists_of l.graph) l.least l.k;
   round : (j t : ℕ) → j < l.i

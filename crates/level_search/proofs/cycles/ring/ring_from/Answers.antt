@@ -38,7 +38,7 @@ next_of_ring-a-requires-clause-depths c =
     let z : ℕ = c.args.element in
     let i : ℕ = c.loop-i.i in
     let a : ℕ = c.loop-i.a in
-    let depths : List ℕ = c.find_to.new.self.to.items in
+    let depths : List ℕ = c.find_to.new.self.to.depths.items in
     let low : 1 ≤ i = c.loop-i.auto.i in
     let high : i < k = c.loop-i-test.true in
     let same : suc (i - 1) ≡ i = omega arith in
@@ -46,7 +46,7 @@ next_of_ring-a-requires-clause-depths c =
     λ y step.
     (let known = before-known v c.elements.ensures.proper a y step in
     let within : y < length depths =
-    omega (arith, c.find_to.ensures.fits.to, c.find_to.new.self.to.ok, known.1) in
+    omega (arith, c.find_to.ensures.fits.to.depths, c.find_to.new.self.to.depths.ok, known.1) in
     let is = c.find_to.ensures.to y within in
     let exact = distance_on-ring rows z k (i - 1) a y (get_or depths y 0) c.requires.shortest
     (omega arith) c.loop-i.invariant.walk step is in

@@ -3,7 +3,8 @@ use Rattle.specification.specs.Responses.{place_count}
 use Rattle.list_search.specs.Graph.{graph_of}
 use Rattle.list_search.proofs.Levelled.{IsLevelled}
 use Rattle.list_search.proofs.Depths.{IsNoted}
-use Rattle.list_search.proofs.searching.distance.distances_in.Given as goal
+use Rattle.list_search.specs.Distances.{AreReached}
+use Rattle.list_search.proofs.searching.distance.distances_on.Given as goal
 
 abbrev pub invariant-levels : goal.invariant-levels
 invariant-levels l = record {
@@ -13,6 +14,7 @@ invariant-levels l = record {
   cost : l.looked + sum l.state.marks.items ≤ place_count l.graph + l.head;
   begun : l.level ≡ 0 → l.head < l.state.tail;
   expanded : 0 < l.level → 0 < l.looked;
+  reached : AreReached l.limit l.depths l.state.queue.items l.state.tail;
 }
 
 abbrev pub decreases-levels : goal.decreases-levels

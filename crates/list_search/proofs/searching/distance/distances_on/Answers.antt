@@ -2,8 +2,8 @@ use Rattle.std.proofs.Common.{ℕ, ◌≡◌, ◌<◌, ◌≤◌, ◌⊎◌, ◌
 use Rattle.list_search.specs.Distances.{IsAmong}
 use Rattle.list_search.specs.Graph.{Graph, graph_of}
 use Rattle.list_search.proofs.Levelled.{IsLevelled, levelled_next}
-use Rattle.list_search.proofs.Depths.{noted_next, noted-limit, noted-all}
-use Rattle.list_search.proofs.searching.distance.distances_in.Goals as goal
+use Rattle.list_search.proofs.Depths.{noted_next, noted-limit, noted-all, reached_next}
+use Rattle.list_search.proofs.searching.distance.distances_on.Goals as goal
 
 pub levels-preserved : goal.levels-preserved
 levels-preserved c =
@@ -32,6 +32,15 @@ levels-preserved c =
       cost = let h = after.cost in let k = before.cost in omega arith;
       begun = λ none. absurd (omega arith);
       expanded = λ _. let one = after.works.forward in omega arith;
+      reached =
+          reached_next c.args.limit (c.levels.level + 1) c.levels.depths c.note_level-in-levels.new.depths
+          a.queue.items b.queue.items a.tail b.tail after.grows.kept (omega arith)
+          before.reached (omega arith)
+          (subst (λ q. (x : ℕ)
+          → (slice_index c.note_level-in-levels.new.depths x ≡ slice_index c.levels.depths x)
+          ⊎ ((slice_index c.note_level-in-levels.new.depths x ≡ c.levels.level + 1)
+          × IsAmong q a.tail b.tail x))
+          c.as_slice-in-levels.ensures.value c.note_level-in-levels.ensures.others);
     }
 
 pub returns-then-limit-level-clause-distances : goal.returns-then-limit-level-clause-distances
