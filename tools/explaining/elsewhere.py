@@ -12,8 +12,8 @@ from .judges import WORDS
 from .rows import Answer, Request, Row, failed, row_of, unread
 
 
-# What runs the words behind it. Where a job of parallel is one of this machine beside others, the trace is not copied, and its relative name
-# is right at the root of the file system alone.
+# What runs the words behind it. A job of this machine, beside others, has no copy of the trace, whose relative name is right at the root of
+# the file system alone.
 AT_ROOT_HERE = 'if [ "$PARALLEL_SSHLOGIN" = : ]; then cd /; fi; exec "$@"'
 
 
