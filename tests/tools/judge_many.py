@@ -1028,12 +1028,15 @@ def names_like_commands(tally: Tally, program: str, folder: str) -> None:
 
 
 def stopped(tally: Tally, folder: str, other: str) -> None:
-    """SIGTERM and SIGHUP end it, and what judges for it."""
-    slow, begun = Path(other, "slow"), Path(other, "begun")
+    """SIGTERM and SIGHUP end it, and what judges for it: also where that has answered of the whole trace, and is asked of a beginning."""
+    begun, lost = Path(other, "begun"), f"{folder}/lost.trace"
+    hanging = f"echo $$ >> '{begun}'\nexec sleep 60\n"
+    slow = script(Path(other, "slow"), VERSION + hanging)
+    answer = '{"at":"0.2","inserts":1,"operations":2,"replicas":1,"strong":false,"verdict":"contents","weak":false}'
+    then_slow = script(Path(other, "then_slow"), f"{VERSION}case \"$*\" in *--workers*) echo '{answer}'; exit 1;; esac\n{hanging}")
     for stop in signal.SIGTERM, signal.SIGHUP:
-        slow.write_text(f"#!/bin/sh\n{VERSION}echo $$ >> '{begun}'\nexec sleep 60\n")
-        slow.chmod(0o755)
-        for words in [TOOL, "--program", str(slow), "--jobs", "2", folder], [str(ROOT / "tools" / "explain"), "--program", str(slow), f"{folder}/lost.trace"]:
+        for words in ([TOOL, "--program", slow, "--jobs", "2", folder], [EXPLAIN, "--program", slow, lost], [TOOL, "--program", then_slow, lost],
+                      [TOOL, "--program", then_slow, "--junit", f"{other}/judged.xml", lost]):
             begun.write_text("")
             running = subprocess.Popen(words, stdout=subprocess.PIPE, stderr=subprocess.PIPE, start_new_session=True,
                                        preexec_fn=lambda: signal.signal(stop, signal.SIG_DFL))  # which what runs in the background may ignore

@@ -14,7 +14,7 @@ from concurrent.futures.process import BrokenProcessPool
 from queue import Empty, SimpleQueue
 
 from .files import Unread, before, content, opened, shown, side_of
-from .programs import VERDICTS
+from .programs import VERDICTS, Running
 from .rows import Answer, Request, Row, failed, row_of, unread
 
 WORDS = ["verdict", "--json", "--workers", "1"]  # for the program, before a trace
@@ -64,8 +64,6 @@ class Judges:
 
     def __init__(self, request: Request, jobs: int) -> None:
         self.request, self.jobs = request, jobs
-        self.running: set = set()
-        self.is_stopped = False
         self.lock, self.lookers = threading.Lock(), None
 
     def judged(self, file: str) -> Row:
@@ -86,11 +84,11 @@ class Judges:
                 process = subprocess.Popen(words, stdin=descriptor, stdout=subprocess.PIPE, stderr=subprocess.PIPE)
             except OSError as error:
                 return failed(file, 0.0, 126, f"{shown(self.request.program)} can't be run: {error.strerror}")
-            self.running.add(process)
-            if self.is_stopped:  # meanwhile: nobody else ends this one
+            Running.processes.add(process)
+            if Running.is_stopped:  # meanwhile: nobody else ends this one
                 process.kill()
             printed, errors = process.communicate()
-            self.running.discard(process)
+            Running.processes.discard(process)
             trace, side = content(descriptor), side_of(file)
             changed = then.changed(descriptor, file)
         finally:
@@ -114,9 +112,7 @@ class Judges:
             return self.lookers
 
     def stop(self) -> None:
-        self.is_stopped = True
-        for process in list(self.running):
-            process.kill()
+        Running.stop()
         for looker in multiprocessing.active_children():
             looker.kill()
 
