@@ -1,4 +1,5 @@
-"""Runs the program on a text that is made on the fly, and measures its time and its memory; and a tool with all that it starts."""
+"""Runs the program on a text that is made on the fly, and measures its time and its memory; and a tool with all that it starts, or
+alone."""
 import os
 import subprocess
 import sys
@@ -50,6 +51,35 @@ def used(words: list) -> Used:
         os.close(reader)
         os.close(writer)
     return Used(Ended(int(status), done.stdout, done.stderr), float(seconds), float(megabytes))
+
+
+# The process that is a tool, and tells what it used itself, without what it started.
+ITSELF = """
+import os, resource, sys
+writer, tools, name, module = int(sys.argv[1]), *sys.argv[2:5]
+sys.path.insert(0, tools)
+sys.argv[:5] = [name]
+from explaining.commands import run_command
+try:
+    run_command(name, module)
+finally:
+    told = resource.getrusage(resource.RUSAGE_SELF)
+    os.write(writer, str(told.ru_utime + told.ru_stime).encode())
+"""
+
+
+def used_itself(tools: str, name: str, module: str, words: list) -> tuple:
+    """A run of the tool of this name, the command of a module of `explaining`: how it ended, and the seconds of processor that its own
+    process took."""
+    reader, writer = os.pipe()
+    try:
+        done = subprocess.run([sys.executable, "-c", ITSELF, str(writer), tools, name, module, *words], capture_output=True,
+                              pass_fds=[writer], timeout=SECONDS)
+        seconds = os.read(reader, 100)
+    finally:
+        os.close(reader)
+        os.close(writer)
+    return Ended(done.returncode, done.stdout, done.stderr), float(seconds)
 
 
 def memory_of(process: subprocess.Popen) -> int:

@@ -22,17 +22,17 @@ from pathlib import Path
 ROOT = Path(__file__).resolve().parents[2]
 sys.path.insert(0, str(ROOT / "tests"))
 from reference import verdicts  # noqa: E402
-from shared.measured import used  # noqa: E402
+from shared.measured import used, used_itself  # noqa: E402
 from shared.program import Ended, Tally, is_running, need, program_of, run  # noqa: E402
 from shared.sessions import session  # noqa: E402
 from shared.traces import two_rings  # noqa: E402
 
 sys.path[:0] = [str(ROOT / "recorders" / "engines"), str(ROOT / "tools")]
 import sessions as exchanged  # noqa: E402
-from explaining import judges  # noqa: E402
+from explaining import files, judges, rows  # noqa: E402
 from list_crdt import Group, play  # noqa: E402
 
-TOOL = str(ROOT / "tools" / "judge_many")
+TOOL, EXPLAIN = str(ROOT / "tools" / "judge_many"), str(ROOT / "tools" / "explain")
 JOBS = ["github_workflow.yml", "gitlab_jobs.yml"]  # of examples/ci
 
 # Traces by file.
@@ -390,16 +390,26 @@ def errors(tally: Tally, program: str, folder: str) -> None:
     tally.same("another parallel", Ended(got.returncode, got.stdout, got.stderr), Ended(2, b"", fault))
 
 
+def script(path: Path, text: str) -> str:
+    """A script of the shell that can be run."""
+    path.write_text(f"#!/bin/sh\n{text}")
+    path.chmod(0o755)
+    return str(path)
+
+
+def ssh_of(folder: str) -> dict:
+    """What GNU parallel is to find in its surroundings: what stands for ssh runs the command here, with the SHELL that a login sets."""
+    stand_in = script(Path(folder, "ssh"), "while [ \"${1#-}\" != \"$1\" ]; do [ \"$1\" != -l ] || shift; shift; done\nshift\n"
+                      "[ \"$1\" != -- ] || shift\nexec env SHELL=/bin/sh sh -c \"$*\"\n")
+    return {"PARALLEL_SSH": stand_in, "HOME": folder}
+
+
 def elsewhere(tally: Tally, program: str, folder: str, other: str) -> None:
-    """By GNU parallel on two machines, which are this one: what stands for ssh runs the command here, with the
-    SHELL that a login sets. And without GNU parallel."""
+    """By GNU parallel on two machines, which are this one. And without GNU parallel."""
     here = [json.loads(line) | {"seconds": 0} for line in judge(program, ["--json", folder]).out.decode().splitlines()]
-    stand_in = Path(other, "ssh")
-    stand_in.write_text("#!/bin/sh\nwhile [ \"${1#-}\" != \"$1\" ]; do [ \"$1\" != -l ] || shift; shift; done\nshift\n"
-                        "[ \"$1\" != -- ] || shift\nexec env SHELL=/bin/sh sh -c \"$*\"\n")
-    stand_in.chmod(0o755)
+    surroundings_of_ssh = ssh_of(other)
     for what, more, surroundings in (
-            ("two machines", ["--sshlogin", "2/one,two", "--jobs", "50%"], {"PARALLEL_SSH": str(stand_in), "HOME": other}),
+            ("two machines", ["--sshlogin", "2/one,two", "--jobs", "50%"], surroundings_of_ssh),
             ("no parallel", ["--jobs", "3"], {"PATH": other})):
         words = [sys.executable, TOOL, "--program", program, "--json", *more, folder]
         done = subprocess.run(words, env=os.environ | surroundings, capture_output=True)
@@ -411,8 +421,7 @@ def elsewhere(tally: Tally, program: str, folder: str, other: str) -> None:
         shown = shown.replace("/opt/domepeeler/bin/domepeeler-judge-many", f"{sys.executable} {TOOL} --program {program}")
         shown = shown.replace("night/part1 night/part2", os.path.relpath(path, "/")).replace("night.jsonl", f"{other}/night.jsonl")
         os.makedirs(f"{folder}/none", exist_ok=True)
-        done = subprocess.run(["sh", "-c", shown], cwd="/", env=os.environ | {"PARALLEL_SSH": str(stand_in), "HOME": other},
-                              capture_output=True, text=True)
+        done = subprocess.run(["sh", "-c", shown], cwd="/", env=os.environ | surroundings_of_ssh, capture_output=True, text=True)
         rows = [json.loads(line) for line in Path(other, "night.jsonl").read_text().splitlines()]
         tally.check(f"two machines, by folders: {path}", done.returncode == status
                     and [row["verdict"] for row in rows] == ["accepted"] * (1 - status), done)
@@ -422,6 +431,23 @@ def elsewhere(tally: Tally, program: str, folder: str, other: str) -> None:
     tally.check("parallel on this machine: the rows", rows == here and got.status == 1 and not got.err, got)
     left = [str(path) for path in Path(other).rglob("*.trace")]
     tally.check("two machines: no trace is left there", not left, left)
+    here_and_elsewhere(tally, program, folder, other, here)
+
+
+def here_and_elsewhere(tally: Tally, program: str, folder: str, other: str, wanted: list) -> None:
+    """This machine and another at once: each judges some of the traces, none is taken away here, and none left there."""
+    asked = Path(other, "asked")
+    noting = script(Path(other, "noting"), f"echo \"$PARALLEL_SSHLOGIN\" >> '{asked}'\nexec '{program}' \"$@\"\n")
+    before = sorted(map(str, Path(folder).rglob("*")))
+    for machines in "1/:,1/one", "one,:", "2/one,2/:":
+        asked.write_text("")
+        done = subprocess.run([TOOL, "--program", noting, "--json", "--sshlogin", machines, folder], cwd=other,
+                              env=os.environ | ssh_of(other), capture_output=True, text=True)
+        rows_there = [json.loads(line) | {"seconds": 0} for line in done.stdout.splitlines()]
+        tally.check(f"{machines}: the rows", rows_there == wanted and done.returncode == 1 and not done.stderr, done)
+        tally.check(f"{machines}: both judge", set(asked.read_text().split()) == {":", "one"}, asked.read_text())
+        left = [str(path) for path in Path(other).rglob("*.trace")]
+        tally.check(f"{machines}: all traces stay here, and none there", sorted(map(str, Path(folder).rglob("*"))) == before and not left, left)
 
 
 def fails_at(tally: Tally, program: str, folder: str) -> None:
@@ -805,20 +831,105 @@ def not_looked_at(tally: Tally, program: str, folder: str) -> None:
 
 
 def changing(tally: Tally, program: str, folder: str) -> None:
-    """A trace that changes while it is judged is not accepted: nobody knows what the verdict is of."""
-    path, judge_it = Path(folder, "a.trace"), Path(folder, "slow")
-    for what, change in (("grows", f"echo '0 read : b' >> '{path}'"),
-                         ("is written over", f"printf 'trace 1\\nreplicas 1\\n0 ins b 0 : b\\n' > '{path}'"),
-                         ("is cut", f": > '{path}'")):
-        judge_it.write_text(f"#!/bin/sh\n{VERSION}'{program}' \"$@\"\nstatus=$?\nsleep 0.02\n{change}\nexit $status\n")
-        judge_it.chmod(0o755)
-        for more in [], ["--sshlogin", ":"]:
-            write(folder, {"a.trace": "0 ins a 0 : a"})
-            got = judge(str(judge_it), ["--json", *more, str(path)])
+    """A trace that changes while it is judged is not accepted: nobody knows what the verdict is of. Nor is one where what stands beside it
+    changes: that may be of another trace."""
+    path = Path(folder, "a.trace")
+    side, other = f"{path}.lines", Path(folder, "other")
+    itself, beside = "it changed while it was judged", "the file beside it changed while it was judged"
+    for what, change, error in (("grows", f"echo '0 read : b' >> '{path}'", itself),
+                                ("is written over", f"cat '{other}' > '{path}'", itself), ("is cut", f": > '{path}'", itself),
+                                ("is replaced", f"mv '{other}' '{path}'", itself), ("is removed", f"rm '{path}'", itself),
+                                ("is replaced with its side", f"echo '3 c.py:9' >> '{side}'; mv '{other}' '{path}'", itself),
+                                ("has its side written over", f"printf '3\\n3 c.py:9\\n' > '{side}'", beside),
+                                ("has its side replaced", f"mv '{other}' '{side}'", beside),
+                                ("has its side removed", f"rm '{side}'", beside)):
+        judge_it = script(Path(folder, "slow"), f"{VERSION}'{program}' \"$@\"\nstatus=$?\nsleep 0.02\n{change}\nexit $status\n")
+        for more in [], ["--sshlogin", ":"], ["--junit", f"{folder}/judged.xml"]:
+            write(folder, {"a.trace": "0 ins a 0 : a|0 read :"})
+            Path(side).write_text("4\n3 t.py:7\n")
+            other.write_text("trace 1\nreplicas 1\n0 ins b 0 : b\n")
+            got = judge(judge_it, ["--json", *more, str(path)])
             row = json.loads(got.out)
-            tally.check(f"changing: one that {what} {more}", got.status == 2
-                        and (row["verdict"], row["error"]) == ("failed", "it changed while it was judged"),
-                        got)
+            tally.check(f"changing: one that {what} {more}", got.status == 2 and (row["verdict"], row["error"]) == ("failed", error)
+                        and got.err.decode() == f"domepeeler-judge-many: {path}: {error}\n", got)
+            told = [(fault.tag, fault.text) for fault in xml.parse(more[1]).getroot().find("testsuite/testcase")] if more[:1] == ["--junit"] else []
+            tally.check(f"changing: JUnit of one that {what}", told in ([], [("error", error)]), told)
+    judge_it = script(Path(folder, "slow"), f"{VERSION}'{program}' \"$@\"\nstatus=$?\necho 9 > '{side}'\nexit $status\n")
+    Path(side).unlink(missing_ok=True)
+    got = judge(judge_it, [str(path)])
+    tally.check("changing: one that gets a side", got.status == 2 and got.err.decode() == f"domepeeler-judge-many: {path}: {beside}\n", got)
+
+
+# What is told of, each with what stands beside it; of these the last one is judged last.
+TOLD_OF = {"a.trace": ("0 reads :", "3\n"), "b.trace": ("0 ins x 0 : x|0 read :", "4\nnote seed 17\n3 t.py:7\n4 t.py:8\n"),
+           "c.trace": ("0 ins a 0 : a|1 ins b 0 : b|0 recv 1 1|1 recv 0 1|0 read : a b|1 read : b a", "8\n7 t.py:9\n"),
+           "z.trace": ("0 ins a 0 : a", "3\n")}
+# What stands there afterwards, of as many lines, so that what stands beside it fits too.
+INSTEAD = {"a.trace": ("0 rids :", "3\n"), "b.trace": ("0 ins y 0 : y|0 read :", "4\nnote seed 99\n3 c.py:1\n4 c.py:2\n"),
+           "c.trace": ("0 ins c 0 : c|1 ins d 0 : d|0 recv 1 1|1 recv 0 1|0 read : c d|1 read : d c", "8\n7 c.py:3\n")}
+
+
+def write_both(folder: str, traces: dict) -> None:
+    """Traces, and what stands beside each."""
+    write(folder, {name: entries for name, (entries, _) in traces.items()})
+    for name, (_, side) in traces.items():
+        Path(folder, f"{name}.lines").write_text(side)
+
+
+def told_of_what_was_judged(tally: Tally, program: str, folder: str) -> None:
+    """What is told of a trace is of the bytes that were judged, though the file is another one, or gone, when the table is printed: here
+    from the time on when the last trace is judged. Where it was judged by GNU parallel, it is read behind that, and then it has changed."""
+    place, counted = f"{folder}/traces", Path(folder, "counted")
+    names, junit_file = list(TOLD_OF), f"{folder}/judged.xml"
+    changes = {"nothing": ":", "written over": f"cp '{folder}'/instead/* '{place}'", "replaced": f"mv '{folder}'/instead/* '{place}'",
+               "removed": f"rm '{place}'/[abc].*", "folders instead": f"rm '{place}'/[abc].*; mkdir '{place}/a.trace' '{place}/b.trace.lines'"}
+    wanted = None
+    for what, change in changes.items():
+        judge_it = script(Path(folder, "changing"), f"{VERSION}case \"$*\" in *--workers*) echo >> '{counted}';; esac\n"
+                          f"[ $(wc -l < '{counted}') -lt {len(names)} ] || {{ {change}; }} 2> /dev/null\nexec '{program}' \"$@\"\n")
+        for form in [], ["--json"], ["--sshlogin", ":"]:
+            shutil.rmtree(place, ignore_errors=True)
+            write_both(place, TOLD_OF)
+            write_both(f"{folder}/instead", INSTEAD)
+            counted.write_text("")
+            got = judge(judge_it, ["--jobs", "1", *form, "--junit", junit_file, place])
+            told = (got.status, re.sub(r'"seconds": [-\d.e]+|\b\d+\.\d{3}\b', "", got.out.decode()), got.err.decode(),
+                    re.sub(r' time="[^"]*"', "", Path(junit_file).read_text()))
+            if form[:1] == ["--sshlogin"]:
+                said = got.err.decode().splitlines()
+                is_right = said[0].endswith(": finder: line 3: shape") if what == "nothing" else said == [
+                    f"domepeeler-judge-many: {place}/{name}: it changed while it was judged" for name in names[:3]]
+                tally.check(f"told of what was judged: {what}, by GNU parallel", got.status == 2 and is_right, got)
+            elif what == "nothing":
+                wanted = (wanted or {}) | {str(form): told}
+                tally.check(f"told of what was judged: {form}", got.status == 2 and "line 3 is: 0 reads :" in told[2] and all(
+                    words in told[3] for words in ("  t.py:8: line 4\n", "seed 17", "[b] before [a]: ", "0 reads :")), told)
+            else:
+                tally.check(f"told of what was judged: {what} {form}", told == wanted[str(form)], (told, wanted[str(form)]))
+
+
+def explained_once(tally: Tally, program: str, folder: str) -> None:
+    """`explain` reads the trace and what stands beside it once, before it asks the program; where they change just then, it says so."""
+    path = f"{folder}/b.trace"
+    write_both(folder, TOLD_OF)
+    wanted = run(EXPLAIN, ["--program", program, path])
+    tally.check("explained once: with places and notes", wanted.status == 1 and b"t.py:8: line 4" in wanted.out and b"seed 17" in wanted.out, wanted)
+    for what, change in (("written over", f"cp '{folder}'/instead/* '{folder}'"), ("replaced", f"mv '{folder}'/instead/* '{folder}'"),
+                         ("removed", f"rm '{folder}'/[abc].*")):
+        write_both(folder, TOLD_OF)
+        write_both(f"{folder}/instead", INSTEAD)
+        judge_it = script(Path(folder, "changing"), f"{VERSION}{{ {change}; }} 2> /dev/null\nexec '{program}' \"$@\"\n")
+        tally.same(f"explained once: {what} while it is judged", run(EXPLAIN, ["--program", judge_it, path]), wanted)
+    usual = files.side_of
+    for what, change in (("trace", lambda: Path(path).write_text("trace 1\nreplicas 1\n")), ("side", lambda: Path(f"{path}.lines").write_text("3\n"))):
+        write_both(folder, TOLD_OF)
+        files.side_of = lambda name: (usual(name), change())[0]
+        try:
+            told = files.read_both(path)
+        except files.Unread as error:
+            told = str(error)
+        files.side_of = usual
+        tally.check(f"explained once: its {what} changes while they are read", told == "it changed while it was read", told)
 
 
 def no_files(tally: Tally, program: str, folder: str) -> None:
@@ -917,12 +1028,15 @@ def names_like_commands(tally: Tally, program: str, folder: str) -> None:
 
 
 def stopped(tally: Tally, folder: str, other: str) -> None:
-    """SIGTERM and SIGHUP end it, and what judges for it."""
-    slow, begun = Path(other, "slow"), Path(other, "begun")
+    """SIGTERM and SIGHUP end it, and what judges for it: also where that has answered of the whole trace, and is asked of a beginning."""
+    begun, lost = Path(other, "begun"), f"{folder}/lost.trace"
+    hanging = f"echo $$ >> '{begun}'\nexec sleep 60\n"
+    slow = script(Path(other, "slow"), VERSION + hanging)
+    answer = '{"at":"0.2","inserts":1,"operations":2,"replicas":1,"strong":false,"verdict":"contents","weak":false}'
+    then_slow = script(Path(other, "then_slow"), f"{VERSION}case \"$*\" in *--workers*) echo '{answer}'; exit 1;; esac\n{hanging}")
     for stop in signal.SIGTERM, signal.SIGHUP:
-        slow.write_text(f"#!/bin/sh\n{VERSION}echo $$ >> '{begun}'\nexec sleep 60\n")
-        slow.chmod(0o755)
-        for words in [TOOL, "--program", str(slow), "--jobs", "2", folder], [str(ROOT / "tools" / "explain"), "--program", str(slow), f"{folder}/lost.trace"]:
+        for words in ([TOOL, "--program", slow, "--jobs", "2", folder], [EXPLAIN, "--program", slow, lost], [TOOL, "--program", then_slow, lost],
+                      [TOOL, "--program", then_slow, "--junit", f"{other}/judged.xml", lost]):
             begun.write_text("")
             running = subprocess.Popen(words, stdout=subprocess.PIPE, stderr=subprocess.PIPE, start_new_session=True,
                                        preexec_fn=lambda: signal.signal(stop, signal.SIG_DFL))  # which what runs in the background may ignore
@@ -1266,6 +1380,11 @@ def weak_in_ci(tally: Tally, program: str, folder: str) -> None:
         "1 not accepted: judged/junit.xml has them all, and judged/1.html is the page of the first\n"), done)
 
 
+def row_and_process(*words: object) -> rows.Row:
+    """The row, with the process that found it in the place of the user's notes."""
+    return rows.row_of(*words)._replace(notes=[str(os.getpid())])
+
+
 def some_big(folder: Path, count: int = 2) -> None:
     """Traces of over a megabyte: one is accepted, and of the others the last read lacks elements."""
     names = [f"element{i}" for i in range(600)]
@@ -1274,24 +1393,57 @@ def some_big(folder: Path, count: int = 2) -> None:
 
 
 def big_traces(tally: Tally, program: str, folder: str) -> None:
-    """What is told of a big trace beside its verdict is found by other processes, with the same words."""
-    some_big(Path(folder), 3)
-    rows = [json.loads(line) | {"seconds": 0} for line in judge(program, ["--json", "--jobs", "3", folder]).out.decode().splitlines()]
-    alone = [json.loads(line) | {"seconds": 0} for line in judge(program, ["--json", "--jobs", "1", folder]).out.decode().splitlines()]
-    asked = []
-
-    class Counted(judges.ProcessPoolExecutor):
-        def submit(self, *words: object) -> object:
-            asked.append(words)
-            return super().submit(*words)
-
-    usual, judges.ProcessPoolExecutor = judges.ProcessPoolExecutor, Counted
-    judges.judged_here(program, sorted(map(str, Path(folder).glob("*.trace"))), 3, False)
-    judges.ProcessPoolExecutor = usual
-    tally.check("big traces: by other processes", len(asked) == 3, len(asked))
+    """What is told of a big trace beside its verdict is found by other processes, by several at once, with the same words."""
+    some_big(Path(folder), 6)
+    told = [[json.loads(line) | {"seconds": 0} for line in judge(program, ["--json", "--jobs", jobs, folder]).out.decode().splitlines()]
+            for jobs in ("3", "1")]
+    usual, judges.row_of = judges.row_of, row_and_process
+    found = judges.judged_here(rows.Request(program), sorted(map(str, Path(folder).glob("*.trace"))), 3)
+    judges.row_of = usual
+    processes = {row.notes[0] for row in found}
+    tally.check("big traces: by several other processes", 1 < len(processes) < 4 and str(os.getpid()) not in processes, processes)
     sizes = [path.stat().st_size for path in Path(folder).glob("*.trace")]
-    tally.check("big traces: the same rows", rows == alone and [row["verdict"] for row in rows] == ["contents", "contents", "accepted"]
-                and min(sizes) > 1 << 20, (rows and rows[0].get("fails_at"), sizes))
+    tally.check("big traces: the same rows", told[0] == told[1] and [row["verdict"] for row in told[0]] == [*["contents"] * 5, "accepted"]
+                and min(sizes) > 1 << 20, (told[0] and told[0][0].get("fails_at"), sizes))
+
+
+SMALL_TRACES, BIG_TRACES = 2000, 8
+MOST_OF_SMALL = 0.007  # seconds of the tool's own processor for a small trace: five times what it took
+
+
+def own_seconds(program: str, words: list) -> tuple:
+    return used_itself(str(ROOT / "tools"), "domepeeler-judge-many", "many_command", ["--program", program, *words])
+
+
+def time_of_small(tally: Tally, program: str, folder: str) -> None:
+    """Many small traces take little of the tool's own time, of its processor and not of the clock: four times as many take about four
+    times as much."""
+    write(folder, {f"{'few' if i < SMALL_TRACES // 4 else 'more'}/{i}.trace": "0 ins a 0 : a|1 recv 0 1|0 read : a|1 read : a" for i in range(SMALL_TRACES)})
+    few, seconds_of_few = own_seconds(program, ["--jobs", "4", f"{folder}/few"])
+    got, seconds = own_seconds(program, ["--jobs", "4", folder])
+    tally.check("time of small traces: all are accepted", (got.status, few.status) == (0, 0) and got.out.endswith(
+        f"\n{SMALL_TRACES} traces: {SMALL_TRACES} accepted\n".encode()), (got.out[-200:], got.err[-200:]))
+    tally.check("time of small traces: of each", seconds / SMALL_TRACES < MOST_OF_SMALL, seconds)
+    tally.check("time of small traces: no more where there are many", seconds < 5 * seconds_of_few, (seconds, seconds_of_few))
+
+
+def time_of_big(tally: Tally, program: str, folder: str) -> None:
+    """Eight big traces with four jobs are looked at by other processes: they take less of the tool's own processor than three with one job,
+    where it looks at them itself."""
+    for replica in range(16):
+        names = [f"element.number.{place}.of.{replica:02d}" for place in range(5)]
+        inserts = [f"{replica} ins {name} {place} : {' '.join(names[:place + 1])}" for place, name in enumerate(names)]
+        with open(f"{folder}/0.trace", "a") as file:
+            file.write("" if replica else "trace 1\nreplicas 16\n")
+            file.writelines(f"{line}\n" for line in [*inserts, *[f"{replica} read : {' '.join(names)}"] * 4091])
+    big = [f"{folder}/{number}.trace" for number in range(BIG_TRACES)]
+    for name in big[1:]:
+        os.link(big[0], name)
+    alone, seconds_alone = own_seconds(program, ["--jobs", "1", *big[:3]])
+    got, seconds = own_seconds(program, ["--jobs", "4", *big])
+    tally.check("time of big traces: all are accepted", (alone.status, got.status) == (0, 0) and f"\n{BIG_TRACES} traces: {BIG_TRACES} accepted\n" in
+                got.out.decode() and 7_000_000 < os.path.getsize(big[0]) < 9_000_000, (got.out[-300:], os.path.getsize(big[0])))
+    tally.check("time of big traces: others look at them", seconds < seconds_alone, (seconds, seconds_alone))
 
 
 def long_cycles(tally: Tally, program: str, folder: str) -> None:
@@ -1339,8 +1491,9 @@ def main() -> None:
         fails_at(tally, program, third)
         warnings(tally, program, folder)
         warnings_of_sessions(tally, program, other)
-    for check in (pythons, little_memory, not_looked_at, changing, weak, weak_junit, weak_in_ci, known_as_cut, grouped, no_files, overwriting,
-                  millions_of_names, odd_names, names_like_commands, tasks, script_of_ci, big_traces, long_cycles):
+    for check in (pythons, little_memory, not_looked_at, changing, told_of_what_was_judged, explained_once, weak, weak_junit, weak_in_ci,
+                  known_as_cut, grouped, no_files, overwriting, millions_of_names, odd_names, names_like_commands, tasks, script_of_ci,
+                  big_traces, time_of_small, time_of_big, long_cycles):
         with tempfile.TemporaryDirectory() as folder:
             check(tally, program, folder)
     with tempfile.TemporaryDirectory() as folder, tempfile.TemporaryDirectory() as other, tempfile.TemporaryDirectory() as third:

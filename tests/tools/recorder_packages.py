@@ -2,7 +2,8 @@
 """recorder_packages.py PROGRAM: the recorders as packages of Python, JavaScript and Rust, each installed without a registry into an empty
 place, and used there by a test of that language's own runner, which must pass, or fail with an explanation and a saved trace.
 
-Needs node, npm and cargo, and for Debian's Python pip, setuptools, wheel, venv and pytest, which are installed where they are missing."""
+Needs node, npm and cargo, and for Debian's Python pip, setuptools, wheel, venv and pytest, which are installed where they are missing. So
+is Debian's proptest; where that can't be, a crate stands in for it."""
 import os
 import re
 import shutil
@@ -21,6 +22,8 @@ HANDING_ON = RECORDERS / "javascript/domepeeler.mjs"
 DEBIAN_PYTHON = "/usr/bin/python3"
 MODULES = {"pip": "python3-pip", "setuptools": "python3-setuptools", "wheel": "python3-wheel", "venv": "python3-venv",
            "pytest": "python3-pytest"}
+CRATES = Path("/usr/share/cargo/registry")  # Debian's
+PROPTEST = "librust-proptest+std-dev"
 
 # A replica received an element, and then answers that it has none. Its explanation begins with the first of these lines.
 LOST = "contents 1.1: "
@@ -502,23 +505,29 @@ fn lost() {
 }
 '''
 
-# What stands before the lines of proptest in the README of Rust, the words that the test asks, and a crate that stands in for proptest.
-BEFORE_PROPTEST = '''
-use domepeeler::{Recording, Verdict};
-use proptest::prelude::*;
-
-fn steps() -> Vec<Vec<&'static str>> {
-    vec![vec!["a"], vec![]] // which the second one of the replicas reads
-}
-
-fn session(list: &[&str]) -> Result<Recording, TestCaseError> {
-    let mut recording = Recording::new(2).unwrap();
-    recording.insert(0, "a", 0, &["a"]).unwrap();
-    recording.delivered(&[&["a"][..], list]).unwrap();
+# What stands beside the lines of proptest in the README of Rust: an engine that loses the third insert on its way, and sessions of so
+# many inserts at most. And a crate that stands in for proptest, with the sessions that it tries.
+LOSING = '''
+fn session(places: &[usize]) -> Result<Recording, domepeeler::Refused> {
+    let mut recording = Recording::new(2)?;
+    let mut list: Vec<String> = Vec::new();
+    for (number, place) in places.iter().enumerate() {
+        let (name, at) = (format!("e{number}"), place % (list.len() + 1));
+        list.insert(at, name.clone());
+        recording.insert(0, &name, at as u32, &list)?;
+    }
+    let arrived = list.iter().filter(|name| *name != "e2").cloned().collect();
+    recording.delivered(&[list, arrived])?;
     Ok(recording)
 }
-
 '''
+STRATEGY = '''
+fn steps() -> impl Strategy<Value = Vec<usize>> {
+    prop::collection::vec(0..8usize, 0..=MOST)
+}
+'''
+TRIED = {2: [[0, 1], [0, 0]], 9: [[0, 0], [0, 1, 2, 3], [0, 0, 0]]}
+CASES = 256  # that proptest tries
 STAND_IN = '''
 pub mod prelude {
     pub use super::{prop_assert, proptest, TestCaseError};
@@ -530,6 +539,12 @@ pub struct TestCaseError(pub String);
 impl TestCaseError {
     pub fn fail(why: impl Into<String>) -> TestCaseError {
         TestCaseError(why.into())
+    }
+}
+
+impl<E: std::error::Error> From<E> for TestCaseError {
+    fn from(why: E) -> TestCaseError {
+        TestCaseError(why.to_string())
     }
 }
 
@@ -547,12 +562,16 @@ macro_rules! proptest {
     ($(#[test] fn $name:ident($given:ident in $strategy:expr) $body:block)*) => {
         $(#[test]
         fn $name() {
+            let mut failed = None;
             for $given in $strategy {
                 let tried: Result<(), $crate::TestCaseError> = (|| {
                     $body
                     Ok(())
                 })();
-                tried.unwrap();
+                failed = tried.err().map(|why| (format!("{:?}", $given), why)).or(failed);
+            }
+            if let Some((given, why)) = failed {
+                panic!("{}; minimal failing input: {} = {}", why.0, stringify!($given), given);
             }
         })*
     };
@@ -640,8 +659,8 @@ class Place:
         for variable, own in ("CARGO_HOME", ".cargo"), ("RUSTUP_HOME", ".rustup"):
             self.surroundings.setdefault(variable, str(home / own))
 
-    def run(self, words: list, place: str = "", **surroundings: str) -> subprocess.CompletedProcess:
-        done = subprocess.run(words, cwd=self.folder / place, env={**self.surroundings, **surroundings}, timeout=120, text=True,
+    def run(self, words: list, place: str = "", seconds: int = 120, **surroundings: str) -> subprocess.CompletedProcess:
+        done = subprocess.run(words, cwd=self.folder / place, env={**self.surroundings, **surroundings}, timeout=seconds, text=True,
                               stdin=subprocess.DEVNULL, stdout=subprocess.PIPE, stderr=subprocess.STDOUT)
         return done
 
@@ -657,6 +676,8 @@ def prepare() -> None:
     need("npm", "npm")
     need("cargo", "cargo")
     missing = [package for module, package in MODULES.items() if not has_module(module)]
+    if not has_proptest() and shutil.which("apt-get") is not None:
+        missing.append(PROPTEST)
     if missing:
         for words in ["update"], ["install", "-y", "--no-install-recommends", *missing]:
             subprocess.run(["apt-get", *words], stdout=subprocess.DEVNULL, env={**os.environ, "DEBIAN_FRONTEND": "noninteractive"})
@@ -668,6 +689,10 @@ def prepare() -> None:
 def has_module(module: str) -> bool:
     words = [DEBIAN_PYTHON, "-c", f"import {module}"]
     return os.access(DEBIAN_PYTHON, os.X_OK) and subprocess.run(words, capture_output=True).returncode == 0
+
+
+def has_proptest() -> bool:
+    return any(CRATES.glob("proptest-1.*/Cargo.toml"))
 
 
 def check_installed(tally: Tally, place: Place) -> None:
@@ -1100,23 +1125,42 @@ def check_rust(tally: Tally, place: Place) -> None:
 
 def check_proptest(tally: Tally, place: Place) -> None:
     """The lines of the README for proptest, and for crates that lie in a folder as Debian's do: a failing property asks for verdicts alone,
-    and saves what fails."""
-    config = example("rust", "[source.crates-io]")
-    tally.check("cargo: Debian's folder of crates", config.count('"/usr/share/cargo/registry"') == 1, config)
-    place.make("rust/.cargo/config.toml", config.replace("/usr/share/cargo", str(place.folder)))
-    place.make("registry/proptest/Cargo.toml", '[package]\nname = "proptest"\nversion = "1.0.0"\nedition = "2021"\n')
-    place.make("registry/proptest/src/lib.rs", STAND_IN)
-    place.make("registry/proptest/.cargo-checksum.json", '{"files":{}}')
-    place.make("rust/Cargo.toml", '[package]\nname = "own"\nversion = "0.1.0"\nedition = "2021"\n[dev-dependencies]\nproptest = "1"\n'
+    and saves what fails, at last the smallest; and one that holds saves nothing."""
+    is_real, config = has_proptest(), example("rust", "[source.crates-io]")
+    tally.check("cargo: Debian's folder of crates", config.count(f'"{CRATES}"') == 1, config)
+    if not is_real:
+        print(f"Debian's {PROPTEST} is not here, and can't be installed: a crate stands in for it")
+        config = config.replace(str(CRATES.parent), str(place.folder))
+        place.make("registry/proptest/Cargo.toml", '[package]\nname = "proptest"\nversion = "1.0.0"\nedition = "2021"\n[features]\nstd = []\n')
+        place.make("registry/proptest/src/lib.rs", STAND_IN)
+        place.make("registry/proptest/.cargo-checksum.json", '{"files":{}}')
+    place.make("rust/.cargo/config.toml", config)
+    place.make("rust/Cargo.toml", '[package]\nname = "own"\nversion = "0.1.0"\nedition = "2021"\n[dev-dependencies]\n'
                f'domepeeler = {{ path = "{place.folder / "recorders/rust"}" }}\n[profile.dev]\ndebug = 0\n')
     place.make("rust/src/lib.rs", "")
-    place.make("rust/tests/properties.rs", BEFORE_PROPTEST + example("rust", "proptest! {"))
+    done = place.run(["sh", "-c", example("rust", "cargo add --dev --offline")], "rust")
+    tally.check("cargo: proptest is added", done.returncode == 0 and "Adding proptest v1." in done.stdout, done.stdout)
     asked = place.make("asking", ASKED.format(place.folder), 0o755)
-    done = place.run(["cargo", "test", "--offline", "--quiet", "--test", "properties"], "rust", DOMEPEELER=asked, DOMEPEELER_EXPLAIN=asked)
     saved, words = place.folder / "rust/failed.trace", place.folder / "asked"
-    tally.check("proptest: a failing property", done.returncode != 0 and "Contents { at: (1, 1) }" in done.stdout, done.stdout)
-    tally.check("proptest: asks for verdicts alone", words.is_file() and words.read_text() == "verdict -\n" * 2, done.stdout)
-    tally.check("proptest: saves what fails", saved.is_file() and saved.read_text().endswith("1 recv 0 1\n1 read :\n"), done.stdout)
+    for most in 2, 9:
+        tried = ", ".join(f"vec!{session}" for session in TRIED[most])
+        steps = STRATEGY.replace("MOST", str(most)) if is_real else f"fn steps() -> Vec<Vec<usize>> {{\n    vec![{tried}]\n}}\n"
+        place.make("rust/tests/properties.rs", LOSING + steps + example("rust", "use domepeeler::{Recording, Verdict};"))
+        words.unlink(missing_ok=True)
+        done = place.run(["cargo", "test", "--offline", "--quiet", "--test", "properties"], "rust", 600, DOMEPEELER=asked, DOMEPEELER_EXPLAIN=asked)
+        lines = words.read_text().splitlines() if words.is_file() else []
+        tally.check(f"proptest: asks for verdicts alone, of up to {most} inserts", set(lines) == {"verdict -"} and len(lines) >= len(TRIED[most]), lines)
+        if most == 2:
+            tally.check("proptest: a property that holds", done.returncode == 0 and "1 passed" in done.stdout and not saved.exists() and
+                        len(lines) == (CASES if is_real else len(TRIED[2])), (len(lines), done.stdout))
+    told = "".join(done.stdout.split())
+    tally.check("proptest: a failing property", done.returncode != 0 and "Contents{at:(1,1)}" in told
+                and re.search(r"minimalfailinginput:steps=\[0,0,0,?\]", told), done.stdout)
+    text = saved.read_text() if saved.is_file() else ""
+    tally.check("proptest: saves the smallest that fails", text == "trace 1\nreplicas 2\n0 ins e0 0 : e0\n0 ins e1 0 : e1 e0\n"
+                "0 ins e2 0 : e2 e1 e0\n0 read : e2 e1 e0\n1 recv 0 3\n1 read : e1 e0\n", (text, done.stdout))
+    done = place.run(["domepeeler-explain", "failed.trace"], "rust")
+    tally.check("proptest: which is explained once", done.returncode == 1 and done.stdout.startswith(LOST), done.stdout)
 
 
 def main() -> None:

@@ -7,9 +7,14 @@ import sys
 import tempfile
 from pathlib import Path
 
-from .files import CHANGED, Unread, content, opened, state
+from .files import CHANGED, Before, Unread, before, content, opened, side_of, state
 from .judges import WORDS
-from .rows import Row, failed, row_of, unread
+from .rows import Answer, Request, Row, failed, row_of, unread
+
+
+# What runs the words behind it. A job of this machine, beside others, has no copy of the trace, whose relative name is right at the root of
+# the file system alone.
+AT_ROOT_HERE = 'if [ "$PARALLEL_SSHLOGIN" = : ]; then cd /; fi; exec "$@"'
 
 
 class NoParallel(Exception):
@@ -26,19 +31,19 @@ def needs_parallel() -> None:
         raise NoParallel("--sshlogin needs GNU parallel: on Debian, apt-get update and apt-get install parallel")
 
 
-def judged_there(machines: str, jobs: str | None, program: str, files: list, weak: bool) -> list:
-    """A row for each trace, judged on other machines. With `weak` the weak list specification alone is asked for."""
+def judged_there(request: Request, files: list, machines: str, jobs: str | None) -> list:
+    """A row for each trace, judged on other machines."""
     rows, states = {}, {}
     for file in files:
         try:
-            states[file], _ = looked_at(file)
+            states[file] = looked_at(file)
         except Unread as error:
             rows[file] = unread(file, str(error))
     there = [file for file in files if file not in rows]
     with tempfile.TemporaryDirectory() as folder:
         if there:
-            run_all(machines, jobs, program, there, folder)
-            rows.update(zip(there, rows_of(program, there, folder, states, weak)))
+            run_all(machines, jobs, request.program, there, folder)
+            rows.update(zip(there, rows_of(request, there, folder, states)))
     return [rows[file] for file in files]
 
 
@@ -46,31 +51,31 @@ def run_all(machines: str, jobs: str | None, program: str, files: list, folder: 
     """Has each trace judged: parallel leaves a log, and what each job printed, in the folder.
 
     It runs at the root of the file system with relative names, so that a trace which is copied to another machine lands below
-    a folder of parallel's own there, and is removed from there alone. On this machine, which parallel calls `:`, it is not copied, and
-    its name is right as it is."""
+    a folder of parallel's own there, and is removed from there alone. On this machine, which parallel calls `:`, it is not copied: its
+    name is right as it is, and where there are other machines too, from the root."""
     given = "\0".join(os.path.abspath(file).lstrip("/") for file in files)
     words = ["parallel", "--null", "--joblog", f"{folder}/log", "--results", f"{folder}/" + "{#}"]
-    copied = [] if set(machine.rpartition("/")[2].strip() for machine in machines.split(",")) == {":"} else [
-        "--transferfile", "{}", "--workdir", "...", "--cleanup"]
+    is_here_alone = set(machine.rpartition("/")[2].strip() for machine in machines.split(",")) == {":"}
+    copied = [] if is_here_alone else ["--transferfile", "{}", "--workdir", "...", "--cleanup"]
     words += ["--sshlogin", machines, *copied, *(["--jobs", jobs] if jobs else [])]
     words += ["--bar"] if sys.stderr.isatty() else []
-    words += ["--quote", program, *WORDS, "{}"]
+    words += ["--quote", *([] if is_here_alone else ["sh", "-c", AT_ROOT_HERE, "sh"]), program, *WORDS, "{}"]
     errors = None if sys.stderr.isatty() else subprocess.PIPE
     done = subprocess.run(words, input=os.fsencode(given), cwd="/", stdout=subprocess.DEVNULL, stderr=errors)
     if not os.path.exists(f"{folder}/log") or done.returncode == 255:
         raise NoParallel("parallel could not run: " + (done.stderr or b"").decode(errors="replace").strip())
 
 
-def looked_at(file: str, is_read: bool = False) -> tuple:
-    """The state of a file, and its bytes where they are asked for."""
+def looked_at(file: str) -> Before:
+    """The states of a trace that can be read, and of the file beside it."""
     descriptor = opened(file)
     try:
-        return state(descriptor), content(descriptor) if is_read else b""
+        return before(descriptor, file)
     finally:
         os.close(descriptor)
 
 
-def rows_of(program: str, files: list, folder: str, states: dict, weak: bool) -> list:
+def rows_of(request: Request, files: list, folder: str, states: dict) -> list:
     """What the log and the jobs' output say of each trace."""
     ended = {}
     for line in Path(folder, "log").read_bytes().split(b"\n")[1:]:
@@ -79,20 +84,27 @@ def rows_of(program: str, files: list, folder: str, states: dict, weak: bool) ->
             continue  # the rest of a file's name that has a line feed
         number, _, _, seconds, _, _, status, signal = cells[:8]
         ended[int(number)] = float(seconds), int(status) if signal == "0" else 128 + int(signal)
-    return [row_in(program, file, states[file], Path(folder, str(at)), *ended.get(at, (0.0, 255)), weak)
+    return [row_in(request, file, states[file], Path(folder, str(at)), *ended.get(at, (0.0, 255)))
             for at, file in enumerate(files, 1)]
 
 
-def row_in(program: str, file: str, before: tuple, printed: Path, seconds: float, status: int, weak: bool) -> Row:
-    """The row of a job of parallel, which left what it printed."""
+def row_in(request: Request, file: str, then: Before, printed: Path, seconds: float, status: int) -> Row:
+    """The row of a job of parallel, which left what it printed. The trace is read once, now that it has been judged."""
     try:
-        now, trace = looked_at(file, True)
+        descriptor = opened(file)
+    except Unread as error:
+        return unread(file, str(error)) if state(file) == then.trace else failed(file, seconds, status, CHANGED)
+    try:
+        trace, side = content(descriptor), side_of(file)
+        changed = then.changed(descriptor, file)
     except Unread as error:
         return unread(file, str(error))
-    if now != before:
-        return failed(file, seconds, status, CHANGED, trace.count(b"\n"))
+    finally:
+        os.close(descriptor)
+    if changed:
+        return failed(file, seconds, status, changed, trace.count(b"\n"))
     errors = printed.with_name(printed.name + ".err")
     error = errors.read_text(errors="replace").strip() if errors.exists() else ""
     if not printed.exists() and not error:
         return failed(file, seconds, status, "no answer", trace.count(b"\n"))
-    return row_of(program, file, trace, seconds, status, printed.read_bytes() if printed.exists() else b"", error, weak)
+    return row_of(request, file, trace, side, Answer(seconds, status, printed.read_bytes() if printed.exists() else b"", error))

@@ -13,13 +13,13 @@ from .cycle_picture import drawing
 from .debuggers import LANGUAGES, USUAL
 from .evidence import Evidence, Unexplained
 from .faulty_lines import about_fault
-from .files import MOST_BYTES, Unread, read_file, shown, write_file, written_over
+from .files import MOST_BYTES, NO_SIDE, SIDE, Side, Unread, read_both, shown, write_file, written_over
 from .page import page_of
 from .places import Beside, beside, placed_warnings, with_places
 from .programs import WAYS, Judged, NoProgram, find_program, is_weak_alone, judge, passes, report_of, report_text
 from .recordings import FIRST_ENTRY, Recording
 from .small import smallest
-from .warnings import SIDE, warnings_of
+from .warnings import warnings_of
 from .words import text_of, verdict_of, with_warnings
 
 NAME = "domepeeler-explain"
@@ -68,10 +68,11 @@ def check_outputs(asked: argparse.Namespace) -> None:
         fail(why)
 
 
-def read(path: str) -> bytes:
+def read(path: str) -> tuple:
+    """The trace, and the file beside it."""
     if path != "-":
         try:
-            return read_file(path)
+            return read_both(path)
         except Unread as error:
             fail(f"cannot read {shown(path)}: {error}")
     try:
@@ -80,7 +81,7 @@ def read(path: str) -> bytes:
         fail(f"cannot read standard input: {error.strerror}")
     if len(trace) > MOST_BYTES:
         fail(f"standard input has more than {MOST_BYTES:,} bytes, the most that a trace has")
-    return trace
+    return trace, NO_SIDE
 
 
 def write(path: str, text: str) -> None:
@@ -124,12 +125,12 @@ def same_as(evidence: Evidence, told: Evidence) -> str:
     return f"has the verdict `{told.report['verdict']}` as the first {told.last_line} lines have,"
 
 
-def explain(asked: argparse.Namespace, program: str, trace: bytes, judged: Judged) -> None:
-    known = beside(trace, asked.trace)
+def explain(asked: argparse.Namespace, program: str, trace: bytes, side: Side, judged: Judged) -> None:
+    known = beside(trace, side)
     evidence = Evidence(Recording(trace.decode(), tuple(asked.delivered) or known.delivered), judged.report)
     words, told = explained(evidence, report_of(program), asked.language or known.language or USUAL, asked.weak)
     is_alone = asked.weak and is_weak_alone(judged.report)
-    warnings = placed_warnings(warnings_of(judged.report["verdict"], trace, asked.trace, is_alone).all, known)
+    warnings = placed_warnings(warnings_of(judged.report["verdict"], trace, side, is_alone).all, known)
     words = with_places(with_warnings(words, warnings), known)
     print(text_of(words), end="")
     if asked.html:
@@ -145,7 +146,7 @@ def explain(asked: argparse.Namespace, program: str, trace: bytes, judged: Judge
 def main() -> None:
     asked = words_asked()
     check_outputs(asked)
-    trace = read(asked.trace)
+    trace, side = read(asked.trace)
     try:
         program = find_program(asked.program)
         judged = judge(program, trace)
@@ -155,7 +156,7 @@ def main() -> None:
         say_fault(judged, trace, asked.trace)
     else:
         try:
-            explain(asked, program, trace, judged)
+            explain(asked, program, trace, side, judged)
         except Unexplained as error:
             is_passing = passes(judged.report, asked.weak)
             told = "Is it domepeeler? Its" if is_passing else "The program's word counts; its"

@@ -7,8 +7,6 @@ from collections.abc import Iterator
 from itertools import islice
 from typing import NamedTuple
 
-from .files import Unread, read_file
-
 CAUSE = re.compile(r"line (\d+): ([a-z ]+)(?:, have (\d+))?$")  # in the program's line on standard error
 MOST_SHOWN = 120  # bytes of a faulty line or word
 MOST_LOOKED = 1_000_000  # bytes of a faulty line: the words that begin in these are looked at
@@ -91,14 +89,6 @@ def about_fault(error: str, trace: bytes, name: str) -> list:
     alone = line.without_return()
     is_crlf = alone != line and line.end < len(trace)
     return [*mending(trace, is_crlf, name), line_told, *right(cause, have, alone)]
-
-
-def about_file(error: str, path: str) -> list:
-    """The same of a file that was judged before; nothing where it is no longer what was judged, or memory runs out."""
-    try:
-        return about_fault(error, read_file(path), path) if CAUSE.search(error) else []
-    except (Unread, ValueError, LookupError, MemoryError):
-        return []
 
 
 def no_trace(trace: bytes) -> str | None:

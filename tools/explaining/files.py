@@ -3,17 +3,33 @@ written appears whole or not at all."""
 from __future__ import annotations
 
 import contextlib
+import errno
 import os
 import stat
+from typing import NamedTuple
 
 MOST_BYTES = 152_305_684  # of a trace that reaches every limit
 COMMANDS = ("::", "##")  # so do lines begin that GitHub and others read as commands
 MOST_GROWN = 1 << 16  # bytes that a file may have grown by, and still be read in one piece
-CHANGED = "it changed while it was judged"
+CHANGED, CHANGED_BESIDE = "it changed while it was judged", "the file beside it changed while it was judged"
+SIDE = ".lines"  # the end of the name of a file beside the trace, in whose first line a recorder says how many lines it saved
+MOST_BESIDE = 1 << 27  # bytes of such a file
+ABSENT = [os.strerror(number) for number in (errno.ENOENT, errno.ENAMETOOLONG)]
 
 
 class Unread(Exception):
     """A file that can't be read, or is none; the words say why."""
+
+
+class Side(NamedTuple):
+    """The file beside a trace: its name, and its bytes, or none, where it is absent or can't be read, and then why it can't."""
+
+    name: str
+    content: bytes | None = None
+    why: str = ""
+
+
+NO_SIDE = Side("-")  # of a trace that is in no file
 
 
 def shown(text: str) -> str:
@@ -66,10 +82,51 @@ def content(descriptor: int) -> bytes:
     return b"".join(parts)
 
 
-def state(descriptor: int) -> tuple:
-    """What another state of an open file differs in."""
-    about = os.fstat(descriptor)
+def state(file: int | str) -> tuple:
+    """What another state of a file differs in, which is open or has this name; nothing where there is none."""
+    try:
+        about = os.stat(file)
+    except OSError:
+        return ()
     return about.st_dev, about.st_ino, about.st_size, about.st_mtime_ns
+
+
+class Before(NamedTuple):
+    """The states of a trace and of the file beside it when the trace was opened."""
+
+    trace: tuple
+    side: tuple
+
+    def changed(self, descriptor: int, path: str) -> str:
+        """What has changed since then: the open trace, or which file has its name, or that beside it. Nothing, if none has."""
+        if not self.trace == state(descriptor) == state(path):
+            return CHANGED
+        return CHANGED_BESIDE if self.side != state(path + SIDE) else ""
+
+
+def before(descriptor: int, path: str) -> Before:
+    return Before(state(descriptor), state(path + SIDE))
+
+
+def side_of(path: str) -> Side:
+    """The file beside the trace of this name."""
+    try:
+        return Side(path + SIDE, read_file(path + SIDE, MOST_BESIDE))
+    except Unread as error:
+        return Side(path + SIDE, None, "" if str(error) in ABSENT else str(error))
+
+
+def read_both(path: str) -> tuple:
+    """The bytes of a trace, and the file beside it, of one and the same time."""
+    descriptor = opened(path)
+    try:
+        then = before(descriptor, path)
+        both = content(descriptor), side_of(path)
+        if then.changed(descriptor, path):
+            raise Unread("it changed while it was read")
+        return both
+    finally:
+        os.close(descriptor)
 
 
 def read_file(path: str, most: int = MOST_BYTES) -> bytes:

@@ -13,9 +13,9 @@ from concurrent.futures import ProcessPoolExecutor, ThreadPoolExecutor
 from concurrent.futures.process import BrokenProcessPool
 from queue import Empty, SimpleQueue
 
-from .files import CHANGED, Unread, content, opened, shown, state
-from .programs import VERDICTS
-from .rows import Row, failed, row_of, unread
+from .files import Unread, before, content, opened, shown, side_of
+from .programs import VERDICTS, Running
+from .rows import Answer, Request, Row, failed, row_of, unread
 
 WORDS = ["verdict", "--json", "--workers", "1"]  # for the program, before a trace
 SECONDS = 0.2  # between two looks for a signal
@@ -26,10 +26,9 @@ class TooMany(Exception):
     """So many can't be judged at a time."""
 
 
-def judged_here(program: str, files: list, jobs: int, weak: bool) -> list:
-    """A row for each trace, in the order of the files; so many are judged at a time. A user who stops it stops those too. With `weak` the
-    weak list specification alone is asked for."""
-    judges = Judges(program, jobs, weak)
+def judged_here(request: Request, files: list, jobs: int) -> list:
+    """A row for each trace, in the order of the files; so many are judged at a time. A user who stops it stops those too."""
+    judges = Judges(request, jobs)
     with ThreadPoolExecutor(jobs) as pool:
         try:
             waiting = [pool.submit(judges.judged, file) for file in files]
@@ -63,10 +62,8 @@ def as_they_end(waiting: list) -> Iterator:
 class Judges:
     """The processes that judge, each begun by a thread of its own, and those that look at big traces."""
 
-    def __init__(self, program: str, jobs: int, weak: bool) -> None:
-        self.program, self.jobs, self.weak = program, jobs, weak
-        self.running: set = set()
-        self.is_stopped = False
+    def __init__(self, request: Request, jobs: int) -> None:
+        self.request, self.jobs = request, jobs
         self.lock, self.lookers = threading.Lock(), None
 
     def judged(self, file: str) -> Row:
@@ -81,24 +78,26 @@ class Judges:
     def _judged(self, file: str, begin: float) -> Row:
         descriptor = opened(file)
         try:
-            before = state(descriptor)
+            then = before(descriptor, file)
+            words = [self.request.program, *WORDS, "-"]
             try:
-                process = subprocess.Popen([self.program, *WORDS, "-"], stdin=descriptor, stdout=subprocess.PIPE, stderr=subprocess.PIPE)
+                process = subprocess.Popen(words, stdin=descriptor, stdout=subprocess.PIPE, stderr=subprocess.PIPE)
             except OSError as error:
-                return failed(file, 0.0, 126, f"{shown(self.program)} can't be run: {error.strerror}")
-            self.running.add(process)
-            if self.is_stopped:  # meanwhile: nobody else ends this one
+                return failed(file, 0.0, 126, f"{shown(self.request.program)} can't be run: {error.strerror}")
+            Running.processes.add(process)
+            if Running.is_stopped:  # meanwhile: nobody else ends this one
                 process.kill()
             printed, errors = process.communicate()
-            self.running.discard(process)
-            trace = content(descriptor)
-            has_changed = before != state(descriptor)
+            Running.processes.discard(process)
+            trace, side = content(descriptor), side_of(file)
+            changed = then.changed(descriptor, file)
         finally:
             os.close(descriptor)
         status = process.returncode if process.returncode >= 0 else 128 - process.returncode
-        if has_changed:
-            return failed(file, time.monotonic() - begin, status, CHANGED, trace.count(b"\n"))
-        answer = self.program, file, trace, time.monotonic() - begin, status, printed, errors.decode(errors="replace").strip(), self.weak
+        seconds = time.monotonic() - begin
+        if changed:
+            return failed(file, seconds, status, changed, trace.count(b"\n"))
+        answer = self.request, file, trace, side, Answer(seconds, status, printed, errors.decode(errors="replace").strip())
         if len(trace) >= BIG and self.jobs > 1 and status in VERDICTS.values():
             try:
                 return self._looker().submit(row_of, *answer).result()
@@ -113,9 +112,7 @@ class Judges:
             return self.lookers
 
     def stop(self) -> None:
-        self.is_stopped = True
-        for process in list(self.running):
-            process.kill()
+        Running.stop()
         for looker in multiprocessing.active_children():
             looker.kill()
 

@@ -5,35 +5,26 @@ import os
 import re
 import xml.etree.ElementTree as xml
 
-from .beginning import explained
-from .debuggers import USUAL
-from .evidence import Evidence, Unexplained
-from .faulty_lines import about_file
-from .files import Unread, read_file, shown
-from .places import beside, placed_warnings, with_places
-from .programs import WEAK_ALONE, NoProgram, report_of
-from .recordings import Recording
-from .rows import NO_VERDICTS, Row
-from .telling import MOST_STEPS, listed
-from .warnings import warnings_of
-from .words import text_of, with_warnings
+from .files import shown
+from .programs import WEAK_ALONE
+from .rows import NO_VERDICTS
 
 NOT_IN_XML = re.compile("[^\t\n\r\x20-\ud7ff\ue000-\ufffd\U00010000-\U0010ffff]")  # XML 1.0 has no way to write these
 
 
-def junit_of(rows: list, program: str, unequal: bool, weak: bool = False) -> bytes:
-    """A test suite of the rows of `judge_many`: a verdict other than accepted is a failure, and so are ends that are unequal, where these
-    count; a missing verdict is an error. With `weak` a trace passes too where weak holds. Warnings of one that passes stand in its output,
-    and that strong doesn't hold."""
+def junit_of(rows: list, unequal: bool) -> bytes:
+    """A test suite of the rows of `judge_many`, of which failures are explained: a trace that does not pass is a failure, and so are ends
+    that are unequal, where these count; a missing verdict is an error. Warnings of one that passes stand in its output, and that strong
+    doesn't hold."""
     suite = xml.Element("testsuite", name="domepeeler")
     for row in rows:
         folder, name = os.path.split(row.file)
         case = xml.SubElement(suite, "testcase", classname=written(shown(folder) or "."), name=written(shown(name)),
                               file=written(shown(row.file)), time=f"{row.seconds:.3f}")
         if row.verdict in NO_VERDICTS:
-            add_fault(case, "error", row.verdict, "\n  ".join([shown(row.error), *about_file(row.error, row.file)]))
+            add_fault(case, "error", row.verdict, "\n  ".join([shown(row.error), *(row.fault or [])]))
         elif not row.passes:
-            add_fault(case, "failure", row.verdict, *explanation_of(row, program, weak))
+            add_fault(case, "failure", row.verdict, *row.explanation)
         elif row.unequal and unequal:
             is_so = WEAK_ALONE if row.weak_alone else "accepted"
             add_fault(case, "failure", "unequal", "\n".join([f"{is_so}, but unequal in the end: {row.warnings[0]}", *row.warnings[1:]]))
@@ -57,21 +48,6 @@ def add_fault(case: xml.Element, kind: str, verdict: str, told: str, about: str 
     told = written(told)
     first = told.split("\n")[0]
     xml.SubElement(case, kind, type=verdict, message=f"{first} It is about {about}." if about else first).text = told
-
-
-def explanation_of(row: Row, program: str, weak: bool) -> tuple:
-    """What `explain` says of the trace, and the elements of a refusal; or its verdict alone, where the file is no longer what was
-    judged, or memory runs out."""
-    try:
-        trace = read_file(row.file)
-        known = beside(trace, row.file)
-        evidence = Evidence(Recording(trace.decode(), known.delivered), row.report)
-        words, told = explained(evidence, report_of(program), known.language or USUAL, weak)
-        warnings = placed_warnings(warnings_of(row.verdict, trace, row.file).all, known)
-        about = listed(told.elements, MOST_STEPS) if told.report["verdict"] == "refused" else ""
-        return text_of(with_places(with_warnings(words, warnings), known)), about
-    except (Unexplained, NoProgram, Unread, ValueError, LookupError, MemoryError):
-        return row.verdict, ""
 
 
 def written(text: str) -> str:

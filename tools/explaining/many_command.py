@@ -15,13 +15,13 @@ from typing import NoReturn
 
 from .commands import Once, add_version
 from .elsewhere import NoParallel, judged_there, needs_parallel
-from .faulty_lines import ENTRIES, about_file
-from .files import shown, write_file, written_over
+from .faulty_lines import ENTRIES
+from .files import SIDE, shown, write_file, written_over
 from .judges import TooMany, judged_here
 from .junit import junit_of
 from .programs import WAYS, WEAK_ALONE, NoProgram, check_is_domepeeler, find_program
-from .rows import KINDS, NO_VERDICTS, Row
-from .warnings import CUT, SIDE
+from .rows import KINDS, NO_VERDICTS, Request, Row
+from .warnings import CUT
 
 NAME = "domepeeler-judge-many"
 ABOUT = "Judges all traces below some folders, several at a time, and lists them: first the one that fails in the fewest lines."
@@ -133,10 +133,11 @@ def jobs_of(asked: argparse.Namespace) -> int:
 
 
 def judged(asked: argparse.Namespace, program: str, files: list, jobs: int) -> list:
+    request = Request(program, asked.weak, bool(asked.junit))
     try:
         if asked.sshlogin is None:
-            return judged_here(program, files, jobs, asked.weak)
-        return judged_there(asked.sshlogin, asked.jobs, program, files, asked.weak)
+            return judged_here(request, files, jobs)
+        return judged_there(request, files, asked.sshlogin, asked.jobs)
     except (TooMany, NoParallel) as error:
         fail(str(error))
 
@@ -202,7 +203,7 @@ def print_errors(rows: list) -> None:
     """Of a trace that does not read also what is wrong with its line, without the list of all that a line may be."""
     for row in rows:
         if row.error:
-            told = [line for line in about_file(row.error, row.file) if line not in ENTRIES]
+            told = [line for line in row.fault or [] if line not in ENTRIES]
             print("\n  ".join([f"{NAME}: {shown(row.file)}: {shown(row.error)}", *told]), file=sys.stderr)
 
 
@@ -217,10 +218,10 @@ def print_warnings(rows: list) -> None:
         print(line, file=sys.stderr)
 
 
-def write_junit(path: str, rows: list, program: str, asked: argparse.Namespace) -> str:
+def write_junit(path: str, rows: list, asked: argparse.Namespace) -> str:
     """What went wrong, if anything did: the verdicts are printed all the same."""
     try:
-        write_file(path, junit_of(rows, program, asked.unequal, asked.weak))
+        write_file(path, junit_of(rows, asked.unequal))
     except OSError as error:
         return f"cannot write {shown(path)}: {error.strerror}"
     return ""
@@ -239,10 +240,10 @@ def main() -> None:
     if why:
         fail(why)
     rows = in_order(judged(asked, program, files, jobs))
-    unwritten = write_junit(asked.junit, rows, program, asked) if asked.junit else ""
+    unwritten = write_junit(asked.junit, rows, asked) if asked.junit else ""
     listed = [row for row in rows if is_failing(row, asked) or not asked.failing]
     for row in listed if asked.json else []:
-        print(json.dumps({key: value for key, value in row._asdict().items() if value not in (None, "")}))
+        print(json.dumps(row.object))
     print_errors(rows)
     if not asked.json:
         print_table(rows, listed)

@@ -12,10 +12,9 @@ import re
 from typing import NamedTuple
 
 from . import debuggers
-from .files import Unread, read_file, shown
+from .files import Side, shown
 from .recordings import FIRST_ENTRY
 from .telling import joined
-from .warnings import MOST_BESIDE, SIDE
 from .words import CODE, LINE, LOG, NOTED, Explanation, Section
 
 PLACES = re.compile(rb"([1-9][0-9]{0,6}) (.{1,4000})")
@@ -46,10 +45,10 @@ class Beside(NamedTuple):
                 *(f"delivered {number} {number}" for number in told), *(["merged"] if self.is_merged else []), *(["log"] if self.has_log else [])]
 
 
-def beside(trace: bytes, name: str) -> Beside:
-    """What is known of the trace in the file of this name; `-` is no file."""
+def beside(trace: bytes, side: Side) -> Beside:
+    """What is known of the trace by this file."""
     places, language, notes, delivered, count = {}, "", [], [], trace.count(b"\n")
-    lines = lines_beside(trace, name) if name != "-" else []
+    lines = lines_beside(trace, side)
     for line in lines:
         said = PLACES.fullmatch(line)
         if said and FIRST_ENTRY <= int(said[1]) <= count:
@@ -69,13 +68,10 @@ def printable(text: bytes) -> str:
     return told if told.isprintable() else ""
 
 
-def lines_beside(trace: bytes, name: str) -> list:
+def lines_beside(trace: bytes, side: Side) -> list:
     """The lines of the file beside the trace, behind its first; none of another trace's. The last one may have been cut, if it has no
     end."""
-    try:
-        *lines, _ = read_file(name + SIDE, MOST_BESIDE).split(b"\n")
-    except (Unread, ValueError):
-        return []
+    *lines, _ = (side.content or b"").split(b"\n")
     return lines[1:] if lines and lines[0].strip() == b"%d" % trace.count(b"\n") else []
 
 

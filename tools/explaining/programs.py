@@ -32,6 +32,20 @@ WAYS = (f"The program is the one that --program names; else that of the variable
 WEAK_ALONE = "weak holds, strong doesn't"  # of a trace that passes where the weak list specification alone is asked for
 
 
+class Running:
+    """The processes of the program that run for this one. Threads wait for them, and when the user stops it they are ended, and no other is
+    begun."""
+
+    processes: set = set()
+    is_stopped = False
+
+    @classmethod
+    def stop(cls) -> None:
+        cls.is_stopped = True
+        for process in list(cls.processes):
+            process.kill()
+
+
 class NoProgram(Exception):
     """There is no program to ask."""
 
@@ -66,13 +80,18 @@ def run(program: str, words: list, trace: bytes) -> subprocess.CompletedProcess:
         with Starting():
             process = subprocess.Popen([program, *words], stdin=subprocess.PIPE, stdout=subprocess.PIPE, stderr=subprocess.PIPE)
         with process:
+            Running.processes.add(process)
             try:
                 if Starting.stop:
                     raise Stopped(Starting.stop)
+                if Running.is_stopped:
+                    raise NoProgram("the user has stopped this")
                 printed, errors = process.communicate(trace)
             except BaseException:
                 process.kill()
                 raise
+            finally:
+                Running.processes.discard(process)
         return subprocess.CompletedProcess(process.args, process.returncode, printed, errors)
     except OSError as error:
         raise NoProgram(f"{shown(program)} can't be run: {error.strerror}") from error

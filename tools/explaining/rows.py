@@ -1,21 +1,44 @@
-"""What is told of one trace among many: its verdict, how many of its first lines fail already, what it may hide, and what lets failures
-be put together that look alike."""
+"""What is told of one trace among many: its verdict, how many of its first lines fail already, what it may hide, what lets failures
+be put together that look alike, and what is wrong with it in words. All of it is found of the bytes that were judged: no file is read here."""
 from __future__ import annotations
 
 from typing import NamedTuple
 
-from .beginning import failing_beginning
+from .beginning import explained, failing_beginning
 from .causes import causes_of
+from .debuggers import USUAL
 from .evidence import Evidence, Unexplained
-from .places import Beside, beside, placed_warnings
+from .faulty_lines import about_fault
+from .files import Side
+from .places import Beside, beside, placed_warnings, with_places
 from .programs import NoProgram, is_another, is_of, is_weak_alone, no_report, of_another_trace, report_in, report_of
 from .recordings import FIRST_ENTRY, Recording
+from .telling import MOST_STEPS, listed
 from .warnings import Warnings, warnings_of
+from .words import text_of, with_warnings
 
 KINDS = ["accepted", "refused", "contents", "position", "doubled", "unread", "failed"]
 NO_VERDICTS = ["unread", "failed"]
 MOST_HALVED = 4096  # lines of a trace whose beginnings are judged too
 PLACES = ["at", "first", "again"]  # what a report says of operations beside steps
+IN_WORDS = ["fault", "explanation"]  # of a row what is no field of its object in JSON
+
+
+class Request(NamedTuple):
+    """What is asked of all traces: by which program, whether for the weak list specification alone, and whether to explain failures."""
+
+    program: str
+    weak: bool = False
+    is_explained: bool = False
+
+
+class Answer(NamedTuple):
+    """How the program ended that was asked of a trace: after so many seconds, with this status, and what it printed."""
+
+    seconds: float
+    status: int
+    printed: bytes
+    error: str
 
 
 class Row(NamedTuple):
@@ -36,6 +59,8 @@ class Row(NamedTuple):
     causes: list | None = None  # names of those that the explanation has
     place: str | None = None  # of the user's code, from which the last of these lines was recorded
     weak_alone: bool | None = None  # whether it passes since weak holds, which alone is asked for, though strong doesn't
+    fault: list | None = None  # what is wrong with a line that does not read
+    explanation: tuple | None = None  # of a failure what `explain` says of it, and its elements, where that is asked for
 
     @property
     def passes(self) -> bool:
@@ -47,6 +72,11 @@ class Row(NamedTuple):
         """What failures share that look alike; none where something of it is not known."""
         return (self.verdict, self.k, tuple(self.causes), self.place) if self.causes and self.place else None
 
+    @property
+    def object(self) -> dict:
+        """What JSON has of it."""
+        return {key: value for key, value in self._asdict().items() if value not in (None, "") and key not in IN_WORDS}
+
 
 def unread(file: str, error: str) -> Row:
     return Row(file, "unread", None, 0, 0.0, 2, None, f"cannot be read: {error}")
@@ -56,47 +86,57 @@ def failed(file: str, seconds: float, status: int, error: str, lines: int = 0) -
     return Row(file, "failed", None, lines, seconds, status, None, error)
 
 
-def row_of(program: str, file: str, trace: bytes, seconds: float, status: int, printed: bytes, error: str, weak: bool = False) -> Row:
-    """The row of a trace of which the program printed this and ended so. A trace that is known to be cut does not pass. With `weak` the
-    weak list specification alone is asked for."""
+def row_of(request: Request, file: str, trace: bytes, side: Side, answer: Answer) -> Row:
+    """The row of a trace that has this file beside it, of which the program answered this. A trace that is known to be cut does not
+    pass."""
+    seconds, status, printed, error = answer
     lines, report = trace.count(b"\n"), report_in(status, printed)
     if report is None and is_another(status, error):
-        return failed(file, seconds, status, no_report(program, status, error), lines)
+        return failed(file, seconds, status, no_report(request.program, status, error), lines)
     if report is None:
-        return Row(file, "unread" if status == 2 else "failed", None, lines, seconds, status, None, error)
+        return Row(file, "unread" if status == 2 else "failed", None, lines, seconds, status, None, error, fault=fault_of(error, trace, file))
     if not is_of(report, trace):
-        return failed(file, seconds, status, of_another_trace(program), lines)
-    known = beside(trace, file)
-    is_alone = weak and is_weak_alone(report)
-    warnings = warned_of(report["verdict"], trace, file, is_alone)
+        return failed(file, seconds, status, of_another_trace(request.program), lines)
+    known = beside(trace, side)
+    is_alone = request.weak and is_weak_alone(report)
+    warnings = warned_of(report["verdict"], trace, side, is_alone)
     row = Row(file, report["verdict"], report.get("k"), lines, seconds, status, report, "",
               placed_warnings(warnings.all, known) or None, bool(warnings.ends) or None, list(known.notes) or None,
               weak_alone=is_alone or None)
     if warnings.is_cut and row.passes:
         return row._replace(verdict="failed", error=warnings.cut[0], unequal=None, weak_alone=None)
-    return placed(row, program, trace, known, weak)
+    if row.passes:
+        return row
+    row = placed(row, request, trace, known)
+    return row._replace(explanation=explanation_of(row, request, trace, known)) if request.is_explained else row
 
 
-def warned_of(verdict: str, trace: bytes, file: str, is_passing: bool) -> Warnings:
-    """What the verdict may hide; nothing where the file has changed since it was judged, and is no trace any more."""
+def fault_of(error: str, trace: bytes, file: str) -> list:
+    """What is wrong with the line that the program's error names; nothing where the program lies, or memory runs out."""
     try:
-        return warnings_of(verdict, trace, file, is_passing)
+        return about_fault(error, trace, file)
+    except (ValueError, LookupError, MemoryError):
+        return []
+
+
+def warned_of(verdict: str, trace: bytes, side: Side, is_passing: bool) -> Warnings:
+    """What the verdict may hide; nothing where the program lies, and it is no trace."""
+    try:
+        return warnings_of(verdict, trace, side, is_passing)
     except (ValueError, IndexError):
         return Warnings([], [], [])
 
 
-def placed(row: Row, program: str, trace: bytes, known: Beside, weak: bool) -> Row:
-    """The row with how many first lines fail already, of a long trace up to the last operation of its report, and what is likely the
-    cause; without where the file has changed since it was judged."""
-    if row.passes:
-        return row
+def placed(row: Row, request: Request, trace: bytes, known: Beside) -> Row:
+    """The row of a failure with how many first lines fail already, of a long trace up to the last operation of its report, and what is
+    likely the cause; without where the program lies."""
     try:
         recording = Recording(trace.decode(), known.delivered)
         if row.lines > MOST_HALVED:
             named = [*(step["shown"] for step in row.report.get("steps", [])), *(row.report[key] for key in PLACES if key in row.report)]
             return row._replace(fails_at=max(recording.operation(name).line for name in named))
         whole = Evidence(recording, row.report)
-        found = failing_beginning(whole, report_of(program), weak)
+        found = failing_beginning(whole, report_of(request.program), request.weak)
         if found is None:
             return row
         count, report = found
@@ -105,3 +145,14 @@ def placed(row: Row, program: str, trace: bytes, known: Beside, weak: bool) -> R
         return row._replace(fails_at=count, causes=[cause.name for cause in causes], place=known.places.get(entry.line))
     except (Unexplained, NoProgram, ValueError, LookupError):
         return row
+
+
+def explanation_of(row: Row, request: Request, trace: bytes, known: Beside) -> tuple:
+    """What `explain` says of a failure, and the elements of a refusal; or its verdict alone, where the program lies, or memory runs out."""
+    try:
+        evidence = Evidence(Recording(trace.decode(), known.delivered), row.report)
+        words, told = explained(evidence, report_of(request.program), known.language or USUAL, request.weak)
+        about = listed(told.elements, MOST_STEPS) if told.report["verdict"] == "refused" else ""
+        return text_of(with_places(with_warnings(words, row.warnings or []), known)), about
+    except (Unexplained, NoProgram, ValueError, LookupError, MemoryError):
+        return row.verdict, ""

@@ -5,20 +5,15 @@ arrived at a replica, so that the lists differ in the end, a delete names what n
 which leaves a shorter trace. The recorders say the same of a recording that they had judged."""
 from __future__ import annotations
 
-import errno
-import os
 from bisect import bisect_right
 from typing import NamedTuple
 
-from .files import Unread, opened, shown
+from .files import NO_SIDE, Side, shown
 
-SIDE = ".lines"  # the end of the name of a file beside the trace, in whose first line a recorder says how many lines it saved
 MOST_TOLD = 5  # deletes, or inserts, that are told one by one
 MOST_CHANGES = 3  # that are told one by one of those that a replica lacks, or has made nothing of
 MOST_BYTES = 64  # of the first line beside a trace that are looked at
-MOST_BESIDE = 1 << 27  # bytes of such a file
 CUT = "the trace may have been cut at a line's end"
-ABSENT = [os.strerror(number) for number in (errno.ENOENT, errno.ENAMETOOLONG)]
 
 
 class Warnings(NamedTuple):
@@ -38,11 +33,11 @@ class Warnings(NamedTuple):
         return [*self.cut, *self.ends, *self.others]
 
 
-def warnings_of(verdict: str, trace: bytes, name: str = "-", is_passing: bool = False) -> Warnings:
-    """What to warn of where the program has given this verdict on the trace in the file of this name; `-` is no file. A verdict other
-    than accepted hides nothing, but for what a cut has taken away, and where it passes since weak holds."""
+def warnings_of(verdict: str, trace: bytes, side: Side = NO_SIDE, is_passing: bool = False) -> Warnings:
+    """What to warn of where the program has given this verdict on the trace that has this file beside it. A verdict other than accepted
+    hides nothing, but for what a cut has taken away, and where it passes since weak holds."""
     ends, others = hidden(trace) if verdict == "accepted" or is_passing else ([], [])
-    return Warnings([] if name == "-" else cut(trace, name), ends, others)
+    return Warnings(cut(trace, side), ends, others)
 
 
 class Seen:
@@ -192,22 +187,16 @@ def joined(words: list) -> str:
     return " and ".join(filter(None, [", ".join(words[:-1]), words[-1]]))
 
 
-def cut(trace: bytes, name: str) -> list:
+def cut(trace: bytes, side: Side) -> list:
     """Whether the file beside the trace, where there is one, says in its first line another number of lines than the trace has."""
-    side = name + SIDE
-    try:
-        descriptor = opened(side, MOST_BESIDE)
-    except Unread as error:
-        if str(error) in ABSENT:
-            return []
-        return [f"{shown(side)} can't be read ({error}), so nothing says whether the trace is whole"]
-    with open(descriptor, "rb") as file:
-        said = file.readline(MOST_BYTES).strip()
+    if side.content is None:
+        return [f"{shown(side.name)} can't be read ({side.why}), so nothing says whether the trace is whole"] if side.why else []
+    said = side.content[:MOST_BYTES].partition(b"\n")[0].strip()
     lines = trace.count(b"\n")
     if not said.isdigit():
-        return [f"{shown(side)} holds no number of lines, so nothing says whether the trace is whole"]
+        return [f"{shown(side.name)} holds no number of lines, so nothing says whether the trace is whole"]
     if int(said) > lines:
-        return [f"{CUT}: it has {lines} lines, and by {shown(side)} it was saved with {int(said)}"]
+        return [f"{CUT}: it has {lines} lines, and by {shown(side.name)} it was saved with {int(said)}"]
     if int(said) < lines:
-        return [f"the trace has {lines} lines, and by {shown(side)} it was saved with {int(said)}: is that file of another trace?"]
+        return [f"the trace has {lines} lines, and by {shown(side.name)} it was saved with {int(said)}: is that file of another trace?"]
     return []
