@@ -77,24 +77,31 @@ def find_program(asked: str | None) -> str:
 
 def run(program: str, words: list, trace: bytes) -> subprocess.CompletedProcess:
     try:
-        with Starting():
-            process = subprocess.Popen([program, *words], stdin=subprocess.PIPE, stdout=subprocess.PIPE, stderr=subprocess.PIPE)
-        with process:
-            Running.processes.add(process)
-            try:
-                if Starting.stop:
-                    raise Stopped(Starting.stop)
-                if Running.is_stopped:
-                    raise NoProgram("the user has stopped this")
-                printed, errors = process.communicate(trace)
-            except BaseException:
-                process.kill()
-                raise
-            finally:
-                Running.processes.discard(process)
-        return subprocess.CompletedProcess(process.args, process.returncode, printed, errors)
+        return finished(program, words, trace)
     except OSError as error:
         raise NoProgram(f"{shown(program)} can't be run: {error.strerror}") from error
+
+
+def finished(program: str, words: list, trace: bytes) -> subprocess.CompletedProcess:
+    """A run of the program. Whatever ends the wait for it, a signal too, ends it."""
+    process = None
+    try:
+        with Starting():
+            process = subprocess.Popen([program, *words], stdin=subprocess.PIPE, stdout=subprocess.PIPE, stderr=subprocess.PIPE)
+            Running.processes.add(process)
+        if Starting.stop:
+            raise Stopped(Starting.stop)
+        if Running.is_stopped:
+            raise NoProgram("the user has stopped this")
+        printed, errors = process.communicate(trace)
+        return subprocess.CompletedProcess(process.args, process.returncode, printed, errors)
+    except BaseException:
+        if process is not None:
+            with process:
+                process.kill()
+        raise
+    finally:
+        Running.processes.discard(process)
 
 
 def judge(program: str, trace: bytes) -> Judged:
