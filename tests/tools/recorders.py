@@ -2526,6 +2526,16 @@ fn judged() {{
 }}
 
 #[test]
+fn lists_differ() {{
+    let mut recording = Recording::new(2).unwrap();
+    recording.insert(0, "a", 0, &["a"]).unwrap();
+    recording.received(1, 0, 1).unwrap();
+    recording.read(1, &["a"]).unwrap();
+    recording.insert(0, "b", 1, &["a", "b"]).unwrap(); // never arrives
+    fails();
+}}
+
+#[test]
 fn of_nothing() {{
     let _recording = Recording::new(1).unwrap();
     fails();
@@ -2552,14 +2562,14 @@ fn of_three_cases() {{
 
 
 def check_own_panics(tally: Tally, program: str, folder: Path) -> None:
-    """A test in Rust that fails by itself has the traces saved that it neither saved nor judged, whose paths stand on standard error; and a
-    passing one saves nothing. Where they can't be saved or told of, the tests end as they would."""
+    """A test in Rust that fails by itself has the traces saved that it did not save; the verdicts, accepted or not, and the paths stand on
+    standard error. A passing one saves nothing. Where they can't be judged, saved or told of, the tests end as they would."""
     place = folder / "own panics"
     place.mkdir()
     (place / "own.rs").write_text(OWN_PANICS)
     subprocess.run(["rustc", "--edition", "2021", "-D", "warnings", "--test", "-o", "own", "own.rs"], cwd=place, check=True)
     surroundings = {**os.environ, "DOMEPEELER": program, "DOMEPEELER_EXPLAIN": EXPLAIN, "RUST_BACKTRACE": "0", "LC_ALL": "C.UTF-8"}
-    line = {word: next(number for number, text in enumerate(OWN_PANICS.splitlines(), 1) if f"// {word}" in text) for word in ("reads", "inserts")}
+    line = {word: next(number for number, text in enumerate(OWN_PANICS.splitlines(), 1) if f"// {word}" in text) for word in ("reads", "inserts", "never arrives")}
     traces = place / "failed_traces"
 
     def ended(*words: str, **more: str) -> subprocess.CompletedProcess:
@@ -2572,12 +2582,18 @@ def check_own_panics(tally: Tally, program: str, folder: Path) -> None:
     wanted = {"own-by_itself": f"{head}0 read :\n0 ins a 0 : a\n", "own-with_three": f"{head}0 read : third\n",
               "own-with_three-2": f"{head}0 read : second\n", "own-with_three-3": f"{head}0 read : first\n",
               "own-in_the_second": f"{head}0 read : lost\n", "own-in_the_second-2": f"{head}0 read : first\n",
-              "own-of_three_cases": f"{head}0 read : three\n", "own-after_it_was_saved": f"{head}0 read :\n0 read : later\n", "own-in_a_log": "trace 1\nreplicas 3\n1 recv 0 7\n"}
-    tally.check("Rust: tests that fail by themselves", done.returncode == 101 and "2 passed; 8 failed;" in done.stdout, done)
+              "own-of_three_cases": f"{head}0 read : three\n", "own-after_it_was_saved": f"{head}0 read :\n0 read : later\n", "own-in_a_log": "trace 1\nreplicas 3\n1 recv 0 7\n",
+              "own-lists_differ": "trace 1\nreplicas 2\n0 ins a 0 : a\n1 recv 0 1\n1 read : a\n0 ins b 1 : a b\n",
+              **{f"own-judged{number}": f"{head}0 read : judged\n" for number in ("", "-2", "-3")}}
+    tally.check("Rust: tests that fail by themselves", done.returncode == 101 and "2 passed; 9 failed;" in done.stdout, done)
     found = {path.stem: path.read_text() for path in traces.glob("*.trace")}
     tally.check("Rust: their traces are saved", found == wanted and (traces / ".gitignore").read_text() == "*\n", found)
     told = [f"The trace is saved: failed_traces/{name}.trace" for name in [*wanted, *["own-of_three_cases"] * 2] if name != "own-in_the_second"]
-    tally.check("Rust: their paths are told", sorted(done.stderr.splitlines()) == sorted(told) and
+    verdicts = ["accepted"] * 2 + ["not accepted: contents 0.1"] * 10 + ["not accepted: contents 0.2", "accepted, and may hide something:"]
+    told += [f"The recording is {verdict}" for verdict in verdicts] + [f"The recording was not judged: {ONE_LOG}"]
+    told += [f"  in the end replicas 0 and 1 show different lists: 0.2 (line 6, own.rs:{line['never arrives']}) never arrived at replica 1 by this "
+             f"recording. {LOST_ONE}"]
+    tally.check("Rust: their verdicts and paths are told", sorted(done.stderr.splitlines()) == sorted(told) and
                 "The trace is saved: failed_traces/own-in_the_second.trace" in done.stdout, done)
     beside = Path(traces, "own-by_itself.trace.lines").read_text() if "own-by_itself" in found else ""
     tally.check("Rust: and their lines of code", beside == f"4\nlanguage rust\n3 own.rs:{line['reads']}\n4 own.rs:{line['inserts']}\n", beside)
@@ -2588,12 +2604,12 @@ def check_own_panics(tally: Tally, program: str, folder: Path) -> None:
     shutil.rmtree(traces, ignore_errors=True)
     done = ended("by_itself", DOMEPEELER="/nowhere/domepeeler")
     tally.check("Rust: where there is no program, the trace is saved", done.returncode == 101 and "/nowhere/domepeeler cannot be run" in done.stdout
-                and [path.stem for path in traces.glob("*.trace")] == ["own-by_itself"], done)
+                and done.stderr.startswith("The recording was not judged: /nowhere/domepeeler cannot be run (") and [path.stem for path in traces.glob("*.trace")] == ["own-by_itself"], done)
     shutil.rmtree(traces, ignore_errors=True)
     traces.write_text("no folder")
     done = ended("by_itself", FAILS="1")
     tally.check("Rust: a trace that can't be saved", done.returncode == 101 and "0 passed; 1 failed;" in done.stdout and
-                done.stderr.startswith("The trace can't be saved: failed_traces/own-by_itself.trace: "), done)
+                done.stderr.startswith("The recording is accepted\nThe trace can't be saved: failed_traces/own-by_itself.trace: "), done)
     with open("/dev/full", "w") as full:
         done = subprocess.run(["./own", "--nocapture", "by_itself"], cwd=place, env={**surroundings, "FAILS": "1"}, stdout=subprocess.PIPE,
                               stderr=full, text=True)
