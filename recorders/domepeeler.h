@@ -671,7 +671,7 @@ static inline const char *domepeeler_shorten(struct domepeeler *d, const char *i
             if (id[i] != '-') name[digits++] = id[i];
     for (size_t number = 1 + d->shortened; !*name || domepeeler_find(d, name, 1); number++) {
         if (d->only >= 0) {
-            domepeeler_refuse(d, 0, "one replica's log can't number the id \"%s\", since the other machines would number on their own",
+            domepeeler_refuse(d, 0, "one replica's log can't give the id \"%s\" a short name, since each machine would give another",
                               domepeeler_escaped(id, shown, sizeof shown));
             return NULL;
         }

@@ -117,8 +117,8 @@ impl Display for Refused {
             Refused::Name { name } => write!(f, "name \"{}\" is not 1 to 32 of A-Z a-z 0-9 _ - .", escaped(name)),
             Refused::ShortFor { name, id } => write!(f, "name \"{name}\" is short for the id \"{}\" already", escaped(id)),
             Refused::NoNumber { id } => {
-                write!(f, "one replica's log can't number the id \"{}\", ", escaped(id))?;
-                write!(f, "since the other machines would number on their own")
+                write!(f, "one replica's log can't give the id \"{}\" a short name, ", escaped(id))?;
+                write!(f, "since each machine would give another")
             }
             Refused::OperationZero => write!(f, "operation number 0 is not a whole number from 1 to {}", u32::MAX),
             Refused::OwnReceipt { replica } => write!(f, "replica {replica} receives no operation of its own"),

@@ -1344,7 +1344,7 @@ def weak_junit(tally: Tally, program: str, folder: str) -> None:
                     and "in the end replicas 0, 1 and 2 show different lists" in first.text, first.text)
         first, = cases["opposite.trace"]
         tally.check(f"weak: JUnit's failed case {more}", first.tag == "failure" and first.get("message").startswith("refused 2: ") and
-                    "up to line 13 weak holds, and with line 14 it is `refused 2`" in first.text, first.text)
+                    "up to line 13 weak holds; line 14 makes it `refused 2`" in first.text, first.text)
     Path(folder, "alone.trace.lines").write_text("40\n")
     got = judge(program, ["--weak", "--junit", path, folder])
     suite = xml.parse(path).getroot().find("testsuite")
@@ -1364,7 +1364,7 @@ def weak_in_ci(tally: Tally, program: str, folder: str) -> None:
     tally.check("weak: annotations of GitHub", done.returncode == 1 and [line[:line.index("::", 2) + 13] for line in told] == [
         "::error file=recordings/lost.trace,title=recordings/lost.trace%3A contents::contents 1.",
         "::error file=recordings/opposite.trace,title=recordings/opposite.trace%3A refused::refused 2: "], told)
-    tally.check("weak: explained where weak fails", "up to line 13 weak holds, and with line 14 it is `refused 2`" in
+    tally.check("weak: explained where weak fails", "up to line 13 weak holds; line 14 makes it `refused 2`" in
                 Path(project, "judged/2.html").read_text() and done.stdout.endswith(
                     "2 failed: judged/junit.xml has them all, and judged/1.html is the page of the first\n"), done.stdout)
     done = in_ci(project, path, f"{script} --unequal", github)

@@ -62,7 +62,7 @@ NAME = "is not 1 to 32 of A-Z a-z 0-9 _ - ."
 LETTERS32 = "abcdefghijklmnopqrstuvwxyz_-.019"
 UUID, UUID_DIGITS = "123e4567-e89b-12d3-a456-426614174000", "123e4567e89b12d3a456426614174000"
 ALMOST_UUIDS = ["123e4567-e89b-12d3-a456-42661417400g", "123e4567e-89b-12d3-a456-426614174000", "123e4567_e89b_12d3_a456_426614174000"]
-ONE_NUMBER = "one replica's log can't number the id \"{}\", since the other machines would number on their own"
+ONE_NUMBER = "one replica's log can't give the id \"{}\" a short name, since each machine would give another"
 
 # A long id, and how an error shows it: what is no printable ASCII by its bytes, and so the first sign of what a CI service takes for a command.
 ODD_ID, ODD_SHOWN = "%20::%0A%1B%C3%A4%7F" + "a" * 30, " \\x3a:\\x0a\\x1b\\xc3\\xa4\\x7f" + "a" * 30
@@ -349,7 +349,7 @@ OWN_TYPES = {
            "number of changes is not a whole number from 1 to 1 but None", "delivered wants the list of each of the 2 replicas, not None",
            'delivered wants the list of each of the 2 replicas, not the string "ab"', "no replica 2 among 0 to 1",
            "delivered wants the list of each of the 2 replicas, not of 1", "a response is a list of names", NO_NOTE.partition(" ")[2],
-           REPLICA + 'the string "' + "1" * 40 + '"..', "a recording is told of weak with `stop` alone: else tell `judge` and `explain`",
+           REPLICA + 'the string "' + "1" * 40 + '"..', "a recording takes `weak` only with `stop`: else give it to `judge` and `explain`",
            ODD_REPLICA, "no change with the id ('a', '\\xc3\\xa4\\n') has been recorded"],
     "el": [ODD_REPLICA, REPLICA + "the symbol \\x3a:a\\x0ab"],
     "mjs": [REPLICA + "a Symbol", POSITION + "the BigInt 2", "a name is a string, not a Symbol", "a name is a string, not the BigInt 3",
@@ -361,7 +361,7 @@ OWN_TYPES = {
             "delivered wants the list of each of the 2 replicas, not of 1", "a response is a list of names", NO_NOTE.partition(" ")[2],
             REPLICA + 'the string "' + "1" * 40 + '"..', "an id of a change is a string or a number, not a Symbol",
             'name "a b" ' + NAME, "count of a clock is not a whole number from 0 to 4294967295 but undefined",
-            "a recording is told of weak with `stop` alone: else tell judge() and explain()", ODD_REPLICA]}
+            "a recording takes `weak` only with `stop`: else give it to judge() and explain()", ODD_REPLICA]}
 
 ELEMENTS = [f"e{i}" for i in range(4097)]
 FULL = "the most that a trace takes"
@@ -1460,7 +1460,7 @@ def check_explains_file(tally: Tally, recorder: Recorder, folder: Path) -> None:
     said = [line[2:] for line in got[len(lost) + 1:-1]]
     tally.check(f"{recorder.language}: explains a file of a session that ends with delivered", told.returncode == 1 and
                 said == told.stdout.splitlines() and "nothing shows that 0.1 (line 3) was applied at replica 1" in told.stdout and
-                "by `delivered` arrived at replica 1 in line 5 (1 recv 0 1)" in told.stdout, (said, told))
+                "arrived at replica 1 in line 5 (1 recv 0 1), which `delivered` wrote" in told.stdout, (said, told))
 
 
 def check_judge(tally: Tally, recorder: Recorder, folder: Path) -> None:
@@ -2908,7 +2908,7 @@ def check_hostile_c(tally: Tally, recorder: Recorder, folder: Path) -> None:
         tally.check(f"C: {reads} reads are judged by {words}", got == f"failed {asked} ended with status 2: verdict {words}", got)
     got = recorder.answers(["new\t3\t1", "read\t1\t" + "\x1b" * 600])[-1]
     tally.check("C: the front of a long id is shown", len(got) == len("refused ") + 511 and
-                got.startswith("refused one replica's log can't number the id \"" + "\\x1b" * 100), got)
+                got.startswith("refused one replica's log can't give the id \"" + "\\x1b" * 100), got)
     teller = folder / "teller"
     teller.write_text("#!/bin/sh\ncat > /dev/null\necho told\n")
     teller.chmod(0o755)
