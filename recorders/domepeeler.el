@@ -597,7 +597,7 @@ What is no name but an id gets a name that no other id has."
       (when (or (= (length given) domepeeler--bytes) (string-match-p "\\`long\\|-" given)) ; others never stand for an id
         (let ((had (gethash given ids)))
           (when (and had (not (string= had given)))
-            (domepeeler--refuse "name \"%s\" is short for the id \"%s\" already" given (domepeeler--escaped had)))
+            (domepeeler--refuse "name \"%s\" stands for the id \"%s\" already" given (domepeeler--escaped had)))
           (unless had (domepeeler--keep recording given given))))
       given)
      ((or (> (string-bytes given) domepeeler--bytes) (string-match-p "\\`[A-Za-z0-9_.@,-]+\\'" given))

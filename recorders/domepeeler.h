@@ -689,7 +689,7 @@ static inline const char *domepeeler_own_name(struct domepeeler *d, const char *
     char shown[sizeof d->why];
     if (one ? strcmp(one->id, given) == 0 : domepeeler_keep(d, given, given)) return given;
     if (!one) domepeeler_refuse(d, 0, "no memory");
-    else domepeeler_refuse(d, 0, "name \"%s\" is short for the id \"%s\" already", given, domepeeler_escaped(one->id, shown, sizeof shown));
+    else domepeeler_refuse(d, 0, "name \"%s\" stands for the id \"%s\" already", given, domepeeler_escaped(one->id, shown, sizeof shown));
     return NULL;
 }
 

@@ -557,7 +557,7 @@ export class Recording {
     if (NAME.test(given)) {
       if (given.length === MOST_BYTES || given.startsWith("long") || given.includes("-")) { // others never stand for an id
         const had = this.#ids.get(given) ?? given
-        if (had !== given) throw new Refused(`name "${given}" is short for the id "${escaped(had)}" already`)
+        if (had !== given) throw new Refused(`name "${given}" stands for the id "${escaped(had)}" already`)
         this.#ids.set(given, given)
       }
       return given

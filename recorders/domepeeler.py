@@ -553,7 +553,7 @@ class Recording:
         if NAME.fullmatch(given):
             if len(given) == MOST_BYTES or given.startswith("long") or "-" in given:  # others never stand for an id
                 if self._ids.setdefault(given, given) != given:
-                    raise Refused(f'name "{given}" is short for the id "{_escaped(self._ids[given])}" already')
+                    raise Refused(f'name "{given}" stands for the id "{_escaped(self._ids[given])}" already')
             return given
         name = given.replace("-", "") if UUID.fullmatch(given) else ""
         if len(given.encode(errors="surrogatepass")) <= MOST_BYTES:

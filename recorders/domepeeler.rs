@@ -115,7 +115,7 @@ impl Display for Refused {
                 write!(f, "this log is of replica {only} alone, not of {replica}")
             }
             Refused::Name { name } => write!(f, "name \"{}\" is not 1 to 32 of A-Z a-z 0-9 _ - .", escaped(name)),
-            Refused::ShortFor { name, id } => write!(f, "name \"{name}\" is short for the id \"{}\" already", escaped(id)),
+            Refused::ShortFor { name, id } => write!(f, "name \"{name}\" stands for the id \"{}\" already", escaped(id)),
             Refused::NoNumber { id } => {
                 write!(f, "one replica's log can't give the id \"{}\" a short name, ", escaped(id))?;
                 write!(f, "since each machine would give another")

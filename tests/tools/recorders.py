@@ -96,7 +96,7 @@ SAID = [
      f"read 0 {UUID} {UUID_DIGITS} -> ok 3\nid_of {UUID_DIGITS} -> none\nid_of long1 -> ok {UUID}\n",
      [f"0 ins {UUID_DIGITS} 0 :", f"0 ins long1 0 : {UUID_DIGITS}", f"0 read : long1 {UUID_DIGITS}"]),
     ("a name that a UUID has", f"new 1 -> ok\ninsert 0 {UUID} 0 -> ok 1\n"
-     f"read 0 {UUID_DIGITS} -> refused name \"{UUID_DIGITS}\" is short for the id \"{UUID}\" already\nread 0 {UUID} -> ok 2\n",
+     f"read 0 {UUID_DIGITS} -> refused name \"{UUID_DIGITS}\" stands for the id \"{UUID}\" already\nread 0 {UUID} -> ok 2\n",
      [f"0 ins {UUID_DIGITS} 0 :", f"0 read : {UUID_DIGITS}"]),
     ("long ids", f"new 2 -> ok\ninsert 0 {LETTERS32}x 0 {LETTERS32}x -> ok 1\ninsert 1 4@{LETTERS32} 0 {LETTERS32}x 4@{LETTERS32} -> ok 1\n"
      f"delete 1 {LETTERS32}x 4@{LETTERS32} -> ok 2\nread 0 {'%C3%A4' * 17} -> ok 2\nid_of long1 -> ok {LETTERS32}x\n"
@@ -105,7 +105,7 @@ SAID = [
     ("ids that are almost UUIDs", "new 1 -> ok\n" + "".join(f"read 0 {one} -> ok {n}\n" for n, one in enumerate(ALMOST_UUIDS, 1)),
      ["0 read : long1", "0 read : long2", "0 read : long3"]),
     ("numbers that names have", f"new 1 -> ok\ninsert 0 long1 0 -> ok 1\nread 0 {LETTERS32}x -> ok 2\n"
-     f"read 0 long2 -> refused name \"long2\" is short for the id \"{LETTERS32}x\" already\nread 0 longer -> ok 3\n",
+     f"read 0 long2 -> refused name \"long2\" stands for the id \"{LETTERS32}x\" already\nread 0 longer -> ok 3\n",
      ["0 ins long1 0 :", "0 read : long2", "0 read : longer"]),
     ("a refused call keeps no number", f"new 1 -> ok\nread 0 {LETTERS32}x a:b -> refused name \"a:b\" {NAME}\nid_of long1 -> none\n"
      f"read 0 long1 {LETTERS32}y a:b -> refused name \"a:b\" {NAME}\nread 0 {LETTERS32}z {UUID} -> ok 1\n"
@@ -122,7 +122,7 @@ SAID = [
     ("an id whose translation is another's name", "new 1 -> ok\ninsert 0 e2-alice 0 -> ok 1\nread 0 2@alice e2-alice -> ok 2\n"
      "id_of long1 -> ok 2@alice\nid_of e2-alice -> none\n", ["0 ins e2-alice 0 :", "0 read : long1 e2-alice"]),
     ("a name that a translated id has", "new 1 -> ok\ninsert 0 2@alice 0 2@alice -> ok 1\n"
-     'read 0 e2-alice -> refused name "e2-alice" is short for the id "2@alice" already\nread 0 2@alice -> ok 2\n',
+     'read 0 e2-alice -> refused name "e2-alice" stands for the id "2@alice" already\nread 0 2@alice -> ok 2\n',
      ["0 ins e2-alice 0 : e2-alice", "0 read : e2-alice"]),
     ("an id that is too long when it is translated", f"new 1 -> ok\ninsert 0 1{LETTERS32[:30]}@ 0 {LETTERS32[:31]}@ -> ok 1\n"
      f"id_of long1 -> ok 1{LETTERS32[:30]}@\n", [f"0 ins long1 0 : {LETTERS32[:31]}-"]),
@@ -130,7 +130,7 @@ SAID = [
     ("a refused call keeps no translation", f"new 1 -> ok\nread 0 a@b a:b -> refused name \"a:b\" {NAME}\nid_of a-b -> none\n"
      f"read 0 c-d a:b -> refused name \"a:b\" {NAME}\nread 0 a-b c@d -> ok 1\nid_of c-d -> ok c@d\n", ["0 read : a-b c-d"]),
     ("a long id of odd letters", f"new 1 -> ok\nread 0 {ODD_ID} -> ok 1\n"
-     f'read 0 long1 -> refused name "long1" is short for the id "{ODD_SHOWN}" already\n', ["0 read : long1"]),
+     f'read 0 long1 -> refused name "long1" stands for the id "{ODD_SHOWN}" already\n', ["0 read : long1"]),
     ("a long id of odd letters in one replica's log", f"new 3 1 -> ok\nread 1 {ODD_ID} -> refused {ONE_NUMBER.format(ODD_SHOWN)}\n", []),
     ("one replica's log translates, and numbers nothing", "new 3 1 -> ok\nread 1 2@alice -> ok 1\n"
      f"read 1 2,alice -> refused {ONE_NUMBER.format('2,alice')}\nread 1 2@bob -> ok 2\n", ["1 read : e2-alice", "1 read : e2-bob"]),
