@@ -560,6 +560,11 @@ def unequal(tally: Tally, program: str, folder: str) -> None:
                                                         "lists")], faults)
     got = judge(program, ["--unequal", f"{folder}/fine.trace"])
     tally.check("unequal: all are equal", got.status == 0, got)
+    silent = Path(folder, "silent.trace")
+    for entries, is_unequal in ("", False), ("0 read :\n", False), ("0 ins a 0 : a\n", True), ("0 ins a 0 : a\n1 recv 0 1\n", True):
+        silent.write_text(f"trace 1\nreplicas 2\n{entries}")
+        got = judge(program, ["--unequal", str(silent)])
+        tally.check(f"unequal: a replica that shows nothing, {entries!r}", got.status == is_unequal and b"1 accepted\n" in got.out, got)
 
 
 def known_as_cut(tally: Tally, program: str, folder: str) -> None:
@@ -684,7 +689,8 @@ def warnings_of_sessions(tally: Tally, program: str, folder: str) -> None:
         all_lacked = wanted.pop("lacked")
         tally.check("sessions: the warnings", got == wanted and len(said) == sum(map(len, found.values())), f"{row}: {wanted}")
         tally.check("sessions: what never arrived", named <= all_lacked and len(named) + left == len(all_lacked), f"{row}: {all_lacked}")
-        tally.check("sessions: unequal", row.get("unequal", False) == bool(wanted["unheard"] or wanted["ends"] or wanted["unshown"]), row)
+        is_silent = wanted["idle"] and bool(re.search(r"^\d+ (ins|del) ", texts[name], re.MULTILINE))
+        tally.check("sessions: unequal", row.get("unequal", False) == bool(wanted["unheard"] or wanted["ends"] or wanted["unshown"] or is_silent), row)
         tally.check("sessions: none where all was exchanged", not (said and name.startswith("exchanged")), row)
     tally.check("sessions: some without a warning, some with", EXCHANGED <= quiet <= EXCHANGED + SESSIONS - 30, quiet)
 
