@@ -606,12 +606,12 @@ def grouped(tally: Tally, program: str, folder: str) -> None:
 
 
 def places(tally: Tally, program: str, folder: str) -> None:
-    """What JUnit's file says of a failure has the places that a recorder has saved."""
-    Path(folder, "lost.trace.lines").write_text("4\n3 t.py:7\n4 t.py:8, called from t.py:9\n")
+    """What JUnit's file says of a failure has the places that a recorder has saved, and the seed that the test has noted."""
+    Path(folder, "lost.trace.lines").write_text("4\nnote seed 17\n3 t.py:7\n4 t.py:8, called from t.py:9\n")
     judge(program, ["--junit", f"{folder}/junit.xml", folder])
     (failure,) = xml.parse(f"{folder}/junit.xml").getroot().iter("failure")
-    wanted = "\n\nIn your code\n  t.py:7: line 3\n  t.py:8, called from t.py:9: line 4\n"
-    tally.check("JUnit's file: places", failure.text.endswith(wanted), failure.text)
+    wanted = "\n\nIn your code\n  t.py:7: line 3\n  t.py:8, called from t.py:9: line 4\n\nNoted\n  seed 17\n"
+    tally.check("JUnit's file: places, and the seed", failure.text.endswith(wanted), failure.text)
 
 
 def expected_warnings(text: str) -> dict:
