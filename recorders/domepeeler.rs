@@ -187,7 +187,7 @@ pub enum Verdict {
     /// As many responses as there are steps can't be right together, and any fewer can. With two, the weak list specification fails
     /// as well as the strong one; with more, it holds.
     Refused { steps: Vec<Step>, weak: bool },
-    /// The response is not what was visible to the operation.
+    /// The response is not what its replica had by then.
     Contents { at: Operation },
     /// The element does not stand where it was asked for.
     Position { at: Operation },
