@@ -510,16 +510,17 @@ KILLED = "kill -9 $$"
 OTHERS = [("echo hello", "0"), ("exit 0", "0"), ("echo '[]'", "0"), ("echo 5; exit 1", "1"), ("echo '{\"a\": 1}'", "0"),
           ("printf '\\377'", "0"), ("echo 'usage: other' >&2; echo 'or so' >&2; exit 2", "2: usage: other"), ("exit 3", "3")]
 
-# By planted bug: how many seeds, how many sessions fail at least, and what the words of a failing one must have one of.
+# By planted bug: how many seeds, how many sessions fail at least, and what the words of a failing one must have one of. The gallery's table has
+# the bugs in this order.
 PLANTED = {
     "tombstone": (150, 50, ["beside deleted elements"]),
     "tie": (100, 50, ["order of concurrent inserts", "rule that orders concurrent inserts", "where a replica places an incoming insert"]),
     "clock": (300, 20, ["numbers that order inserts", "number that orders inserts"]),
-    "overtaking": (100, 50, ["overtook it in line"]),
     "mapping": (150, 40, ["perhaps not adjusted for the delete", "perhaps not adjusted for the insert"]),
     "unmoved": (80, 40, ["its position was perhaps not adjusted for", "not adjusted for an insert", "not adjusted for inserts"]),
     "behind": (80, 40, ["order of concurrent inserts", "neither author knowing of the other"]),
     "twice": (500, 10, ["already deleted here by"]),
+    "overtaking": (100, 50, ["overtook it in line"]),
     "none": (60, 0, []),
     "none_behind_server": (60, 0, []),
 }
@@ -1149,6 +1150,9 @@ def from_yjs(tally: Tally, program: str, folder: str) -> None:
         got = explain(program, [str(YJS / kept)])
         missing = stand_in_order(got.out.decode().splitlines(), wanted.split("|"))
         tally.check(f"Yjs: {kept} explained", missing is None and got.status == 0 and not warned(got) and not got.err, got)
+    guide = Path(GUIDE).read_text().partition("**A plain test of Yjs.**")[2].partition("\n\n**")[0]
+    tally.check("Yjs: the guide says what becomes of the newest first", "An update that Yjs holds back counts as received when Yjs has taken it in: with "
+                "`PLANTED=1` the newest comes first, and the recording is accepted too." in guide, guide)
     copied = Path(folder, "copied")
     copied.mkdir()
     for file in YJS / "recorded_yjs.mjs", YJS / "page.test.mjs", ROOT / "recorders/domepeeler.mjs":
@@ -1311,8 +1315,10 @@ def drawn(tally: Tally, program: str) -> None:
 def planted_bugs(tally: Tally, program: str, folder: str) -> None:
     """Random sessions of small engines with the usual bugs: of each that is not accepted the words name the cause, of the small trace too.
     Without a bug all are accepted, but that behind a server strong may fail where weak holds."""
+    told_of = {}
     for bug, (seeds, least, phrases) in PLANTED.items():
         failing, named, small_named = 0, 0, 0
+        told_of[bug] = []
         for seed in range(seeds):
             text = planted.session(bug, seed, 16).text()
             report = report_of(program)(text.encode())
@@ -1323,6 +1329,7 @@ def planted_bugs(tally: Tally, program: str, folder: str) -> None:
             if told.report["weak"] and bug in planted.BEHIND_SERVER:  # its beginning is as without a bug
                 continue
             said = text_of_words(words)
+            told_of[bug].append(said)
             is_named = any(phrase in said for phrase in phrases)
             tally.check(f"planted: {bug} {seed}: named", is_named, f"{text}{said}")
             small = smallest(told, report_of(program)).text
@@ -1332,10 +1339,22 @@ def planted_bugs(tally: Tally, program: str, folder: str) -> None:
         tally.check(f"planted: {bug}: how many fail, and are named", failing >= least and named == failing, (failing, named))
         tally.check(f"planted: {bug}: named by most small traces too", small_named >= 0.8 * failing, (failing, small_named))
         print(f"{bug}: {failing} of {seeds} sessions fail, the words name the cause of {named}, those of small traces of {small_named}")
+    in_gallery(tally, [told_of[bug] for bug, (_, _, phrases) in PLANTED.items() if phrases])
     done = subprocess.run([sys.executable, ROOT / "examples" / "planted" / "planted.py", "overtaking", "1", f"{folder}/planted.trace"], capture_output=True)
     got = explain(program, [f"{folder}/planted.trace"])
     tally.check("planted: by its own words", done.returncode == 0 and b"overtook it in line" in got.out and got.out.endswith(b"\n\nNoted\n  planted.py overtaking 1\n"),
                 (done, got))
+
+
+def in_gallery(tally: Tally, told_of: list) -> None:
+    """The gallery's table has for each planted bug the verdicts of its sessions, and words that some of them are told."""
+    table = re.findall(r"^\| (.+) \| (`.+`) \| (\*.+\*) \|$", (ROOT / "docs" / "gallery.md").read_text(), re.MULTILINE)
+    tally.check("gallery: each planted bug", len(table) == len(told_of), table)
+    for (bug, verdicts, words), told in zip(table, told_of):
+        kinds = {re.match(r"\w+", said)[0] for said in told}
+        tally.check(f"gallery: verdicts where {bug}", kinds == set(re.findall("`(.+?)`", verdicts)), kinds)
+        for phrase in re.findall(r"\*(.+?)\*", words):
+            tally.check(f"gallery: words where {bug}: {phrase}", any(phrase in said for said in told), told[:3])
 
 
 def scripts_end(tally: Tally) -> None:
