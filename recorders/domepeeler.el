@@ -597,7 +597,7 @@ What is no name but an id gets a name that no other id has."
       (when (or (= (length given) domepeeler--bytes) (string-match-p "\\`long\\|-" given)) ; others never stand for an id
         (let ((had (gethash given ids)))
           (when (and had (not (string= had given)))
-            (domepeeler--refuse "name \"%s\" is short for the id \"%s\" already" given (domepeeler--escaped had)))
+            (domepeeler--refuse "name \"%s\" stands for the id \"%s\" already" given (domepeeler--escaped had)))
           (unless had (domepeeler--keep recording given given))))
       given)
      ((or (> (string-bytes given) domepeeler--bytes) (string-match-p "\\`[A-Za-z0-9_.@,-]+\\'" given))
@@ -621,7 +621,7 @@ A letter stands first, as `2-0' would look like an operation's name."
 (defun domepeeler--numbered (recording given)
   "The next name that stands for an id, GIVEN."
   (when (domepeeler-recording-only recording)
-    (domepeeler--refuse "one replica's log can't number the id \"%s\", since the other machines would number on their own"
+    (domepeeler--refuse "one replica's log can't give the id \"%s\" a short name, since each machine would give another"
                         (domepeeler--escaped given)))
   (let ((number (1+ (hash-table-count (domepeeler-recording-short recording)))))
     (while (gethash (format "long%d" number) (domepeeler-recording-ids recording))

@@ -671,7 +671,7 @@ static inline const char *domepeeler_shorten(struct domepeeler *d, const char *i
             if (id[i] != '-') name[digits++] = id[i];
     for (size_t number = 1 + d->shortened; !*name || domepeeler_find(d, name, 1); number++) {
         if (d->only >= 0) {
-            domepeeler_refuse(d, 0, "one replica's log can't number the id \"%s\", since the other machines would number on their own",
+            domepeeler_refuse(d, 0, "one replica's log can't give the id \"%s\" a short name, since each machine would give another",
                               domepeeler_escaped(id, shown, sizeof shown));
             return NULL;
         }
@@ -689,7 +689,7 @@ static inline const char *domepeeler_own_name(struct domepeeler *d, const char *
     char shown[sizeof d->why];
     if (one ? strcmp(one->id, given) == 0 : domepeeler_keep(d, given, given)) return given;
     if (!one) domepeeler_refuse(d, 0, "no memory");
-    else domepeeler_refuse(d, 0, "name \"%s\" is short for the id \"%s\" already", given, domepeeler_escaped(one->id, shown, sizeof shown));
+    else domepeeler_refuse(d, 0, "name \"%s\" stands for the id \"%s\" already", given, domepeeler_escaped(one->id, shown, sizeof shown));
     return NULL;
 }
 

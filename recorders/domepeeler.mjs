@@ -111,7 +111,7 @@ export class Recording {
     if (only !== null) this.#known(only)
     this.#only = only
     if (stop && only !== null) throw new Refused(NOT_STOPPED)
-    if (weak && !stop) throw new Refused("a recording is told of weak with `stop` alone: else tell judge() and explain()")
+    if (weak && !stop) throw new Refused("a recording takes `weak` only with `stop`: else give it to judge() and explain()")
     if (stop && !globalThis.process?.getBuiltinModule) throw new Error("`stop` needs Node.js from 20.16 or 22.3 on")
     this.#stop = stop
     this.#weak = weak
@@ -557,7 +557,7 @@ export class Recording {
     if (NAME.test(given)) {
       if (given.length === MOST_BYTES || given.startsWith("long") || given.includes("-")) { // others never stand for an id
         const had = this.#ids.get(given) ?? given
-        if (had !== given) throw new Refused(`name "${given}" is short for the id "${escaped(had)}" already`)
+        if (had !== given) throw new Refused(`name "${given}" stands for the id "${escaped(had)}" already`)
         this.#ids.set(given, given)
       }
       return given
@@ -576,7 +576,7 @@ export class Recording {
   // The next name that stands for an id.
   #numbered(given) {
     if (this.#only !== null) {
-      throw new Refused(`one replica's log can't number the id "${escaped(given)}", since the other machines would number on their own`)
+      throw new Refused(`one replica's log can't give the id "${escaped(given)}" a short name, since each machine would give another`)
     }
     let number = 1 + this.#short.size
     while (this.#ids.has(`long${number}`)) number += 1

@@ -177,7 +177,7 @@ class Recording:
         if stop and only is not None:
             raise Refused(NOT_STOPPED)
         if weak and not stop:
-            raise Refused("a recording is told of weak with `stop` alone: else tell `judge` and `explain`")
+            raise Refused("a recording takes `weak` only with `stop`: else give it to `judge` and `explain`")
 
     def __getstate__(self) -> Dict[str, Any]:
         return {name: value for name, value in vars(self).items() if name != "_lock"}  # a copy has its own
@@ -553,7 +553,7 @@ class Recording:
         if NAME.fullmatch(given):
             if len(given) == MOST_BYTES or given.startswith("long") or "-" in given:  # others never stand for an id
                 if self._ids.setdefault(given, given) != given:
-                    raise Refused(f'name "{given}" is short for the id "{_escaped(self._ids[given])}" already')
+                    raise Refused(f'name "{given}" stands for the id "{_escaped(self._ids[given])}" already')
             return given
         name = given.replace("-", "") if UUID.fullmatch(given) else ""
         if len(given.encode(errors="surrogatepass")) <= MOST_BYTES:
@@ -569,7 +569,7 @@ class Recording:
     def _numbered(self, given: str) -> str:
         """The next name that stands for an id."""
         if self._only is not None:
-            raise Refused(f'one replica\'s log can\'t number the id "{_escaped(given)}", since the other machines would number on their own')
+            raise Refused(f'one replica\'s log can\'t give the id "{_escaped(given)}" a short name, since each machine would give another')
         number = 1 + len(self._short)
         while f"long{number}" in self._ids:
             number += 1

@@ -27,7 +27,7 @@
 //! `Recording::new(2)?.stop()?` has the session judged after each call that takes a list, and panics in the call that answered wrong;
 //! `stop_weak` in that after which weak doesn't hold.
 //!
-//! Where a test fails by itself, the trace of each recording that it drops then is saved, if it was neither saved nor judged.
+//! Where a test fails by itself, the trace of each recording that it drops then is saved, and standard error has the verdict.
 //!
 //! Where updates have vector clocks, `received_clock` writes the receipts, and refuses what is not causal.
 //!
@@ -115,10 +115,10 @@ impl Display for Refused {
                 write!(f, "this log is of replica {only} alone, not of {replica}")
             }
             Refused::Name { name } => write!(f, "name \"{}\" is not 1 to 32 of A-Z a-z 0-9 _ - .", escaped(name)),
-            Refused::ShortFor { name, id } => write!(f, "name \"{name}\" is short for the id \"{}\" already", escaped(id)),
+            Refused::ShortFor { name, id } => write!(f, "name \"{name}\" stands for the id \"{}\" already", escaped(id)),
             Refused::NoNumber { id } => {
-                write!(f, "one replica's log can't number the id \"{}\", ", escaped(id))?;
-                write!(f, "since the other machines would number on their own")
+                write!(f, "one replica's log can't give the id \"{}\" a short name, ", escaped(id))?;
+                write!(f, "since each machine would give another")
             }
             Refused::OperationZero => write!(f, "operation number 0 is not a whole number from 1 to {}", u32::MAX),
             Refused::OwnReceipt { replica } => write!(f, "replica {replica} receives no operation of its own"),
@@ -187,7 +187,7 @@ pub enum Verdict {
     /// As many responses as there are steps can't be right together, and any fewer can. With two, the weak list specification fails
     /// as well as the strong one; with more, it holds.
     Refused { steps: Vec<Step>, weak: bool },
-    /// The response is not what was visible to the operation.
+    /// The response is not what its replica had by then.
     Contents { at: Operation },
     /// The element does not stand where it was asked for.
     Position { at: Operation },
@@ -281,13 +281,17 @@ struct Names {
     order: Vec<String>,
 }
 
-/// How many lines the text had when it was last saved or judged; 0 of one that never was.
+/// How many lines the text had when it was last saved, and when a panic last told the verdict and the path; 0 where that never was.
 #[derive(Default)]
-struct Seen(AtomicUsize);
+struct Seen {
+    saved: AtomicUsize,
+    told: AtomicUsize,
+}
 
 impl Clone for Seen {
     fn clone(&self) -> Seen {
-        Seen(AtomicUsize::new(self.0.load(Ordering::Relaxed)))
+        let same = |count: &AtomicUsize| AtomicUsize::new(count.load(Ordering::Relaxed));
+        Seen { saved: same(&self.saved), told: same(&self.told) }
     }
 }
 
@@ -315,18 +319,24 @@ pub struct Recording {
     seen: Seen,
 }
 
-/// Where a thread panics, the trace of a recording that is dropped is saved as `assert_accepted` saves it, and its path told on standard
-/// error, if it has entries that were neither saved nor judged. Nothing here may panic, as that would end the program.
+/// Where a thread panics, the trace of a recording that is dropped is saved as `assert_accepted` saves it, if it has entries and was not saved;
+/// and standard error tells the verdict and the path, unless the panic itself does. Nothing here may panic, as that would end the program.
 impl Drop for Recording {
     fn drop(&mut self) {
+        let is_told = self.stopped.is_some() || self.seen.told.load(Ordering::Relaxed) == self.lines();
         let last = match self.callers.last() {
-            Some(last) if std::thread::panicking() && self.seen.0.load(Ordering::Relaxed) != self.lines() => last,
+            Some(last) if std::thread::panicking() && !is_told => last,
             _ => return,
         };
-        let before = SAVED.try_with(Cell::get).unwrap_or(0); // by this thread in the same panic
-        let path = failed_trace(last);
-        let path = if before == 0 { path } else { numbered(&path, before + 1) };
-        let _ = writeln!(io::stderr(), "{}", self.save_failed(&path)); // where nobody hears it, nothing is to be done
+        let mut told = self.verdict_told();
+        if self.seen.saved.load(Ordering::Relaxed) != self.lines() {
+            let before = SAVED.try_with(Cell::get).unwrap_or(0); // by this thread in the same panic
+            let path = failed_trace(last);
+            let path = if before == 0 { path } else { numbered(&path, before + 1) };
+            told.push(self.save_failed(&path));
+        }
+        let lines: String = told.iter().map(|line| format!("{line}\n")).collect();
+        let _ = write!(io::stderr(), "{lines}"); // where nobody hears it, nothing is to be done
     }
 }
 
@@ -555,13 +565,8 @@ impl Recording {
             Fresh::written(Path::new(&beside), &self.beside())?.put()?;
             trace.put()?;
         }
-        self.see();
+        self.seen.saved.store(self.lines(), Ordering::Relaxed);
         Ok(())
-    }
-
-    /// All that was recorded so far is saved, or judged.
-    fn see(&self) {
-        self.seen.0.store(self.lines(), Ordering::Relaxed);
     }
 
     /// What an accepted verdict on this recording may hide, a line each, with the places in your code: a change that never arrived,
@@ -593,7 +598,6 @@ impl Recording {
         let warnings = if is_accepted { self.warnings()? } else { vec![] };
         let told: Vec<String> = warnings.iter().map(|warning| quoted(warning)).collect();
         report.insert_str(end, &format!(",\"warnings\":[{}]", told.join(",")));
-        self.see();
         Ok(report)
     }
 
@@ -618,7 +622,6 @@ impl Recording {
         let verdict = read.ok_or_else(|| ended(program, &done, "no report"))?;
         let (is_accepted, head) = (verdict.is_accepted(), printed(program, &done)?);
         self.check_agrees(program, &done, is_accepted, head.lines().next().unwrap_or(""), " operations ", " ")?;
-        self.see();
         Ok(verdict)
     }
 
@@ -679,7 +682,26 @@ impl Recording {
             true => format!("{warnings}\n\n"),
         };
         let said = unsure + &self.explained(&explainer(), goal).unwrap_or_else(|why| format!("{verdict}\n{why}\n"));
-        panic!("{said}\n{}", self.save_failed(&path));
+        let saved = self.save_failed(&path);
+        self.seen.told.store(self.lines(), Ordering::Relaxed);
+        panic!("{said}\n{saved}");
+    }
+
+    /// The verdict as a line, and one for each warning. A thread of its own asks, so that this one does not panic.
+    fn verdict_told(&self) -> Vec<String> {
+        let asked = std::thread::scope(|scope| match std::thread::Builder::new().spawn_scoped(scope, || self.verdict()) {
+            Ok(asking) => asking.join().unwrap_or_else(|_| Err("who asked panicked".to_string())),
+            Err(why) => Err(why.to_string()),
+        });
+        match asked {
+            Ok(Verdict::Accepted { warnings, .. }) if !warnings.is_empty() => {
+                let hidden = warnings.iter().map(|warning| format!("  {warning}"));
+                std::iter::once("The recording is accepted, and may hide something:".to_string()).chain(hidden).collect()
+            }
+            Ok(Verdict::Accepted { .. }) => vec!["The recording is accepted".to_string()],
+            Ok(verdict) => vec![format!("The recording is not accepted: {verdict}")],
+            Err(why) => vec![format!("The recording was not judged: {why}")],
+        }
     }
 
     /// Saves the trace in a folder that git does not look into. Answers in words where it is.
@@ -722,7 +744,6 @@ impl Recording {
             return Err(ended(explainer, &done, "no words"));
         }
         let said = printed(explainer, &done)?;
-        self.see();
         let words: HashSet<&str> = said.split(|letter: char| !letter.is_ascii_alphanumeric()).collect();
         let ids = self.ids().into_iter().filter(|(name, _)| words.contains(name) && name.starts_with("long"));
         let long = section("Ids that were too long for a name", ids.map(|(name, id)| format!("{name}: {}", escaped(id))));

@@ -58,7 +58,7 @@ BESIDE_DELETED = "0 ins b 0 : b|1 recv 0 1|1 ins c 1 : b c|0 recv 1 1|0 read : b
 def stop(line: int, doing: str, *others: int) -> str:
     """The lines of an explanation that say where to stop a debugger."""
     before = ", ".join(f"line {other}" for other in others)
-    doing += f"; if nothing is wrong there, where {'another' if len(others) == 1 else 'others'} arrived ({before})" if others else ""
+    doing += f"; if nothing is wrong there, stop where {'another' if len(others) == 1 else 'others'} arrived ({before})" if others else ""
     asked = f"if recording.lines() == {line - 1}: breakpoint()"
     where = "where the list is read" if "reads the list" in doing else "where a change begins to be applied, local or remote"
     return f"|In a debugger|stop before line {line}, where {doing}. In Python, {where}: {asked}"
@@ -119,24 +119,24 @@ WORDS = [
      "c was put behind a and before b. When it arrived at replica 1 in line 13, a was deleted there by 1.1 (line 8) and b was deleted there by 0.3 "
      "(line 9)|c arrived at replica 1 in line 13, d at replica 2 in line 15"),
     ("a session that goes on", 2, f"{BESIDE_DELETED}|0 recv 1 2|0 read : d c|1 read : c d",
-     "When it went wrong|line 11 of the trace, 1.3: replica 1 read the list: up to line 10 the session is accepted, and with line 11 it is `refused 2`|"
+     "When it went wrong|line 11 of the trace, 1.3: replica 1 read the list: up to line 10 the session is accepted; line 11 makes it `refused 2`|"
      "before it: 1.2 (line 8) still fits; since then replica 1 received 0.3 (line 10)|"
-     "in the end replicas 0 and 1 have every change, and show different lists, perhaps as one text||"
+     "in the end replicas 0 and 1 have every change and show different lists, though perhaps the same text||"
      "What they show, each element before the next, and round again|"
      "[d] before [c]: line 9, 0.3: replica 0 inserted d at position 1, answered b [d] [c]|"
      "[c] before [d]: line 11, 1.3: replica 1 read the list, answered [c] [d]||The elements|"
      "c arrived at replica 0 in line 6, d at replica 1 in line 10||"
      "Where to look" + stop(10, "replica 1 applies 0.3", 6)),
     ("a session that goes on, with one list in the end", 2, f"{BESIDE_DELETED}|0 recv 1 2|0 read : c d",
-     "When it went wrong|line 11 of the trace, 1.3: replica 1 read the list: up to line 10 the session is accepted, and with line 11 it is `refused 2`|"
+     "When it went wrong|line 11 of the trace, 1.3: replica 1 read the list: up to line 10 the session is accepted; line 11 makes it `refused 2`|"
      "before it: 1.2 (line 8) still fits; since then replica 1 received 0.3 (line 10)|"
-     "in the end replicas 0 and 1 have every change, and show the same list||Where to look" + stop(10, "replica 1 applies 0.3", 6)),
+     "in the end replicas 0 and 1 have every change and show the same list||Where to look" + stop(10, "replica 1 applies 0.3", 6)),
     ("a beginning that shows something else", 3, f"{THREE_WAY}|1 recv 0 2|1 recv 2 1|1 read : a b",
      "refused 3: three responses can't be right together. Any two of them can. Of the whole trace the program says `refused 2`.||"
-     "When it went wrong|line 11 of the trace, 0.3: replica 0 read the list: up to line 10 the session is accepted, and with line 11 it is "
+     "When it went wrong|line 11 of the trace, 0.3: replica 0 read the list: up to line 10 the session is accepted; line 11 makes it "
      "`refused 3`|"
      "before it: 0.2 (line 8) still fits; since then replica 0 received 1.1 (line 9), 2.1 (line 10)|"
-     "in the end replicas 0 and 1 have every change, and show different lists, perhaps as one text||"
+     "in the end replicas 0 and 1 have every change and show different lists, though perhaps the same text||"
      "What they show, each element before the next, and round again|"
      "[x] before [b]: line 7, 2.1: replica 2 inserted b at position 1, answered [x] [b]|"
      "[b] before [a]: line 11, 0.3: replica 0 read the list, answered [b] [a]|"
@@ -164,7 +164,10 @@ WORDS = [
      "1 read : c a",
      "[a] before [c]: line 5 of the trace, 0.3: replica 0 inserted c at position 2, answered [a] b [c]|"
      "[c] before [a]: line 9, 1.3: replica 1 read the list, answered [c] [a]|c: inserted by 0.3 (line 5)|"
-     "c was put behind b, deleted for 1.3 (line 9)|c arrived at replica 1 in line 6, a at replica 1 in line 6" + stop(6, "replica 1 applies 0.3")),
+     "c was put behind b, which was deleted by the time of 1.3 (line 9)|c arrived at replica 1 in line 6, a at replica 1 in line 6" + stop(6, "replica 1 applies 0.3")),
+    ("an element between two that are deleted later", 2, "0 ins a 0 : a|0 ins b 1 : a b|0 ins c 1 : a c b|0 ins d 3 : a c b d|1 recv 0 4|"
+     "1 read : a c b d|1 del a : c b d|1 del b : c d|1 read : d c",
+     "c was put behind a and before b, which were deleted by the time of 1.4 (line 11)"),
     ("a ring of three that hear of one another", 3, "0 ins a 0 : a|1 ins b 0 : b|2 ins c 0 : c|0 recv 1 1|0 read : a b|1 recv 2 1|"
      "1 read : b c|2 recv 0 1|2 read : c a",
      "[a] before [b]: line 7 of the trace, 0.2: replica 0 read the list, answered [a] [b]|"
@@ -257,12 +260,12 @@ WORDS = [
     ("an insert that was deleted before", 2, "1 del a :|0 recv 1 1|0 ins a 0 :",
      "position 0.1: a does not stand where it was asked for.|"
      "asked for: a place in the list, but the response is empty|"
-     "found at: no position, since 1.1 (line 3) deletes it, arrived at replica 0 in line 4 (0 recv 1 1)"),
+     "found at: no position: deleted by 1.1 (line 3), arrived at replica 0 in line 4 (0 recv 1 1)"),
     ("an insert whose number is not great enough", 2, "0 ins a 0 : a|0 ins b 0 : b a|1 recv 0 2|1 ins c 0 : b c a",
      "position 1.1: c does not stand where it was asked for.|asked for: position 0, where [b] stands|found at: position 1||"
      "Where to look|"
      "Look at the numbers that order inserts at one place, if the editor has such (a clock, ids): c stands behind b, which replica 1 had "
-     "already. Perhaps its number is not greater than theirs, as it must be. Usual causes: the clock does not advance when changes arrive; ids "
+     "already. Perhaps the number of c is not greater than that of b, as it must be. Usual causes: the clock does not advance when changes arrive; ids "
      'are compared as text, so "10" comes before "9".|If the editor has no such numbers: look at how the position that a user sees is mapped to a place '
      "in the editor's own list; and at whether the recorder writes the position that was asked for." + stop(6, "replica 1 inserts c")),
     ("a position before the one that was asked for, beside a deleted element", 1, "0 ins a 0 : a|0 ins b 1 : a b|0 del a : b|0 ins c 1 : c b",
@@ -302,7 +305,7 @@ WORDS = [
      + stop(7, "replica 1 applies 0.3")),
     ("a change without a receipt, as each other of its author has one", 2, "0 ins a 0 : a|0 ins b 1 : a b|0 ins c 2 : a b c|0 ins d 3 : a b c d|1 recv 0 1|"
      "1 read : a|1 recv 0 3|1 read : a c|1 recv 0 4|1 read : a c d",
-     "[b] 0.2 has no receipt of its own at replica 1, as each other change of replica 0 has. It was lost, or 0.3 overtook it in line 9"),
+     "[b] 0.2 has no receipt of its own at replica 1, though each other change of replica 0 has one. It was lost, or 0.3 overtook it in line 9"),
     ("one receipt for several changes of an author", 2, "0 ins a 0 : a|0 ins b 1 : a b|0 ins c 2 : a b c|1 recv 0 3|1 read : a c",
      "[b] inserted by 0.2 (line 4), arrived at replica 1 in line 6 (1 recv 0 3)|"
      "[b] was put behind a, which was not deleted there when it arrived (line 6)|[b] no operation deletes it||Where to look|"
@@ -312,18 +315,18 @@ WORDS = [
     ("a change that is lost before others of a server's order", 3, "0 ins a 0 : a|0 ins b 0 : b a|1 recv 0 1|1 read : a|1 ins c 1 : a c|2 recv 0 1|"
      "2 ins y 1 : a y|0 recv 2 1|0 recv 1 2|0 read : b a y c|1 recv 2 1|1 read : a c y|0 ins d 4 : b a y c d|0 ins e 5 : b a y c d e|1 recv 0 4|"
      "1 read : a c y d|1 recv 0 5|1 read : a c y d e",
-     "Look first at whether 0.2 (line 4) was lost on its way to replica 1, or overtaken: no receipt names it there, as one does each other change of "
-     "replica 0. Where positions are sent, what comes later is then misplaced.|"
+     "Look first at whether 0.2 (line 4) was lost on its way to replica 1, or overtaken: no receipt there names it, though each other change of "
+     "replica 0 has one. Where positions are sent, what comes later is then misplaced.|"
      "Look at the order of concurrent inserts: c and y were inserted without knowing of each other, and were shown in two different orders. Use a "
      "rule that gives the same order everywhere (by the replicas' numbers, say), and not the order in which they arrive."),
     ("a delete that meets an insert and a delete which did not know each other", 2, "0 ins a 0 : a|0 ins b 1 : a b|0 ins c 2 : a b c|1 recv 0 3|"
      "1 read : a b c|0 del a : b c|1 ins d 3 : a b c d|0 recv 1 2|0 read : b c d|1 del c : a b d|0 recv 1 3|0 read : b c",
-     "1.3 (line 12) looks applied to d in the place of c: look at how a delete finds its element where it is applied, and at whether the recorder "
+     "It looks as if 1.3 (line 12) deleted d instead of c: look at how a delete finds its element where it is applied, and at whether the recorder "
      "names the element that was deleted. In an editor that sends positions, its position was perhaps not adjusted for the delete 0.4 (line 8) of "
      "a, which its author had not seen; or an earlier insert was not adjusted for a delete." + stop(13, "replica 0 applies 1.3")),
     ("a delete that takes what is deleted later", 2, "0 ins a 0 : a|0 ins b 1 : a b|1 recv 0 2|1 read : a b|1 del a : b|0 ins c 0 : c a b|0 recv 1 2|"
      "0 read : a b|0 del c : a b",
-     "1.2 (line 7) looks applied to c in the place of a: look at how a delete finds its element where it is applied, and at whether the recorder "
+     "It looks as if 1.2 (line 7) deleted c instead of a: look at how a delete finds its element where it is applied, and at whether the recorder "
      "names the element that was deleted. In an editor that sends positions, its position was perhaps not adjusted for the insert 0.3 (line 8) of "
      "c, which its author had not seen." + stop(9, "replica 0 applies 1.2")),
     ("an insert that another one at its place has shifted", 2, "0 ins b 0 : b|0 ins c 0 : c b|1 ins a 0 : a|1 recv 0 1|1 read : a b|1 recv 0 2|"
@@ -343,12 +346,12 @@ WORDS = [
      "late, or names another operation." + stop(8, "replica 1 reads the list")),
     ("an element lost that was there before, beside one that came", 2, "0 ins a 0 : a|1 recv 0 1|1 read : a|0 ins b 1 : a b|1 recv 0 2|1 read : b",
      "Missing|[a] no operation deletes it||Where to look|"
-     "Look at the recorder first: `received` is called right after the change is applied. Then at the transport: nothing may arrive before what "
+     "Look at the recorder first: `received` must be called right after the change is applied. Then at the transport: nothing may arrive before what "
      f"its author had. Then at the editor: does it lose a change, apply it twice, or apply it to another element? {GUIDE} says where the calls "
      "go." + stop(7, "replica 1 applies 0.2")),
     ("a wrong response before the one that the program names", 2, "1 ins a 0 : a|1 read :|0 recv 1 1|0 read : a|0 read :|1 read : a",
      "contents 1.2: this response lacks one element that replica 1 had by then. Of the whole trace the program says `contents 0.2`.||When it went wrong|"
-     "line 4 of the trace, 1.2: replica 1 read the list: up to line 3 the session is accepted, and with line 4 it is `contents 1.2`|"
+     "line 4 of the trace, 1.2: replica 1 read the list: up to line 3 the session is accepted; line 4 makes it `contents 1.2`|"
      "the first 4 lines are enough to show it (`head -4`)||The response|line 4 of the trace, 1.2: replica 1 read the list|answered: (nothing)|"
      "[a] inserted by 1.1 (line 3), an earlier operation of replica 1" + stop(4, "replica 1 reads the list")
      + "||What the program names of the whole trace|line 7, 0.2: replica 0 read the list, answered (nothing)||The list specifications|"
@@ -363,7 +366,7 @@ WORDS = [
      "It looks as if 0.2 (line 6) was not applied at replica 1: lost, or held back, or `received` is called before the change is applied. "
      "In an editor that sends positions, its position was perhaps not adjusted for the insert 1.2 (line 7) of b, which its author had not seen."),
     ("a delete of one of two that were inserted at one place", 2, "0 ins a 0 : a|0 del a :|1 ins b 0 : b|1 recv 0 1|1 read : a b|1 recv 0 2|1 read : a",
-     "0.2 (line 4) looks applied to b in the place of a: look at how a delete finds its element where it is applied, and at whether the recorder "
+     "It looks as if 0.2 (line 4) deleted b instead of a: look at how a delete finds its element where it is applied, and at whether the recorder "
      "names the element that was deleted. In an editor that sends positions, its position was perhaps not adjusted for the insert 1.1 (line 5) of "
      "b, which its author had not seen. b was inserted at the place of a, neither author knowing of the other: look also at which comes first there."),
     ("doubled", 2, "0 ins a 0 : a|0 ins b 1 : a b|1 ins b 0 : b",
@@ -381,15 +384,15 @@ ALONE = "weak holds, strong doesn't: this passes, as the weak list specification
 FAILS_WEAK = [
     # Where strong failed before, the session went wrong where weak fails.
     ("opposite orders after the cycle", f"{THREE_WAY}|1 recv 0 2|1 recv 2 1|1 read : a b|2 recv 0 2|2 recv 1 1|2 read : a b", "refused 2: ", [
-        "When it went wrong", "line 14 of the trace, 1.2: replica 1 read the list: up to line 13 weak holds, and with line 14 it is `refused 2`",
+        "When it went wrong", "line 14 of the trace, 1.2: replica 1 read the list: up to line 13 weak holds; line 14 makes it `refused 2`",
         "before it: 1.1 (line 6) agrees with each other response by then; since then replica 1 received 0.2 (line 12), 2.1 (line 13)",
         "[a] before [b]: line 14, 1.2: replica 1 read the list, answered [a] [b]",
         "[b] before [a]: line 11, 0.3: replica 0 read the list, answered [b] [a]", "strong and weak fail"]),
     ("a lost element after the cycle", f"{THREE_WAY}|1 recv 0 2|1 recv 2 1|1 read : b|0 read : b", "contents 1.2: ", [
-        "When it went wrong", "line 14 of the trace, 1.2: replica 1 read the list: up to line 13 weak holds, and with line 14 it is `contents 1.2`",
+        "When it went wrong", "line 14 of the trace, 1.2: replica 1 read the list: up to line 13 weak holds; line 14 makes it `contents 1.2`",
         "the first 14 lines are enough to show it (`head -14`)"]),
     ("a wrong position after the cycle", f"{THREE_WAY}|2 ins c 0 : x c b|0 read : b", "position 2.2: ", [
-        "When it went wrong", "line 12 of the trace, 2.2: replica 2 inserted c at position 0: up to line 11 weak holds, and with line 12 it is "
+        "When it went wrong", "line 12 of the trace, 2.2: replica 2 inserted c at position 0: up to line 11 weak holds; line 12 makes it "
         "`position 2.2`", "asked for: position 0, where [x] stands"]),
     ("a name twice", "0 ins a 0 : a|1 ins a 0 : a", "doubled: ", ["neither the strong nor the weak one was judged: both know an element by its "
                                                                  "name"])]
@@ -402,15 +405,15 @@ UNHEARD_OF = [
     (2, "0 ins a 0 : a|1 read :", False), (1, "0 ins a 0 : a|0 read :", False), (2, "0 ins a 0 : a|0 read :", False),
     (2, "0 ins a 0 : a|1 recv 0 1|1 read :", False), (3, "0 ins a 0 : a|1 recv 0 1|2 read : a", False),
 ]
-# How many replicas, the entries, and of a delete that looks applied to another element what is said first of where to look.
+# How many replicas, the entries, and of a delete that seems to have deleted another element what is said first of where to look.
 WRONG_DELETES = [
-    (2, "0 ins a 0 : a|0 ins b 1 : a b|1 recv 0 2|1 read : a b|0 del a : b|1 recv 0 3|1 read : a", "0.3 (line 7) looks applied to b in "
-     "the place of a: "),
-    (2, "0 ins a 0 : a|0 del a :|0 ins b 0 : b|1 recv 0 3|1 read : a", "0.2 (line 4) looks applied to b in the place of a: "),
-    (1, "0 ins a 0 : a|0 ins b 1 : a b|0 del a : a", "0.3 (line 5) looks applied to b in the place of a: "),
-    (2, "0 ins a 0 : a|0 ins b 1 : a b|1 recv 0 2|1 del a : b|0 del a : a", "0.3 (line 7) looks applied to b in the place of a: "),
-    (2, "0 ins a 0 : a|0 ins b 1 : a b|1 recv 0 2|1 read : a b|0 del a : b|1 recv 0 3|1 view :|1 read : a", "0.3 (line 7) looks applied "
-     "to b in the place of a: "),
+    (2, "0 ins a 0 : a|0 ins b 1 : a b|1 recv 0 2|1 read : a b|0 del a : b|1 recv 0 3|1 read : a", "It looks as if 0.3 (line 7) deleted b "
+     "instead of a: "),
+    (2, "0 ins a 0 : a|0 del a :|0 ins b 0 : b|1 recv 0 3|1 read : a", "It looks as if 0.2 (line 4) deleted b instead of a: "),
+    (1, "0 ins a 0 : a|0 ins b 1 : a b|0 del a : a", "It looks as if 0.3 (line 5) deleted b instead of a: "),
+    (2, "0 ins a 0 : a|0 ins b 1 : a b|1 recv 0 2|1 del a : b|0 del a : a", "It looks as if 0.3 (line 7) deleted b instead of a: "),
+    (2, "0 ins a 0 : a|0 ins b 1 : a b|1 recv 0 2|1 read : a b|0 del a : b|1 recv 0 3|1 view :|1 read : a", "It looks as if 0.3 (line 7) deleted "
+     "b instead of a: "),
     (1, "0 ins a 0 : a|0 ins b 1 : a b|0 del a : b|0 read : a", ""),  # deleted for the response before, which is right
     (2, "0 ins a 0 : a|0 ins b 1 : a b|1 recv 0 2|1 del b : a|0 del a : a", ""),  # the other one is deleted too, elsewhere
     (1, "0 ins a 0 : a|0 ins b 1 : a b|0 ins c 2 : a b c|0 del a : a", ""),
@@ -507,16 +510,17 @@ KILLED = "kill -9 $$"
 OTHERS = [("echo hello", "0"), ("exit 0", "0"), ("echo '[]'", "0"), ("echo 5; exit 1", "1"), ("echo '{\"a\": 1}'", "0"),
           ("printf '\\377'", "0"), ("echo 'usage: other' >&2; echo 'or so' >&2; exit 2", "2: usage: other"), ("exit 3", "3")]
 
-# By planted bug: how many seeds, how many sessions fail at least, and what the words of a failing one must have one of.
+# By planted bug: how many seeds, how many sessions fail at least, and what the words of a failing one must have one of. The gallery's table has
+# the bugs in this order.
 PLANTED = {
     "tombstone": (150, 50, ["beside deleted elements"]),
     "tie": (100, 50, ["order of concurrent inserts", "rule that orders concurrent inserts", "where a replica places an incoming insert"]),
     "clock": (300, 20, ["numbers that order inserts", "number that orders inserts"]),
-    "overtaking": (100, 50, ["overtook it in line"]),
     "mapping": (150, 40, ["perhaps not adjusted for the delete", "perhaps not adjusted for the insert"]),
     "unmoved": (80, 40, ["its position was perhaps not adjusted for", "not adjusted for an insert", "not adjusted for inserts"]),
     "behind": (80, 40, ["order of concurrent inserts", "neither author knowing of the other"]),
     "twice": (500, 10, ["already deleted here by"]),
+    "overtaking": (100, 50, ["overtook it in line"]),
     "none": (60, 0, []),
     "none_behind_server": (60, 0, []),
 }
@@ -613,12 +617,12 @@ PLACES = [
 # A session whose end `delivered` wrote, in lines 9 to 11: replica 1 never applied 0.2 and 0.3, and shows nothing wrong before.
 UNDELIVERED = "0 ins a 0 : a|1 recv 0 1|1 read : a|0 ins b 1 : a b|0 del a : b|0 read : b|0 read : b|1 recv 0 3|1 read : a"
 UNDELIVERED_WORDS = """Missing
-[b] inserted by 0.2 (line 6), by `delivered` arrived at replica 1 in line 10 (1 recv 0 3)
+[b] inserted by 0.2 (line 6), arrived at replica 1 in line 10 (1 recv 0 3), which `delivered` wrote
 [b] no operation deletes it
 
 Extra
 [a] inserted by 0.1 (line 3), arrived at replica 1 in line 4 (1 recv 0 1)
-[a] deleted by 0.3 (line 7), by `delivered` arrived at replica 1 in line 10 (1 recv 0 3)
+[a] deleted by 0.3 (line 7), arrived at replica 1 in line 10 (1 recv 0 3), which `delivered` wrote
 
 Where to look
 Line 10 was written by `delivered`: before it nothing shows that 0.2 (line 6) and 0.3 (line 7) were applied at replica 1. They were lost, or are \
@@ -814,7 +818,7 @@ def hidden_of(text: str, report: dict) -> list:
 
 def hidden_told(told: str) -> list:
     """What some lines of an explanation say of that."""
-    return sorted(re.findall(r"^  (\S+) was put ((?:behind|before) .*), deleted for (\d+\.\d+) ", told, re.MULTILINE))
+    return sorted(re.findall(r"^  (\S+) was put ((?:behind|before) .*), which (?:was|were) deleted by the time of (\d+\.\d+) ", told, re.MULTILINE))
 
 
 def beside_told(told: str) -> list:
@@ -833,8 +837,8 @@ def stops_told(told: str) -> tuple:
 
 
 def said_first(tally: Tally, program: str) -> None:
-    """Where several replicas did something and nothing is received, that is said first; and of a delete that looks applied to another
-    element, that."""
+    """Where several replicas did something and nothing is received, that is said first; and of a delete that seems to have
+    deleted another element, that."""
     for replicas, entries, wanted in UNHEARD_OF:
         got = explain(program, ["-"], text_of(replicas, entries).encode())
         lines = [line.strip() for line in got.out.decode().splitlines()]
@@ -844,7 +848,7 @@ def said_first(tally: Tally, program: str) -> None:
         first, *others = paragraph(got.out.decode(), "Where to look").splitlines()
         is_said = bool(wanted) and first.startswith(f"  {wanted}") and bool(others) and others[-1].startswith("  If that is not the cause: ")
         tally.check(f"wrong delete: {entries}", got.out.startswith(b"contents ") and is_said == bool(wanted)
-                    and (is_said or "looks applied" not in got.out.decode()), got)
+                    and (is_said or " instead of " not in got.out.decode()), got)
 
 
 def beginning(tally: Tally, program: str, text: str, report: dict, said: str) -> tuple:
@@ -887,7 +891,7 @@ def sooner(tally: Tally, program: str, text: str, report: dict, said: str) -> tu
     told = paragraph(said, "When it went wrong").splitlines()
     wanted = count < max(named)
     is_right = bool(told) and told[0].startswith(f"  line {count} of the trace, ") and (
-        first["verdict"] == "refused" or told[1:] == [f"  the first {count} lines are enough to show it (`head -{count}`)"]) and told[0].endswith(f": up to line {count - 1} the session is accepted, and with line {count} it is `{of_first}`")
+        first["verdict"] == "refused" or told[1:] == [f"  the first {count} lines are enough to show it (`head -{count}`)"]) and told[0].endswith(f": up to line {count - 1} the session is accepted; line {count} makes it `{of_first}`")
     tally.check("a fault: when it went wrong", is_right if wanted else not told, f"{text}{report}\n{said}")
     headline, is_other = said.splitlines()[0], of_whole != of_first
     tally.check("a fault: its headline", headline.startswith(of_first.partition(" ")[0]) and headline.endswith(f" Of the whole trace the program says `{of_whole}`.") == is_other
@@ -1146,6 +1150,9 @@ def from_yjs(tally: Tally, program: str, folder: str) -> None:
         got = explain(program, [str(YJS / kept)])
         missing = stand_in_order(got.out.decode().splitlines(), wanted.split("|"))
         tally.check(f"Yjs: {kept} explained", missing is None and got.status == 0 and not warned(got) and not got.err, got)
+    guide = Path(GUIDE).read_text().partition("**A plain test of Yjs.**")[2].partition("\n\n**")[0]
+    tally.check("Yjs: the guide says what becomes of the newest first", "An update that Yjs holds back counts as received when Yjs has taken it in: with "
+                "`PLANTED=1` the newest comes first, and the recording is accepted too." in guide, guide)
     copied = Path(folder, "copied")
     copied.mkdir()
     for file in YJS / "recorded_yjs.mjs", YJS / "page.test.mjs", ROOT / "recorders/domepeeler.mjs":
@@ -1308,8 +1315,10 @@ def drawn(tally: Tally, program: str) -> None:
 def planted_bugs(tally: Tally, program: str, folder: str) -> None:
     """Random sessions of small engines with the usual bugs: of each that is not accepted the words name the cause, of the small trace too.
     Without a bug all are accepted, but that behind a server strong may fail where weak holds."""
+    told_of = {}
     for bug, (seeds, least, phrases) in PLANTED.items():
         failing, named, small_named = 0, 0, 0
+        told_of[bug] = []
         for seed in range(seeds):
             text = planted.session(bug, seed, 16).text()
             report = report_of(program)(text.encode())
@@ -1320,6 +1329,7 @@ def planted_bugs(tally: Tally, program: str, folder: str) -> None:
             if told.report["weak"] and bug in planted.BEHIND_SERVER:  # its beginning is as without a bug
                 continue
             said = text_of_words(words)
+            told_of[bug].append(said)
             is_named = any(phrase in said for phrase in phrases)
             tally.check(f"planted: {bug} {seed}: named", is_named, f"{text}{said}")
             small = smallest(told, report_of(program)).text
@@ -1329,10 +1339,22 @@ def planted_bugs(tally: Tally, program: str, folder: str) -> None:
         tally.check(f"planted: {bug}: how many fail, and are named", failing >= least and named == failing, (failing, named))
         tally.check(f"planted: {bug}: named by most small traces too", small_named >= 0.8 * failing, (failing, small_named))
         print(f"{bug}: {failing} of {seeds} sessions fail, the words name the cause of {named}, those of small traces of {small_named}")
+    in_gallery(tally, [told_of[bug] for bug, (_, _, phrases) in PLANTED.items() if phrases])
     done = subprocess.run([sys.executable, ROOT / "examples" / "planted" / "planted.py", "overtaking", "1", f"{folder}/planted.trace"], capture_output=True)
     got = explain(program, [f"{folder}/planted.trace"])
     tally.check("planted: by its own words", done.returncode == 0 and b"overtook it in line" in got.out and got.out.endswith(b"\n\nNoted\n  planted.py overtaking 1\n"),
                 (done, got))
+
+
+def in_gallery(tally: Tally, told_of: list) -> None:
+    """The gallery's table has for each planted bug the verdicts of its sessions, and words that some of them are told."""
+    table = re.findall(r"^\| (.+) \| (`.+`) \| (\*.+\*) \|$", (ROOT / "docs" / "gallery.md").read_text(), re.MULTILINE)
+    tally.check("gallery: each planted bug", len(table) == len(told_of), table)
+    for (bug, verdicts, words), told in zip(table, told_of):
+        kinds = {re.match(r"\w+", said)[0] for said in told}
+        tally.check(f"gallery: verdicts where {bug}", kinds == set(re.findall("`(.+?)`", verdicts)), kinds)
+        for phrase in re.findall(r"\*(.+?)\*", words):
+            tally.check(f"gallery: words where {bug}: {phrase}", any(phrase in said for said in told), told[:3])
 
 
 def scripts_end(tally: Tally) -> None:
@@ -1765,7 +1787,7 @@ def weak(tally: Tally, program: str, folder: str) -> None:
         if "opposite" in name:
             usual = explain(program, ["-"], text_of(3, entries).encode()).out
             tally.check(f"weak: {name}, where strong is asked for", usual.startswith(b"refused 3: ") and
-                        b"up to line 10 the session is accepted, and with line 11 it is `refused 3`" in usual, usual)
+                        b"up to line 10 the session is accepted; line 11 makes it `refused 3`" in usual, usual)
     for name in "lost_element", "crdt_el_wrong_delete", "libinfinity_replicas_disagree", "crdt_el_replicas_disagree":
         trace = (ROOT / f"examples/{name}.trace").read_bytes()
         got, without = (explain(program, [*goal, "-"], trace) for goal in (["--weak"], []))

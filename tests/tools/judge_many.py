@@ -560,6 +560,11 @@ def unequal(tally: Tally, program: str, folder: str) -> None:
                                                         "lists")], faults)
     got = judge(program, ["--unequal", f"{folder}/fine.trace"])
     tally.check("unequal: all are equal", got.status == 0, got)
+    silent = Path(folder, "silent.trace")
+    for entries, is_unequal in ("", False), ("0 read :\n", False), ("0 ins a 0 : a\n", True), ("0 ins a 0 : a\n1 recv 0 1\n", True):
+        silent.write_text(f"trace 1\nreplicas 2\n{entries}")
+        got = judge(program, ["--unequal", str(silent)])
+        tally.check(f"unequal: a replica that shows nothing, {entries!r}", got.status == is_unequal and b"1 accepted\n" in got.out, got)
 
 
 def known_as_cut(tally: Tally, program: str, folder: str) -> None:
@@ -601,12 +606,12 @@ def grouped(tally: Tally, program: str, folder: str) -> None:
 
 
 def places(tally: Tally, program: str, folder: str) -> None:
-    """What JUnit's file says of a failure has the places that a recorder has saved."""
-    Path(folder, "lost.trace.lines").write_text("4\n3 t.py:7\n4 t.py:8, called from t.py:9\n")
+    """What JUnit's file says of a failure has the places that a recorder has saved, and the seed that the test has noted."""
+    Path(folder, "lost.trace.lines").write_text("4\nnote seed 17\n3 t.py:7\n4 t.py:8, called from t.py:9\n")
     judge(program, ["--junit", f"{folder}/junit.xml", folder])
     (failure,) = xml.parse(f"{folder}/junit.xml").getroot().iter("failure")
-    wanted = "\n\nIn your code\n  t.py:7: line 3\n  t.py:8, called from t.py:9: line 4\n"
-    tally.check("JUnit's file: places", failure.text.endswith(wanted), failure.text)
+    wanted = "\n\nIn your code\n  t.py:7: line 3\n  t.py:8, called from t.py:9: line 4\n\nNoted\n  seed 17\n"
+    tally.check("JUnit's file: places, and the seed", failure.text.endswith(wanted), failure.text)
 
 
 def expected_warnings(text: str) -> dict:
@@ -684,7 +689,8 @@ def warnings_of_sessions(tally: Tally, program: str, folder: str) -> None:
         all_lacked = wanted.pop("lacked")
         tally.check("sessions: the warnings", got == wanted and len(said) == sum(map(len, found.values())), f"{row}: {wanted}")
         tally.check("sessions: what never arrived", named <= all_lacked and len(named) + left == len(all_lacked), f"{row}: {all_lacked}")
-        tally.check("sessions: unequal", row.get("unequal", False) == bool(wanted["unheard"] or wanted["ends"] or wanted["unshown"]), row)
+        is_silent = wanted["idle"] and bool(re.search(r"^\d+ (ins|del) ", texts[name], re.MULTILINE))
+        tally.check("sessions: unequal", row.get("unequal", False) == bool(wanted["unheard"] or wanted["ends"] or wanted["unshown"] or is_silent), row)
         tally.check("sessions: none where all was exchanged", not (said and name.startswith("exchanged")), row)
     tally.check("sessions: some without a warning, some with", EXCHANGED <= quiet <= EXCHANGED + SESSIONS - 30, quiet)
 
@@ -1344,7 +1350,7 @@ def weak_junit(tally: Tally, program: str, folder: str) -> None:
                     and "in the end replicas 0, 1 and 2 show different lists" in first.text, first.text)
         first, = cases["opposite.trace"]
         tally.check(f"weak: JUnit's failed case {more}", first.tag == "failure" and first.get("message").startswith("refused 2: ") and
-                    "up to line 13 weak holds, and with line 14 it is `refused 2`" in first.text, first.text)
+                    "up to line 13 weak holds; line 14 makes it `refused 2`" in first.text, first.text)
     Path(folder, "alone.trace.lines").write_text("40\n")
     got = judge(program, ["--weak", "--junit", path, folder])
     suite = xml.parse(path).getroot().find("testsuite")
@@ -1364,7 +1370,7 @@ def weak_in_ci(tally: Tally, program: str, folder: str) -> None:
     tally.check("weak: annotations of GitHub", done.returncode == 1 and [line[:line.index("::", 2) + 13] for line in told] == [
         "::error file=recordings/lost.trace,title=recordings/lost.trace%3A contents::contents 1.",
         "::error file=recordings/opposite.trace,title=recordings/opposite.trace%3A refused::refused 2: "], told)
-    tally.check("weak: explained where weak fails", "up to line 13 weak holds, and with line 14 it is `refused 2`" in
+    tally.check("weak: explained where weak fails", "up to line 13 weak holds; line 14 makes it `refused 2`" in
                 Path(project, "judged/2.html").read_text() and done.stdout.endswith(
                     "2 failed: judged/junit.xml has them all, and judged/1.html is the page of the first\n"), done.stdout)
     done = in_ci(project, path, f"{script} --unequal", github)

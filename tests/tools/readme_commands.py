@@ -22,6 +22,10 @@ BUILT = ROOT / "crates" / "finder_cli" / "out" / "finder_cli"
 FRONT = "README.md"
 PAGES = {FRONT: 12, "docs/many.md": 12, "docs/recording.md": 4, "docs/engines.md": 5}
 
+# Pages that have so many words at most, together.
+MOST_WORDS = [([FRONT], 2000),
+              ([f"docs/{name}.md" for name in ("recording", "gallery", "many", "embedding", "formats", "performance")], 9000)]
+
 # Indented lines of the pages that are commands and are not run here, each with the reason.
 NOT_RUN = {
     "(cd crates/finder_cli && rt run -- verdict ../../examples/libinfinity_three_way_cycle.trace)":
@@ -97,6 +101,14 @@ def check_page(tally: Tally, page: str, least: int) -> None:
             tally.check(f"{page}: `{command}` prints what is shown", got == wanted, f"\ngot\n{got}\nwanted\n{wanted}")
 
 
+def check_names(tally: Tally, program: str, front: str) -> None:
+    """README says in one sentence what a user types, and how the program's messages begin."""
+    told = re.findall(r"You type `(.+?)`; the program's messages begin with `(.+?)`\.", front)
+    asked, failed = (subprocess.run([program, *words], capture_output=True, text=True) for words in (["--version"], ["verdict", "/nowhere"]))
+    tally.check("README.md: the program's name, and its messages", len(told) == 1 and asked.stdout.startswith(f"{told[0][0]} ")
+                and failed.stderr.startswith(f"{told[0][1]} "), (told, asked, failed))
+
+
 def main() -> None:
     program = program_of(sys.argv)
     tally = Tally()
@@ -110,6 +122,10 @@ def main() -> None:
         text = (ROOT / page).read_text()
         ids, by_number = text.find("#receipts-made-for-you"), text.find("recording.received(")
         tally.check(f"{page}: calls that take ids and clocks come first", 0 < ids < by_number, (ids, by_number))
+    for pages, most in MOST_WORDS:
+        words = sum(len((ROOT / page).read_text().split()) for page in pages)
+        tally.check(f"{', '.join(pages)}: at most {most} words", words <= most, words)
+    check_names(tally, program, front)
     tally.close()
 
 

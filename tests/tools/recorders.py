@@ -62,7 +62,7 @@ NAME = "is not 1 to 32 of A-Z a-z 0-9 _ - ."
 LETTERS32 = "abcdefghijklmnopqrstuvwxyz_-.019"
 UUID, UUID_DIGITS = "123e4567-e89b-12d3-a456-426614174000", "123e4567e89b12d3a456426614174000"
 ALMOST_UUIDS = ["123e4567-e89b-12d3-a456-42661417400g", "123e4567e-89b-12d3-a456-426614174000", "123e4567_e89b_12d3_a456_426614174000"]
-ONE_NUMBER = "one replica's log can't number the id \"{}\", since the other machines would number on their own"
+ONE_NUMBER = "one replica's log can't give the id \"{}\" a short name, since each machine would give another"
 
 # A long id, and how an error shows it: what is no printable ASCII by its bytes, and so the first sign of what a CI service takes for a command.
 ODD_ID, ODD_SHOWN = "%20::%0A%1B%C3%A4%7F" + "a" * 30, " \\x3a:\\x0a\\x1b\\xc3\\xa4\\x7f" + "a" * 30
@@ -96,7 +96,7 @@ SAID = [
      f"read 0 {UUID} {UUID_DIGITS} -> ok 3\nid_of {UUID_DIGITS} -> none\nid_of long1 -> ok {UUID}\n",
      [f"0 ins {UUID_DIGITS} 0 :", f"0 ins long1 0 : {UUID_DIGITS}", f"0 read : long1 {UUID_DIGITS}"]),
     ("a name that a UUID has", f"new 1 -> ok\ninsert 0 {UUID} 0 -> ok 1\n"
-     f"read 0 {UUID_DIGITS} -> refused name \"{UUID_DIGITS}\" is short for the id \"{UUID}\" already\nread 0 {UUID} -> ok 2\n",
+     f"read 0 {UUID_DIGITS} -> refused name \"{UUID_DIGITS}\" stands for the id \"{UUID}\" already\nread 0 {UUID} -> ok 2\n",
      [f"0 ins {UUID_DIGITS} 0 :", f"0 read : {UUID_DIGITS}"]),
     ("long ids", f"new 2 -> ok\ninsert 0 {LETTERS32}x 0 {LETTERS32}x -> ok 1\ninsert 1 4@{LETTERS32} 0 {LETTERS32}x 4@{LETTERS32} -> ok 1\n"
      f"delete 1 {LETTERS32}x 4@{LETTERS32} -> ok 2\nread 0 {'%C3%A4' * 17} -> ok 2\nid_of long1 -> ok {LETTERS32}x\n"
@@ -105,7 +105,7 @@ SAID = [
     ("ids that are almost UUIDs", "new 1 -> ok\n" + "".join(f"read 0 {one} -> ok {n}\n" for n, one in enumerate(ALMOST_UUIDS, 1)),
      ["0 read : long1", "0 read : long2", "0 read : long3"]),
     ("numbers that names have", f"new 1 -> ok\ninsert 0 long1 0 -> ok 1\nread 0 {LETTERS32}x -> ok 2\n"
-     f"read 0 long2 -> refused name \"long2\" is short for the id \"{LETTERS32}x\" already\nread 0 longer -> ok 3\n",
+     f"read 0 long2 -> refused name \"long2\" stands for the id \"{LETTERS32}x\" already\nread 0 longer -> ok 3\n",
      ["0 ins long1 0 :", "0 read : long2", "0 read : longer"]),
     ("a refused call keeps no number", f"new 1 -> ok\nread 0 {LETTERS32}x a:b -> refused name \"a:b\" {NAME}\nid_of long1 -> none\n"
      f"read 0 long1 {LETTERS32}y a:b -> refused name \"a:b\" {NAME}\nread 0 {LETTERS32}z {UUID} -> ok 1\n"
@@ -122,7 +122,7 @@ SAID = [
     ("an id whose translation is another's name", "new 1 -> ok\ninsert 0 e2-alice 0 -> ok 1\nread 0 2@alice e2-alice -> ok 2\n"
      "id_of long1 -> ok 2@alice\nid_of e2-alice -> none\n", ["0 ins e2-alice 0 :", "0 read : long1 e2-alice"]),
     ("a name that a translated id has", "new 1 -> ok\ninsert 0 2@alice 0 2@alice -> ok 1\n"
-     'read 0 e2-alice -> refused name "e2-alice" is short for the id "2@alice" already\nread 0 2@alice -> ok 2\n',
+     'read 0 e2-alice -> refused name "e2-alice" stands for the id "2@alice" already\nread 0 2@alice -> ok 2\n',
      ["0 ins e2-alice 0 : e2-alice", "0 read : e2-alice"]),
     ("an id that is too long when it is translated", f"new 1 -> ok\ninsert 0 1{LETTERS32[:30]}@ 0 {LETTERS32[:31]}@ -> ok 1\n"
      f"id_of long1 -> ok 1{LETTERS32[:30]}@\n", [f"0 ins long1 0 : {LETTERS32[:31]}-"]),
@@ -130,7 +130,7 @@ SAID = [
     ("a refused call keeps no translation", f"new 1 -> ok\nread 0 a@b a:b -> refused name \"a:b\" {NAME}\nid_of a-b -> none\n"
      f"read 0 c-d a:b -> refused name \"a:b\" {NAME}\nread 0 a-b c@d -> ok 1\nid_of c-d -> ok c@d\n", ["0 read : a-b c-d"]),
     ("a long id of odd letters", f"new 1 -> ok\nread 0 {ODD_ID} -> ok 1\n"
-     f'read 0 long1 -> refused name "long1" is short for the id "{ODD_SHOWN}" already\n', ["0 read : long1"]),
+     f'read 0 long1 -> refused name "long1" stands for the id "{ODD_SHOWN}" already\n', ["0 read : long1"]),
     ("a long id of odd letters in one replica's log", f"new 3 1 -> ok\nread 1 {ODD_ID} -> refused {ONE_NUMBER.format(ODD_SHOWN)}\n", []),
     ("one replica's log translates, and numbers nothing", "new 3 1 -> ok\nread 1 2@alice -> ok 1\n"
      f"read 1 2,alice -> refused {ONE_NUMBER.format('2,alice')}\nread 1 2@bob -> ok 2\n", ["1 read : e2-alice", "1 read : e2-bob"]),
@@ -349,7 +349,7 @@ OWN_TYPES = {
            "number of changes is not a whole number from 1 to 1 but None", "delivered wants the list of each of the 2 replicas, not None",
            'delivered wants the list of each of the 2 replicas, not the string "ab"', "no replica 2 among 0 to 1",
            "delivered wants the list of each of the 2 replicas, not of 1", "a response is a list of names", NO_NOTE.partition(" ")[2],
-           REPLICA + 'the string "' + "1" * 40 + '"..', "a recording is told of weak with `stop` alone: else tell `judge` and `explain`",
+           REPLICA + 'the string "' + "1" * 40 + '"..', "a recording takes `weak` only with `stop`: else give it to `judge` and `explain`",
            ODD_REPLICA, "no change with the id ('a', '\\xc3\\xa4\\n') has been recorded"],
     "el": [ODD_REPLICA, REPLICA + "the symbol \\x3a:a\\x0ab"],
     "mjs": [REPLICA + "a Symbol", POSITION + "the BigInt 2", "a name is a string, not a Symbol", "a name is a string, not the BigInt 3",
@@ -361,7 +361,7 @@ OWN_TYPES = {
             "delivered wants the list of each of the 2 replicas, not of 1", "a response is a list of names", NO_NOTE.partition(" ")[2],
             REPLICA + 'the string "' + "1" * 40 + '"..', "an id of a change is a string or a number, not a Symbol",
             'name "a b" ' + NAME, "count of a clock is not a whole number from 0 to 4294967295 but undefined",
-            "a recording is told of weak with `stop` alone: else tell judge() and explain()", ODD_REPLICA]}
+            "a recording takes `weak` only with `stop`: else give it to judge() and explain()", ODD_REPLICA]}
 
 ELEMENTS = [f"e{i}" for i in range(4097)]
 FULL = "the most that a trace takes"
@@ -1460,7 +1460,7 @@ def check_explains_file(tally: Tally, recorder: Recorder, folder: Path) -> None:
     said = [line[2:] for line in got[len(lost) + 1:-1]]
     tally.check(f"{recorder.language}: explains a file of a session that ends with delivered", told.returncode == 1 and
                 said == told.stdout.splitlines() and "nothing shows that 0.1 (line 3) was applied at replica 1" in told.stdout and
-                "by `delivered` arrived at replica 1 in line 5 (1 recv 0 1)" in told.stdout, (said, told))
+                "arrived at replica 1 in line 5 (1 recv 0 1), which `delivered` wrote" in told.stdout, (said, told))
 
 
 def check_judge(tally: Tally, recorder: Recorder, folder: Path) -> None:
@@ -2526,6 +2526,16 @@ fn judged() {{
 }}
 
 #[test]
+fn lists_differ() {{
+    let mut recording = Recording::new(2).unwrap();
+    recording.insert(0, "a", 0, &["a"]).unwrap();
+    recording.received(1, 0, 1).unwrap();
+    recording.read(1, &["a"]).unwrap();
+    recording.insert(0, "b", 1, &["a", "b"]).unwrap(); // never arrives
+    fails();
+}}
+
+#[test]
 fn of_nothing() {{
     let _recording = Recording::new(1).unwrap();
     fails();
@@ -2552,14 +2562,14 @@ fn of_three_cases() {{
 
 
 def check_own_panics(tally: Tally, program: str, folder: Path) -> None:
-    """A test in Rust that fails by itself has the traces saved that it neither saved nor judged, whose paths stand on standard error; and a
-    passing one saves nothing. Where they can't be saved or told of, the tests end as they would."""
+    """A test in Rust that fails by itself has the traces saved that it did not save; the verdicts, accepted or not, and the paths stand on
+    standard error. A passing one saves nothing. Where they can't be judged, saved or told of, the tests end as they would."""
     place = folder / "own panics"
     place.mkdir()
     (place / "own.rs").write_text(OWN_PANICS)
     subprocess.run(["rustc", "--edition", "2021", "-D", "warnings", "--test", "-o", "own", "own.rs"], cwd=place, check=True)
     surroundings = {**os.environ, "DOMEPEELER": program, "DOMEPEELER_EXPLAIN": EXPLAIN, "RUST_BACKTRACE": "0", "LC_ALL": "C.UTF-8"}
-    line = {word: next(number for number, text in enumerate(OWN_PANICS.splitlines(), 1) if f"// {word}" in text) for word in ("reads", "inserts")}
+    line = {word: next(number for number, text in enumerate(OWN_PANICS.splitlines(), 1) if f"// {word}" in text) for word in ("reads", "inserts", "never arrives")}
     traces = place / "failed_traces"
 
     def ended(*words: str, **more: str) -> subprocess.CompletedProcess:
@@ -2572,12 +2582,18 @@ def check_own_panics(tally: Tally, program: str, folder: Path) -> None:
     wanted = {"own-by_itself": f"{head}0 read :\n0 ins a 0 : a\n", "own-with_three": f"{head}0 read : third\n",
               "own-with_three-2": f"{head}0 read : second\n", "own-with_three-3": f"{head}0 read : first\n",
               "own-in_the_second": f"{head}0 read : lost\n", "own-in_the_second-2": f"{head}0 read : first\n",
-              "own-of_three_cases": f"{head}0 read : three\n", "own-after_it_was_saved": f"{head}0 read :\n0 read : later\n", "own-in_a_log": "trace 1\nreplicas 3\n1 recv 0 7\n"}
-    tally.check("Rust: tests that fail by themselves", done.returncode == 101 and "2 passed; 8 failed;" in done.stdout, done)
+              "own-of_three_cases": f"{head}0 read : three\n", "own-after_it_was_saved": f"{head}0 read :\n0 read : later\n", "own-in_a_log": "trace 1\nreplicas 3\n1 recv 0 7\n",
+              "own-lists_differ": "trace 1\nreplicas 2\n0 ins a 0 : a\n1 recv 0 1\n1 read : a\n0 ins b 1 : a b\n",
+              **{f"own-judged{number}": f"{head}0 read : judged\n" for number in ("", "-2", "-3")}}
+    tally.check("Rust: tests that fail by themselves", done.returncode == 101 and "2 passed; 9 failed;" in done.stdout, done)
     found = {path.stem: path.read_text() for path in traces.glob("*.trace")}
     tally.check("Rust: their traces are saved", found == wanted and (traces / ".gitignore").read_text() == "*\n", found)
     told = [f"The trace is saved: failed_traces/{name}.trace" for name in [*wanted, *["own-of_three_cases"] * 2] if name != "own-in_the_second"]
-    tally.check("Rust: their paths are told", sorted(done.stderr.splitlines()) == sorted(told) and
+    verdicts = ["accepted"] * 2 + ["not accepted: contents 0.1"] * 10 + ["not accepted: contents 0.2", "accepted, and may hide something:"]
+    told += [f"The recording is {verdict}" for verdict in verdicts] + [f"The recording was not judged: {ONE_LOG}"]
+    told += [f"  in the end replicas 0 and 1 show different lists: 0.2 (line 6, own.rs:{line['never arrives']}) never arrived at replica 1 by this "
+             f"recording. {LOST_ONE}"]
+    tally.check("Rust: their verdicts and paths are told", sorted(done.stderr.splitlines()) == sorted(told) and
                 "The trace is saved: failed_traces/own-in_the_second.trace" in done.stdout, done)
     beside = Path(traces, "own-by_itself.trace.lines").read_text() if "own-by_itself" in found else ""
     tally.check("Rust: and their lines of code", beside == f"4\nlanguage rust\n3 own.rs:{line['reads']}\n4 own.rs:{line['inserts']}\n", beside)
@@ -2588,12 +2604,12 @@ def check_own_panics(tally: Tally, program: str, folder: Path) -> None:
     shutil.rmtree(traces, ignore_errors=True)
     done = ended("by_itself", DOMEPEELER="/nowhere/domepeeler")
     tally.check("Rust: where there is no program, the trace is saved", done.returncode == 101 and "/nowhere/domepeeler cannot be run" in done.stdout
-                and [path.stem for path in traces.glob("*.trace")] == ["own-by_itself"], done)
+                and done.stderr.startswith("The recording was not judged: /nowhere/domepeeler cannot be run (") and [path.stem for path in traces.glob("*.trace")] == ["own-by_itself"], done)
     shutil.rmtree(traces, ignore_errors=True)
     traces.write_text("no folder")
     done = ended("by_itself", FAILS="1")
     tally.check("Rust: a trace that can't be saved", done.returncode == 101 and "0 passed; 1 failed;" in done.stdout and
-                done.stderr.startswith("The trace can't be saved: failed_traces/own-by_itself.trace: "), done)
+                done.stderr.startswith("The recording is accepted\nThe trace can't be saved: failed_traces/own-by_itself.trace: "), done)
     with open("/dev/full", "w") as full:
         done = subprocess.run(["./own", "--nocapture", "by_itself"], cwd=place, env={**surroundings, "FAILS": "1"}, stdout=subprocess.PIPE,
                               stderr=full, text=True)
@@ -2892,7 +2908,7 @@ def check_hostile_c(tally: Tally, recorder: Recorder, folder: Path) -> None:
         tally.check(f"C: {reads} reads are judged by {words}", got == f"failed {asked} ended with status 2: verdict {words}", got)
     got = recorder.answers(["new\t3\t1", "read\t1\t" + "\x1b" * 600])[-1]
     tally.check("C: the front of a long id is shown", len(got) == len("refused ") + 511 and
-                got.startswith("refused one replica's log can't number the id \"" + "\\x1b" * 100), got)
+                got.startswith("refused one replica's log can't give the id \"" + "\\x1b" * 100), got)
     teller = folder / "teller"
     teller.write_text("#!/bin/sh\ncat > /dev/null\necho told\n")
     teller.chmod(0o755)

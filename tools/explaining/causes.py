@@ -13,7 +13,7 @@ from .telling import at, joined, listed
 
 MOST_TOLD = 3  # deletes, or elements, that are told one by one
 
-ARRIVAL = ("Look at the recorder first: `received` is called right after the change is applied. Then at the transport: nothing may "
+ARRIVAL = ("Look at the recorder first: `received` must be called right after the change is applied. Then at the transport: nothing may "
            "arrive before what its author had. Then at the editor: does it lose a change, apply it twice, or apply it to another "
            f"element? {GUIDE} says where the calls go.")
 UNDELIVERED = ("{lines} by `delivered`: before it nothing shows that {changes} {were} applied at replica {replica}. {They} lost, or "
@@ -22,11 +22,11 @@ NOT_APPLIED = ("It looks as if {changes} {were} not applied at replica {replica}
                "change is applied.{moved}")
 BROUGHT = ("No receipt at replica {replica} names {changes}, which arrived with {brought}. If each of your changes has a receipt of its "
            "own, {brought} overtook {them}, or {they} {were} lost.")
-LOST = ("Look first at whether {change} was lost on its way to replica {replica}, or overtaken: no receipt names it there, as one does each "
-        "other change of replica {author}. Where positions are sent, what comes later is then misplaced.")
+LOST = ("Look first at whether {change} was lost on its way to replica {replica}, or overtaken: no receipt there names it, though each "
+        "other change of replica {author} has one. Where positions are sent, what comes later is then misplaced.")
 NO_RECEIPT = ("It looks as if {changes} {were} applied at replica {replica} without a receipt: the call of `received` is missing, comes "
               "too late, or names another operation.")
-WRONG_DELETE = ("{delete} looks applied to {missing} in the place of {surplus}: look at how a delete finds its element where it is "
+WRONG_DELETE = ("It looks as if {delete} deleted {missing} instead of {surplus}: look at how a delete finds its element where it is "
                 "applied, and at whether the recorder names the element that was deleted.{moved}")
 MOVED_DELETE = (" In an editor that sends positions, its position was perhaps not adjusted for {changes}, which its author had not "
                 "seen{back}.{tie}")
@@ -43,7 +43,7 @@ LOST_NEIGHBOUR = ("Look at inserts beside deleted elements: {element} arrived wh
 MAPPING = ("Look at how the position that a user sees is mapped to a place in the editor's own list{deleted}; and at whether the "
            "recorder writes the position that was asked for.")
 NUMBERS = ("Look at the numbers that order inserts at one place, if the editor has such (a clock, ids): {element} stands behind "
-           "{passed}, which replica {replica} had already. Perhaps its number is not greater than theirs, as it must be. Usual causes: "
+           "{passed}, which replica {replica} had already. Perhaps the number of {element} is not greater than {theirs}, as it must be. Usual causes: "
            'the clock does not advance when changes arrive; ids are compared as text, so "10" comes before "9".')
 BESIDE_DELETED = ("Look at inserts beside deleted elements, if replicas throw these away: the lines above name {which}. Without its "
                   "neighbour its place is lost.")
@@ -193,8 +193,9 @@ def of_position(evidence: Evidence) -> list:
     mapped = MAPPING.format(deleted=", where deleted elements may still stand" if has_delete else "")
     if asked < 0 or name not in response or response.index(name) < asked:
         return [Cause("mapping", mapped)]
-    passed = listed(response[asked:response.index(name)], MOST_TOLD)
-    return [Cause("numbers", NUMBERS.format(element=name, passed=passed, replica=operation.replica)),
+    passed = response[asked:response.index(name)]
+    theirs = "theirs" if passed[1:] else f"that of {passed[0]}"
+    return [Cause("numbers", NUMBERS.format(element=name, passed=listed(passed, MOST_TOLD), replica=operation.replica, theirs=theirs)),
             Cause("mapping", otherwise("If the editor has no such numbers", mapped))]
 
 

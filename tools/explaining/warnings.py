@@ -98,9 +98,11 @@ def hidden(trace: bytes) -> tuple:
             deletes.append((words[2], f"line {line}, {replica}.{n}: replica {replica} deleted {words[2].decode()}, which no line inserts, "
                             "so no response shows whether it was deleted: is that its name, and was its insert recorded?"))
     of_nothing = [told for name, told in deletes if name not in inserted]
-    others = [*without_operation(replicas), *some(of_nothing, "delete", "of what no line inserts"),
-              *some(past_end, "insert", "past the end of a list")]
-    return [*different(replicas), *unheard(replicas), *unshown(replicas)], others
+    others = [*some(of_nothing, "delete", "of what no line inserts"), *some(past_end, "insert", "past the end of a list")]
+    ends, silent = [*different(replicas), *unheard(replicas), *unshown(replicas)], without_operation(replicas)
+    if any(one.changes for one in replicas):  # of which a silent replica shows nothing
+        return [*ends, *silent], others
+    return ends, [*silent, *others]
 
 
 def without_operation(replicas: list) -> list:

@@ -84,7 +84,7 @@ def when_it_went_wrong(evidence: Evidence, told: Evidence, weak: bool) -> list:
     verdict = verdict_of(told.report)
     is_alone = weak and is_weak_alone(evidence.report)
     before = "weak holds" if weak and not is_alone else "the session is accepted"
-    lines = [f"{did(entry, is_first=True)}: up to line {last - 1} {before}, and with line {last} it is {verdict}"]
+    lines = [f"{did(entry, is_first=True)}: up to line {last - 1} {before}; line {last} makes it {verdict}"]
     if told.report["verdict"] == "refused":
         still = "agrees with each other response by then" if weak and not is_alone else "still fits"
         lines += [since(told, entry, still), *in_the_end(evidence.recording)]
@@ -181,8 +181,8 @@ def in_the_end(recording: Recording) -> list:
         return []
     told = joined([str(operation.replica) for operation in whole])
     is_one = len({tuple(operation.response) for operation in whole}) == 1
-    shown = "the same list" if is_one else "different lists, perhaps as one text"
-    return [f"in the end replicas {told} have every change, and show {shown}"]
+    shown = "the same list" if is_one else "different lists, though perhaps the same text"
+    return [f"in the end replicas {told} have every change and show {shown}"]
 
 
 def life(recording: Recording, name: str) -> str:
@@ -220,7 +220,7 @@ def when_arrived(receipt: Receipt, deletes: list) -> str:
 
 def beside_hidden(evidence: Evidence) -> list:
     """Which elements had been put beside ones that are deleted for the response that shows them."""
-    return [f"{insert.element} was put {beside(insert, names)}, deleted for {at(operation)}"
+    return [f"{insert.element} was put {beside(insert, names)}, which {'were' if names[1:] else 'was'} deleted by the time of {at(operation)}"
             for insert, names, operation in evidence.hidden_neighbours]
 
 
@@ -328,7 +328,7 @@ def overtaken(evidence: Evidence, change: Operation, operation: Operation) -> li
         return [f"{of_author} line {own.line} ({own.text}). {brought.seen.name} overtook it in line {brought.line}{had}: that order is not "
                 "causal"]
     if change.replica == brought.seen.replica:
-        return [f"{change.name} has no receipt of its own at replica {replica}, as each other change of replica {change.replica} has. It was "
+        return [f"{change.name} has no receipt of its own at replica {replica}, though each other change of replica {change.replica} has one. It was "
                 f"lost, or {brought.seen.name} overtook it in line {brought.line}"]
     return [f"it has no receipt of its own at replica {replica}, and counts as arrived with {at(brought.seen)}, whose author had it. If each "
             "operation travels by itself, it was missing: that order is not causal"]
@@ -357,8 +357,8 @@ def arrived(recording: Recording, seen: Operation, operation: Operation) -> str:
     way = recording.way(seen, operation)
     if not way:
         return f"an earlier operation of replica {operation.replica}"
-    hops = [f"{'by `delivered` ' * recording.is_delivered(receipt.line)}arrived at replica {receipt.replica} in line {receipt.line} "
-            f"({receipt.text})" for receipt in way]
+    hops = [f"arrived at replica {receipt.replica} in line {receipt.line} ({receipt.text})"
+            + ", which `delivered` wrote" * recording.is_delivered(receipt.line) for receipt in way]
     return ", and from there ".join(hops)
 
 
@@ -385,7 +385,7 @@ def position(evidence: Evidence) -> tuple:
         lines.append(f"found at: position {response.index(operation.element)}")
     else:
         gone = next(change for change in evidence.recording.deletes[operation.element] if operation.has_seen(change))
-        lines.append(f"found at: no position, since {at(gone)} deletes it, {arrived(evidence.recording, gone, operation)}")
+        lines.append(f"found at: no position: deleted by {at(gone)}, {arrived(evidence.recording, gone, operation)}")
     return (f"position {operation.name}: {operation.element} does not stand where it was asked for.",
             [Section("The response, positions counted from 0", lines)])
 
