@@ -323,9 +323,12 @@ def prosemirror(tally: Tally, program: str) -> None:
         path = ROOT / "examples" / f"prosemirror_{name}.trace"
         lines = iter(line.strip() for line in explain(program, path).splitlines())
         tally.check(f"ProseMirror: {name} explained", all(line in lines for line in wanted.split("|")), explain(program, path))
-        tally.check(f"ProseMirror: {name} made anew", played(plan, variables) == path.read_text() + "end\n", played(plan, variables))
-        shorter = failing_so(program, path.read_text(), without_a_line(tally, plan, variables))
-        tally.check(f"ProseMirror: {name} is the smallest", not shorter, shorter)
+        head, *asked, end = plan.split("|")
+        plans = [plan, *("|".join([head, *asked[:at], *asked[at + 1:], end]) for at in range(len(asked)))]  # and without one of its lines
+        anew, *others = played("|".join(plans), variables).split("end\n")
+        tally.check(f"ProseMirror: {name} made anew", anew == path.read_text(), anew)
+        shorter = failing_so(program, anew, others[:-1])
+        tally.check(f"ProseMirror: {name} is the smallest", len(others) == len(plans) and not shorter, shorter or others)
         listed = re.findall(rf"^- `examples/{path.name}`: `[^`]+`(.*)", GALLERY.read_text(), re.MULTILINE)
         words = [re.sub(r"\(\[picture\].*?\)\)", "", line).split() for line in listed]
         tally.check(f"ProseMirror: {name} explained in the gallery", f"    $ cat examples/{path.name}\n" in GALLERY.read_text() if not listed
@@ -350,15 +353,6 @@ def yjs(tally: Tally, program: str) -> None:
 def played(plan: str, variables: dict) -> str:
     words, text = ["node", ENGINES / "prosemirror.mjs"], plan.replace("|", "\n") + "\n"
     return subprocess.run(words, input=text, capture_output=True, text=True, env=variables).stdout
-
-
-def without_a_line(tally: Tally, plan: str, variables: dict) -> list:
-    """What ProseMirror answers to the plan without one of its lines, for each of these."""
-    head, *lines, end = plan.split("|")
-    plans = ["|".join([head, *lines[:at], *lines[at + 1:], end]) for at in range(len(lines))]
-    answers = played("|".join(plans), variables).split("end\n")
-    tally.check("ProseMirror: a line less", len(answers) == len(lines) + 1 and all(answers[:-1]), answers)
-    return answers[:-1]
 
 
 def failing_so(program: str, text: str, others: list) -> list:
