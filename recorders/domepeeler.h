@@ -1513,13 +1513,22 @@ static inline char *domepeeler_report(struct domepeeler *d, const char *program)
     return NULL;
 }
 
-/* The report, as JSON, of the program on this recording; free() it. NULL where there is none. It has one more key, `warnings`: where the
- * verdict is accepted a list of what that may hide, and else an empty one. The program is that of the environment's DOMEPEELER, or
- * domepeeler, where NULL is given. */
+/* What is to be said beside a report: of one that passes what that may hide, and of any first whether calls were refused. For free(); NULL
+ * where there is no answer. */
+static inline char *domepeeler_beside(struct domepeeler *d, int is_passing) {
+    struct domepeeler_words said = {NULL, 0, 0, 0};
+    if (is_passing) return domepeeler_warnings(d);
+    domepeeler_say_refused(d, &said, "\n");
+    return domepeeler_said(d, &said);
+}
+
+/* The report, as JSON, of the program on this recording; free() it. NULL where there is none. It has one more key, `warnings`: a list of
+ * what an accepted verdict may hide; of any other it says no more than whether calls were refused. The program is that of the environment's
+ * DOMEPEELER, or domepeeler, where NULL is given. */
 DOMEPEELER_CHECKED static inline char *domepeeler_judge(struct domepeeler *d, const char *program) {
     char *report = domepeeler_report(d, program);
     if (!report) return NULL;
-    char *warnings = strstr(report, "\"verdict\":\"accepted\"") ? domepeeler_warnings(d) : (char *)calloc(1, 1);
+    char *warnings = domepeeler_beside(d, strstr(report, "\"verdict\":\"accepted\"") != NULL);
     if (warnings) return domepeeler_with_warnings(d, report, warnings);
     free(report);
     domepeeler_fail(d, "no memory");
@@ -1527,8 +1536,8 @@ DOMEPEELER_CHECKED static inline char *domepeeler_judge(struct domepeeler *d, co
 }
 
 /* Whether the recording passes where the editor promises the weak list specification alone: weak holds, by the program's report, and no
- * warning says what that may hide. Answers 1; else domepeeler_why() has the verdict, the first warning, or why there is no verdict. The
- * program is as for domepeeler_judge(). */
+ * warning says what that may hide. Answers 1; else domepeeler_why() has the first warning, such as that a call was refused, the verdict, or
+ * why there is none. The program is as for domepeeler_judge(). */
 DOMEPEELER_CHECKED static inline unsigned domepeeler_passes_weak(struct domepeeler *d, const char *program) {
     if (!program) program = getenv("DOMEPEELER");
     if (!program || !*program) program = "domepeeler";
@@ -1540,8 +1549,8 @@ DOMEPEELER_CHECKED static inline unsigned domepeeler_passes_weak(struct domepeel
     unsigned holds = strstr(report, "\nweak yes\n") != NULL;
     if (!verdict) domepeeler_fail(d, "%s printed a report without a verdict", program);
     else if (!holds) domepeeler_fail_by_line(d, verdict + 1);
+    char *warnings = verdict ? domepeeler_beside(d, (int)holds) : NULL;
     free(report);
-    char *warnings = holds ? domepeeler_warnings(d) : NULL;
     if (warnings && *warnings) holds = domepeeler_fail_by_line(d, warnings);
     holds = holds && warnings;
     free(warnings);

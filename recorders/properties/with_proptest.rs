@@ -1,7 +1,7 @@
 //! A property-based test by proptest: whatever is done at three replicas of the list of the crate crdts, the recording is
 //! accepted without warnings. Needs Debian's librust-proptest+std-dev and librust-crdts-dev; run.py makes the package round it and runs it.
 //!
-//! For an editor whose server orders all changes, ask in `check` for `recording.verdict()`, and of that for `is_weak()`.
+//! For an editor whose server orders all changes, ask in `check` for `verdict.is_weak()`, and for `recording.warnings()`.
 //!
 //! To stop a debugger in the call that answered wrong, run the steps that failed alone, with `Recording::new(REPLICAS)?.stop()?` in
 //! `Group::new`: it starts the program at each call.
@@ -12,7 +12,7 @@
 mod domepeeler;
 
 use crdts::{list::Op, CmRDT, List};
-use domepeeler::{Recording, Refused};
+use domepeeler::{Recording, Refused, Verdict};
 use proptest::prelude::*;
 
 const REPLICAS: usize = 3;
@@ -106,13 +106,13 @@ fn session(steps: &[Step], causal: bool) -> Result<Recording, Refused> {
 
 fn check(steps: &[Step], causal: bool) -> Result<(), TestCaseError> {
     let recording = session(steps, causal).map_err(|why| TestCaseError::fail(why.to_string()))?;
-    let report = recording.judge().map_err(TestCaseError::fail)?;
-    let accepted = report.contains("\"verdict\":\"accepted\"") && report.contains("\"warnings\":[]");
-    if !accepted {
+    let verdict = recording.verdict().map_err(TestCaseError::fail)?;
+    let is_right = matches!(&verdict, Verdict::Accepted { warnings, .. } if warnings.is_empty());
+    if !is_right {
         // Of the steps that fail the smallest are the last that do.
         recording.save("failed.trace").map_err(|why| TestCaseError::fail(why.to_string()))?;
     }
-    prop_assert!(accepted, "{report}{}", recording.text());
+    prop_assert!(is_right, "{verdict:?}\n{}", recording.text());
     Ok(())
 }
 

@@ -24,6 +24,7 @@ import merge  # noqa: E402
 ENGINES = ROOT / "recorders" / "engines"
 RECORD = str(ENGINES / "record.py")
 PAGE = ROOT / "docs" / "engines.md"
+GALLERY = ROOT / "docs" / "gallery.md"
 KINDS = ["small, peers", "small, a star round a relay", "small, a star round an editor", "large, peers", "large, a star round a relay",
          "large, a star round an editor"]
 SERVER_KINDS = ["small, a star round a relay", "middling, a star round a relay", "large, a star round a relay"]
@@ -315,14 +316,23 @@ def small_sessions(tally: Tally) -> None:
 
 
 def prosemirror(tally: Tally, program: str) -> None:
-    """The gallery's recordings of ProseMirror as they are explained, and made anew."""
+    """The gallery's recordings of ProseMirror as they are explained, and made anew; of each no shorter one fails so."""
     need_module("prosemirror-transform", "node-prosemirror-transform")
     variables = os.environ | NODE
     for name, (plan, wanted) in PROSEMIRROR.items():
         path = ROOT / "examples" / f"prosemirror_{name}.trace"
         lines = iter(line.strip() for line in explain(program, path).splitlines())
         tally.check(f"ProseMirror: {name} explained", all(line in lines for line in wanted.split("|")), explain(program, path))
-        tally.check(f"ProseMirror: {name} made anew", played(plan, variables) == path.read_text() + "end\n", played(plan, variables))
+        head, *asked, end = plan.split("|")
+        plans = [plan, *("|".join([head, *asked[:at], *asked[at + 1:], end]) for at in range(len(asked)))]  # and without one of its lines
+        anew, *others = played("|".join(plans), variables).split("end\n")
+        tally.check(f"ProseMirror: {name} made anew", anew == path.read_text(), anew)
+        shorter = failing_so(program, anew, others[:-1])
+        tally.check(f"ProseMirror: {name} is the smallest", len(others) == len(plans) and not shorter, shorter or others)
+        listed = re.findall(rf"^- `examples/{path.name}`: `[^`]+`(.*)", GALLERY.read_text(), re.MULTILINE)
+        words = [re.sub(r"\(\[picture\].*?\)\)", "", line).split() for line in listed]
+        tally.check(f"ProseMirror: {name} explained in the gallery", f"    $ cat examples/{path.name}\n" in GALLERY.read_text() if not listed
+                    else len(words[0]) >= 10, listed)
     told = played(CONFIRMED, variables)
     tally.check("ProseMirror: text that was confirmed stays", told.endswith("\n1 recv 0 2\n1 read : a b\nend\n"), told)
     done = record("prosemirror", program, "--sessions", "10")
@@ -343,6 +353,15 @@ def yjs(tally: Tally, program: str) -> None:
 def played(plan: str, variables: dict) -> str:
     words, text = ["node", ENGINES / "prosemirror.mjs"], plan.replace("|", "\n") + "\n"
     return subprocess.run(words, input=text, capture_output=True, text=True, env=variables).stdout
+
+
+def failing_so(program: str, text: str, others: list) -> list:
+    """Those of the others that are shorter, and have the same verdict, wherever it is."""
+    def kind(trace: str) -> list:
+        told = subprocess.run([program, "verdict", "-"], input=trace, capture_output=True, text=True).stdout.splitlines()[1]
+        return told.split()[:2 if told.startswith("refused ") else 1]
+
+    return [other for other in others if other.count("\n") < text.count("\n") and kind(other) == kind(text)]
 
 
 def logs(tally: Tally, program: str) -> None:

@@ -3,7 +3,7 @@
 
 A command stands after `    $ `. A here-document's lines follow as they are, up to its end word, so that they can be copied as they
 stand. Below it stands what it prints; where nothing is shown, only the status is looked at. PROGRAM must be the repository's own,
-since the pages name it. `tests/program/black_box.py` does this for the gallery."""
+since the pages name it. `tests/program/black_box.py` does this for the gallery. README's table of what an editor may promise is read too."""
 import os
 import re
 import subprocess
@@ -38,6 +38,14 @@ NOT_RUN = {
         "it asks the toolchain for its own line; tests/tools/package.py makes the packages with another one",
     "tests/every_check": "it is the gate, which runs this script",
 }
+
+# What README says that an editor may promise: how each line begins, and what it says, with its source.
+PROMISES = {"RGA, YATA ": ["both", "proved of RGA (Attiya and others)"],
+            "Jupiter ": ["weak alone", "strong fails (proved by the same)", 'weak holds (Wei, Huang, Lu, "Specification and Implementation of '
+                         'Replicated List: The Jupiter Protocol Revisited", OPODIS 2018)'],
+            "adOPTed (libinfinity); ProseMirror;": ["(docs/gallery.md)", "what fails, never that something holds"]}
+SOURCE = "Attiya, Burckhardt, Gotsman, Morrison, Yang and Zawirski (\"Specification and Complexity of Collaborative Text Editing\", PODC 2016)"
+SHOWN_TO_FAIL = ["libinfinity", "prosemirror"]  # the editors of the last line, by how their recordings are named
 
 SECONDS = 60  # of a page
 MARK = "=== ended with"
@@ -109,12 +117,28 @@ def check_names(tally: Tally, program: str, front: str) -> None:
                 and failed.stderr.startswith(f"{told[0][1]} "), (told, asked, failed))
 
 
+def check_promises(tally: Tally, program: str) -> None:
+    """What an editor may promise stands on the front page, each with its source; and of each editor of which the gallery shows what fails there
+    is a recording that keeps neither specification."""
+    text = (ROOT / FRONT).read_text()
+    table = re.search(r"\n\| an editor \| may promise \|\n\|---\|---\|\n((?:\|.*\|\n)+)\n", text)
+    lines = table[1].splitlines() if table else []
+    tally.check("what an editor may promise", len(lines) == len(PROMISES) and SOURCE in text[:table.start()], lines)
+    for line, (begin, parts) in zip(lines, PROMISES.items()):
+        tally.check(f"what an editor may promise: {begin}", line.startswith(f"| {begin}") and all(part in line for part in parts), line)
+    for name in SHOWN_TO_FAIL:
+        reports = [subprocess.run([program, "verdict", path], stdout=subprocess.PIPE, text=True).stdout
+                   for path in sorted(ROOT.glob(f"examples/{name}_*.trace"))]
+        tally.check(f"what fails: {name}", any("\nstrong no\nweak no\n" in report for report in reports), reports)
+
+
 def main() -> None:
     program = program_of(sys.argv)
     tally = Tally()
     tally.check("the program is the one of the pages", BUILT.exists() and os.path.samefile(program, BUILT), f"{program}, {BUILT}")
     for page, least in PAGES.items():
         check_page(tally, page, least)
+    check_promises(tally, program)
     front = (ROOT / FRONT).read_text()
     for line, reason in NOT_RUN.items():
         tally.check(f"README.md shows `{line}`, not run since {reason}", f"\n    {line}\n" in front)

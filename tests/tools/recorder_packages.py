@@ -748,7 +748,7 @@ def check_again(tally: Tally, place: Place, name: str, words: list, folder: str,
 
 
 def example(package: str, begin: str) -> str:
-    """The block of a package's README that begins so, as a test of its own."""
+    """The block of a package's README that begins so, as a test of its own; of `..` that of the repository's."""
     found = re.findall(r"(?:^(?: {4}.*)?\n)+", (RECORDERS / package / "README.md").read_text(), re.MULTILINE)
     blocks = [re.sub(r"^ {4}", "", block, flags=re.MULTILINE).strip("\n") + "\n" for block in found]
     return next((block for block in blocks if block.startswith(begin)), f"the README of {package} has no block that begins with {begin}")
@@ -1015,6 +1015,9 @@ def check_javascript(tally: Tally, place: Place) -> None:
             for more in ({"LOSE": "1"}, {})]
     tally.check("node --test: a file of the same name in another folder", were == [[True, True], [True, False]], were)
     check_beside(tally, place, "JavaScript", ["node", "--input-type=module", "-e", EXPLAINING["javascript"]], "packed")
+    place.make("packed/front.mjs", example("..", "import { Recording }").replace('"./domepeeler.mjs"', '"domepeeler"'))
+    done = place.run(["node", "front.mjs"], "packed")
+    tally.check("JavaScript: README's example by the package", (done.returncode, done.stdout) == (0, ""), done.stdout)
     line = example("javascript", "const { Recording }").strip()
     done = place.run(["node", "--input-type=commonjs", "-e", COMMON.format(line=line)], "packed")
     tally.check("JavaScript: in CommonJS", done.stdout.startswith("trace 1\nreplicas 2\n"), (line, done.stdout))
@@ -1109,9 +1112,11 @@ def check_rust(tally: Tally, place: Place) -> None:
     place.make("rust/src/main.rs", USES["rust"])
     place.make("rust/tests/editor.rs", RUST_TEST)
     place.make("rust/tests/readme.rs", example("rust", "use domepeeler::Recording;"))
-    done = place.run(["cargo", "test", "--offline", "--quiet", "--no-fail-fast", "--test", "editor", "--test", "readme"], "rust")
+    place.make("rust/tests/front.rs", example("..", "mod domepeeler;\n").removeprefix("mod domepeeler;\n"))
+    tests = [word for name in ("editor", "readme", "front") for word in ("--test", name)]
+    done = place.run(["cargo", "test", "--offline", "--quiet", "--no-fail-fast", *tests], "rust")
     tally.check("cargo test: counts", done.returncode != 0 and "1 passed; 1 failed" in done.stdout and
-                "1 passed; 0 failed" in done.stdout, done.stdout)
+                done.stdout.count("1 passed; 0 failed") == 2, done.stdout)
     tally.check("cargo test: is explained", all(words in done.stdout for words in TOLD), done.stdout)
     saved = place.folder / "rust/failed.trace"
     tally.check("cargo test: saves", saved.is_file() and saved.read_text() == LOST_TRACE, done.stdout)

@@ -2871,20 +2871,21 @@ int main(void) {{
     return 0;
 }}
 """
+SWAPPED = "a call was refused, so what it says is not recorded: 1.1 cannot have arrived: replica 1 has 0 operations so far"
 REFUSED_C = [
-    ("one", ["new 2", "insert 0 a 0 a", "received 0 1 1", "delivered a / a"],
-     "a call was refused, so what it says is not recorded: 1.1 cannot have arrived: replica 1 has 0 operations so far"),
+    ("one", ["new 2", "insert 0 a 0 a", "received 0 1 1", "delivered a / a"], "accepted", SWAPPED),
+    ("one that is then missing", ["new 2", "insert 0 a 0 a", "received 0 1 1", "read 1 a"], "contents", SWAPPED),
     ("several, with signs that JSON escapes", ["new 2", "insert 0 a 0 a", "read 0 %22%5C%01%C3%A4%FF", "read 7", "read 0 a%20b",
-                                               "delivered a / a"],
+                                               "delivered a / a"], "accepted",
      '3 calls were refused, so what they say is not recorded; the first: name ""\\\\x01\\xc3\\xa4\\xff" ' + NAME),
     ("what is not causal, and limits", ["new 3", *["read 2"] * 16385, "insert 0 a 0 a", "delete 0 a", "received_clock 1 0 1 2 0 0",
-                                        "received_clock 1 0 2 2 0 0", "read 1"], None),
+                                        "received_clock 1 0 2 2 0 0", "read 1"], "accepted", None),
 ]
 
 
 def check_hostile_c(tally: Tally, recorder: Recorder, folder: Path) -> None:
-    """A program that is interrupted, or ignores how children end, is judged all the same. What was refused is told before all else, but
-    where a session may well go on."""
+    """A program that is interrupted, or ignores how children end, is judged all the same. What was refused is told before all else, whatever
+    the verdict, but where a session may well go on."""
     source = folder / "hostile.c"
     source.write_text(HOSTILE_C)
     subprocess.run(["gcc", "-std=gnu11", "-Wall", "-Wextra", "-Werror", "-o", folder / "hostile", source], check=True)
@@ -2903,23 +2904,25 @@ def check_hostile_c(tally: Tally, recorder: Recorder, folder: Path) -> None:
     asked = folder / "asked"
     asked.write_text("#!/bin/sh\ncat > /dev/null\necho \"$*\" >&2\nexit 2\n")
     asked.chmod(0o755)
-    for reads, words in (997, "--workers 1 --json -"), (998, "--json -"):
-        got = recorder.answers(["new\t1", *["read\t0"] * reads, "judge"], DOMEPEELER=str(asked))[-1]
-        tally.check(f"C: {reads} reads are judged by {words}", got == f"failed {asked} ended with status 2: verdict {words}", got)
+    for reads, words in (997, "--workers 1 "), (998, ""):
+        got = recorder.answers(["new\t1", *["read\t0"] * reads, "judge", "weak"], DOMEPEELER=str(asked))[-2:]
+        wanted = [f"{call} {asked} ended with status 2: verdict {words}{form}" for call, form in (("failed", "--json -"), ("fails", "-"))]
+        tally.check(f"C: {reads} reads are judged by verdict {words}-", got == wanted, got)
     got = recorder.answers(["new\t3\t1", "read\t1\t" + "\x1b" * 600])[-1]
     tally.check("C: the front of a long id is shown", len(got) == len("refused ") + 511 and
                 got.startswith("refused one replica's log can't give the id \"" + "\\x1b" * 100), got)
     teller = folder / "teller"
     teller.write_text("#!/bin/sh\ncat > /dev/null\necho told\n")
     teller.chmod(0o755)
-    for name, script, wanted in REFUSED_C:
-        calls = b"".join(bytes_of(call) + b"\n" for call in [*script, "judge", "warnings", "explain"])
+    for name, script, verdict, wanted in REFUSED_C:
+        calls = b"".join(bytes_of(call) + b"\n" for call in [*script, "weak", "judge", "warnings", "explain"])
         done = subprocess.run(recorder.words, input=calls, capture_output=True, env={**recorder.surroundings, "DOMEPEELER_EXPLAIN": str(teller)})
         got = done.stdout.decode(errors="replace").splitlines()
         report = next((json.loads(line[7:]) for line in got if line.startswith("report {")), {"verdict": got})
         first = [wanted] if wanted else []
         told = [f"| {line}" for line in first]
-        tally.check(f"C: judge tells of refused calls, {name}", report["verdict"] == "accepted" and
+        tally.check(f"C: where weak is enough refused calls are told of, {name}", not wanted or f"fails {wanted}" in got, got[-8:])
+        tally.check(f"C: judge tells of refused calls, {name}", report["verdict"] == verdict and
                     [line for line in report["warnings"] if "refused" in line] == report["warnings"][:1] * bool(wanted) == first, report)
         tally.check(f"C: explain tells of refused calls, {name}", got[-len(told) - len(first) - 2:] == [*told, *["| "] * len(first), "| told", "ok"],
                     got[-5:])
