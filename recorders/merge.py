@@ -178,6 +178,13 @@ def shown(text: str) -> str:
     return f"{told[:at]}\\x{ord(told[at]):02x}{told[at + 1:]}" if told[at:at + 2] in ("::", "##") else told
 
 
+class Parser(argparse.ArgumentParser):
+    """A parser that shows a wrong word as a name is shown."""
+
+    def error(self, message: str) -> None:
+        super().error(shown(message))
+
+
 def say(words: str) -> None:
     try:
         print(f"merge.py: {shown(words)}", file=sys.stderr, flush=True)
@@ -248,8 +255,8 @@ def main() -> None:
             signal.signal(stop, be_stopped)
     if sys.stderr is None:
         sys.stderr = open(os.devnull, "w")
-    parser = argparse.ArgumentParser(prog="merge.py", description=__doc__, epilog=STATUSES, allow_abbrev=False,
-                                     formatter_class=argparse.RawDescriptionHelpFormatter)
+    parser = Parser(prog="merge.py", description=__doc__, epilog=STATUSES, allow_abbrev=False,
+                    formatter_class=argparse.RawDescriptionHelpFormatter)
     parser.add_argument("logs", metavar="LOG", nargs="+", help="a log; a file beside another one, as `LOG*` takes too, is passed over")
     parser.add_argument("--output", metavar="TRACE", action="append", help="the file to write")
     asked = parser.parse_args()

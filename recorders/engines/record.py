@@ -70,6 +70,13 @@ def printable(text: str) -> str:
                    for letter in text)
 
 
+class Parser(argparse.ArgumentParser):
+    """A parser that shows a wrong word as a name is shown."""
+
+    def error(self, message: str) -> NoReturn:
+        super().error(printable(message))
+
+
 def fail(words: str) -> NoReturn:
     try:
         print(f"record.py: {printable(words)}", file=sys.stderr)
@@ -491,7 +498,7 @@ def number(word: str) -> int:
 
 
 def main() -> None:
-    parser = argparse.ArgumentParser(description=__doc__.split("\n")[0])
+    parser = Parser(description=__doc__.split("\n")[0])
     parser.add_argument("engine", help=", ".join(sorted(ENGINES)) + ", the path of a Python module of your own, or your engine's command")
     parser.add_argument("program")
     parser.add_argument("--sessions", type=number, help="how many small sessions of each kind")

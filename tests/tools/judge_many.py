@@ -1010,6 +1010,20 @@ def odd_names(tally: Tally, program: str, folder: str) -> None:
         tally.check(f"odd names: {shown} missing", missing.stderr == f"domepeeler-explain: cannot read {folder}/no{shown}: No such file or directory\n", missing)
 
 
+def odd_words(tally: Tally, program: str, folder: str) -> None:
+    """Nor does a word that a tool does not take, as `*` hands on a name."""
+    word, shown = "x\n::error::\x1b[31mforged", "x\\n::error::\\x1b[31mforged"
+    merge, record = str(ROOT / "recorders" / "merge.py"), str(ROOT / "recorders" / "engines" / "record.py")
+    for words, told in (([TOOL, folder, f"--{word}"], f"unrecognized arguments: --{shown}"), ([EXPLAIN, "a.trace", word], f"unrecognized arguments: {shown}"),
+                        ([EXPLAIN, "a.trace", "--delivered", word], f"argument --delivered: {shown} is no range of lines, as 41-46"),
+                        ([merge, "a.log", f"--{word}"], f"unrecognized arguments: --{shown}"),
+                        ([record, "list_crdt", program, word], f"unrecognized arguments: {shown}"),
+                        ([record, "list_crdt", program, "--sessions", word], f"argument --sessions: {shown} is no number from 1 on")):
+        done = subprocess.run(words, capture_output=True, text=True)
+        tally.check(f"odd words: {Path(words[0]).name}: {told}", done.returncode == 2 and not done.stdout
+                    and done.stderr.endswith(f": error: {told}\n"), done)
+
+
 def names_like_commands(tally: Tally, program: str, folder: str) -> None:
     """A name, a place or a note that begins as a line that CI reads as a command is shown otherwise."""
     write(folder, {"::error::forged.trace": "0 ins a 0 : a|0 read :", "##[error]forged.trace": "0 reads :"})
@@ -1492,7 +1506,7 @@ def main() -> None:
         warnings(tally, program, folder)
         warnings_of_sessions(tally, program, other)
     for check in (pythons, little_memory, not_looked_at, changing, told_of_what_was_judged, explained_once, weak, weak_junit, weak_in_ci,
-                  known_as_cut, grouped, no_files, overwriting, millions_of_names, odd_names, names_like_commands, tasks, script_of_ci,
+                  known_as_cut, grouped, no_files, overwriting, millions_of_names, odd_names, odd_words, names_like_commands, tasks, script_of_ci,
                   big_traces, time_of_small, time_of_big, long_cycles):
         with tempfile.TemporaryDirectory() as folder:
             check(tally, program, folder)

@@ -11,6 +11,8 @@ from argparse import Action, ArgumentParser, Namespace
 from importlib import import_module
 from typing import NoReturn
 
+from .files import shown
+
 VERSION = "0.2.0"  # the program's own
 STATUS, OUT_OF_MEMORY = 2, 3
 STOPS = [signal.SIGTERM, signal.SIGHUP]  # that would leave running what was begun, where they are not caught
@@ -18,6 +20,13 @@ STOPS = [signal.SIGTERM, signal.SIGHUP]  # that would leave running what was beg
 
 class Stopped(BaseException):
     """A signal that stops the command."""
+
+
+class Parser(ArgumentParser):
+    """A parser that shows a wrong word as a file's name is shown: with `*` a user has names in its place."""
+
+    def error(self, message: str) -> NoReturn:
+        super().error(shown(message))
 
 
 class Once(Action):
