@@ -994,6 +994,13 @@ def odd_names(tally: Tally, program: str, folder: str) -> None:
              "z\udcff\u2028.trace": "z\\xff\\u2028.trace"}
     write(folder, {name: "0 ins a 0 : a|0 read :" for name in names})
     write(folder, {"w\r.trace": "0 reads :"})
+    Path(folder, "crlf").mkdir()
+    Path(folder, "crlf", "x\n::error::forged.trace").write_bytes(b"trace 1\r\nreplicas 1\r\n")
+    for words in [TOOL, f"{folder}/crlf"], [EXPLAIN, f"{folder}/crlf/x\n::error::forged.trace"]:
+        got = subprocess.run([words[0], "--program", program, *words[1:]], capture_output=True, text=True)
+        tally.check(f"odd names: {Path(words[0]).name}: what mends such a file", got.returncode == 2 and "\n::error" not in got.stdout + got.stderr
+                    and "\n  this mends it: tr -d '\\r' < FILE > mended.trace\n" in got.stderr, got)
+    shutil.rmtree(f"{folder}/crlf")
     got = judge(program, [folder])
     tally.check("odd names: the table", [cells(line)[0] for line in got.out.decode().splitlines()[1:-1]] == [
         f"{folder}/{name}" for name in ["w\\r.trace", *names.values()]], got)
