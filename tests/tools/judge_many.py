@@ -29,7 +29,7 @@ from shared.traces import two_rings  # noqa: E402
 
 sys.path[:0] = [str(ROOT / "recorders" / "engines"), str(ROOT / "tools")]
 import sessions as exchanged  # noqa: E402
-from explaining import files, judges, rows  # noqa: E402
+from explaining import files, judges, lookers, rows  # noqa: E402
 from list_crdt import Group, play  # noqa: E402
 
 TOOL, EXPLAIN = str(ROOT / "tools" / "judge_many"), str(ROOT / "tools" / "explain")
@@ -1049,26 +1049,69 @@ def names_like_commands(tally: Tally, program: str, folder: str) -> None:
 
 
 def stopped(tally: Tally, folder: str, other: str) -> None:
-    """SIGTERM and SIGHUP end it, and what judges for it: also where that has answered of the whole trace, and is asked of a beginning."""
-    begun, lost = Path(other, "begun"), f"{folder}/lost.trace"
-    hanging = f"echo $$ >> '{begun}'\nexec sleep 60\n"
+    """SIGTERM and SIGHUP end it, and what judges for it, or looks at a big trace: also where that has answered of the whole trace, and is
+    asked of a beginning, and where GNU parallel has begun it. So does Ctrl-C, which a terminal sends to all of a group."""
+    begun, lost, big = Path(other, "begun"), f"{folder}/lost.trace", f"{other}/big/1.trace"
+    some_big(Path(other, "big"))
+    hanging = f"echo $$ $PPID >> '{begun}'\nexec sleep 60\n"
     slow = script(Path(other, "slow"), VERSION + hanging)
-    answer = '{"at":"0.2","inserts":1,"operations":2,"replicas":1,"strong":false,"verdict":"contents","weak":false}'
-    then_slow = script(Path(other, "then_slow"), f"{VERSION}case \"$*\" in *--workers*) echo '{answer}'; exit 1;; esac\n{hanging}")
-    for stop in signal.SIGTERM, signal.SIGHUP:
-        for words in ([TOOL, "--program", slow, "--jobs", "2", folder], [EXPLAIN, "--program", slow, lost], [TOOL, "--program", then_slow, lost],
-                      [TOOL, "--program", then_slow, "--junit", f"{other}/judged.xml", lost]):
-            begun.write_text("")
-            running = subprocess.Popen(words, stdout=subprocess.PIPE, stderr=subprocess.PIPE, start_new_session=True,
-                                       preexec_fn=lambda: signal.signal(stop, signal.SIG_DFL))  # which what runs in the background may ignore
-            until = time.monotonic() + 60
-            while not begun.read_text().endswith("\n") and time.monotonic() < until:
-                time.sleep(0.01)
+    answer = '{"at":"$at","inserts":1,"operations":2,"replicas":1,"strong":false,"verdict":"contents","weak":false}'
+    then_slow, then_slow_of_big = (script(Path(other, f"then_slow_{at}"), f"{VERSION}case \"$*\" in *--workers*) echo '{answer.replace('$at', at)}'; exit 1;; "
+                                          f"esac\n{hanging}") for at in ("0.2", "1.1"))
+    ways = [[TOOL, "--program", slow, "--jobs", "2", folder], [EXPLAIN, "--program", slow, lost], [TOOL, "--program", then_slow, lost],
+            [TOOL, "--program", then_slow, "--junit", f"{other}/judged.xml", lost], [TOOL, "--program", then_slow_of_big, "--jobs", "2", big],
+            [TOOL, "--program", slow, "--sshlogin", ":", folder]]
+    interrupted_ways = [ways[-2], [*ways[-1], "--jobs", "1"]]
+    for stop, words in [*((stop, words) for stop in (signal.SIGTERM, signal.SIGHUP) for words in ways), *((signal.SIGINT, words) for words in interrupted_ways)]:
+        begun.write_text("")
+        running = subprocess.Popen(words, stdout=subprocess.PIPE, stderr=subprocess.PIPE, start_new_session=True,
+                                   preexec_fn=lambda: signal.signal(stop, signal.SIG_DFL))  # which what runs in the background may ignore
+        until = time.monotonic() + 60
+        while not begun.read_text().endswith("\n") and time.monotonic() < until:
+            time.sleep(0.01)
+        if stop == signal.SIGINT:
+            os.killpg(running.pid, stop)
+        else:
             running.send_signal(stop)
-            out, err = running.communicate(timeout=30)
-            tally.same(f"stopped: {stop.name}, {Path(words[0]).name}", Ended(running.returncode, out, err), Ended(-stop, b"", b""))
-            left = [pid for pid in begun.read_text().split() if is_running(pid)]
-            tally.check(f"stopped: {stop.name}, {Path(words[0]).name}: nothing runs on", not left, left)
+        out, err = running.communicate(timeout=30)
+        tally.same(f"stopped: {stop.name}, {words}", Ended(running.returncode, out, err), Ended(-stop, b"", b""))
+        left = [pid for pid in begun.read_text().split() if is_running(pid)]
+        tally.check(f"stopped: {stop.name}, {words}: nothing runs on", left == [] and begun.read_text(), left)
+    stopped_soon(tally, other)
+
+
+# What makes each start of a process take long, where a tool loads it as Python's own module for sites.
+SLOW_STARTS = """
+import subprocess, time
+usual = subprocess.Popen.__init__
+
+
+def begin(process, *words, **given):
+    usual(process, *words, **given)
+    time.sleep(0.5)
+
+
+subprocess.Popen.__init__ = begin
+"""
+
+
+def stopped_soon(tally: Tally, other: str) -> None:
+    """It hears a signal while a thread starts a process for a beginning, and not only when all traces are judged."""
+    os.makedirs(f"{other}/site")
+    Path(other, "site", "sitecustomize.py").write_text(SLOW_STARTS)
+    write(f"{other}/many", {f"{i}.trace": "0 ins a 0 : a|0 read :" for i in range(20)})
+    answer = '{"at":"0.2","inserts":1,"operations":2,"replicas":1,"strong":false,"verdict":"contents","weak":false}'
+    quick = script(Path(other, "quick"), f"{VERSION}echo >> '{other}/asked'\necho '{answer}'\nexit 1\n")
+    running = subprocess.Popen([TOOL, "--program", quick, "--jobs", "1", f"{other}/many"], stdout=subprocess.PIPE, stderr=subprocess.PIPE,
+                               env=os.environ | {"PYTHONPATH": f"{other}/site"}, preexec_fn=lambda: signal.signal(signal.SIGTERM, signal.SIG_DFL))
+    until = time.monotonic() + 60
+    while not (Path(other, "asked").exists() and Path(other, "asked").stat().st_size > 1) and time.monotonic() < until:
+        time.sleep(0.01)
+    running.terminate()
+    stopped_at = time.monotonic()
+    out, err = running.communicate(timeout=60)
+    tally.check("stopped soon: while a process is started for a beginning", (running.returncode, out, err) == (-signal.SIGTERM, b"", b"")
+                and time.monotonic() - stopped_at < 5, (running.returncode, out, err, time.monotonic() - stopped_at))
 
 
 def unknown_faults(tally: Tally, program: str, folder: str) -> None:
@@ -1401,11 +1444,6 @@ def weak_in_ci(tally: Tally, program: str, folder: str) -> None:
         "1 not accepted: judged/junit.xml has them all, and judged/1.html is the page of the first\n"), done)
 
 
-def row_and_process(*words: object) -> rows.Row:
-    """The row, with the process that found it in the place of the user's notes."""
-    return rows.row_of(*words)._replace(notes=[str(os.getpid())])
-
-
 def some_big(folder: Path, count: int = 2) -> None:
     """Traces of over a megabyte: one is accepted, and of the others the last read lacks elements."""
     names = [f"element{i}" for i in range(600)]
@@ -1414,15 +1452,28 @@ def some_big(folder: Path, count: int = 2) -> None:
 
 
 def big_traces(tally: Tally, program: str, folder: str) -> None:
-    """What is told of a big trace beside its verdict is found by other processes, by several at once, with the same words."""
+    """What is told of a big trace beside its verdict is found by other processes, one for each of several threads, with the same words. Where
+    one is killed, as for want of memory, that is done without it."""
     some_big(Path(folder), 6)
     told = [[json.loads(line) | {"seconds": 0} for line in judge(program, ["--json", "--jobs", jobs, folder]).out.decode().splitlines()]
             for jobs in ("3", "1")]
-    usual, judges.row_of = judges.row_of, row_and_process
+    usual, looked = lookers.LOOK, Path(folder, "looked")
+    lookers.LOOK = f"import os; open({str(looked)!r}, 'a').write(f'{{os.getpid()}}\\n'); {usual}"
     found = judges.judged_here(rows.Request(program), sorted(map(str, Path(folder).glob("*.trace"))), 3)
-    judges.row_of = usual
-    processes = {row.notes[0] for row in found}
-    tally.check("big traces: by several other processes", 1 < len(processes) < 4 and str(os.getpid()) not in processes, processes)
+    lookers.LOOK = usual
+    processes = set(looked.read_text().split())
+    tally.check("big traces: by several other processes, which then end", 1 < len(processes) < 4 and str(os.getpid()) not in processes
+                and not any(map(is_running, processes)) and len(found) == 6, processes)
+    killing = script(Path(folder, "killing"), f"case \"$*\" in --version|*--workers*) ;; *) mkdir '{folder}/killed' 2> /dev/null && kill -9 $PPID;; esac\n"
+                     f"exec '{program}' \"$@\"\n")
+    oldest = pythons_here().get((3, 9), sys.executable)
+    try:
+        done = subprocess.run([oldest, TOOL, "--program", killing, "--json", "--jobs", "3", folder], capture_output=True, text=True, timeout=60)
+    except subprocess.TimeoutExpired as error:
+        done = subprocess.CompletedProcess(error.cmd, None, "", "it hangs")
+    rows_without = [json.loads(line) | {"seconds": 0} for line in done.stdout.splitlines()]
+    tally.check("big traces: where one that looks is killed", os.path.exists(f"{folder}/killed") and rows_without == told[0]
+                and (done.returncode, done.stderr) == (1, ""), (done.returncode, done.stderr))
     sizes = [path.stat().st_size for path in Path(folder).glob("*.trace")]
     tally.check("big traces: the same rows", told[0] == told[1] and [row["verdict"] for row in told[0]] == [*["contents"] * 5, "accepted"]
                 and min(sizes) > 1 << 20, (told[0] and told[0][0].get("fails_at"), sizes))

@@ -6,6 +6,7 @@ import codecs
 import os
 import signal
 import sys
+import threading
 import traceback
 from argparse import Action, ArgumentParser, Namespace
 from importlib import import_module
@@ -85,12 +86,12 @@ def run_command(name: str, module: str) -> None:
 
 
 class Starting:
-    """While a process is started here, a signal waits: whoever is stopped then would leave it running."""
+    """While a process is started by the thread that hears of signals, a signal waits: whoever is stopped then would leave it running."""
 
     is_on, stop = False, 0
 
     def __enter__(self) -> None:
-        Starting.is_on = True
+        Starting.is_on = threading.current_thread() is threading.main_thread()
 
     def __exit__(self, *_: object) -> None:
         Starting.is_on = False
