@@ -8,14 +8,24 @@ same logs have the same report.
 Beside a log may stand, in the file with `.lines` behind its name, how many lines were saved, and from where in your code each was
 recorded. A log that has fewer lines is warned of, and its places are left out. Beside TRACE such a file is left too: there the lines
 that are lost count, so that the tools warn of them."""
+import os
+import sys
+
+
+def end(*fault: object) -> None:
+    """Ends with 2 at what nobody has thought of, also while this is loaded: Python's own status is one that says something of the logs."""
+    sys.__excepthook__(*fault)
+    os._exit(2)
+
+
+if __name__ == "__main__":
+    sys.excepthook = end
+
 import argparse
 import contextlib
-import os
 import re
 import signal
 import stat
-import sys
-import traceback
 from pathlib import Path
 
 OLDEST = 3, 9  # Python that is tried
@@ -296,6 +306,3 @@ if __name__ == "__main__":
         os.kill(os.getpid(), stopped.args[0])
     except MemoryError:
         fail(3, "out of memory")
-    except Exception:  # which nobody has thought of: no status that says something of the logs
-        traceback.print_exc()
-        sys.exit(2)

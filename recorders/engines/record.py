@@ -22,18 +22,28 @@ so where a COMMAND does not answer a session with its trace, which is then made 
 
 With --weak, of an engine that promises the weak list specification alone, as one with a server that orders (Jupiter), sessions pass of
 which that holds, though strong doesn't; these are counted as `weak alone`."""
-import argparse
 import os
+import sys
+
+
+def end(*fault: object) -> None:
+    """Ends with 2 at what nobody has thought of, also while this is loaded: Python's own status is one that says something of sessions."""
+    sys.__excepthook__(*fault)
+    os._exit(2)
+
+
+if __name__ == "__main__":
+    sys.excepthook = end
+
+import argparse
 import random
 import re
 import shlex
 import shutil
 import signal
 import subprocess
-import sys
 import tempfile
 import threading
-import traceback
 from collections import Counter
 from concurrent.futures import FIRST_EXCEPTION, ThreadPoolExecutor, wait
 from pathlib import Path
@@ -599,8 +609,7 @@ if __name__ == "__main__":
         os.kill(os.getpid(), stopped.args[0])
     except Exception as why:
         if not isinstance(why, OSError) or why.filename is not None:
-            traceback.print_exc()  # nobody has thought of it
-            sys.exit(2)
+            raise
         os.dup2(os.open(os.devnull, os.O_WRONLY), sys.stdout.fileno())
         if isinstance(why, BrokenPipeError):  # the reader has enough
             sys.exit(2)

@@ -1302,6 +1302,12 @@ def script_of_ci(tally: Tally, program: str, folder: str) -> None:
     done = in_ci(str(place), path, f"{script} apart --unequal", {"GITHUB_ACTIONS": "true"})
     tally.check("script of CI: unequal, where that fails", done.returncode == 1 and done.stdout.startswith(
         "::error file=apart/a.trace,title=apart/a.trace%3A accepted::accepted, but unequal in the end: in the end replicas 0 and 1 show different lists\n"), done)
+    write(str(place), {"cut/a.trace": "0 ins a 0 : a"})
+    Path(place, "cut", "a.trace.lines").write_text("9\n")
+    done = in_ci(str(place), path, f"{script} cut", {"GITHUB_ACTIONS": "true"})
+    told = "the trace may have been cut at a line's end: it has 3 lines, and by cut/a.trace.lines it was saved with 9"
+    tally.check("script of CI: a trace that is known to be cut", done.returncode == 2 and done.stdout.startswith(
+        f"::error file=cut/a.trace,title=cut/a.trace%3A failed::{told}\ncut/a.trace: {told}\n"), done)
 
 
 def script_ended(tally: Tally, place: str, path: str, script: str, folder: str) -> None:
@@ -1321,6 +1327,13 @@ def script_ended(tally: Tally, place: str, path: str, script: str, folder: str) 
                          ("--junit=x.xml", "is given twice")):
         done = in_ci(place, path, f"{script} good {option}", {})
         tally.check(f"script of CI: {option}", done.returncode == 2 and "accepted" not in done.stdout and told in done.stderr, done)
+    stranger = Path(folder, "stranger")
+    stranger.mkdir()
+    Path(stranger, "domepeeler-judge-many").write_text("#!/bin/sh\necho '{}'\nexit 1\n")
+    Path(stranger, "domepeeler-judge-many").chmod(0o755)
+    done = in_ci(place, f"{stranger}:{path}", f"{script} good", {})
+    tally.check("script of CI: what nobody has thought of", done.returncode == 2 and not done.stdout and done.stderr.startswith(
+        "judge_recordings: a fault of this script, so nothing is judged:\nTraceback "), done)
     slow, begun = Path(folder, "slow"), Path(folder, "begun")
     slow.write_text(f"#!/bin/sh\n{VERSION}echo $$ >> '{begun}'\nexec sleep 60\n")
     slow.chmod(0o755)
