@@ -814,6 +814,10 @@ def not_looked_at(tally: Tally, program: str, folder: str) -> None:
         done = subprocess.run([*AS_USERS, TOOL, "--program", program, "--json", f"{folder}/unread"], capture_output=True, text=True)
         tally.check("not looked at: a file", done.returncode == 2
                     and json.loads(done.stdout)["error"] == "cannot be read: Permission denied", done)
+        for name, words in (name_of(EXPLAIN), [EXPLAIN, "--program", program]), ("merge.py", [sys.executable, str(ROOT / "recorders" / "merge.py")]):
+            done = subprocess.run([*AS_USERS, *words, f"{folder}/unread/c.trace"], capture_output=True, text=True)
+            tally.check(f"not looked at: a file, by {name}", (done.returncode, done.stdout, done.stderr) == (
+                2, "", f"{name}: cannot read {folder}/unread/c.trace: Permission denied\n"), done)
     finally:
         Path(folder, "locked").chmod(0o755)
     packed = Path(folder, "packed")
@@ -934,21 +938,26 @@ def explained_once(tally: Tally, program: str, folder: str) -> None:
 
 def no_files(tally: Tally, program: str, folder: str) -> None:
     """A pipe and a device under a trace's name, or beside one, don't hang, and what is longer than a trace can be is not read."""
-    write(folder, {"a.trace": "0 ins a 0 : a"})
+    write(folder, {"a.trace": "0 ins a 0 : a", "b.trace": "0 ins a 0 : a"})
     os.mkfifo(f"{folder}/pipe.trace")
     os.symlink("/dev/zero", f"{folder}/device.trace")
     with open(f"{folder}/long.trace", "wb") as file:
         file.truncate(8 << 30)
     os.symlink(f"{folder}/missing", f"{folder}/nothing.trace")
     os.mkfifo(f"{folder}/a.trace.lines")
+    os.symlink("/dev/zero", f"{folder}/b.trace.lines")
     told = {"pipe": "it is no regular file", "device": "it is no regular file", "nothing": "No such file or directory",
             "long": "it has 8,589,934,592 bytes, and a trace has at most 152,305,684"}
     done = subprocess.run(["sh", "-c", 'ulimit -v 4000000; exec "$@"', "sh", TOOL, "--program", program, "--json", folder], capture_output=True,
                           text=True, timeout=60)
     rows = {Path(row["file"]).stem: (row["verdict"], row.get("error")) for row in map(json.loads, done.stdout.splitlines())}
-    tally.check("no files: each is told of, and the rest is judged", done.returncode == 2 and rows == {"a": ("accepted", None)} | {
+    tally.check("no files: each is told of, and the rest is judged", done.returncode == 2 and rows == dict.fromkeys("ab", ("accepted", None)) | {
         name: ("unread", f"cannot be read: {why}") for name, why in told.items()}, done)
-    tally.check("no files: a pipe beside a trace", f"{folder}/a.trace.lines can't be read (it is no regular file)" in done.stderr, done.stderr)
+    for name in "ab":
+        warned = f"{folder}/{name}.trace.lines can't be read (it is no regular file), so nothing says whether the trace is whole"
+        got = subprocess.run([EXPLAIN, "--program", program, f"{folder}/{name}.trace"], capture_output=True, text=True, timeout=60)
+        tally.check("no files: a pipe or a device beside a trace", f"{folder}/{name}.trace: warning: {warned}\n" in done.stderr
+                    and got.returncode == 0 and f"\n  {warned}\n" in got.stdout, (done.stderr, got))
     for name, why in told.items():
         got = subprocess.run([str(ROOT / "tools" / "explain"), "--program", program, f"{folder}/{name}.trace"], capture_output=True, text=True, timeout=60)
         tally.check(f"no files: explain {name}", (got.returncode, got.stdout, got.stderr) == (
@@ -981,9 +990,11 @@ def overwriting(tally: Tally, program: str, folder: str) -> None:
     old = Path(folder, "old.html")
     old.write_text("old")
     old.chmod(0o640)
-    limited = subprocess.run(["sh", "-c", 'ulimit -f 1; trap "" XFSZ; exec "$@"', "sh", explain, "--program", program, "--html", str(old), path], capture_output=True)
-    tally.check("overwriting: what can't be written whole", limited.returncode == 2 and old.read_text() == "old" and sorted(os.listdir(folder)) == [
-        "a.trace", "a.trace.lines", "link", "old.html", "same"], (limited, os.listdir(folder)))
+    for words in [explain, "--html", str(old), path], [TOOL, "--junit", str(old), path]:
+        limited = subprocess.run(["sh", "-c", 'ulimit -f 1; trap "" XFSZ; exec "$@"', "sh", words[0], "--program", program, *words[1:]], capture_output=True)
+        tally.check(f"overwriting: what can't be written whole, {words[1]}", limited.returncode == 2 and b"cannot write" in limited.stderr
+                    and old.read_text() == "old" and sorted(os.listdir(folder)) == ["a.trace", "a.trace.lines", "link", "old.html", "same"],
+                    (limited, os.listdir(folder)))
     subprocess.run([explain, "--program", program, "--html", str(old), path], capture_output=True)
     tally.check("overwriting: the file's mode stays", old.read_text().startswith("<!DOCTYPE html>") and old.stat().st_mode & 0o777 == 0o640)
 
