@@ -382,6 +382,8 @@ def verdict(judge: Judge, trace: Optional[str], plan: Plan) -> str:
     if done.returncode not in (0, 1) or (word == ACCEPTED) != (done.returncode == 0):
         said = done.stderr.decode(errors="replace").strip()
         fail(f"{judge.program} ended with status {done.returncode}, and with no verdict that agrees: {said}")
+    if f" operations {len(operations(trace))} " not in report[0]:
+        fail(f"{judge.program} ended with status {done.returncode}, and with a report that is not on the recording")
     check_is_of(plan, trace)
     if judge.weak and word == "refused" and "weak yes" in report:
         return WEAK_ALONE

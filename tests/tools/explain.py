@@ -1204,6 +1204,14 @@ def from_no_answer(tally: Tally, program: str, folder: str) -> None:
                 ended.stderr == f"record.py: sessions that gave no answer, so were not judged: {stopped}\n", ended)
     tally.check("record.py: no answer", done.returncode == 2 and done.stderr == "record.py: no session gave an answer, so nothing was judged\n"
                 and "accepted" not in done.stdout, done)
+    liar = Path(folder, "liar")
+    for said, status, told in (("replicas 2 operations 1 inserts 1\\naccepted", 0, "a report that is not on the recording"), (
+            "replicas 2 operations 1 inserts 1\\naccepted", 1, "no verdict that agrees: "), ("accepted", 0, "no verdict that agrees: ")):
+        liar.write_text(f"#!/bin/sh\n[ \"$1\" != --version ] || exec echo domepeeler 0.2.0\ncat > /dev/null\nprintf '{said}\\n'\nexit {status}\n")
+        liar.chmod(0o755)
+        done = subprocess.run([RECORD, "list_crdt", str(liar), "--sessions", "1"], capture_output=True, text=True)
+        tally.check(f"record.py: a program that says {said} with status {status}", (done.returncode, done.stdout, done.stderr) == (
+            2, "", f"record.py: {liar} ended with status {status}, and with {told}\n"), done)
     for words, wanted in ((["list_crdt", "/bin/true"], "record.py: /bin/true is not domepeeler: asked for its version it ended with status 0\n"),
                           (["list_crdt", f"{folder}/none"], f"record.py: {folder}/none is no program\n"),
                           (["list_crdt", program, "--sessions", "0"], "record.py: error: argument --sessions: 0 is no number from 1 on\n"),
