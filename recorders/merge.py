@@ -23,6 +23,7 @@ if __name__ == "__main__":
 
 import argparse
 import contextlib
+import errno
 import re
 import signal
 import stat
@@ -39,6 +40,7 @@ HEAD = 2  # lines of a text before its entries
 MOST_BYTES = 1 << 27  # of a log, or of what stands beside one
 MOST_SHOWN = 120  # letters of a faulty line
 MOST_NOTES = 20  # as many as a recording takes
+ABSENT = errno.ENOENT, errno.ENAMETOOLONG  # what stands beside a log is not there
 RECEIPT = "recv [0-9]{1,7} [0-9]{1,7}"
 ENTRIES = {"trace 1": re.compile(f"[0-9]+ ({RECEIPT}|(ins|del|read) .*)", re.ASCII),
            "trace 2": re.compile(f"[0-9]+ ({RECEIPT}|(ins|del|read|view) .*)", re.ASCII)}
@@ -129,11 +131,12 @@ class Log:
 
     def __init__(self, path: str):
         self.path, self.text = path, read(path)
-        self.count = self.text.count("\n")
+        self.count, self.unread = self.text.count("\n"), ""  # and why what stands beside it can't be read
         try:
             first, *self.beside = content(path + SIDE).split(b"\n")[:-1] or [b""]
-        except OSError:
+        except OSError as why:
             first, self.beside = b"", []
+            self.unread = "" if why.errno in ABSENT else why.strerror
         said = COUNT.fullmatch(first.strip())
         self.saved = int(said[0]) if said else self.count
         if self.saved != self.count or not said:
@@ -280,6 +283,8 @@ def main() -> None:
     if asked.output is not None:
         keep_apart(asked.output, paths)
     for log in logs:
+        if log.unread:
+            say(f"warning: {log.path}{SIDE} can't be read ({log.unread}), so nothing says whether {log.path} is whole")
         if log.lost():
             say(f"warning: {log.path} may have been cut at a line's end: it has {log.count} lines, and by {log.path}{SIDE} it was saved "
                 f"with {log.saved}")
