@@ -31,7 +31,7 @@
 //!
 //! Where updates have vector clocks, `received_clock` writes the receipts, and refuses what is not causal.
 //!
-//! Each call that a trace can't say is `Refused`, and leaves the recording as it was.
+//! Each call that a trace can't say is `Refused`, and leaves the recording as it was. Threads share a recording in a `Mutex`.
 //!
 //! An explanation names the line of code that made each call. Where a function of yours makes the calls for others, put
 //! `#[track_caller]` before it, and it names theirs.

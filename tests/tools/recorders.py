@@ -2793,17 +2793,47 @@ int main(void) {{
 """
 
 
-def check_threads_c(tally: Tally, folder: Path) -> None:
+# The same in Rust.
+THREADS_RS = f"""#[path = "{ROOT / 'recorders' / 'domepeeler.rs'}"]
+mod domepeeler;
+use std::sync::Mutex;
+
+fn main() {{
+    let recording = Mutex::new(domepeeler::Recording::new(4).unwrap());
+    std::thread::scope(|scope| {{
+        for replica in 0..4 {{
+            let recording = &recording;
+            scope.spawn(move || {{
+                for n in 1..=2000 {{
+                    let mut one = recording.lock().unwrap();
+                    let answered = if replica % 2 == 1 {{
+                        one.read(replica, &["odd"])
+                    }} else {{
+                        one.view(replica, &["even"])
+                    }};
+                    assert_eq!(answered, Ok(n));
+                }}
+            }});
+        }}
+    }});
+    recording.into_inner().unwrap().save("threads.trace").unwrap();
+}}
+"""
+
+
+def check_locked_threads(tally: Tally, folder: Path) -> None:
     """Threads that hold a lock around each call: every line is there whole, with its place."""
-    Path(folder, "threads.c").write_text(THREADS_C)
-    subprocess.run([*GCC, "-pthread", "-o", "threads", "threads.c"], cwd=folder, check=True)
-    done = subprocess.run(["./threads"], cwd=folder, capture_output=True, text=True)
-    entries = Path(folder, "threads.trace").read_text().splitlines()[2:] if done.returncode == 0 else []
-    places = [line.split(" ", 1)[1] for line in Path(folder, "threads.trace.lines").read_text().splitlines()[2:]] if entries else []
-    wanted = {("0 view : even", "threads.c:13"), ("1 read : odd", "threads.c:12"), ("2 view : even", "threads.c:13"),
-              ("3 read : odd", "threads.c:12")}
-    counts = Counter(zip(entries, places))
-    tally.check("C: four threads", len(entries) == len(places) and counts == {pair: 2000 for pair in wanted}, (counts, done))
+    for source, text, compiler, read, view in (("threads.c", THREADS_C, [*GCC, "-pthread", "-o", "threads"], 12, 13), (
+            "threads.rs", THREADS_RS, ["rustc", "--edition", "2021", "-D", "warnings", "-o", "threads"], 14, 16)):
+        Path(folder, source).write_text(text)
+        subprocess.run([*compiler, source], cwd=folder, check=True)
+        done = subprocess.run(["./threads"], cwd=folder, capture_output=True, text=True)
+        entries = Path(folder, "threads.trace").read_text().splitlines()[2:] if done.returncode == 0 else []
+        places = [line.split(" ", 1)[1] for line in Path(folder, "threads.trace.lines").read_text().splitlines()[2:]] if entries else []
+        wanted = {(f"{replica} {shown}", f"{source}:{line}") for replicas, shown, line in (("02", "view : even", view), ("13", "read : odd", read))
+                  for replica in replicas}
+        counts = Counter(zip(entries, places))
+        tally.check(f"{source}: four threads", len(entries) == len(places) and counts == {pair: 2000 for pair in wanted}, (counts, done))
 
 
 # A program whose timer interrupts it, and which ignores how its children end; and then one that goes on after calls were refused.
@@ -2970,7 +3000,7 @@ def main() -> None:
         check_spawns(tally, folder)
         check_places_c(tally, program, folder)
         check_stop_cpp(tally, program, folder)
-        check_threads_c(tally, folder)
+        check_locked_threads(tally, folder)
         check_hostile_c(tally, Recorder("c", drivers["c"], program), folder)
     tally.close()
 
