@@ -1351,20 +1351,23 @@ def check_warnings(tally: Tally, recorder: Recorder) -> None:
 
 
 def check_notes(tally: Tally, recorder: Recorder, folder: Path) -> None:
-    """The language and the notes stand beside the trace, in their order; the tool is told the language; and the words end with the notes."""
-    trace, notes = folder / f"noted.{recorder.language}.trace", ["seed 17", "two ä words", "language x", "seed 17"]
-    calls = ["new 2", "note seed%2017", "insert 0 a 0 a", "note two%20%C3%A4%20words", "note language%20x", "note seed%2017", f"save {trace}"]
+    """The language and the notes stand beside the trace, in their order; the tool is told the language; and the words end with the notes,
+    of which none is a command of CI."""
+    trace = folder / f"noted.{recorder.language}.trace"
+    notes = ["seed 17", "two ä words", "language x", "seed 17", "::stop-commands::ä", "  ##vso[ä]"]
+    calls = ["new 2", "note seed%2017", "insert 0 a 0 a", "note two%20%C3%A4%20words", "note language%20x", "note seed%2017",
+             "note ::stop-commands::%C3%A4", "note %20%20##vso[%C3%A4]", f"save {trace}"]
     teller = folder / "teller"
     teller.write_text("#!/bin/sh\ncat > /dev/null\necho \"asked: $*\"\n")
     teller.chmod(0o755)
     got = recorder.answers([*map(fields, calls), "explain", "new\t1", "explain"], DOMEPEELER_EXPLAIN=str(teller))
     beside = Path(f"{trace}.lines").read_text().splitlines()
     head = ["3", f"language {LANGUAGES[recorder.language]}", *(f"note {note}" for note in notes)]
-    tally.check(f"{recorder.language}: notes beside the trace", beside[:6] == head and
-                len(beside) == 6 + (recorder.language in PLACING), beside)
+    tally.check(f"{recorder.language}: notes beside the trace", beside[:8] == head and
+                len(beside) == 8 + (recorder.language in PLACING), beside)
     asked = f"| asked: --language {LANGUAGES[recorder.language]} -"
     tally.check(f"{recorder.language}: explain ends with the notes, and names the language", got[len(calls):] == [
-        asked, "| ", "| Noted", *(f"|   {note}" for note in notes), "ok", "ok", asked, "ok"], got)
+        asked, "| ", "| Noted", *(f"|   {note}" for note in [*notes[:4], "\\x3a:stop-commands::ä", "  \\x23#vso[ä]"]), "ok", "ok", asked, "ok"], got)
 
 
 class Number(int, Enum):
