@@ -420,7 +420,7 @@ are found.  With WEAK the weak list specification alone is asked for."
   (if lines (concat "\n" title "\n" (mapconcat (lambda (line) (format "  %s\n" (domepeeler--plain line))) lines "")) ""))
 
 (defun domepeeler--plain (line)
-  "LINE, with its first sign as in an error where a CI service would take it for a command."
+  "LINE, with the first sign as in an error where it looks like a command."
   (let ((first (and (string-match "\\` *\\(::\\|##\\)" line) (match-beginning 1))))
     (if first (concat (substring line 0 first) (format "\\x%02x" (aref line first)) (substring line (1+ first))) line)))
 
