@@ -569,11 +569,18 @@ def show(words: argparse.Namespace, kind: sessions.Kind, verdict_word: str, trac
 def keep(words: argparse.Namespace, what: str, ending: str, text: str) -> None:
     if words.keep:
         name = "_".join([engine_name(words.engine), *what.replace(",", "").replace(":", "").split()])
+        path, part = words.keep / f"{name}.{ending}", words.keep / f".record-{os.getpid()}"
         try:
             words.keep.mkdir(parents=True, exist_ok=True)
-            (words.keep / f"{name}.{ending}").write_text(text)
         except OSError as why:
             fail(f"cannot write {why.filename}: {why.strerror}")
+        try:
+            part.write_text(text)
+            os.replace(part, path)  # it appears whole or not at all
+        except OSError as why:
+            fail(f"cannot write {path}: {why.strerror}")
+        finally:
+            part.unlink(missing_ok=True)
 
 
 def engine_name(word: str) -> str:

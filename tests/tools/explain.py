@@ -1278,6 +1278,11 @@ def record_ended(tally: Tally, program: str, folder: str) -> None:
     done = subprocess.run([*usual, "--keep", f"{slow}/kept"], capture_output=True, text=True)
     tally.check("record.py: a folder that can't be made",
                 (done.returncode, done.stderr) == (2, f"record.py: cannot write {slow}/kept: Not a directory\n"), done)
+    done = subprocess.run(["sh", "-c", 'ulimit -f 1; trap "" XFSZ; exec "$@"', "sh", *usual, "--seed", "2", "--keep", f"{folder}/full"], capture_output=True,
+                          text=True)
+    tally.check("record.py: a trace that can't be written whole", done.returncode == 2 and re.fullmatch(
+        rf"record\.py: cannot write {folder}/full/list_crdt_\S+\.trace: File too large\n", done.stderr) and all(
+            path.read_text().endswith("\n") and path.stat().st_size < 512 for path in Path(folder, "full").iterdir()), (done, os.listdir(f"{folder}/full")))
 
 
 def arguments(tally: Tally, program: str, folder: str) -> None:
