@@ -1640,6 +1640,25 @@ def long_cycles(tally: Tally, program: str, folder: str) -> None:
                     and seconds < 10, (len(said), seconds))
     got, seconds, _ = used([EXPLAIN, "--program", program, f"{folder}/500.trace"])
     tally.check("long cycle of 1001: the words soon", got.status == 1 and got.out.startswith(b"refused 1001: ") and seconds < 2, (got.out[:80], seconds))
+    trace.write_text(two_rings(2000))
+    got, seconds, _ = used([EXPLAIN, "--program", program, "--html", f"{folder}/page.html", "--svg", f"{folder}/cycle.svg", "--small", f"{folder}/small", str(trace)])
+    tally.check("long cycle of 4001: all files soon", got.status == 1 and b"small has the same verdict in 16003 lines" in got.out and seconds < 15, (got.out[-200:], seconds))
+
+
+def many_deletes(tally: Tally, program: str, folder: str) -> None:
+    """Very many deletes of one element, each with a receipt of its own, are explained in time that grows with the trace, on a page and by a
+    small trace too."""
+    count, trace = 6000, Path(folder, "deletes.trace")
+    deletes, receipts = "|1 del a :" * count, [f"|0 recv 1 {n}" for n in range(1, count + 3)]
+    for name, entries, said, lines in (
+            ("one is lost", f"1 ins a 0 : a|1 ins b 1 : a b{deletes.replace(':', ': b')}{''.join(receipts[:2])}|0 read : a b{''.join(receipts[2:])}|0 read :",
+             "contents 0.2: this response lacks one element that replica 0 had by then.", 10),
+            ("one is shown again", f"1 ins a 0 : a{deletes}{receipts[0]}|0 read : a{''.join(receipts[1:-1])}|0 read : a",
+             "contents 0.2: this response has one element that should not be there.", 6)):
+        trace.write_text(text_of(2, entries))
+        got, seconds, _ = used([EXPLAIN, "--program", program, "--html", f"{folder}/page.html", "--small", f"{folder}/small", str(trace)])
+        tally.check(f"many deletes: {name}", got.status == 1 and got.out.decode().startswith(f"{said}\n") and f"in {lines} lines of".encode() in got.out
+                    and seconds < 6, (got.out[:200], got.out[-200:], seconds))
 
 
 def svg(tally: Tally, program: str, folder: str) -> None:
@@ -1854,6 +1873,7 @@ def main() -> None:
         hostile(tally, program, folder)
         long_sessions(tally, program, folder)
         long_cycles(tally, program, folder)
+        many_deletes(tally, program, folder)
         svg(tally, program, folder)
         kept_more(tally)
         together(tally, program, folder)
