@@ -417,7 +417,12 @@ are found.  With WEAK the weak list specification alone is asked for."
 
 (defun domepeeler--section (title lines)
   "A part of the explanation with this TITLE, where it has LINES."
-  (if lines (concat "\n" title "\n" (mapconcat (lambda (line) (format "  %s\n" line)) lines "")) ""))
+  (if lines (concat "\n" title "\n" (mapconcat (lambda (line) (format "  %s\n" (domepeeler--plain line))) lines "")) ""))
+
+(defun domepeeler--plain (line)
+  "LINE, with the first sign as in an error where it looks like a command."
+  (let ((first (and (string-match "\\` *\\(::\\|##\\)" line) (match-beginning 1))))
+    (if first (concat (substring line 0 first) (format "\\x%02x" (aref line first)) (substring line (1+ first))) line)))
 
 (defun domepeeler--beside-program (command)
   "The path of COMMAND where it lies beside the program of DOMEPEELER.

@@ -179,14 +179,19 @@ static inline void domepeeler_clean(char *text) {
     *end = 0;
 }
 
+/* Where the first sign stands of what CI services take for a command, if the text begins so; else its length. */
+static inline size_t domepeeler_command(const char *text) {
+    size_t first = strspn(text, " ");
+    return !strncmp(text + first, "::", 2) || !strncmp(text + first, "##", 2) ? first : strlen(text);
+}
+
 /* Puts a name or an id for an error into the room, or the front of it: a byte that is no printable ASCII stands as `\x1b`, and so does the
  * first of `::` or `##` that begins it, behind spaces too, since CI services take a line that begins so for a command. */
 static inline const char *domepeeler_escaped(const char *text, char *room, size_t bytes) {
-    size_t first = strspn(text, " "), length = 0;
-    int is_command = !strncmp(text + first, "::", 2) || !strncmp(text + first, "##", 2);
+    size_t first = domepeeler_command(text), length = 0;
     *room = 0;
     for (size_t at = 0; text[at] && length + 4 < bytes; at++) {
-        int is_shown = text[at] >= ' ' && text[at] <= '~' && !(is_command && at == first);
+        int is_shown = text[at] >= ' ' && text[at] <= '~' && at != first;
         snprintf(room + length, bytes - length, is_shown ? "%c" : "\\x%02x", (unsigned char)text[at]);
         length += strlen(room + length);
     }
@@ -1654,7 +1659,13 @@ static inline char *domepeeler_with_ids(struct domepeeler *d, char *said) {
         free(shown);
         title = "";
     }
-    for (size_t i = 0; i < d->noted; i++) domepeeler_say(&whole, "%s  %s\n", i ? "" : "\nNoted\n", d->notes[i]);
+    for (size_t i = 0; i < d->noted; i++) {
+        const char *note = d->notes[i];
+        size_t first = domepeeler_command(note);
+        domepeeler_say(&whole, "%s  %.*s", i ? "" : "\nNoted\n", (int)first, note);
+        if (note[first]) domepeeler_say(&whole, "\\x%02x%s", (unsigned char)note[first], note + first + 1);
+        domepeeler_say(&whole, "\n");
+    }
     free(said);
     return domepeeler_said(d, &whole);
 }

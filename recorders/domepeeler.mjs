@@ -921,7 +921,13 @@ function joined(words) {
 
 // A section of an explanation; nothing where it would be empty.
 function section(title, lines) {
-  return lines.length ? `\n${title}\n${lines.map((line) => `  ${line}\n`).join("")}` : ""
+  return lines.length ? `\n${title}\n${lines.map((line) => `  ${plain(line)}\n`).join("")}` : ""
+}
+
+// A line, with its first sign as in an error where a CI service would take it for a command.
+function plain(line) {
+  const first = COMMAND.exec(line)?.[0].length ?? -1
+  return first < 0 ? line : `${line.slice(0, first)}\\x${line.charCodeAt(first).toString(16)}${line.slice(first + 1)}`
 }
 
 function whole(number, least, most) {

@@ -710,7 +710,13 @@ def _folder_here() -> str:
 
 def _section(title: str, told: List[str]) -> str:
     """A section of an explanation; nothing where it would be empty."""
-    return f"\n{title}\n" + "".join(f"  {line}\n" for line in told) if told else ""
+    return f"\n{title}\n" + "".join(f"  {_plain(line)}\n" for line in told) if told else ""
+
+
+def _plain(line: str) -> str:
+    """A line, with its first sign as in an error where a CI service would take it for a command."""
+    command = COMMAND.match(line)
+    return f"{command[0]}\\x{ord(line[command.end()]):02x}{line[command.end() + 1:]}" if command else line
 
 
 class _End:

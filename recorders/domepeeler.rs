@@ -31,7 +31,7 @@
 //!
 //! Where updates have vector clocks, `received_clock` writes the receipts, and refuses what is not causal.
 //!
-//! Each call that a trace can't say is `Refused`, and leaves the recording as it was.
+//! Each call that a trace can't say is `Refused`, and leaves the recording as it was. Threads share a recording in a `Mutex`.
 //!
 //! An explanation names the line of code that made each call. Where a function of yours makes the calls for others, put
 //! `#[track_caller]` before it, and it names theirs.
@@ -1394,17 +1394,30 @@ fn failed_trace(caller: &Location) -> PathBuf {
 /// A name or an id for an error: a byte that is no printable ASCII stands as `\x1b`, and so does the first of `::` or `##` that begins it,
 /// behind spaces too, since CI services take a line that begins so for a command.
 fn escaped(text: &str) -> String {
-    let begin = text.trim_start_matches(' ');
-    let is_command = begin.starts_with("::") || begin.starts_with("##");
-    let first = if is_command { text.len() - begin.len() } else { text.len() };
+    let first = command(text);
     let mut told = String::new();
     for (at, byte) in text.bytes().enumerate() {
         match byte {
-            b' '..=b'~' if at != first => told.push(byte.into()),
+            b' '..=b'~' if Some(at) != first => told.push(byte.into()),
             _ => told += &format!("\\x{byte:02x}"),
         }
     }
     told
+}
+
+/// Where the first sign of such a command stands, if the text begins with one.
+fn command(text: &str) -> Option<usize> {
+    let begin = text.trim_start_matches(' ');
+    let is_command = begin.starts_with("::") || begin.starts_with("##");
+    is_command.then(|| text.len() - begin.len())
+}
+
+/// A line, with that sign as in an error.
+fn plain(line: String) -> String {
+    match command(&line) {
+        Some(at) => format!("{}\\x{:02x}{}", &line[..at], line.as_bytes()[at], &line[at + 1..]),
+        None => line,
+    }
 }
 
 /// The operation of this name, as `2.1`.
@@ -1422,7 +1435,7 @@ fn place(caller: &Location, here: &Path) -> String {
 
 /// A part of the explanation with a title, where it has lines.
 fn section(title: &str, lines: impl Iterator<Item = String>) -> String {
-    let told: String = lines.map(|line| format!("  {line}\n")).collect();
+    let told: String = lines.map(|line| format!("  {}\n", plain(line))).collect();
     if told.is_empty() { told } else { format!("\n{title}\n{told}") }
 }
 

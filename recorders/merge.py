@@ -8,14 +8,25 @@ same logs have the same report.
 Beside a log may stand, in the file with `.lines` behind its name, how many lines were saved, and from where in your code each was
 recorded. A log that has fewer lines is warned of, and its places are left out. Beside TRACE such a file is left too: there the lines
 that are lost count, so that the tools warn of them."""
+import os
+import sys
+
+
+def end(*fault: object) -> None:
+    """Ends with 2 at what nobody has thought of, also while this is loaded: Python's own status is one that says something of the logs."""
+    sys.__excepthook__(*fault)
+    os._exit(2)
+
+
+if __name__ == "__main__":
+    sys.excepthook = end
+
 import argparse
 import contextlib
-import os
+import errno
 import re
 import signal
 import stat
-import sys
-import traceback
 from pathlib import Path
 
 OLDEST = 3, 9  # Python that is tried
@@ -29,6 +40,7 @@ HEAD = 2  # lines of a text before its entries
 MOST_BYTES = 1 << 27  # of a log, or of what stands beside one
 MOST_SHOWN = 120  # letters of a faulty line
 MOST_NOTES = 20  # as many as a recording takes
+ABSENT = errno.ENOENT, errno.ENAMETOOLONG  # what stands beside a log is not there
 RECEIPT = "recv [0-9]{1,7} [0-9]{1,7}"
 ENTRIES = {"trace 1": re.compile(f"[0-9]+ ({RECEIPT}|(ins|del|read) .*)", re.ASCII),
            "trace 2": re.compile(f"[0-9]+ ({RECEIPT}|(ins|del|read|view) .*)", re.ASCII)}
@@ -119,11 +131,12 @@ class Log:
 
     def __init__(self, path: str):
         self.path, self.text = path, read(path)
-        self.count = self.text.count("\n")
+        self.count, self.unread = self.text.count("\n"), ""  # and why what stands beside it can't be read
         try:
             first, *self.beside = content(path + SIDE).split(b"\n")[:-1] or [b""]
-        except OSError:
+        except OSError as why:
             first, self.beside = b"", []
+            self.unread = "" if why.errno in ABSENT else why.strerror
         said = COUNT.fullmatch(first.strip())
         self.saved = int(said[0]) if said else self.count
         if self.saved != self.count or not said:
@@ -176,6 +189,13 @@ def shown(text: str) -> str:
                    for letter in text)
     at = len(told) - len(told.lstrip())
     return f"{told[:at]}\\x{ord(told[at]):02x}{told[at + 1:]}" if told[at:at + 2] in ("::", "##") else told
+
+
+class Parser(argparse.ArgumentParser):
+    """A parser that shows a wrong word as a name is shown."""
+
+    def error(self, message: str) -> None:
+        super().error(shown(message))
 
 
 def say(words: str) -> None:
@@ -248,8 +268,8 @@ def main() -> None:
             signal.signal(stop, be_stopped)
     if sys.stderr is None:
         sys.stderr = open(os.devnull, "w")
-    parser = argparse.ArgumentParser(prog="merge.py", description=__doc__, epilog=STATUSES, allow_abbrev=False,
-                                     formatter_class=argparse.RawDescriptionHelpFormatter)
+    parser = Parser(prog="merge.py", description=__doc__, epilog=STATUSES, allow_abbrev=False,
+                    formatter_class=argparse.RawDescriptionHelpFormatter)
     parser.add_argument("logs", metavar="LOG", nargs="+", help="a log; a file beside another one, as `LOG*` takes too, is passed over")
     parser.add_argument("--output", metavar="TRACE", action="append", help="the file to write")
     asked = parser.parse_args()
@@ -263,6 +283,8 @@ def main() -> None:
     if asked.output is not None:
         keep_apart(asked.output, paths)
     for log in logs:
+        if log.unread:
+            say(f"warning: {log.path}{SIDE} can't be read ({log.unread}), so nothing says whether {log.path} is whole")
         if log.lost():
             say(f"warning: {log.path} may have been cut at a line's end: it has {log.count} lines, and by {log.path}{SIDE} it was saved "
                 f"with {log.saved}")
@@ -289,6 +311,3 @@ if __name__ == "__main__":
         os.kill(os.getpid(), stopped.args[0])
     except MemoryError:
         fail(3, "out of memory")
-    except Exception:  # which nobody has thought of: no status that says something of the logs
-        traceback.print_exc()
-        sys.exit(2)

@@ -5,12 +5,13 @@
 
 It is the picture that `tools/explain --svg` makes. Ends with status 1 where the report has no cycle, and with 2 where there is no report,
 or something else is wrong."""
-import json
 import os
 import sys
 
 
 def main() -> int:
+    import json
+
     from explaining.cycle_picture import drawing
     try:
         report = json.load(sys.stdin)

@@ -7,12 +7,23 @@ alone, and ends. It prints the first explanation whole, and of failures that loo
 it, and writes `annotations.json` for GitLab. It ends with the status of domepeeler-judge-many: 0 where all are accepted, 1 where the
 editor failed, 2 where the recordings or the setting are at fault. Words behind the folder are options for domepeeler-judge-many; with
 `--weak`, of an editor that promises the weak list specification alone, recordings pass where that holds."""
-import json
 import os
+import sys
+
+
+def end(*fault):
+    """Ends with 2 at what nobody has thought of, also while this is loaded: Python's own status is one that says something of the recordings."""
+    sys.__excepthook__(*fault)
+    os._exit(2)
+
+
+if __name__ == "__main__":
+    sys.excepthook = end
+
+import json
 import re
 import signal
 import subprocess
-import sys
 import traceback
 from pathlib import Path
 
@@ -77,6 +88,8 @@ def explain(number, row, goal):
     verdict = WEAK_ALONE if row.get("weak_alone") else row["verdict"]
     if verdict in ("accepted", WEAK_ALONE):  # but unequal in the end
         told = f"{verdict}, but unequal in the end: {' '.join(row['warnings'][:1])}\n{told.partition(chr(10))[2]}"
+    if verdict == "failed":  # what else is said of it counts for nothing
+        told = f"{shown(row['error'])}\n{told}"
     name = f"{shown(row['file'])}: {verdict}"
     if os.environ.get("GITHUB_ACTIONS"):
         annotate(shown(row["file"]), name, told.split("\n")[0])

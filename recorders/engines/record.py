@@ -22,18 +22,28 @@ so where a COMMAND does not answer a session with its trace, which is then made 
 
 With --weak, of an engine that promises the weak list specification alone, as one with a server that orders (Jupiter), sessions pass of
 which that holds, though strong doesn't; these are counted as `weak alone`."""
-import argparse
 import os
+import sys
+
+
+def end(*fault: object) -> None:
+    """Ends with 2 at what nobody has thought of, also while this is loaded: Python's own status is one that says something of sessions."""
+    sys.__excepthook__(*fault)
+    os._exit(2)
+
+
+if __name__ == "__main__":
+    sys.excepthook = end
+
+import argparse
 import random
 import re
 import shlex
 import shutil
 import signal
 import subprocess
-import sys
 import tempfile
 import threading
-import traceback
 from collections import Counter
 from concurrent.futures import FIRST_EXCEPTION, ThreadPoolExecutor, wait
 from pathlib import Path
@@ -68,6 +78,13 @@ def printable(text: str) -> str:
     return "".join(letter if letter.isprintable() else f"\\x{ord(letter) - 0xdc00:02x}"
                    if "\udc80" <= letter <= "\udcff" else ascii(letter)[1:-1]
                    for letter in text)
+
+
+class Parser(argparse.ArgumentParser):
+    """A parser that shows a wrong word as a name is shown."""
+
+    def error(self, message: str) -> NoReturn:
+        super().error(printable(message))
 
 
 def fail(words: str) -> NoReturn:
@@ -365,6 +382,8 @@ def verdict(judge: Judge, trace: Optional[str], plan: Plan) -> str:
     if done.returncode not in (0, 1) or (word == ACCEPTED) != (done.returncode == 0):
         said = done.stderr.decode(errors="replace").strip()
         fail(f"{judge.program} ended with status {done.returncode}, and with no verdict that agrees: {said}")
+    if f" operations {len(operations(trace))} " not in report[0]:
+        fail(f"{judge.program} ended with status {done.returncode}, and with a report that is not on the recording")
     check_is_of(plan, trace)
     if judge.weak and word == "refused" and "weak yes" in report:
         return WEAK_ALONE
@@ -491,7 +510,7 @@ def number(word: str) -> int:
 
 
 def main() -> None:
-    parser = argparse.ArgumentParser(description=__doc__.split("\n")[0])
+    parser = Parser(description=__doc__.split("\n")[0])
     parser.add_argument("engine", help=", ".join(sorted(ENGINES)) + ", the path of a Python module of your own, or your engine's command")
     parser.add_argument("program")
     parser.add_argument("--sessions", type=number, help="how many small sessions of each kind")
@@ -550,11 +569,18 @@ def show(words: argparse.Namespace, kind: sessions.Kind, verdict_word: str, trac
 def keep(words: argparse.Namespace, what: str, ending: str, text: str) -> None:
     if words.keep:
         name = "_".join([engine_name(words.engine), *what.replace(",", "").replace(":", "").split()])
+        path, part = words.keep / f"{name}.{ending}", words.keep / f".record-{os.getpid()}"
         try:
             words.keep.mkdir(parents=True, exist_ok=True)
-            (words.keep / f"{name}.{ending}").write_text(text)
         except OSError as why:
             fail(f"cannot write {why.filename}: {why.strerror}")
+        try:
+            part.write_text(text)
+            os.replace(part, path)  # it appears whole or not at all
+        except OSError as why:
+            fail(f"cannot write {path}: {why.strerror}")
+        finally:
+            part.unlink(missing_ok=True)
 
 
 def engine_name(word: str) -> str:
@@ -592,8 +618,7 @@ if __name__ == "__main__":
         os.kill(os.getpid(), stopped.args[0])
     except Exception as why:
         if not isinstance(why, OSError) or why.filename is not None:
-            traceback.print_exc()  # nobody has thought of it
-            sys.exit(2)
+            raise
         os.dup2(os.open(os.devnull, os.O_WRONLY), sys.stdout.fileno())
         if isinstance(why, BrokenPipeError):  # the reader has enough
             sys.exit(2)

@@ -1211,6 +1211,14 @@ def from_no_answer(tally: Tally, program: str, folder: str) -> None:
                 ended.stderr == f"record.py: sessions that gave no answer, so were not judged: {stopped}\n", ended)
     tally.check("record.py: no answer", done.returncode == 2 and done.stderr == "record.py: no session gave an answer, so nothing was judged\n"
                 and "accepted" not in done.stdout, done)
+    liar = Path(folder, "liar")
+    for said, status, told in (("replicas 2 operations 1 inserts 1\\naccepted", 0, "a report that is not on the recording"), (
+            "replicas 2 operations 1 inserts 1\\naccepted", 1, "no verdict that agrees: "), ("accepted", 0, "no verdict that agrees: ")):
+        liar.write_text(f"#!/bin/sh\n[ \"$1\" != --version ] || exec echo domepeeler 0.2.0\ncat > /dev/null\nprintf '{said}\\n'\nexit {status}\n")
+        liar.chmod(0o755)
+        done = subprocess.run([RECORD, "list_crdt", str(liar), "--sessions", "1"], capture_output=True, text=True)
+        tally.check(f"record.py: a program that says {said} with status {status}", (done.returncode, done.stdout, done.stderr) == (
+            2, "", f"record.py: {liar} ended with status {status}, and with {told}\n"), done)
     for words, wanted in ((["list_crdt", "/bin/true"], "record.py: /bin/true is not domepeeler: asked for its version it ended with status 0\n"),
                           (["list_crdt", f"{folder}/none"], f"record.py: {folder}/none is no program\n"),
                           (["list_crdt", program, "--sessions", "0"], "record.py: error: argument --sessions: 0 is no number from 1 on\n"),
@@ -1277,6 +1285,11 @@ def record_ended(tally: Tally, program: str, folder: str) -> None:
     done = subprocess.run([*usual, "--keep", f"{slow}/kept"], capture_output=True, text=True)
     tally.check("record.py: a folder that can't be made",
                 (done.returncode, done.stderr) == (2, f"record.py: cannot write {slow}/kept: Not a directory\n"), done)
+    done = subprocess.run(["sh", "-c", 'ulimit -f 1; trap "" XFSZ; exec "$@"', "sh", *usual, "--seed", "2", "--keep", f"{folder}/full"], capture_output=True,
+                          text=True)
+    tally.check("record.py: a trace that can't be written whole", done.returncode == 2 and re.fullmatch(
+        rf"record\.py: cannot write {folder}/full/list_crdt_\S+\.trace: File too large\n", done.stderr) and all(
+            path.read_text().endswith("\n") and path.stat().st_size < 512 for path in Path(folder, "full").iterdir()), (done, os.listdir(f"{folder}/full")))
 
 
 def arguments(tally: Tally, program: str, folder: str) -> None:
@@ -1368,6 +1381,14 @@ def scripts_end(tally: Tally) -> None:
                 "    check_is_domepeeler(words.program)\n", ""))
             done = subprocess.run([sys.executable, script, *words], capture_output=True, text=True)
             tally.check(f"not thought of: {path}", done.returncode == 2 and done.stderr.endswith("ValueError: not thought of\n") and not done.stdout, done)
+        for path, module in (("recorders/merge.py", "argparse"), ("recorders/engines/record.py", "sessions"), ("examples/ci/judge_recordings.py", "json"),
+                             ("tools/draw_cycle.py", "json")):
+            shutil.copy(ROOT / path, copy)
+            Path(copy, f"{module}.py").write_text("raise ValueError('not thought of')\n")
+            done = subprocess.run([sys.executable, Path(copy, Path(path).name), "x", "y"], capture_output=True, text=True, stdin=subprocess.DEVNULL)
+            Path(copy, f"{module}.py").unlink()
+            tally.check(f"not thought of: {path}, while it is loaded", done.returncode == 2 and "not thought of" in done.stderr.splitlines()[-1]
+                        and not done.stdout, done)
 
 
 def names_of_examples(tally: Tally) -> None:
@@ -1641,6 +1662,25 @@ def long_cycles(tally: Tally, program: str, folder: str) -> None:
                     and seconds < 10, (len(said), seconds))
     got, seconds, _ = used([EXPLAIN, "--program", program, f"{folder}/500.trace"])
     tally.check("long cycle of 1001: the words soon", got.status == 1 and got.out.startswith(b"refused 1001: ") and seconds < 2, (got.out[:80], seconds))
+    trace.write_text(two_rings(2000))
+    got, seconds, _ = used([EXPLAIN, "--program", program, "--html", f"{folder}/page.html", "--svg", f"{folder}/cycle.svg", "--small", f"{folder}/small", str(trace)])
+    tally.check("long cycle of 4001: all files soon", got.status == 1 and b"small has the same verdict in 16003 lines" in got.out and seconds < 15, (got.out[-200:], seconds))
+
+
+def many_deletes(tally: Tally, program: str, folder: str) -> None:
+    """Very many deletes of one element, each with a receipt of its own, are explained in time that grows with the trace, on a page and by a
+    small trace too."""
+    count, trace = 6000, Path(folder, "deletes.trace")
+    deletes, receipts = "|1 del a :" * count, [f"|0 recv 1 {n}" for n in range(1, count + 3)]
+    for name, entries, said, lines in (
+            ("one is lost", f"1 ins a 0 : a|1 ins b 1 : a b{deletes.replace(':', ': b')}{''.join(receipts[:2])}|0 read : a b{''.join(receipts[2:])}|0 read :",
+             "contents 0.2: this response lacks one element that replica 0 had by then.", 10),
+            ("one is shown again", f"1 ins a 0 : a{deletes}{receipts[0]}|0 read : a{''.join(receipts[1:-1])}|0 read : a",
+             "contents 0.2: this response has one element that should not be there.", 6)):
+        trace.write_text(text_of(2, entries))
+        got, seconds, _ = used([EXPLAIN, "--program", program, "--html", f"{folder}/page.html", "--small", f"{folder}/small", str(trace)])
+        tally.check(f"many deletes: {name}", got.status == 1 and got.out.decode().startswith(f"{said}\n") and f"in {lines} lines of".encode() in got.out
+                    and seconds < 6, (got.out[:200], got.out[-200:], seconds))
 
 
 def svg(tally: Tally, program: str, folder: str) -> None:
@@ -1855,6 +1895,7 @@ def main() -> None:
         hostile(tally, program, folder)
         long_sessions(tally, program, folder)
         long_cycles(tally, program, folder)
+        many_deletes(tally, program, folder)
         svg(tally, program, folder)
         kept_more(tally)
         together(tally, program, folder)

@@ -29,7 +29,7 @@ from shared.traces import two_rings  # noqa: E402
 
 sys.path[:0] = [str(ROOT / "recorders" / "engines"), str(ROOT / "tools")]
 import sessions as exchanged  # noqa: E402
-from explaining import files, judges, rows  # noqa: E402
+from explaining import files, judges, lookers, rows  # noqa: E402
 from list_crdt import Group, play  # noqa: E402
 
 TOOL, EXPLAIN = str(ROOT / "tools" / "judge_many"), str(ROOT / "tools" / "explain")
@@ -820,6 +820,10 @@ def not_looked_at(tally: Tally, program: str, folder: str) -> None:
         done = subprocess.run([*AS_USERS, TOOL, "--program", program, "--json", f"{folder}/unread"], capture_output=True, text=True)
         tally.check("not looked at: a file", done.returncode == 2
                     and json.loads(done.stdout)["error"] == "cannot be read: Permission denied", done)
+        for name, words in (name_of(EXPLAIN), [EXPLAIN, "--program", program]), ("merge.py", [sys.executable, str(ROOT / "recorders" / "merge.py")]):
+            done = subprocess.run([*AS_USERS, *words, f"{folder}/unread/c.trace"], capture_output=True, text=True)
+            tally.check(f"not looked at: a file, by {name}", (done.returncode, done.stdout, done.stderr) == (
+                2, "", f"{name}: cannot read {folder}/unread/c.trace: Permission denied\n"), done)
     finally:
         Path(folder, "locked").chmod(0o755)
     packed = Path(folder, "packed")
@@ -940,21 +944,26 @@ def explained_once(tally: Tally, program: str, folder: str) -> None:
 
 def no_files(tally: Tally, program: str, folder: str) -> None:
     """A pipe and a device under a trace's name, or beside one, don't hang, and what is longer than a trace can be is not read."""
-    write(folder, {"a.trace": "0 ins a 0 : a"})
+    write(folder, {"a.trace": "0 ins a 0 : a", "b.trace": "0 ins a 0 : a"})
     os.mkfifo(f"{folder}/pipe.trace")
     os.symlink("/dev/zero", f"{folder}/device.trace")
     with open(f"{folder}/long.trace", "wb") as file:
         file.truncate(8 << 30)
     os.symlink(f"{folder}/missing", f"{folder}/nothing.trace")
     os.mkfifo(f"{folder}/a.trace.lines")
+    os.symlink("/dev/zero", f"{folder}/b.trace.lines")
     told = {"pipe": "it is no regular file", "device": "it is no regular file", "nothing": "No such file or directory",
             "long": "it has 8,589,934,592 bytes, and a trace has at most 152,305,684"}
     done = subprocess.run(["sh", "-c", 'ulimit -v 4000000; exec "$@"', "sh", TOOL, "--program", program, "--json", folder], capture_output=True,
                           text=True, timeout=60)
     rows = {Path(row["file"]).stem: (row["verdict"], row.get("error")) for row in map(json.loads, done.stdout.splitlines())}
-    tally.check("no files: each is told of, and the rest is judged", done.returncode == 2 and rows == {"a": ("accepted", None)} | {
+    tally.check("no files: each is told of, and the rest is judged", done.returncode == 2 and rows == dict.fromkeys("ab", ("accepted", None)) | {
         name: ("unread", f"cannot be read: {why}") for name, why in told.items()}, done)
-    tally.check("no files: a pipe beside a trace", f"{folder}/a.trace.lines can't be read (it is no regular file)" in done.stderr, done.stderr)
+    for name in "ab":
+        warned = f"{folder}/{name}.trace.lines can't be read (it is no regular file), so nothing says whether the trace is whole"
+        got = subprocess.run([EXPLAIN, "--program", program, f"{folder}/{name}.trace"], capture_output=True, text=True, timeout=60)
+        tally.check("no files: a pipe or a device beside a trace", f"{folder}/{name}.trace: warning: {warned}\n" in done.stderr
+                    and got.returncode == 0 and f"\n  {warned}\n" in got.stdout, (done.stderr, got))
     for name, why in told.items():
         got = subprocess.run([str(ROOT / "tools" / "explain"), "--program", program, f"{folder}/{name}.trace"], capture_output=True, text=True, timeout=60)
         tally.check(f"no files: explain {name}", (got.returncode, got.stdout, got.stderr) == (
@@ -987,9 +996,11 @@ def overwriting(tally: Tally, program: str, folder: str) -> None:
     old = Path(folder, "old.html")
     old.write_text("old")
     old.chmod(0o640)
-    limited = subprocess.run(["sh", "-c", 'ulimit -f 1; trap "" XFSZ; exec "$@"', "sh", explain, "--program", program, "--html", str(old), path], capture_output=True)
-    tally.check("overwriting: what can't be written whole", limited.returncode == 2 and old.read_text() == "old" and sorted(os.listdir(folder)) == [
-        "a.trace", "a.trace.lines", "link", "old.html", "same"], (limited, os.listdir(folder)))
+    for words in [explain, "--html", str(old), path], [TOOL, "--junit", str(old), path]:
+        limited = subprocess.run(["sh", "-c", 'ulimit -f 1; trap "" XFSZ; exec "$@"', "sh", words[0], "--program", program, *words[1:]], capture_output=True)
+        tally.check(f"overwriting: what can't be written whole, {words[1]}", limited.returncode == 2 and b"cannot write" in limited.stderr
+                    and old.read_text() == "old" and sorted(os.listdir(folder)) == ["a.trace", "a.trace.lines", "link", "old.html", "same"],
+                    (limited, os.listdir(folder)))
     subprocess.run([explain, "--program", program, "--html", str(old), path], capture_output=True)
     tally.check("overwriting: the file's mode stays", old.read_text().startswith("<!DOCTYPE html>") and old.stat().st_mode & 0o777 == 0o640)
 
@@ -1000,6 +1011,13 @@ def odd_names(tally: Tally, program: str, folder: str) -> None:
              "z\udcff\u2028.trace": "z\\xff\\u2028.trace"}
     write(folder, {name: "0 ins a 0 : a|0 read :" for name in names})
     write(folder, {"w\r.trace": "0 reads :"})
+    Path(folder, "crlf").mkdir()
+    Path(folder, "crlf", "x\n::error::forged.trace").write_bytes(b"trace 1\r\nreplicas 1\r\n")
+    for words in [TOOL, f"{folder}/crlf"], [EXPLAIN, f"{folder}/crlf/x\n::error::forged.trace"]:
+        got = subprocess.run([words[0], "--program", program, *words[1:]], capture_output=True, text=True)
+        tally.check(f"odd names: {Path(words[0]).name}: what mends such a file", got.returncode == 2 and "\n::error" not in got.stdout + got.stderr
+                    and "\n  this mends it: tr -d '\\r' < FILE > mended.trace\n" in got.stderr, got)
+    shutil.rmtree(f"{folder}/crlf")
     got = judge(program, [folder])
     tally.check("odd names: the table", [cells(line)[0] for line in got.out.decode().splitlines()[1:-1]] == [
         f"{folder}/{name}" for name in ["w\\r.trace", *names.values()]], got)
@@ -1014,6 +1032,20 @@ def odd_names(tally: Tally, program: str, folder: str) -> None:
         tally.check(f"odd names: {shown} on the page", shown in Path(page).read_text(), shown)
         missing = subprocess.run([str(ROOT / "tools" / "explain"), "--program", program, f"{folder}/no{name}"], capture_output=True, text=True)
         tally.check(f"odd names: {shown} missing", missing.stderr == f"domepeeler-explain: cannot read {folder}/no{shown}: No such file or directory\n", missing)
+
+
+def odd_words(tally: Tally, program: str, folder: str) -> None:
+    """Nor does a word that a tool does not take, as `*` hands on a name."""
+    word, shown = "x\n::error::\x1b[31mforged", "x\\n::error::\\x1b[31mforged"
+    merge, record = str(ROOT / "recorders" / "merge.py"), str(ROOT / "recorders" / "engines" / "record.py")
+    for words, told in (([TOOL, folder, f"--{word}"], f"unrecognized arguments: --{shown}"), ([EXPLAIN, "a.trace", word], f"unrecognized arguments: {shown}"),
+                        ([EXPLAIN, "a.trace", "--delivered", word], f"argument --delivered: {shown} is no range of lines, as 41-46"),
+                        ([merge, "a.log", f"--{word}"], f"unrecognized arguments: --{shown}"),
+                        ([record, "list_crdt", program, word], f"unrecognized arguments: {shown}"),
+                        ([record, "list_crdt", program, "--sessions", word], f"argument --sessions: {shown} is no number from 1 on")):
+        done = subprocess.run(words, capture_output=True, text=True)
+        tally.check(f"odd words: {Path(words[0]).name}: {told}", done.returncode == 2 and not done.stdout
+                    and done.stderr.endswith(f": error: {told}\n"), done)
 
 
 def names_like_commands(tally: Tally, program: str, folder: str) -> None:
@@ -1034,26 +1066,69 @@ def names_like_commands(tally: Tally, program: str, folder: str) -> None:
 
 
 def stopped(tally: Tally, folder: str, other: str) -> None:
-    """SIGTERM and SIGHUP end it, and what judges for it: also where that has answered of the whole trace, and is asked of a beginning."""
-    begun, lost = Path(other, "begun"), f"{folder}/lost.trace"
-    hanging = f"echo $$ >> '{begun}'\nexec sleep 60\n"
+    """SIGTERM and SIGHUP end it, and what judges for it, or looks at a big trace: also where that has answered of the whole trace, and is
+    asked of a beginning, and where GNU parallel has begun it. So does Ctrl-C, which a terminal sends to all of a group."""
+    begun, lost, big = Path(other, "begun"), f"{folder}/lost.trace", f"{other}/big/1.trace"
+    some_big(Path(other, "big"))
+    hanging = f"echo $$ $PPID >> '{begun}'\nexec sleep 60\n"
     slow = script(Path(other, "slow"), VERSION + hanging)
-    answer = '{"at":"0.2","inserts":1,"operations":2,"replicas":1,"strong":false,"verdict":"contents","weak":false}'
-    then_slow = script(Path(other, "then_slow"), f"{VERSION}case \"$*\" in *--workers*) echo '{answer}'; exit 1;; esac\n{hanging}")
-    for stop in signal.SIGTERM, signal.SIGHUP:
-        for words in ([TOOL, "--program", slow, "--jobs", "2", folder], [EXPLAIN, "--program", slow, lost], [TOOL, "--program", then_slow, lost],
-                      [TOOL, "--program", then_slow, "--junit", f"{other}/judged.xml", lost]):
-            begun.write_text("")
-            running = subprocess.Popen(words, stdout=subprocess.PIPE, stderr=subprocess.PIPE, start_new_session=True,
-                                       preexec_fn=lambda: signal.signal(stop, signal.SIG_DFL))  # which what runs in the background may ignore
-            until = time.monotonic() + 60
-            while not begun.read_text().endswith("\n") and time.monotonic() < until:
-                time.sleep(0.01)
+    answer = '{"at":"$at","inserts":1,"operations":2,"replicas":1,"strong":false,"verdict":"contents","weak":false}'
+    then_slow, then_slow_of_big = (script(Path(other, f"then_slow_{at}"), f"{VERSION}case \"$*\" in *--workers*) echo '{answer.replace('$at', at)}'; exit 1;; "
+                                          f"esac\n{hanging}") for at in ("0.2", "1.1"))
+    ways = [[TOOL, "--program", slow, "--jobs", "2", folder], [EXPLAIN, "--program", slow, lost], [TOOL, "--program", then_slow, lost],
+            [TOOL, "--program", then_slow, "--junit", f"{other}/judged.xml", lost], [TOOL, "--program", then_slow_of_big, "--jobs", "2", big],
+            [TOOL, "--program", slow, "--sshlogin", ":", folder]]
+    interrupted_ways = [ways[-2], [*ways[-1], "--jobs", "1"]]
+    for stop, words in [*((stop, words) for stop in (signal.SIGTERM, signal.SIGHUP) for words in ways), *((signal.SIGINT, words) for words in interrupted_ways)]:
+        begun.write_text("")
+        running = subprocess.Popen(words, stdout=subprocess.PIPE, stderr=subprocess.PIPE, start_new_session=True,
+                                   preexec_fn=lambda: signal.signal(stop, signal.SIG_DFL))  # which what runs in the background may ignore
+        until = time.monotonic() + 60
+        while not begun.read_text().endswith("\n") and time.monotonic() < until:
+            time.sleep(0.01)
+        if stop == signal.SIGINT:
+            os.killpg(running.pid, stop)
+        else:
             running.send_signal(stop)
-            out, err = running.communicate(timeout=30)
-            tally.same(f"stopped: {stop.name}, {Path(words[0]).name}", Ended(running.returncode, out, err), Ended(-stop, b"", b""))
-            left = [pid for pid in begun.read_text().split() if is_running(pid)]
-            tally.check(f"stopped: {stop.name}, {Path(words[0]).name}: nothing runs on", not left, left)
+        out, err = running.communicate(timeout=30)
+        tally.same(f"stopped: {stop.name}, {words}", Ended(running.returncode, out, err), Ended(-stop, b"", b""))
+        left = [pid for pid in begun.read_text().split() if is_running(pid)]
+        tally.check(f"stopped: {stop.name}, {words}: nothing runs on", left == [] and begun.read_text(), left)
+    stopped_soon(tally, other)
+
+
+# What makes each start of a process take long, where a tool loads it as Python's own module for sites.
+SLOW_STARTS = """
+import subprocess, time
+usual = subprocess.Popen.__init__
+
+
+def begin(process, *words, **given):
+    usual(process, *words, **given)
+    time.sleep(0.5)
+
+
+subprocess.Popen.__init__ = begin
+"""
+
+
+def stopped_soon(tally: Tally, other: str) -> None:
+    """It hears a signal while a thread starts a process for a beginning, and not only when all traces are judged."""
+    os.makedirs(f"{other}/site")
+    Path(other, "site", "sitecustomize.py").write_text(SLOW_STARTS)
+    write(f"{other}/many", {f"{i}.trace": "0 ins a 0 : a|0 read :" for i in range(20)})
+    answer = '{"at":"0.2","inserts":1,"operations":2,"replicas":1,"strong":false,"verdict":"contents","weak":false}'
+    quick = script(Path(other, "quick"), f"{VERSION}echo >> '{other}/asked'\necho '{answer}'\nexit 1\n")
+    running = subprocess.Popen([TOOL, "--program", quick, "--jobs", "1", f"{other}/many"], stdout=subprocess.PIPE, stderr=subprocess.PIPE,
+                               env=os.environ | {"PYTHONPATH": f"{other}/site"}, preexec_fn=lambda: signal.signal(signal.SIGTERM, signal.SIG_DFL))
+    until = time.monotonic() + 60
+    while not (Path(other, "asked").exists() and Path(other, "asked").stat().st_size > 1) and time.monotonic() < until:
+        time.sleep(0.01)
+    running.terminate()
+    stopped_at = time.monotonic()
+    out, err = running.communicate(timeout=60)
+    tally.check("stopped soon: while a process is started for a beginning", (running.returncode, out, err) == (-signal.SIGTERM, b"", b"")
+                and time.monotonic() - stopped_at < 5, (running.returncode, out, err, time.monotonic() - stopped_at))
 
 
 def unknown_faults(tally: Tally, program: str, folder: str) -> None:
@@ -1244,6 +1319,12 @@ def script_of_ci(tally: Tally, program: str, folder: str) -> None:
     done = in_ci(str(place), path, f"{script} apart --unequal", {"GITHUB_ACTIONS": "true"})
     tally.check("script of CI: unequal, where that fails", done.returncode == 1 and done.stdout.startswith(
         "::error file=apart/a.trace,title=apart/a.trace%3A accepted::accepted, but unequal in the end: in the end replicas 0 and 1 show different lists\n"), done)
+    write(str(place), {"cut/a.trace": "0 ins a 0 : a"})
+    Path(place, "cut", "a.trace.lines").write_text("9\n")
+    done = in_ci(str(place), path, f"{script} cut", {"GITHUB_ACTIONS": "true"})
+    told = "the trace may have been cut at a line's end: it has 3 lines, and by cut/a.trace.lines it was saved with 9"
+    tally.check("script of CI: a trace that is known to be cut", done.returncode == 2 and done.stdout.startswith(
+        f"::error file=cut/a.trace,title=cut/a.trace%3A failed::{told}\ncut/a.trace: {told}\n"), done)
 
 
 def script_ended(tally: Tally, place: str, path: str, script: str, folder: str) -> None:
@@ -1263,6 +1344,13 @@ def script_ended(tally: Tally, place: str, path: str, script: str, folder: str) 
                          ("--junit=x.xml", "is given twice")):
         done = in_ci(place, path, f"{script} good {option}", {})
         tally.check(f"script of CI: {option}", done.returncode == 2 and "accepted" not in done.stdout and told in done.stderr, done)
+    stranger = Path(folder, "stranger")
+    stranger.mkdir()
+    Path(stranger, "domepeeler-judge-many").write_text("#!/bin/sh\necho '{}'\nexit 1\n")
+    Path(stranger, "domepeeler-judge-many").chmod(0o755)
+    done = in_ci(place, f"{stranger}:{path}", f"{script} good", {})
+    tally.check("script of CI: what nobody has thought of", done.returncode == 2 and not done.stdout and done.stderr.startswith(
+        "judge_recordings: a fault of this script, so nothing is judged:\nTraceback "), done)
     slow, begun = Path(folder, "slow"), Path(folder, "begun")
     slow.write_text(f"#!/bin/sh\n{VERSION}echo $$ >> '{begun}'\nexec sleep 60\n")
     slow.chmod(0o755)
@@ -1386,11 +1474,6 @@ def weak_in_ci(tally: Tally, program: str, folder: str) -> None:
         "1 not accepted: judged/junit.xml has them all, and judged/1.html is the page of the first\n"), done)
 
 
-def row_and_process(*words: object) -> rows.Row:
-    """The row, with the process that found it in the place of the user's notes."""
-    return rows.row_of(*words)._replace(notes=[str(os.getpid())])
-
-
 def some_big(folder: Path, count: int = 2) -> None:
     """Traces of over a megabyte: one is accepted, and of the others the last read lacks elements."""
     names = [f"element{i}" for i in range(600)]
@@ -1399,15 +1482,28 @@ def some_big(folder: Path, count: int = 2) -> None:
 
 
 def big_traces(tally: Tally, program: str, folder: str) -> None:
-    """What is told of a big trace beside its verdict is found by other processes, by several at once, with the same words."""
+    """What is told of a big trace beside its verdict is found by other processes, one for each of several threads, with the same words. Where
+    one is killed, as for want of memory, that is done without it."""
     some_big(Path(folder), 6)
     told = [[json.loads(line) | {"seconds": 0} for line in judge(program, ["--json", "--jobs", jobs, folder]).out.decode().splitlines()]
             for jobs in ("3", "1")]
-    usual, judges.row_of = judges.row_of, row_and_process
+    usual, looked = lookers.LOOK, Path(folder, "looked")
+    lookers.LOOK = f"import os; open({str(looked)!r}, 'a').write(f'{{os.getpid()}}\\n'); {usual}"
     found = judges.judged_here(rows.Request(program), sorted(map(str, Path(folder).glob("*.trace"))), 3)
-    judges.row_of = usual
-    processes = {row.notes[0] for row in found}
-    tally.check("big traces: by several other processes", 1 < len(processes) < 4 and str(os.getpid()) not in processes, processes)
+    lookers.LOOK = usual
+    processes = set(looked.read_text().split())
+    tally.check("big traces: by several other processes, which then end", 1 < len(processes) < 4 and str(os.getpid()) not in processes
+                and not any(map(is_running, processes)) and len(found) == 6, processes)
+    killing = script(Path(folder, "killing"), f"case \"$*\" in --version|*--workers*) ;; *) mkdir '{folder}/killed' 2> /dev/null && kill -9 $PPID;; esac\n"
+                     f"exec '{program}' \"$@\"\n")
+    oldest = pythons_here().get((3, 9), sys.executable)
+    try:
+        done = subprocess.run([oldest, TOOL, "--program", killing, "--json", "--jobs", "3", folder], capture_output=True, text=True, timeout=60)
+    except subprocess.TimeoutExpired as error:
+        done = subprocess.CompletedProcess(error.cmd, None, "", "it hangs")
+    rows_without = [json.loads(line) | {"seconds": 0} for line in done.stdout.splitlines()]
+    tally.check("big traces: where one that looks is killed", os.path.exists(f"{folder}/killed") and rows_without == told[0]
+                and (done.returncode, done.stderr) == (1, ""), (done.returncode, done.stderr))
     sizes = [path.stat().st_size for path in Path(folder).glob("*.trace")]
     tally.check("big traces: the same rows", told[0] == told[1] and [row["verdict"] for row in told[0]] == [*["contents"] * 5, "accepted"]
                 and min(sizes) > 1 << 20, (told[0] and told[0][0].get("fails_at"), sizes))
@@ -1498,7 +1594,7 @@ def main() -> None:
         warnings(tally, program, folder)
         warnings_of_sessions(tally, program, other)
     for check in (pythons, little_memory, not_looked_at, changing, told_of_what_was_judged, explained_once, weak, weak_junit, weak_in_ci,
-                  known_as_cut, grouped, no_files, overwriting, millions_of_names, odd_names, names_like_commands, tasks, script_of_ci,
+                  known_as_cut, grouped, no_files, overwriting, millions_of_names, odd_names, odd_words, names_like_commands, tasks, script_of_ci,
                   big_traces, time_of_small, time_of_big, long_cycles):
         with tempfile.TemporaryDirectory() as folder:
             check(tally, program, folder)

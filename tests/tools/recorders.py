@@ -1351,20 +1351,23 @@ def check_warnings(tally: Tally, recorder: Recorder) -> None:
 
 
 def check_notes(tally: Tally, recorder: Recorder, folder: Path) -> None:
-    """The language and the notes stand beside the trace, in their order; the tool is told the language; and the words end with the notes."""
-    trace, notes = folder / f"noted.{recorder.language}.trace", ["seed 17", "two ä words", "language x", "seed 17"]
-    calls = ["new 2", "note seed%2017", "insert 0 a 0 a", "note two%20%C3%A4%20words", "note language%20x", "note seed%2017", f"save {trace}"]
+    """The language and the notes stand beside the trace, in their order; the tool is told the language; and the words end with the notes,
+    of which none is a command of CI."""
+    trace = folder / f"noted.{recorder.language}.trace"
+    notes = ["seed 17", "two ä words", "language x", "seed 17", "::stop-commands::ä", "  ##vso[ä]"]
+    calls = ["new 2", "note seed%2017", "insert 0 a 0 a", "note two%20%C3%A4%20words", "note language%20x", "note seed%2017",
+             "note ::stop-commands::%C3%A4", "note %20%20##vso[%C3%A4]", f"save {trace}"]
     teller = folder / "teller"
     teller.write_text("#!/bin/sh\ncat > /dev/null\necho \"asked: $*\"\n")
     teller.chmod(0o755)
     got = recorder.answers([*map(fields, calls), "explain", "new\t1", "explain"], DOMEPEELER_EXPLAIN=str(teller))
     beside = Path(f"{trace}.lines").read_text().splitlines()
     head = ["3", f"language {LANGUAGES[recorder.language]}", *(f"note {note}" for note in notes)]
-    tally.check(f"{recorder.language}: notes beside the trace", beside[:6] == head and
-                len(beside) == 6 + (recorder.language in PLACING), beside)
+    tally.check(f"{recorder.language}: notes beside the trace", beside[:8] == head and
+                len(beside) == 8 + (recorder.language in PLACING), beside)
     asked = f"| asked: --language {LANGUAGES[recorder.language]} -"
     tally.check(f"{recorder.language}: explain ends with the notes, and names the language", got[len(calls):] == [
-        asked, "| ", "| Noted", *(f"|   {note}" for note in notes), "ok", "ok", asked, "ok"], got)
+        asked, "| ", "| Noted", *(f"|   {note}" for note in [*notes[:4], "\\x3a:stop-commands::ä", "  \\x23#vso[ä]"]), "ok", "ok", asked, "ok"], got)
 
 
 class Number(int, Enum):
@@ -1702,11 +1705,13 @@ def check_merge_hostile(tally: Tally, folder: Path) -> None:
     (place / "odd.log").write_bytes(b"trace 1\nreplicas 2\n1 \x1b[31mread :\n")
     (place / "x\n::error::y").write_text("trace 1\n")
     os.symlink("/dev/zero", place / "endless")
+    warned = "merge.py: warning: 0.log.lines can't be read (it is no regular file), so nothing says whether 0.log is whole\n"
     for log, words in (("pipe", "cannot read pipe: it is no regular file"), ("endless", "cannot read endless: it is no regular file"),
                        ("odd.log", "line 3 of odd.log is no entry: 1 \\x1b[31mread :"),
                        ("x\n::error::y", "x\\n::error::y is no text of a recorder, or was cut off"), ("\udcff", "cannot read \\xff: No such file or directory")):
         done = subprocess.run([sys.executable, ROOT / "recorders" / "merge.py", "0.log", log], cwd=place, capture_output=True, text=True, timeout=60)
-        tally.check(f"merge.py: {log!r}", done.returncode in (1, 2) and done.stderr == f"merge.py: {words}\n" and not done.stdout, done)
+        wanted = warned * (not words.startswith("cannot read")) + f"merge.py: {words}\n"
+        tally.check(f"merge.py: {log!r}", done.returncode in (1, 2) and done.stderr == wanted and not done.stdout, done)
     with open(place / "larger.log", "wb") as file:
         file.truncate((1 << 27) + 1)
     for logs in ["larger.log"], ["0.log", "larger.log"]:  # it is not read: there is no memory for that
@@ -2807,17 +2812,47 @@ int main(void) {{
 """
 
 
-def check_threads_c(tally: Tally, folder: Path) -> None:
+# The same in Rust.
+THREADS_RS = f"""#[path = "{ROOT / 'recorders' / 'domepeeler.rs'}"]
+mod domepeeler;
+use std::sync::Mutex;
+
+fn main() {{
+    let recording = Mutex::new(domepeeler::Recording::new(4).unwrap());
+    std::thread::scope(|scope| {{
+        for replica in 0..4 {{
+            let recording = &recording;
+            scope.spawn(move || {{
+                for n in 1..=2000 {{
+                    let mut one = recording.lock().unwrap();
+                    let answered = if replica % 2 == 1 {{
+                        one.read(replica, &["odd"])
+                    }} else {{
+                        one.view(replica, &["even"])
+                    }};
+                    assert_eq!(answered, Ok(n));
+                }}
+            }});
+        }}
+    }});
+    recording.into_inner().unwrap().save("threads.trace").unwrap();
+}}
+"""
+
+
+def check_locked_threads(tally: Tally, folder: Path) -> None:
     """Threads that hold a lock around each call: every line is there whole, with its place."""
-    Path(folder, "threads.c").write_text(THREADS_C)
-    subprocess.run([*GCC, "-pthread", "-o", "threads", "threads.c"], cwd=folder, check=True)
-    done = subprocess.run(["./threads"], cwd=folder, capture_output=True, text=True)
-    entries = Path(folder, "threads.trace").read_text().splitlines()[2:] if done.returncode == 0 else []
-    places = [line.split(" ", 1)[1] for line in Path(folder, "threads.trace.lines").read_text().splitlines()[2:]] if entries else []
-    wanted = {("0 view : even", "threads.c:13"), ("1 read : odd", "threads.c:12"), ("2 view : even", "threads.c:13"),
-              ("3 read : odd", "threads.c:12")}
-    counts = Counter(zip(entries, places))
-    tally.check("C: four threads", len(entries) == len(places) and counts == {pair: 2000 for pair in wanted}, (counts, done))
+    for source, text, compiler, read, view in (("threads.c", THREADS_C, [*GCC, "-pthread", "-o", "threads"], 12, 13), (
+            "threads.rs", THREADS_RS, ["rustc", "--edition", "2021", "-D", "warnings", "-o", "threads"], 14, 16)):
+        Path(folder, source).write_text(text)
+        subprocess.run([*compiler, source], cwd=folder, check=True)
+        done = subprocess.run(["./threads"], cwd=folder, capture_output=True, text=True)
+        entries = Path(folder, "threads.trace").read_text().splitlines()[2:] if done.returncode == 0 else []
+        places = [line.split(" ", 1)[1] for line in Path(folder, "threads.trace.lines").read_text().splitlines()[2:]] if entries else []
+        wanted = {(f"{replica} {shown}", f"{source}:{line}") for replicas, shown, line in (("02", "view : even", view), ("13", "read : odd", read))
+                  for replica in replicas}
+        counts = Counter(zip(entries, places))
+        tally.check(f"{source}: four threads", len(entries) == len(places) and counts == {pair: 2000 for pair in wanted}, (counts, done))
 
 
 # A program whose timer interrupts it, and which ignores how its children end; and then one that goes on after calls were refused.
@@ -2987,7 +3022,7 @@ def main() -> None:
         check_spawns(tally, folder)
         check_places_c(tally, program, folder)
         check_stop_cpp(tally, program, folder)
-        check_threads_c(tally, folder)
+        check_locked_threads(tally, folder)
         check_hostile_c(tally, Recorder("c", drivers["c"], program), folder)
     tally.close()
 

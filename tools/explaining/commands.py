@@ -6,10 +6,13 @@ import codecs
 import os
 import signal
 import sys
+import threading
 import traceback
 from argparse import Action, ArgumentParser, Namespace
 from importlib import import_module
 from typing import NoReturn
+
+from .files import shown
 
 VERSION = "0.2.0"  # the program's own
 STATUS, OUT_OF_MEMORY = 2, 3
@@ -18,6 +21,13 @@ STOPS = [signal.SIGTERM, signal.SIGHUP]  # that would leave running what was beg
 
 class Stopped(BaseException):
     """A signal that stops the command."""
+
+
+class Parser(ArgumentParser):
+    """A parser that shows a wrong word as a file's name is shown: with `*` a user has names in its place."""
+
+    def error(self, message: str) -> NoReturn:
+        super().error(shown(message))
 
 
 class Once(Action):
@@ -76,12 +86,12 @@ def run_command(name: str, module: str) -> None:
 
 
 class Starting:
-    """While a process is started here, a signal waits: whoever is stopped then would leave it running."""
+    """While a process is started by the thread that hears of signals, a signal waits: whoever is stopped then would leave it running."""
 
     is_on, stop = False, 0
 
     def __enter__(self) -> None:
-        Starting.is_on = True
+        Starting.is_on = threading.current_thread() is threading.main_thread()
 
     def __exit__(self, *_: object) -> None:
         Starting.is_on = False

@@ -1,20 +1,24 @@
 """Judges many traces on other machines, by GNU parallel."""
 from __future__ import annotations
 
+import contextlib
 import os
+import signal
 import subprocess
 import sys
 import tempfile
 from pathlib import Path
 
-from .files import CHANGED, Before, Unread, before, content, opened, side_of, state
-from .judges import WORDS
+from .commands import Starting, Stopped
+from .files import CHANGED, Before, Unread, before, content, opened, shown, side_of, state
+from .judges import SECONDS, WORDS
 from .rows import Answer, Request, Row, failed, row_of, unread
 
 
 # What runs the words behind it. A job of this machine, beside others, has no copy of the trace, whose relative name is right at the root of
 # the file system alone.
 AT_ROOT_HERE = 'if [ "$PARALLEL_SSHLOGIN" = : ]; then cd /; fi; exec "$@"'
+MOST_ENDED = 25  # times that parallel is told to end
 
 
 class NoParallel(Exception):
@@ -61,9 +65,29 @@ def run_all(machines: str, jobs: str | None, program: str, files: list, folder: 
     words += ["--bar"] if sys.stderr.isatty() else []
     words += ["--quote", *([] if is_here_alone else ["sh", "-c", AT_ROOT_HERE, "sh"]), program, *WORDS, "{}"]
     errors = None if sys.stderr.isatty() else subprocess.PIPE
-    done = subprocess.run(words, input=os.fsencode(given), cwd="/", stdout=subprocess.DEVNULL, stderr=errors)
-    if not os.path.exists(f"{folder}/log") or done.returncode == 255:
-        raise NoParallel("parallel could not run: " + (done.stderr or b"").decode(errors="replace").strip())
+    with Starting():
+        parallel = subprocess.Popen(words, stdin=subprocess.PIPE, stdout=subprocess.DEVNULL, stderr=errors, cwd="/")
+    with parallel:
+        try:
+            if Starting.stop:
+                raise Stopped(Starting.stop)
+            _, said = parallel.communicate(os.fsencode(given))
+        except BaseException:
+            end(parallel)
+            raise
+    if not os.path.exists(f"{folder}/log") or parallel.returncode == 255:
+        lines = (said or b"").decode(errors="replace").strip().splitlines()
+        raise NoParallel("parallel could not run: " + "\n  ".join(map(shown, lines)))
+
+
+def end(parallel: subprocess.Popen) -> None:
+    """Has parallel end what it has begun, and itself. First it is to begin no more: what it begins when it is ended would be left running."""
+    for stop in [signal.SIGHUP] + [signal.SIGTERM] * MOST_ENDED:
+        parallel.send_signal(stop)
+        with contextlib.suppress(subprocess.TimeoutExpired):
+            parallel.wait(SECONDS)
+            return
+    parallel.kill()
 
 
 def looked_at(file: str) -> Before:

@@ -40,7 +40,7 @@ class Evidence:
     def __init__(self, recording: Recording, report: dict, lines: int = 0):
         self.recording, self.report = recording, report
         self.last_line = lines or len(recording.lines)
-        self.operations, self.elements, self.marks, self.lines = [], [], {}, set()
+        self.operations, self.elements, self.marks, self.lines, self._before = [], [], {}, set(), {}
         self.missing, self.surplus, self.repeated = [], [], []
         gather = {"accepted": self._accepted, "refused": self._refused, "doubled": self._doubled,
                   "contents": self._contents, "position": self._position}
@@ -327,8 +327,11 @@ class Evidence:
 
     def before(self, operation: Operation) -> tuple:
         """The replica's operation before, if there is one, and what the replica received since then."""
-        before = self.recording.streams[operation.replica][:operation.n - 1][-1:]
-        return before, [receipt for receipt in self.recording.receipts[operation.replica] if receipt.before == operation.n - 1]
+        if operation.key not in self._before:
+            before = self.recording.streams[operation.replica][max(operation.n - 2, 0):operation.n - 1]
+            received = [receipt for receipt in self.recording.receipts[operation.replica] if receipt.before == operation.n - 1]
+            self._before[operation.key] = before, received
+        return self._before[operation.key]
 
     def changes(self, element: str, operation: Operation) -> list:
         """An insert of the element and a delete of it: those that the operation has seen, if it has; else the insert all the

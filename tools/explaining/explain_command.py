@@ -8,7 +8,7 @@ import sys
 from typing import NoReturn
 
 from .beginning import explained
-from .commands import Once, add_version
+from .commands import Once, Parser, add_version
 from .cycle_picture import drawing
 from .debuggers import LANGUAGES, USUAL
 from .evidence import Evidence, Unexplained
@@ -30,7 +30,7 @@ STATUSES = ("It ends with the program's status: 0 accepted, 1 any other verdict,
 
 
 def words_asked() -> argparse.Namespace:
-    parser = argparse.ArgumentParser(prog=NAME, description=ABOUT, epilog=f"{WAYS} {STATUSES}")
+    parser = Parser(prog=NAME, description=ABOUT, epilog=f"{WAYS} {STATUSES}")
     parser.register("action", None, Once)
     parser.add_argument("trace", metavar="TRACE", help="the trace; - is standard input")
     parser.add_argument("--program", metavar="PATH", help="the program that judges")

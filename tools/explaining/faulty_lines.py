@@ -118,7 +118,7 @@ def mending(trace: bytes, is_crlf: bool, name: str) -> list:
         commands.append("tr -d '\\r'")
     if commands:
         first, *rest = commands
-        source = "FILE" if name == "-" else shlex.quote(name)
+        source = shlex.quote(name) if name != "-" and name.isprintable() else "FILE"  # of another name a command is no line
         told.append("this mends it: " + " | ".join([f"{first} < {source}", *rest]) + " > mended.trace")
     return told
 

@@ -1,20 +1,17 @@
-"""Judges many traces on this machine: so many threads, each with a process of the program. What is told of a big trace beside its verdict
-is found by processes of Python, since threads of one take turns."""
+"""Judges many traces on this machine: so many threads, each with a process of the program, and for big traces with one that looks at them."""
 from __future__ import annotations
 
-import multiprocessing
 import os
 import subprocess
 import sys
-import threading
 import time
 from collections.abc import Iterator
-from concurrent.futures import ProcessPoolExecutor, ThreadPoolExecutor
-from concurrent.futures.process import BrokenProcessPool
+from concurrent.futures import ThreadPoolExecutor
 from queue import Empty, SimpleQueue
 
 from .files import Unread, before, content, opened, shown, side_of
-from .programs import VERDICTS, Running
+from .lookers import Lookers
+from .programs import STOPPED, VERDICTS, Running
 from .rows import Answer, Request, Row, failed, row_of, unread
 
 WORDS = ["verdict", "--json", "--workers", "1"]  # for the program, before a trace
@@ -37,12 +34,12 @@ def judged_here(request: Request, files: list, jobs: int) -> list:
             return [row.result() for row in waiting]
         except BaseException as error:
             pool.shutdown(wait=False, cancel_futures=True)
-            judges.stop()
+            Running.stop()
             if isinstance(error, RuntimeError) and "thread" in str(error):
                 raise TooMany(f"cannot judge {jobs} at a time ({error}): ask for fewer --jobs") from None
             raise
         finally:
-            judges.close()
+            judges.lookers.end()
 
 
 def as_they_end(waiting: list) -> Iterator:
@@ -60,11 +57,10 @@ def as_they_end(waiting: list) -> Iterator:
 
 
 class Judges:
-    """The processes that judge, each begun by a thread of its own, and those that look at big traces."""
+    """What the threads have in common."""
 
     def __init__(self, request: Request, jobs: int) -> None:
-        self.request, self.jobs = request, jobs
-        self.lock, self.lookers = threading.Lock(), None
+        self.request, self.jobs, self.lookers = request, jobs, Lookers()
 
     def judged(self, file: str) -> Row:
         begin = time.monotonic()
@@ -97,28 +93,12 @@ class Judges:
         seconds = time.monotonic() - begin
         if changed:
             return failed(file, seconds, status, changed, trace.count(b"\n"))
-        answer = self.request, file, trace, side, Answer(seconds, status, printed, errors.decode(errors="replace").strip())
-        if len(trace) >= BIG and self.jobs > 1 and status in VERDICTS.values():
-            try:
-                return self._looker().submit(row_of, *answer).result()
-            except (BrokenProcessPool, OSError):  # no other process, or it was ended: it can be done here
-                pass
-        return row_of(*answer)
-
-    def _looker(self) -> ProcessPoolExecutor:
-        with self.lock:
-            if self.lookers is None:
-                self.lookers = ProcessPoolExecutor(self.jobs, multiprocessing.get_context("spawn"))
-            return self.lookers
-
-    def stop(self) -> None:
-        Running.stop()
-        for looker in multiprocessing.active_children():
-            looker.kill()
-
-    def close(self) -> None:
-        if self.lookers is not None:
-            self.lookers.shutdown(wait=False, cancel_futures=True)
+        asked = self.request, file, trace, side, Answer(seconds, status, printed, errors.decode(errors="replace").strip())
+        is_big = len(trace) >= BIG and self.jobs > 1 and status in VERDICTS.values()
+        row = self.lookers.row_of(*asked) if is_big else None
+        if row is None and Running.is_stopped:
+            return failed(file, seconds, status, STOPPED)
+        return row or row_of(*asked)
 
 
 def with_progress(rows: Iterator, count: int) -> Iterator:

@@ -13,7 +13,7 @@ from collections import Counter
 from pathlib import Path
 from typing import NoReturn
 
-from .commands import Once, add_version
+from .commands import Once, Parser, add_version
 from .elsewhere import NoParallel, judged_there, needs_parallel
 from .faulty_lines import ENTRIES
 from .files import SIDE, shown, write_file, written_over
@@ -34,7 +34,7 @@ NOTHING_THERE = [errno.ENOENT, errno.ENOTDIR, errno.ELOOP]  # behind a link
 
 
 def words_asked() -> argparse.Namespace:
-    parser = argparse.ArgumentParser(prog=NAME, description=ABOUT, epilog=f"{WAYS} {STATUSES}")
+    parser = Parser(prog=NAME, description=ABOUT, epilog=f"{WAYS} {STATUSES}")
     parser.register("action", None, Once)
     parser.add_argument("folders", metavar="DIR", nargs="+", help="a folder with *.trace files at any depth, or one trace")
     parser.add_argument("--program", metavar="PATH", help="the program that judges")

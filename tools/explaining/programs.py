@@ -29,6 +29,7 @@ WAYS = (f"The program is the one that --program names; else that of the variable
         "else the one that was built in this repository, or installed beside this tool.")
 
 
+STOPPED = "the user has stopped this"
 WEAK_ALONE = "weak holds, strong doesn't"  # of a trace that passes where the weak list specification alone is asked for
 
 
@@ -92,7 +93,7 @@ def finished(program: str, words: list, trace: bytes) -> subprocess.CompletedPro
         if Starting.stop:
             raise Stopped(Starting.stop)
         if Running.is_stopped:
-            raise NoProgram("the user has stopped this")
+            raise NoProgram(STOPPED)
         printed, errors = process.communicate(trace)
         return subprocess.CompletedProcess(process.args, process.returncode, printed, errors)
     except BaseException:

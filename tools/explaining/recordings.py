@@ -3,7 +3,9 @@
 Only texts that the program takes for traces come here, so nothing is checked again."""
 from __future__ import annotations
 
+from bisect import bisect_left
 from collections import defaultdict
+from itertools import accumulate
 from typing import NamedTuple
 
 END = 4294967295  # no position is greater
@@ -62,6 +64,7 @@ class Recording:
         self.receipts = [[] for _ in range(self.replicas)]
         self.entries = []
         self.inserts, self.deletes = defaultdict(list), defaultdict(list)  # operations by element
+        self._counts, self._named = {}, {}
         clocks = [[0] * self.replicas for _ in range(self.replicas)]
         for number, line in enumerate(self.lines[2:], FIRST_ENTRY):
             self._take(number, line, clocks)
@@ -108,7 +111,7 @@ class Recording:
         """The receipts by which an operation came to be visible to another, first to last; none within one replica."""
         way = []
         while seen.replica != to.replica:
-            receipt = next(receipt for receipt in self.receipts[to.replica] if receipt.seen.has_seen(seen))
+            receipt = self.arrival(seen, to.replica)
             way.append(receipt)
             to = receipt.seen
         return way[::-1]
@@ -134,7 +137,9 @@ class Recording:
 
     def own_receipt(self, operation: Operation, replica: int) -> Receipt | None:
         """The first receipt in a replica's log that names just this operation, if one does."""
-        return next((receipt for receipt in self.receipts[replica] if receipt.seen is operation), None)
+        if replica not in self._named:
+            self._named[replica] = {receipt.seen.key: receipt for receipt in reversed(self.receipts[replica])}
+        return self._named[replica].get(operation.key)
 
     def skipped(self, replica: int, least: int) -> list:
         """The changes that alone of their authors, of whom so many others came at least, came to a replica without a receipt of their own."""
@@ -159,7 +164,15 @@ class Recording:
 
     def arrival(self, operation: Operation, replica: int) -> Receipt | None:
         """The first receipt in a replica's log that brings the operation, if one does."""
-        return next((receipt for receipt in self.receipts[replica] if receipt.seen.has_seen(operation)), None)
+        at = bisect_left(self._brought(replica, operation.replica), operation.n)
+        return self.receipts[replica][at] if at < len(self.receipts[replica]) else None
+
+    def _brought(self, replica: int, author: int) -> list:
+        """Up to each receipt in a replica's log, how many operations of an author have come there. It is asked for very many of them."""
+        if (replica, author) not in self._counts:
+            came = (receipt.seen.clock[author] for receipt in self.receipts[replica])
+            self._counts[replica, author] = list(accumulate(came, max))
+        return self._counts[replica, author]
 
 
 def place_asked(operation: Operation, response: list) -> int:

@@ -8,6 +8,8 @@ is gone. Replicas keep their numbers; operations are counted anew, and one that 
 that of version 2 of the trace exactly where a view is kept, as the program's own writer has it."""
 from __future__ import annotations
 
+from bisect import bisect_left
+from collections import defaultdict
 from collections.abc import Callable
 from typing import NamedTuple
 
@@ -81,7 +83,7 @@ class Projection:
 
     def nth(self, replica: int, n: int) -> Operation:
         """The n-th kept operation of a replica."""
-        return self.recording.streams[replica][self.counts[replica].index(n) - 1]
+        return self.recording.streams[replica][bisect_left(self.counts[replica], n) - 1]
 
     def entry(self, operation: Operation) -> str:
         """The line of an operation; what inserts or deletes another element is a read of those that are kept."""
@@ -146,12 +148,20 @@ def candidates(evidence: Evidence) -> list:
 
 def fewer(kept: list, named: list) -> list:
     """The operations without deletes that repeat what another one does for all that have seen them; those that are named stay."""
-    for delete in [change for change in kept if change.kind == "del" and change not in named]:
-        others = [other for other in kept if other is not delete]
-        same = [other for other in others if other.kind == "del" and other.element == delete.element]
-        if all(any(map(operation.has_seen, same)) for operation in others if operation.has_seen(delete)):
-            kept = others
-    return kept
+    stay, gone, firsts, deletes = set(named), set(), {}, defaultdict(list)
+    for delete in sorted((change for change in kept if change.kind == "del"), key=lambda change: change.line):
+        is_first = firsts.setdefault((delete.replica, delete.element), delete) is delete
+        if is_first or delete in stay:
+            deletes[delete.element].append(delete)
+        else:  # whoever has seen it has seen the first one
+            gone.add(delete)
+    left = sorted((operation for operation in kept if operation not in gone), key=lambda operation: operation.line, reverse=True)
+    for delete in [delete for same in deletes.values() for delete in same if delete not in stay]:
+        others = [other for other in deletes[delete.element] if other is not delete and other not in gone]
+        if all(any(map(operation.has_seen, others)) for operation in left
+               if operation.has_seen(delete) and operation is not delete and operation not in gone):
+            gone.add(delete)
+    return [operation for operation in kept if operation not in gone]
 
 
 def smallest(evidence: Evidence, judge: Callable) -> Small | None:
