@@ -64,6 +64,7 @@ ACCEPTED, WEAK_ALONE = "accepted", "weak alone"  # what passes: the second where
 UNEQUAL = ", unequal"  # behind these, of a whole session: in the end its replicas show different lists
 JUDGES = 3  # how many programs run at the same time
 SECONDS = 0.2  # between two looks for a signal
+MOST_WAITED = 5  # seconds for a thread, where a signal has stopped this
 STOPS = [signal.SIGINT, signal.SIGTERM, signal.SIGHUP]
 MOST_LINE, MOST_BYTES = 1 << 18, 1 << 24  # of an answer; those of right engines have two megabytes at most
 MOST_SHOWN = 60  # letters of a faulty line
@@ -96,16 +97,17 @@ def fail(words: str) -> NoReturn:
 
 
 class Stopped(BaseException):
-    """A signal that stops it, and the programs that judge meanwhile."""
+    """A signal that stops it, and the programs that judge meanwhile. While the main thread begins one, a signal waits: nobody could end that."""
 
-    by, judging = 0, set()
+    by, judging, is_beginning = 0, set(), False
 
 
 def be_stopped(stop: int, _: object) -> None:
     Stopped.by = stop
     for process in list(Stopped.judging):
         process.kill()
-    raise Stopped(stop)
+    if not Stopped.is_beginning:
+        raise Stopped(stop)
 
 
 class NoAnswer(Exception):
@@ -390,16 +392,40 @@ def verdict(judge: Judge, trace: Optional[str], plan: Plan) -> str:
     return f"{word} {rest[0]}" if word == "refused" else word
 
 
+class Beginning:
+    """While the main thread, which alone hears signals, begins a process, a signal waits."""
+
+    def __enter__(self) -> None:
+        self.hears = threading.current_thread() is threading.main_thread()
+        if self.hears:
+            Stopped.is_beginning = True
+
+    def __exit__(self, *_: object) -> None:
+        if self.hears:
+            Stopped.is_beginning = False
+
+
 def judged(program: str, trace: str) -> subprocess.CompletedProcess:
     """How the program ends that judges a trace; a signal that stops this one ends it too."""
-    with subprocess.Popen([program, "verdict", "--workers", "1", "-"], stdin=subprocess.PIPE, stdout=subprocess.PIPE,
-                          stderr=subprocess.PIPE) as process:
-        Stopped.judging.add(process)
+    process = None
+    try:
+        with Beginning():
+            process = subprocess.Popen([program, "verdict", "--workers", "1", "-"], stdin=subprocess.PIPE, stdout=subprocess.PIPE,
+                                       stderr=subprocess.PIPE)
+            Stopped.judging.add(process)
         if Stopped.by:  # meanwhile: nobody else ends this one
             process.kill()
+        if Stopped.by and threading.current_thread() is threading.main_thread():
+            raise Stopped(Stopped.by)
         printed, errors = process.communicate(trace.encode())
-    Stopped.judging.discard(process)
-    return subprocess.CompletedProcess(process.args, process.returncode, printed, errors)
+        return subprocess.CompletedProcess(process.args, process.returncode, printed, errors)
+    except BaseException:
+        if process is not None:
+            with process:
+                process.kill()
+        raise
+    finally:
+        Stopped.judging.discard(process)
 
 
 def check_is_of(plan: Plan, trace: str) -> None:
@@ -614,6 +640,9 @@ if __name__ == "__main__":
     try:
         main()
     except Stopped as stopped:  # the engine was ended, and nothing is said
+        for thread in threading.enumerate():
+            if thread is not threading.current_thread():
+                thread.join(MOST_WAITED)  # it may begin a program, which it ends then: no pool knows a thread that began with the signal
         signal.signal(stopped.args[0], signal.SIG_DFL)
         os.kill(os.getpid(), stopped.args[0])
     except Exception as why:

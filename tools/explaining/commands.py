@@ -17,6 +17,7 @@ from .files import shown
 VERSION = "0.2.0"  # the program's own
 STATUS, OUT_OF_MEMORY = 2, 3
 STOPS = [signal.SIGTERM, signal.SIGHUP]  # that would leave running what was begun, where they are not caught
+MOST_WAITED = 5  # seconds for a thread, where a signal has stopped this
 
 
 class Stopped(BaseException):
@@ -105,6 +106,10 @@ def be_stopped(stop: int, _: object) -> None:
 
 
 def end_by(stop: int) -> None:
+    """Ends this as the signal does, once other threads have: one may begin the program just then, which it ends at once."""
+    for thread in threading.enumerate():
+        if thread is not threading.current_thread():
+            thread.join(MOST_WAITED)
     signal.signal(stop, signal.SIG_DFL)
     os.kill(os.getpid(), stop)
 
