@@ -193,7 +193,7 @@ WORDS = [
      "before it: replica 2 did nothing, and received 1.1 (line 6)|Missing|"
      "[a] inserted by 0.1 (line 3), arrived at replica 1 in line 4 (1 recv 0 1), and from there arrived at replica 2 in line 6 "
      "(2 recv 1 1)|[a] it has no receipt of its own at replica 2, and counts as arrived with 1.1 (line 5), whose author had it. If "
-     "each operation travels by itself, it was missing: that order is not causal|[a] no operation deletes it||Where to look|"
+     "each operation travels by itself, it had not arrived: that order is not causal|[a] no operation deletes it||Where to look|"
      "Look at the order in which operations arrive: 0.1 was overtaken, as told above. Apply an operation only after everything that its "
      f"author had, or send both together. If the editor itself holds it back, write its receipt only when it is applied. {GUIDE} has both ways."),
     ("an element lost that arrived after what had seen it", 3,
@@ -346,8 +346,8 @@ WORDS = [
      "late, or names another operation." + stop(8, "replica 1 reads the list")),
     ("an element lost that was there before, beside one that came", 2, "0 ins a 0 : a|1 recv 0 1|1 read : a|0 ins b 1 : a b|1 recv 0 2|1 read : b",
      "Missing|[a] no operation deletes it||Where to look|"
-     "Look at the recorder first: `received` must be called right after the change is applied. Then at the transport: nothing may arrive before what "
-     f"its author had. Then at the editor: does it lose a change, apply it twice, or apply it to another element? {GUIDE} says where the calls "
+     "Look at the recorder first: `received` must be called right after the change is applied. Then at the transport: no change may arrive before "
+     f"those that its author had. Then at the editor: does it lose a change, apply it twice, or apply it to another element? {GUIDE} says where the calls "
      "go." + stop(7, "replica 1 applies 0.2")),
     ("a wrong response before the one that the program names", 2, "1 ins a 0 : a|1 read :|0 recv 1 1|0 read : a|0 read :|1 read : a",
      "contents 1.2: this response lacks one element that replica 1 had by then. Of the whole trace the program says `contents 0.2`.||When it went wrong|"
@@ -868,7 +868,9 @@ def beginning(tally: Tally, program: str, text: str, report: dict, said: str) ->
     tally.check("refused: what it showed then, and the whole trace", steps == wanted, f"{text}{report}\n{said}")
     titles = [line for line in front.splitlines() if line.startswith("What the")]
     tally.check("refused: under which title", titles == ["What they show, each element before the next, and round again"], said)
-    tally.check("refused: the whole trace's number", said.splitlines()[0].endswith(f" Of the whole trace the program says `refused {report['k']}`.") == bool(wanted[1:])
+    others = " too, and names other responses" if behind["k"] == report["k"] else ""
+    ending = f" Of the whole trace the program says `refused {report['k']}`{others}."
+    tally.check("refused: the whole trace's number", said.splitlines()[0].endswith(ending) == bool(wanted[1:])
                 and said.startswith(f"refused {behind['k']}: "), said)
     return "".join(lines[:last]), behind
 

@@ -13,8 +13,8 @@ from .telling import at, joined, listed
 
 MOST_TOLD = 3  # deletes, or elements, that are told one by one
 
-ARRIVAL = ("Look at the recorder first: `received` must be called right after the change is applied. Then at the transport: nothing may "
-           "arrive before what its author had. Then at the editor: does it lose a change, apply it twice, or apply it to another "
+ARRIVAL = ("Look at the recorder first: `received` must be called right after the change is applied. Then at the transport: no "
+           "change may arrive before those that its author had. Then at the editor: does it lose a change, apply it twice, or apply it to another "
            f"element? {GUIDE} says where the calls go.")
 UNDELIVERED = ("{lines} by `delivered`: before it nothing shows that {changes} {were} applied at replica {replica}. {They} lost, or "
                "{are} held back for ever. Look at what keeps changes waiting.")

@@ -39,7 +39,8 @@ def explanation(evidence: Evidence, told: Evidence, language: str = debuggers.US
     causes = causes_of(told)
     where = [Section("Where to look", [cause.told for cause in of_whole(evidence, told) + causes])] if causes else []
     whole = whole_trace(evidence, told)
-    headline += f" Of the whole trace the program says {verdict_of(evidence.report)}." if whole else ""
+    others = " too, and names other responses" if verdict_of(evidence.report) == verdict_of(told.report) else ""
+    headline += f" Of the whole trace the program says {verdict_of(evidence.report)}{others}." if whole else ""
     if weak and is_weak_alone(evidence.report):
         headline = f"{WEAK_ALONE}: this passes, as the weak list specification alone is asked for. {headline}"
     return Explanation(headline, [*when_it_went_wrong(evidence, told, weak), *without_receipts(told), *sections, *where,
@@ -331,7 +332,7 @@ def overtaken(evidence: Evidence, change: Operation, operation: Operation) -> li
         return [f"{change.name} has no receipt of its own at replica {replica}, though each other change of replica {change.replica} has one. It was "
                 f"lost, or {brought.seen.name} overtook it in line {brought.line}"]
     return [f"it has no receipt of its own at replica {replica}, and counts as arrived with {at(brought.seen)}, whose author had it. If each "
-            "operation travels by itself, it was missing: that order is not causal"]
+            "operation travels by itself, it had not arrived: that order is not causal"]
 
 
 def neighbours(evidence: Evidence, insert: Operation) -> list:
