@@ -60,15 +60,19 @@ class Lookers:
         self.own, self.all = threading.local(), []
 
     def row_of(self, *request: object) -> Row | None:
-        """The row, as another process finds it; none where none can be begun, or it was ended."""
+        """The row, as another process finds it; none where none can be begun, or it was ended. Such a one is not asked again."""
         try:
-            if getattr(self.own, "looker", None) is None:
-                self.own.looker = Looker()
-                self.all.append(self.own.looker)
-            return self.own.looker.row_of(*request)
+            looker = vars(self.own).pop("looker", None) or self._begun()
+            row = looker.row_of(*request)
         except (OSError, EOFError, pickle.UnpicklingError):
-            self.own.looker = None
             return None
+        self.own.looker = looker
+        return row
+
+    def _begun(self) -> Looker:
+        looker = Looker()
+        self.all.append(looker)
+        return looker
 
     def end(self) -> None:
         for looker in self.all:
