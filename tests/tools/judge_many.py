@@ -1087,6 +1087,7 @@ def stopped(tally: Tally, folder: str, other: str) -> None:
         while not begun.read_text().endswith("\n") and time.monotonic() < until:
             time.sleep(0.01)
         if stop == signal.SIGINT:
+            time.sleep("--sshlogin" in words)  # GNU parallel has it too, and would leave running what it is just beginning
             os.killpg(running.pid, stop)
         else:
             running.send_signal(stop)
