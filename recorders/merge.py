@@ -91,11 +91,12 @@ def entries(name: str, text: str) -> list:
     *lines, rest = text.split("\n")
     if rest or not lines[1:2] or lines[0] not in ENTRIES:
         raise Unmerged(f"{name} is no text of a recorder, or was cut off")
+    author = lines[2].partition(" ")[0] if lines[2:] else ""
     for place, line in enumerate(lines[2:], 3):
         if not ENTRIES[lines[0]].fullmatch(line):
             more = f".. ({len(line)} letters)" if len(line) > MOST_SHOWN else ""
             raise Unmerged(f"line {place} of {name} is no entry: {shown(line[:MOST_SHOWN])}{more}")
-        if line.split(" ")[0] != lines[2].split(" ")[0]:
+        if line.partition(" ")[0] != author:
             raise Unmerged(f"line {place} of {name} is of another replica than line 3")
     return lines[2:]
 

@@ -1712,6 +1712,12 @@ def check_merge_hostile(tally: Tally, folder: Path) -> None:
         done = subprocess.run([sys.executable, ROOT / "recorders" / "merge.py", "0.log", log], cwd=place, capture_output=True, text=True, timeout=60)
         wanted = warned * (not words.startswith("cannot read")) + f"merge.py: {words}\n"
         tally.check(f"merge.py: {log!r}", done.returncode in (1, 2) and done.stderr == wanted and not done.stdout, done)
+    (place / "names.log").write_text(f"trace 1\nreplicas 2\n1 read :{' a' * 1_000_000}\n" + "1 read :\n" * 1000)
+    started = time.monotonic()
+    done = subprocess.run([sys.executable, ROOT / "recorders" / "merge.py", "--output", "names.trace", "names.log"], cwd=place, capture_output=True, text=True)
+    took = time.monotonic() - started
+    tally.check("merge.py: a million names, and a thousand lines", (done.returncode, done.stderr) == (0, "") and took < 10 and
+                (place / "names.trace").read_bytes() == (place / "names.log").read_bytes(), (took, done))
     with open(place / "larger.log", "wb") as file:
         file.truncate((1 << 27) + 1)
     for logs in ["larger.log"], ["0.log", "larger.log"]:  # it is not read: there is no memory for that
