@@ -1,4 +1,5 @@
 """Runs the built program as a user would, and keeps count of what holds."""
+import fcntl
 import os
 import resource
 import select
@@ -6,6 +7,7 @@ import shutil
 import signal
 import subprocess
 import sys
+import tempfile
 import time
 from pathlib import Path
 from typing import NamedTuple
@@ -125,11 +127,28 @@ def is_running(pid: str) -> bool:
     return True
 
 
+def install(packages: list) -> None:
+    """Debian's packages where there is apt-get, which takes no two users at a time: scripts that run beside each other wait here."""
+    if packages and shutil.which("apt-get") is not None:
+        with open(Path(tempfile.gettempdir(), f"domepeeler-tests-{os.getuid()}.lock"), "w") as lock:
+            fcntl.flock(lock, fcntl.LOCK_EX)
+            for words in ["update"], ["install", "-y", "--no-install-recommends", *packages]:
+                subprocess.run(["apt-get", *words], stdin=subprocess.DEVNULL, stdout=subprocess.DEVNULL, stderr=subprocess.DEVNULL,
+                               env={**os.environ, "DEBIAN_FRONTEND": "noninteractive"}, check=False)
+
+
+def is_installed(package: str, command: str = None) -> bool:
+    """Whether Debian's package is there, or its command from elsewhere."""
+    if command is not None and shutil.which(command) is not None:
+        return True
+    asked = subprocess.run(["dpkg-query", "-W", "-f", "${db:Status-Status}", package], capture_output=True)
+    return asked.stdout == b"installed"
+
+
 def need(command: str, package: str) -> None:
     """Ends the script where the command is missing and Debian's package can't be installed: no test is passed over."""
-    if shutil.which(command) is None and shutil.which("apt-get") is not None:
-        for words in ["update"], ["install", "-y", "--no-install-recommends", package]:
-            subprocess.run(["apt-get", *words], stdout=subprocess.DEVNULL, stderr=subprocess.DEVNULL, check=False)
+    if shutil.which(command) is None:
+        install([package])
     if shutil.which(command) is None:
         sys.exit(f"{command} is needed, and apt-get could not install the package {package}")
 
@@ -143,9 +162,8 @@ def need_module(module: str, package: str) -> None:
         return subprocess.run(["node", "-e", f"require('{module}')"], env=os.environ | NODE, capture_output=True).returncode == 0
 
     need("node", "nodejs")
-    if not is_there() and shutil.which("apt-get") is not None:
-        for words in ["update"], ["install", "-y", "--no-install-recommends", package]:
-            subprocess.run(["apt-get", *words], stdout=subprocess.DEVNULL, stderr=subprocess.DEVNULL, check=False)
+    if not is_there():
+        install([package])
     if not is_there():
         sys.exit(f"Node's module {module} is needed, and apt-get could not install the package {package}")
 

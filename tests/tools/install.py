@@ -222,9 +222,6 @@ def completions(tally: Tally, folder: str) -> None:
     done = subprocess.run(["bash", "-c", script], capture_output=True, text=True)
     tally.check("bash: of each command", done.stdout.count("-F _domepeeler") == 3, done)
     completions_of_fish(tally, folder)
-    if shutil.which("zsh") is None:
-        print("zsh is not there: its completions are not tried")
-        return
     script = f"fpath=('{folder}/share/zsh/site-functions' $fpath); autoload -U compinit; compinit -u -D; print ${{_comps[{TOOLS[1]}]}}; autoload +X _domepeeler"
     done = subprocess.run(["zsh", "-f", "-c", script], capture_output=True, text=True)
     tally.check("zsh: found and read", done.stdout == "_domepeeler\n" and done.returncode == 0 and not done.stderr, done)
@@ -249,6 +246,7 @@ def main() -> None:
     program = program_of(sys.argv)
     need("man", "man-db")
     need("fish", "fish")
+    need("zsh", "zsh")
     tally = Tally()
     with tempfile.TemporaryDirectory() as folder:
         errors(tally, program, folder)

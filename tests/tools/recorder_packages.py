@@ -15,7 +15,7 @@ from pathlib import Path
 ROOT = Path(__file__).resolve().parents[2]
 sys.path[:0] = [str(ROOT / "tests"), str(ROOT / "tools")]
 from explaining.warnings import warnings_of  # noqa: E402
-from shared.program import Tally, need, program_of  # noqa: E402
+from shared.program import Tally, install, need, program_of  # noqa: E402
 
 RECORDERS = ROOT / "recorders"
 HANDING_ON = RECORDERS / "javascript/domepeeler.mjs"
@@ -676,11 +676,7 @@ def prepare() -> None:
     need("npm", "npm")
     need("cargo", "cargo")
     missing = [package for module, package in MODULES.items() if not has_module(module)]
-    if not has_proptest() and shutil.which("apt-get") is not None:
-        missing.append(PROPTEST)
-    if missing:
-        for words in ["update"], ["install", "-y", "--no-install-recommends", *missing]:
-            subprocess.run(["apt-get", *words], stdout=subprocess.DEVNULL, env={**os.environ, "DEBIAN_FRONTEND": "noninteractive"})
+    install([*missing, *([] if has_proptest() else [PROPTEST])])
     for module in MODULES:
         if not has_module(module):
             sys.exit(f"recorder_packages.py: {DEBIAN_PYTHON} has no {module}")

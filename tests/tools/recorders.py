@@ -30,7 +30,7 @@ from urllib.parse import unquote, unquote_to_bytes
 ROOT = Path(__file__).resolve().parents[2]
 sys.path[:0] = [str(ROOT / "tests"), str(ROOT / "tools")]
 from explaining.warnings import hidden  # noqa: E402
-from shared.program import Tally, need, program_of, run  # noqa: E402
+from shared.program import Tally, install, need, program_of, run  # noqa: E402
 
 DRIVERS = ROOT / "tests" / "tools" / "recorder_drivers"
 EXAMPLES = ROOT / "examples"
@@ -388,10 +388,7 @@ def prepared(folder: Path) -> dict:
     """How each language's driver is run; what has to be compiled is, without a warning."""
     packages = [] if shutil.which("emacs") else ["emacs-nox"]
     packages += [] if has_hypothesis() else ["python3-hypothesis", "python3-pytest"]
-    if packages:
-        subprocess.run(["apt-get", "update"], stdout=subprocess.DEVNULL)
-        subprocess.run(["apt-get", "install", "-y", "--no-install-recommends", *packages], stdout=subprocess.DEVNULL,
-                       env={**os.environ, "DEBIAN_FRONTEND": "noninteractive"})
+    install(packages)
     for needed in ["node", "rustc", "gcc", "emacs"]:
         if not shutil.which(needed):
             sys.exit(f"recorders.py: there is no {needed}")
