@@ -81,7 +81,9 @@ def main() -> None:
     program = program_of([sys.argv[0], given.program])
     install([name for name, command in PACKAGES.items() if not is_installed(name, command)])
     failed, begun = [], time.monotonic()
-    with ThreadPoolExecutor(given.jobs) as pool:
+    with tempfile.TemporaryDirectory() as kept, ThreadPoolExecutor(given.jobs) as pool:
+        os.environ.pop("PYTHONDONTWRITEBYTECODE", None)  # tools are started some thousand times, each from what the first start kept
+        os.environ["PYTHONPYCACHEPREFIX"] = kept
         started = [pool.submit(ran, [program if word == PROGRAM else word for word in script]) for script in SCRIPTS]
         for done in map(Future.result, as_completed(started)):
             print(f"== {done.words[0]}: status {done.status}, {done.seconds:.0f} s, {done.processor:.0f} of processor\n{done.said}", flush=True)

@@ -18,12 +18,12 @@ import tempfile
 import time
 import xml.etree.ElementTree as ElementTree
 from collections import Counter
-from concurrent.futures import ThreadPoolExecutor
 from pathlib import Path
 
 ROOT = Path(__file__).resolve().parents[2]
 sys.path.insert(0, str(ROOT / "tests"))
 from reference.traces import has_view, written  # noqa: E402
+from shared.forked import Forked  # noqa: E402
 from shared.measured import used  # noqa: E402
 from shared.program import NODE, Ended, Tally, is_running, need_module, program_of, run  # noqa: E402
 from shared.sessions import session, with_fault  # noqa: E402
@@ -40,6 +40,7 @@ from explaining.small import smallest
 from explaining.words import text_of as text_of_words
 
 EXPLAIN = str(ROOT / "tools" / "explain")
+FORKED = Forked("explain", "explain_command")
 GUIDE = str(ROOT / "docs" / "recording.md")
 RECORD = str(ROOT / "recorders" / "engines" / "record.py")
 YJS = ROOT / "examples" / "yjs"
@@ -710,7 +711,7 @@ def text_of(replicas: int, entries: str) -> str:
 
 
 def explain(program: str, words: list, trace: bytes = b"") -> Ended:
-    return run(EXPLAIN, ["--program", program, *words], trace)
+    return FORKED.run(["--program", program, *words], trace)
 
 
 def stand_in_order(lines: list, wanted: list) -> str | None:
@@ -1738,40 +1739,39 @@ def small(tally: Tally, program: str, folder: str) -> None:
         text = Path(path).read_text() if os.path.exists(path) else ""
         return got, text, run(program, ["verdict", "--json", "-"], text.encode())
 
-    with ThreadPoolExecutor(2) as pool:
-        for (whole, report), (got, text, again) in zip(cases, pool.map(make, range(len(cases)))):
-            judged, said, meant, meant_report = json.loads(again.out or b"{}"), got.out.decode(), whole, report
-            if report["verdict"] == "refused":
-                meant, meant_report = beginning(tally, program, whole, report, said)
-            else:
-                meant_report, is_sooner = sooner(tally, program, whole, report, said)
-                wrong["sooner"] += is_sooner
-            same = [judged.get(key) == meant_report.get(key) for key in ("verdict", "k")]
-            tally.check("small: the same verdict and number", all(same) and got.status == 1, f"{whole}\nto\n{text}{got}")
-            tally.check("small: no longer", len(text.splitlines()) <= len(whole.splitlines()), f"{whole}\nto\n{text}")
-            tally.check("small: as it is written", text == written(text), text)
-            if report["verdict"] == "refused":
-                told = paragraph(said, "The elements")
-                stops, (stops_said, is_right) = stops_of(meant, meant_report), stops_told(told)
-                tally.check("refused: where elements arrived", is_right and sorted(stops_said) == stops, f"{whole}{stops}\n{got}")
-                stop_lines = sorted({line for line, *_ in stops}, reverse=True) or [len(meant.splitlines())]
-                stopped = paragraph(said, "In a debugger").partition(" In Python,")[0]
-                tally.check("refused: where to stop a debugger", [int(line) for line in re.findall(r"\bline (\d+)", stopped)] == stop_lines,
-                            f"{whole}{stops}\n{got}")
-                arriving[len(stops)] += 1
-                cycle = {step["from"] for step in meant_report["steps"]}
-                names = {line.split()[2] for line in text.splitlines()[2:] if line.split()[1] == "ins"}
-                gone = neighbours_gone(meant, meant_report)
-                tally.check("small: the cycle's elements, and deleted neighbours", names == cycle | gone and judged["inserts"] == len(names),
-                            f"{whole}\nto\n{text}")
-                again_told = paragraph(explain(program, ["-"], text.encode()).out.decode(), "The elements")
-                tally.check("refused: beside deleted elements", bool(beside_told(told)) == bool(gone), f"{whole}{gone}\n{got}")
-                tally.check("small: beside deleted elements too", beside_told(told) == beside_told(again_told), f"{whole}\nto\n{text}")
-                hidden = [] if gone else hidden_of(meant, meant_report)
-                tally.check("refused: beside elements that are deleted later", hidden_told(told) == hidden, f"{whole}{hidden}\n{got}")
-                wrong += Counter(line=meant != whole, steps=meant_report["steps"] != report["steps"], beside=bool(gone), hidden=bool(hidden))
-            most = {"position": judged.get("inserts") in (1, 2), "doubled": judged.get("operations") == 2}
-            tally.check("small: of a fault", most.get(meant_report["verdict"], True), f"{whole}\nto\n{text}")
+    for (whole, report), (got, text, again) in zip(cases, map(make, range(len(cases)))):
+        judged, said, meant, meant_report = json.loads(again.out or b"{}"), got.out.decode(), whole, report
+        if report["verdict"] == "refused":
+            meant, meant_report = beginning(tally, program, whole, report, said)
+        else:
+            meant_report, is_sooner = sooner(tally, program, whole, report, said)
+            wrong["sooner"] += is_sooner
+        same = [judged.get(key) == meant_report.get(key) for key in ("verdict", "k")]
+        tally.check("small: the same verdict and number", all(same) and got.status == 1, f"{whole}\nto\n{text}{got}")
+        tally.check("small: no longer", len(text.splitlines()) <= len(whole.splitlines()), f"{whole}\nto\n{text}")
+        tally.check("small: as it is written", text == written(text), text)
+        if report["verdict"] == "refused":
+            told = paragraph(said, "The elements")
+            stops, (stops_said, is_right) = stops_of(meant, meant_report), stops_told(told)
+            tally.check("refused: where elements arrived", is_right and sorted(stops_said) == stops, f"{whole}{stops}\n{got}")
+            stop_lines = sorted({line for line, *_ in stops}, reverse=True) or [len(meant.splitlines())]
+            stopped = paragraph(said, "In a debugger").partition(" In Python,")[0]
+            tally.check("refused: where to stop a debugger", [int(line) for line in re.findall(r"\bline (\d+)", stopped)] == stop_lines,
+                        f"{whole}{stops}\n{got}")
+            arriving[len(stops)] += 1
+            cycle = {step["from"] for step in meant_report["steps"]}
+            names = {line.split()[2] for line in text.splitlines()[2:] if line.split()[1] == "ins"}
+            gone = neighbours_gone(meant, meant_report)
+            tally.check("small: the cycle's elements, and deleted neighbours", names == cycle | gone and judged["inserts"] == len(names),
+                        f"{whole}\nto\n{text}")
+            again_told = paragraph(explain(program, ["-"], text.encode()).out.decode(), "The elements")
+            tally.check("refused: beside deleted elements", bool(beside_told(told)) == bool(gone), f"{whole}{gone}\n{got}")
+            tally.check("small: beside deleted elements too", beside_told(told) == beside_told(again_told), f"{whole}\nto\n{text}")
+            hidden = [] if gone else hidden_of(meant, meant_report)
+            tally.check("refused: beside elements that are deleted later", hidden_told(told) == hidden, f"{whole}{hidden}\n{got}")
+            wrong += Counter(line=meant != whole, steps=meant_report["steps"] != report["steps"], beside=bool(gone), hidden=bool(hidden))
+        most = {"position": judged.get("inserts") in (1, 2), "doubled": judged.get("operations") == 2}
+        tally.check("small: of a fault", most.get(meant_report["verdict"], True), f"{whole}\nto\n{text}")
     tally.check("refused: beside deleted elements in some of them", wrong["beside"] > SMALL["refused"] / 4, wrong)
     tally.check("a fault: sooner in some of them", wrong["sooner"] >= 5, wrong)
     tally.check("refused: beside elements that are deleted later, in some of them", wrong["hidden"] > 0, wrong)

@@ -22,6 +22,7 @@ from pathlib import Path
 ROOT = Path(__file__).resolve().parents[2]
 sys.path.insert(0, str(ROOT / "tests"))
 from reference import verdicts  # noqa: E402
+from shared.forked import Forked  # noqa: E402
 from shared.measured import used, used_itself  # noqa: E402
 from shared.program import Ended, Tally, is_running, need, program_of, run  # noqa: E402
 from shared.sessions import session  # noqa: E402
@@ -33,6 +34,7 @@ from explaining import files, judges, lookers, rows  # noqa: E402
 from list_crdt import Group, play  # noqa: E402
 
 TOOL, EXPLAIN = str(ROOT / "tools" / "judge_many"), str(ROOT / "tools" / "explain")
+FORKED = Forked("judge_many", "many_command")
 JOBS = ["github_workflow.yml", "gitlab_jobs.yml"]  # of examples/ci
 
 # Traces by file.
@@ -102,7 +104,7 @@ def write(folder: str, traces: dict) -> None:
 
 
 def judge(program: str, words: list) -> Ended:
-    return run(TOOL, ["--program", program, *words])
+    return FORKED.run(["--program", program, *words])
 
 
 def cells(line: str) -> tuple:

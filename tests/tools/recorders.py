@@ -8,7 +8,6 @@ import json
 import os
 import pickle
 import re
-import resource
 import select
 import shlex
 import shutil
@@ -30,7 +29,7 @@ from urllib.parse import unquote, unquote_to_bytes
 ROOT = Path(__file__).resolve().parents[2]
 sys.path[:0] = [str(ROOT / "tests"), str(ROOT / "tools")]
 from explaining.warnings import hidden  # noqa: E402
-from shared.program import Tally, install, need, program_of, run  # noqa: E402
+from shared.program import Tally, install, need, processor_seconds, program_of, run  # noqa: E402
 
 DRIVERS = ROOT / "tests" / "tools" / "recorder_drivers"
 EXAMPLES = ROOT / "examples"
@@ -1220,25 +1219,25 @@ def check_frames(tally: Tally, folder: Path) -> None:
     tally.check("py: keeps no frame of its callers", act()() is None)
 
 
-MOST_SECONDS = 30  # where the calls take 3 at most on four processors that are busy; by looking up each change in a list, over 60
+MOST_SECONDS = 30  # of processor, where the calls take 3 at most on four that are busy; by looking up each change in a list, over 60
 
 
 def check_long_updates(tally: Tally, recorder: Recorder) -> None:
     """An update of very many changes takes no longer than its length, nor do warnings of a long session."""
     count = 16000
     calls = ["new 3", *["delete 0 a"] * count, f"received_clock 1 0 {count} {count} 0 0", "warnings"]
-    started = time.monotonic()
+    started = processor_seconds()
     got = recorder.answers([fields(call) for call in calls])
-    took = time.monotonic() - started
+    took = processor_seconds() - started
     tally.check(f"{recorder.language}: an update of {count} changes", got[count + 1:count + 2] == ["ok"] and got[-2:] ==
                 [f"| and {count - 5} more deletes of what no line inserts", "ok"] and took < MOST_SECONDS, (took, got[count:]))
     if recorder.language not in WITH_IDS:
         return
     calls = ["new 2", *[f"as i{n} delete 0 a" for n in range(2000)], *["received_changes 1 " + " ".join(f"i{n}" for n in range(2000))] * 300,
              "as paste insert 1 b 0", *["as paste delete 1 b"] * 12000, "received_changes 0 paste", "lines"]
-    started = time.monotonic()
+    started = processor_seconds()
     got = recorder.answers([fields(call) for call in calls])
-    took = time.monotonic() - started
+    took = processor_seconds() - started
     tally.check(f"{recorder.language}: very many updates with all ids", got[2001:2301] == ["ok"] * 300 and
                 got[-2:] == ["ok", "ok 14005"] and took < MOST_SECONDS, (took, got[-5:]))
 
@@ -1253,14 +1252,13 @@ def check_many_lines(tally: Tally, recorder: Recorder) -> None:
 
     def used(asked: int) -> float:
         """Seconds of processor, of the children that have ended."""
-        before = resource.getrusage(resource.RUSAGE_CHILDREN)
+        before = processor_seconds()
         try:
             got = recorder.answers([*session, *["lines"] * asked])
         except subprocess.TimeoutExpired as why:
             got = [str(why)]
-        after = resource.getrusage(resource.RUSAGE_CHILDREN)
         tally.check(f"{recorder.language}: {asked} times how many lines", got[2001:] == ["ok 2002"] * asked, got[-1:])
-        return after.ru_utime + after.ru_stime - before.ru_utime - before.ru_stime
+        return processor_seconds() - before
 
     took = used(20000) - used(0)
     tally.check(f"{recorder.language}: how many lines is answered at once", took < MOST_PROCESSOR, took)
@@ -1710,9 +1708,9 @@ def check_merge_hostile(tally: Tally, folder: Path) -> None:
         wanted = warned * (not words.startswith("cannot read")) + f"merge.py: {words}\n"
         tally.check(f"merge.py: {log!r}", done.returncode in (1, 2) and done.stderr == wanted and not done.stdout, done)
     (place / "names.log").write_text(f"trace 1\nreplicas 2\n1 read :{' a' * 1_000_000}\n" + "1 read :\n" * 1000)
-    started = time.monotonic()
+    started = processor_seconds()
     done = subprocess.run([sys.executable, ROOT / "recorders" / "merge.py", "--output", "names.trace", "names.log"], cwd=place, capture_output=True, text=True)
-    took = time.monotonic() - started
+    took = processor_seconds() - started
     tally.check("merge.py: a million names, and a thousand lines", (done.returncode, done.stderr) == (0, "") and took < 10 and
                 (place / "names.trace").read_bytes() == (place / "names.log").read_bytes(), (took, done))
     with open(place / "larger.log", "wb") as file:
