@@ -27,7 +27,7 @@ class Looker(subprocess.Popen):
     """Such a process, in a session of its own: no terminal interrupts it, and it is ended together with what it has begun."""
 
     def __init__(self) -> None:
-        flags = ["-B"] if sys.dont_write_bytecode else []
+        flags = ["-S", *(["-B"] if sys.dont_write_bytecode else [])]  # they need no installed modules, for which some starts take long
         super().__init__([sys.executable, *flags, "-c", LOOK, str(TOOLS)], stdin=subprocess.PIPE, stdout=subprocess.PIPE,
                          stderr=subprocess.DEVNULL, start_new_session=True)
         Running.processes.add(self)
