@@ -11,4 +11,4 @@ status=$?
 [ "$status" -le 1 ] || exit "$status"
 traces=$(find -L "$part" -type d -exec realpath -z {} + | sort -zu |
     xargs -0 sh -c 'find -L "$@" -maxdepth 1 -iname "*.trace" ! -type d -printf .' sh | wc -c)
-[ "$(grep -c '^{.*}$' "$lines")" -eq "$traces" ] || { echo "$lines has not a line for each trace" >&2; exit 2; }
+[ "$traces" -gt 0 ] && [ "$(grep -c '^{.*}$' "$lines")" -eq "$traces" ] || { echo "$lines has not a line for each trace" >&2; exit 2; }

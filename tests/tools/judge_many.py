@@ -1288,6 +1288,12 @@ def tasks(tally: Tally, program: str, folder: str) -> None:
         Path(place, lines).parent.unlink(missing_ok=True)
         done = subprocess.run(words, cwd=place, capture_output=True, text=True, env=here)
         tally.check(f"tasks: {kind}: no folder", done.returncode == 2, done)
+        for is_there in False, True:
+            for status in 0, 1:
+                script(Path(stranger, "domepeeler-judge-many"), f"exit {status}\n")
+                done = subprocess.run(words, cwd=place, capture_output=True, text=True, env=here | {"PATH": f"{stranger}:{here['PATH']}"})
+                tally.check(f"tasks: {kind}: {'an empty' if is_there else 'no'} folder, and a tool that ends with {status}", done.returncode == 2, done)
+            os.makedirs(f"{place}/night/part0", exist_ok=True)
 
 
 def script_of_ci(tally: Tally, program: str, folder: str) -> None:
