@@ -2,8 +2,8 @@
 """judge_recordings.py FOLDER: judges all recordings below a folder in a job of CI, and explains those that are not accepted.
 
 It leaves a folder `judged`: `junit.xml` with all verdicts, and of each failure a page and a small trace, `1.html` and `1.trace` of the
-one that fails in the fewest lines. What it left there before it removes first; a folder of this name that holds anything else it leaves
-alone, and ends. It prints the first explanation whole, and of failures that look alike one line. It prints annotations where GitHub runs
+one that fails in the fewest lines. What it left there before it removes first; a folder of this name that holds anything else, or no
+`junit.xml`, it leaves alone, and ends. It prints the first explanation whole, and of failures that look alike one line. It prints annotations where GitHub runs
 it, and writes `annotations.json` for GitLab. It ends with the status of domepeeler-judge-many: 0 where all are accepted, 1 where the
 editor failed, 2 where the recordings or the setting are at fault. Words behind the folder are options for domepeeler-judge-many; with
 `--weak`, of an editor that promises the weak list specification alone, recordings pass where that holds."""
@@ -27,7 +27,7 @@ import subprocess
 import traceback
 from pathlib import Path
 
-JUDGED = Path("judged")
+JUDGED, JUNIT = Path("judged"), "junit.xml"  # which each run writes there before all else
 OWN = re.compile(r"junit\.xml|annotations\.json|[1-9][0-9]*\.(html|trace|trace\.lines)")  # files that it leaves there
 IN_MESSAGES, IN_PROPERTIES = "%\r\n", "%\r\n:,"  # marks that GitHub wants escaped
 WEAK, WEAK_ALONE = "--weak", "weak holds, strong doesn't"
@@ -125,7 +125,7 @@ def prepare():
     """Makes the folder, or takes away what an earlier run has left in it."""
     JUDGED.mkdir(exist_ok=True)
     names = sorted(os.listdir(JUDGED))
-    others = [name for name in names if not OWN.fullmatch(name)]
+    others = [name for name in names if JUNIT not in names or not OWN.fullmatch(name)]
     if others:
         more = " and others" if len(others) > MOST_LEFT else ""
         raise Failed(f"the folder {JUDGED} holds what this script did not write ({', '.join(map(shown, others[:MOST_LEFT]))}{more}): move it away")
@@ -133,11 +133,19 @@ def prepare():
         (JUDGED / name).unlink()
 
 
+def check_agrees(status, rows):
+    """The tool's status is believed where it lists what fails, or nothing, and has written its file."""
+    if status not in (0, 1, 2) or status != 2 and (status == 1) != bool(rows):
+        raise Failed(f"domepeeler-judge-many ended with status {status}, and listed {len(rows)} recordings")
+    if status != 2 and not (JUDGED / JUNIT).is_file():
+        raise Failed(f"domepeeler-judge-many ended with status {status}, and wrote no {JUDGED / JUNIT}")
+
+
 def judge(folder, options):
     if JUDGED.resolve() == Path(folder).resolve():
         raise Failed(f"{JUDGED} is where the pages go, so its traces are not judged")
     prepare()
-    done = ended("domepeeler-judge-many", "--failing", "--json", "--junit", JUDGED / "junit.xml", *options, "--", folder)
+    done = ended("domepeeler-judge-many", "--failing", "--json", "--junit", JUDGED / JUNIT, *options, "--", folder)
     try:
         rows = [json.loads(line) for line in done.stdout.splitlines()]
     except ValueError:
@@ -150,6 +158,7 @@ def judge(folder, options):
     print(done.stderr, end="", file=sys.stderr)
     if os.environ.get("CI_JOB_URL"):
         (JUDGED / "annotations.json").write_text(json.dumps({"recordings that are not accepted": [link for _, link in explained]}))
+    check_agrees(done.returncode, rows)
     if done.returncode == 0:
         told = "keep the weak list specification" if goal else "are accepted"
         print(f"all recordings below {shown(folder)} {told}")
@@ -158,8 +167,6 @@ def judge(folder, options):
         first = "of the first" if made[:1] == [f"{JUDGED}/1.html"] else "of the first that has one"
         page = f", and {made[0]} is the page {first}" if made else ""
         print(f"{len(rows)} {'failed' if goal else 'not accepted'}: {JUDGED}/junit.xml has them all{page}")
-    if done.returncode not in (0, 1, 2) or done.returncode == 1 and not rows:
-        raise Failed(f"domepeeler-judge-many ended with status {done.returncode}, and listed {len(rows)} recordings")
     return done.returncode
 
 

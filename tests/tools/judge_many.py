@@ -1320,6 +1320,11 @@ def script_of_ci(tally: Tally, program: str, folder: str) -> None:
     tally.check("script of CI: a folder with other files", (done.returncode, done.stdout, done.stderr) == (2, "", "judge_recordings: the folder judged holds "
                 "what this script did not write (mine.txt): move it away\n") and Path(place, "judged", "1.html").exists(), done)
     Path(place, "judged", "mine.txt").unlink()
+    write(str(place), {"mine/judged/1.trace": "0 ins a 0 : a", "mine/good/a.trace": "0 ins a 0 : a"})
+    done = in_ci(f"{place}/mine", path, f"{script} good", {})
+    tally.check("script of CI: a folder with traces of one's own", (done.returncode, done.stdout, done.stderr) == (2, "", "judge_recordings: the folder judged "
+                "holds what this script did not write (1.trace): move it away\n") and Path(place, "mine", "judged", "1.trace").exists(), done)
+    shutil.rmtree(place / "mine")
     done = in_ci(str(place), path, f"{script} judged", {})
     tally.check("script of CI: its own folder", done.returncode == 2 and "is where the pages go" in done.stderr, done)
     script_ended(tally, str(place), path, script, folder)
@@ -1360,6 +1365,14 @@ def script_ended(tally: Tally, place: str, path: str, script: str, folder: str) 
     done = in_ci(place, f"{stranger}:{path}", f"{script} good", {})
     tally.check("script of CI: what nobody has thought of", done.returncode == 2 and not done.stdout and done.stderr.startswith(
         "judge_recordings: a fault of this script, so nothing is judged:\nTraceback "), done)
+    row = '{"file": "good/a.trace", "verdict": "contents", "warnings": []}'
+    for said, told in (("exit 0", "ended with status 0, and wrote no judged/junit.xml"), (f"echo '{row}'; exit 0", "ended with status 0, and listed 1 recordings"),
+                       ("exit 1", "ended with status 1, and listed 0 recordings"), (f"echo '{row}'; exit 1", "ended with status 1, and wrote no judged/junit.xml")):
+        Path(stranger, "domepeeler-judge-many").write_text(f"#!/bin/sh\n{said}\n")
+        done = in_ci(place, f"{stranger}:{path}", f"{script} good", {})
+        tally.check(f"script of CI: a tool that does no more than {said}", done.returncode == 2 and "accepted\n" not in done.stdout
+                    and done.stderr == f"judge_recordings: domepeeler-judge-many {told}\n", done)
+        shutil.rmtree(f"{place}/judged")
     slow, begun = Path(folder, "slow"), Path(folder, "begun")
     slow.write_text(f"#!/bin/sh\n{VERSION}echo $$ >> '{begun}'\nexec sleep 60\n")
     slow.chmod(0o755)
