@@ -586,6 +586,12 @@ def known_as_cut(tally: Tally, program: str, folder: str) -> None:
                 and lines[1].startswith(f"domepeeler-judge-many: {folder}/bad.trace: warning: the trace may have been cut"), got)
     errors = [(case.get("name"), case[0].get("type")) for case in xml.parse(path).getroot().iter("testcase") if case.find("error") is not None]
     tally.check("cut: an error in JUnit's file", errors == [("zz.trace", "failed")], errors)
+    for name, said in ("none", ""), ("word", "many\n"):
+        write(folder, {f"{name}.trace": "0 ins a 0 : a"})
+        Path(folder, f"{name}.trace.lines").write_text(said)
+    lines = judge(program, [folder]).err.decode().splitlines()
+    tally.check("cut: always said that nobody knows", lines[2:4] == [f"domepeeler-judge-many: {folder}/{name}.trace: warning: {folder}/{name}.trace.lines holds no "
+                "number of lines, so nothing says whether the trace is whole" for name in ("none", "word")] and "more warning" in lines[-1], lines)
     row = json.loads(judge(program, ["--json", f"{folder}/zz.trace"]).out)
     tally.check("cut: its object", row["verdict"] == "failed" and row["error"] == told.partition(": ")[2] and row["report"]["verdict"] == "accepted", row)
 

@@ -14,6 +14,7 @@ MOST_TOLD = 5  # deletes, or inserts, that are told one by one
 MOST_CHANGES = 3  # that are told one by one of those that a replica lacks, or has made nothing of
 MOST_BYTES = 64  # of the first line beside a trace that are looked at
 CUT = "the trace may have been cut at a line's end"
+UNKNOWN = "so nothing says whether the trace is whole"
 
 
 class Warnings(NamedTuple):
@@ -192,11 +193,11 @@ def joined(words: list) -> str:
 def cut(trace: bytes, side: Side) -> list:
     """Whether the file beside the trace, where there is one, says in its first line another number of lines than the trace has."""
     if side.content is None:
-        return [f"{shown(side.name)} can't be read ({side.why}), so nothing says whether the trace is whole"] if side.why else []
+        return [f"{shown(side.name)} can't be read ({side.why}), {UNKNOWN}"] if side.why else []
     said = side.content[:MOST_BYTES].partition(b"\n")[0].strip()
     lines = trace.count(b"\n")
     if not said.isdigit():
-        return [f"{shown(side.name)} holds no number of lines, so nothing says whether the trace is whole"]
+        return [f"{shown(side.name)} holds no number of lines, {UNKNOWN}"]
     if int(said) > lines:
         return [f"{CUT}: it has {lines} lines, and by {shown(side.name)} it was saved with {int(said)}"]
     if int(said) < lines:
