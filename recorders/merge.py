@@ -38,7 +38,7 @@ COUNT = re.compile(rb"[0-9]{1,7}")
 PLACE = re.compile(rb"([1-9][0-9]{0,6}) (.+)")  # a line's number, and from where it was recorded
 HEAD = 2  # lines of a text before its entries
 MOST_BYTES = 1 << 27  # of a log, or of what stands beside one
-MOST_SHOWN = 120  # letters of a faulty line
+MOST_SHOWN = 120  # letters of a line
 MOST_NOTES = 20  # as many as a recording takes
 ABSENT = errno.ENOENT, errno.ENAMETOOLONG  # what stands beside a log is not there
 RECEIPT = "recv [0-9]{1,7} [0-9]{1,7}"
@@ -75,12 +75,12 @@ def lines_of(texts: list, names: list) -> list:
     for name, count in zip(names, counts):
         if count != counts[0]:
             raise Unmerged("the logs begin with different lines, so they are of different sessions: "
-                           f"line 2 of {names[0]} is `{counts[0]}`, of {name} `{count}`")
+                           f"line 2 of {names[0]} is `{front(counts[0])}`, of {name} `{front(count)}`")
     authors = {}
     for name, lines in zip(names, waiting):
         author = lines[0].split(" ")[0] if lines else None
         if author in authors:
-            raise Unmerged(f"two logs are of replica {author}: {authors[author]} and {name}")
+            raise Unmerged(f"two logs are of replica {front(author)}: {authors[author]} and {name}")
         if lines:
             authors[author] = name
     return [(max(text.split("\n")[0] for text in texts), 0, 1), (counts[0], 0, 2), *merged(waiting)]
@@ -94,11 +94,15 @@ def entries(name: str, text: str) -> list:
     author = lines[2].partition(" ")[0] if lines[2:] else ""
     for place, line in enumerate(lines[2:], 3):
         if not ENTRIES[lines[0]].fullmatch(line):
-            more = f".. ({len(line)} letters)" if len(line) > MOST_SHOWN else ""
-            raise Unmerged(f"line {place} of {name} is no entry: {shown(line[:MOST_SHOWN])}{more}")
+            raise Unmerged(f"line {place} of {name} is no entry: {front(line)}")
         if line.partition(" ")[0] != author:
             raise Unmerged(f"line {place} of {name} is of another replica than line 3")
     return lines[2:]
+
+
+def front(line: str) -> str:
+    """A line, or a part of one, for a message: cut where it is long."""
+    return shown(line[:MOST_SHOWN]) + (f".. ({len(line)} letters)" if len(line) > MOST_SHOWN else "")
 
 
 def merged(logs: list) -> list:
@@ -116,7 +120,7 @@ def merged(logs: list) -> list:
                 if words[1] != "recv":
                     counts[words[0]] = counts.get(words[0], 0) + 1
         if len(lines) == before:
-            stuck = [log[place] for place, log in zip(places, logs) if place < len(log)]
+            stuck = [front(log[place]) for place, log in zip(places, logs) if place < len(log)]
             raise Unmerged("these receipts name operations that no log has before them: " + ", ".join(stuck))
     return lines
 

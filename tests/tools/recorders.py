@@ -1597,6 +1597,12 @@ MERGE_FAULTS = [
     (".", None, ["--out", "0.log"], 2, f"{MERGE_USAGE}unrecognized arguments: --out\n"),
     ("long.log", f"trace 1\nreplicas 3\n2 recv 1 {'1' * 5000}\n".encode(), ["long.log"], 1,
      f"merge.py: line 3 of long.log is no entry: 2 recv 1 {'1' * 111}.. (5009 letters)\n"),
+    ("long.log", f"trace 1\nreplicas {'1' * 5000}\n2 read :\n".encode(), ["0.log", "long.log"], 1, "merge.py: the logs begin with different "
+     f"lines, so they are of different sessions: line 2 of 0.log is `replicas 3`, of long.log `replicas {'1' * 111}.. (5009 letters)`\n"),
+    ("long.log", f"trace 1\nreplicas 3\n{'1' * 5000} recv 1 1\n".encode(), ["long.log"], 1, "merge.py: these receipts name operations that no "
+     f"log has before them: {'1' * 120}.. (5009 letters)\n"),
+    ("long.log", f"trace 1\nreplicas 3\n{'1' * 5000} read :\n".encode(), ["long.log", "./long.log"], 1,
+     f"merge.py: two logs are of replica {'1' * 120}.. (5000 letters): long.log and ./long.log\n"),
     (".", None, ["--output", "new.trace", "0.log"], 1, "merge.py: these receipts name operations that no log has before them: 0 recv 1 1\n"),
     (".", None, ["--output", "./1.log", "0.log", "1.log", "2.log"], 2, "merge.py: cannot write ./1.log: it is one of the logs\n"),
     (".", None, ["0.log", "1.log", "2.log", "--output=2.log"], 2, "merge.py: cannot write 2.log: it is one of the logs\n"),
