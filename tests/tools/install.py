@@ -85,6 +85,9 @@ def errors(tally: Tally, program: str, folder: str) -> None:
         old.parents[3], old.parents[2], old.parents[1], Path(folder, "odd"))]
     tally.check("install: whoever installs it, everyone can read it, and no module is left", done.returncode == 0 and not done.stderr and not unreadable
                 and not old.exists(), (done, unreadable))
+    done = installed(f"{folder}/odd/bin/domepeeler", f"{folder}/odd")
+    tally.check("install: once more, by the program that was installed", done.returncode == 0 and not done.stderr and os.access(
+        f"{folder}/odd/bin/domepeeler", os.X_OK) and Path(old.parent, "words.py").is_file(), done)
 
 
 def examples(tally: Tally, folder: str) -> None:
