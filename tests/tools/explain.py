@@ -1385,7 +1385,7 @@ def scripts_end(tally: Tally) -> None:
             done = subprocess.run([sys.executable, script, *words], capture_output=True, text=True)
             tally.check(f"not thought of: {path}", done.returncode == 2 and done.stderr.endswith("ValueError: not thought of\n") and not done.stdout, done)
         for path, module in (("recorders/merge.py", "argparse"), ("recorders/engines/record.py", "sessions"), ("examples/ci/judge_recordings.py", "json"),
-                             ("tools/draw_cycle.py", "json")):
+                             ("tools/draw_cycle.py", "json"), ("tools/package", "tarfile")):
             shutil.copy(ROOT / path, copy)
             Path(copy, f"{module}.py").write_text("raise ValueError('not thought of')\n")
             done = subprocess.run([sys.executable, Path(copy, Path(path).name), "x", "y"], capture_output=True, text=True, stdin=subprocess.DEVNULL)

@@ -1170,8 +1170,8 @@ def unknown_faults(tally: Tally, program: str, folder: str) -> None:
 
 SCRIPTS = {"tools/judge_many": "domepeeler-judge-many", "tools/explain": "domepeeler-explain", "tools/draw_cycle.py": "draw_cycle.py",
            "recorders/merge.py": "merge.py", "recorders/engines/record.py": "record.py",
-           "examples/ci/judge_recordings.py": "judge_recordings"}
-IMPORTED = ["tools/package", "tools/explaining/*.py", "recorders/*.py", "recorders/engines/*.py", "recorders/python/domepeeler/*.py"]
+           "examples/ci/judge_recordings.py": "judge_recordings", "tools/package": "package"}
+IMPORTED = ["tools/explaining/*.py", "recorders/*.py", "recorders/engines/*.py", "recorders/python/domepeeler/*.py"]
 # Commands that the oldest Python that is named runs as this one does.
 MAIN_WAYS = [
     "{tools}/judge_many --json --junit junit.xml traces",

@@ -257,6 +257,11 @@ def faults(tally: Tally, program: str, folder: str) -> None:
     got = package([program, folder])
     tally.check("fault: a word lacks", got.status == 2 and got.err.startswith(b"usage: ") and b"KIT" in got.err, got)
     tally.check("fault: nothing is made", os.listdir(folder) == ["file"], os.listdir(folder))
+    write = "import runpy, sys; from pathlib import Path; runpy.run_path(sys.argv[1])['write'](Path(sys.argv[2]), bytes(9999))"
+    done = subprocess.run(["sh", "-c", 'ulimit -f 1; trap "" XFSZ; exec "$@"', "sh", sys.executable, "-c", write, PACKAGE, f"{folder}/file"],
+                          capture_output=True, text=True)
+    tally.check("fault: what can't be written whole is not written", done.stderr.endswith(f"File too large: '{folder}/file'\n") and
+                os.listdir(folder) == ["file"] and Path(folder, "file").read_text() == "no program\n", (done, os.listdir(folder)))
 
 
 def main() -> None:
