@@ -1491,6 +1491,15 @@ def contradicted(tally: Tally, folder: str) -> None:
         liar.write_text(f"#!/bin/sh\ncat > /dev/null\necho '{json.dumps(lie)}'\n")
         told = f"domepeeler-explain: {liar} printed a report that is not on this trace: is it domepeeler?\n"
         tally.same(f"a contradiction: {lie}", explain(str(liar), ["-"], trace), Ended(2, b"", told.encode()))
+    liar.write_text("#!/bin/sh\ncat > /dev/null\n[ \"$2\" != --json ] || { echo '{\"verdict\":\"\\u001b[31m\"}'; exit 1; }\n"
+                    "printf 'replicas 1\\n::error::\\033[31m\\n'\n")
+    got = explain(str(liar), ["-"], trace)
+    tally.check("a contradiction: what it prints is shown", got.status == 1 and b"no verdict `\\x1b[31m`" in got.err
+                and got.err.endswith(b" report:\nreplicas 1\n\\x3a:error::\\x1b[31m\n"), got)
+    liar.write_text("#!/bin/sh\ncat > /dev/null\nprintf 'finder: line 3: shape\\n::error::\\033[31m\\n' >&2\nexit 2\n")
+    got = explain(str(liar), ["-"], trace)
+    tally.check("a contradiction: what it says of a line is shown", got.status == 2 and got.err.startswith(
+        b"finder: line 3: shape\n\\x3a:error::\\x1b[31m\n"), got)
     shown = [{"from": "a", "to": "b", "shown": "1.1", "response": ["a", "b"]}, {"from": "b", "to": "a", "shown": "1.2", "response": ["b", "a"]}]
     lie = {"verdict": "refused", "k": 2, "operations": 4, "inserts": 2, "strong": False, "weak": False, "steps": shown}
     liar.write_text(f"#!/bin/sh\ncat > /dev/null\necho '{json.dumps(lie)}'\nexit 1\n")

@@ -91,9 +91,14 @@ def write(path: str, text: str) -> None:
         fail(f"cannot write {shown(path)}: {error.strerror}")
 
 
+def shown_lines(text: str) -> str:
+    """What a program printed: each line as a name is shown, since it may be another one than domepeeler."""
+    return "\n".join(map(shown, text.split("\n")))
+
+
 def say_fault(judged: Judged, trace: bytes, name: str) -> None:
     """The program's own line, and what it means."""
-    print("\n  ".join([judged.error, *about_fault(judged.error, trace, name)]), file=sys.stderr)
+    print("\n  ".join([shown_lines(judged.error), *about_fault(judged.error, trace, name)]), file=sys.stderr)
 
 
 def write_small(path: str, evidence: Evidence, told: Evidence, program: str, known: Beside) -> None:
@@ -160,6 +165,7 @@ def main() -> None:
         except Unexplained as error:
             is_passing = passes(judged.report, asked.weak)
             told = "Is it domepeeler? Its" if is_passing else "The program's word counts; its"
-            print(f"{NAME}: can't explain this verdict: {error}. {told} report:\n{report_text(program, trace)}", end="", file=sys.stderr)
+            print(f"{NAME}: can't explain this verdict: {shown(str(error))}. {told} report:\n{shown_lines(report_text(program, trace))}", end="",
+                  file=sys.stderr)
             sys.exit(2 if is_passing else judged.status)  # what may be wrong is no pass
     sys.exit(0 if judged.report and passes(judged.report, asked.weak) else judged.status)
