@@ -589,9 +589,13 @@ def known_as_cut(tally: Tally, program: str, folder: str) -> None:
     for name, said in ("none", ""), ("word", "many\n"):
         write(folder, {f"{name}.trace": "0 ins a 0 : a"})
         Path(folder, f"{name}.trace.lines").write_text(said)
+    Path(folder, "nothing.trace").write_text("trace 1\nreplicas 1\n")
     lines = judge(program, [folder]).err.decode().splitlines()
-    tally.check("cut: always said that nobody knows", lines[2:4] == [f"domepeeler-judge-many: {folder}/{name}.trace: warning: {folder}/{name}.trace.lines holds no "
-                "number of lines, so nothing says whether the trace is whole" for name in ("none", "word")] and "more warning" in lines[-1], lines)
+    unknown = [f"{folder}/{name}.trace.lines holds no number of lines, so nothing says whether the trace is whole" for name in ("none", "word")]
+    nothing = "nothing was recorded: the trace has no entry, so the verdict says nothing of an editor"
+    tally.check("cut: always said that nobody knows, or nothing was recorded", lines[2:5] == [
+        f"domepeeler-judge-many: {folder}/{name}.trace: warning: {told_of}" for name, told_of in zip(("none", "nothing", "word"), (unknown[0], nothing, unknown[1]))]
+                and "more warning" in lines[-1], lines)
     row = json.loads(judge(program, ["--json", f"{folder}/zz.trace"]).out)
     tally.check("cut: its object", row["verdict"] == "failed" and row["error"] == told.partition(": ")[2] and row["report"]["verdict"] == "accepted", row)
 
@@ -730,11 +734,12 @@ def closed_output(tally: Tally, program: str, folder: str) -> None:
 
 
 def anywhere(tally: Tally, program: str, folder: str) -> None:
-    """The tools work in whatever folder they lie, as a copy of the repository at the root of a file system."""
+    """The tools work in whatever folder they lie, as a copy of the repository at the root of a file system, and without a home."""
+    here = {name: value for name, value in os.environ.items() if name != "HOME"}
     with tempfile.TemporaryDirectory(dir="/tmp") as tools:
         shutil.copytree(ROOT / "tools", tools, dirs_exist_ok=True)
         for tool, what, status in ("judge_many", folder, 1), ("explain", f"{folder}/lost.trace", 1):
-            got = subprocess.run([f"{tools}/{tool}", "--program", program, what], capture_output=True)
+            got = subprocess.run([f"{tools}/{tool}", "--program", program, what], capture_output=True, env=here)
             tally.check(f"anywhere: {tool}", got.returncode == status and got.stdout and not got.stderr, got)
     long = "x" * 300
     tally.same("too long a name", judge(program, [long]), Ended(2, b"", f"domepeeler-judge-many: cannot read {long}: File name too long\n".encode()))

@@ -21,7 +21,7 @@ from .judges import TooMany, judged_here
 from .junit import junit_of
 from .programs import WAYS, WEAK_ALONE, NoProgram, check_is_domepeeler, find_program
 from .rows import KINDS, NO_VERDICTS, Request, Row
-from .warnings import CUT, UNKNOWN
+from .warnings import is_first
 
 NAME = "domepeeler-judge-many"
 ABOUT = "Judges all traces below some folders, several at a time, and lists them: first the one that fails in the fewest lines."
@@ -208,15 +208,14 @@ def print_errors(rows: list) -> None:
 
 
 def print_warnings(rows: list) -> None:
-    """First that lines are lost, or may be, always; then where traces end unequal. A trace that is failed since lines are lost is an error
-    before."""
+    """First, and always, that lines are lost, or may be, or that there are none; then where traces end unequal. A trace that is failed since
+    lines are lost is an error before."""
     warned = sorted((row for row in rows if row.warnings and not row.error), key=lambda row: not row.unequal)
-    told = [(warning.startswith(CUT) or warning.endswith(UNKNOWN), f"{NAME}: {shown(row.file)}: warning: {warning}")
-            for row in warned for warning in row.warnings]
-    lost, others = [line for is_cut, line in told if is_cut], [line for is_cut, line in told if not is_cut]
+    told = [(is_first(warning), f"{NAME}: {shown(row.file)}: warning: {warning}") for row in warned for warning in row.warnings]
+    first, others = [line for is_one, line in told if is_one], [line for is_one, line in told if not is_one]
     more = len(others) - MOST_WARNED
     others[MOST_WARNED:] = [f"{NAME}: and {more} more warning{'' if more == 1 else 's'}, which --json shows"] if more > 0 else []
-    for line in lost + others:
+    for line in first + others:
         print(line, file=sys.stderr)
 
 

@@ -15,6 +15,7 @@ MOST_CHANGES = 3  # that are told one by one of those that a replica lacks, or h
 MOST_BYTES = 64  # of the first line beside a trace that are looked at
 CUT = "the trace may have been cut at a line's end"
 UNKNOWN = "so nothing says whether the trace is whole"
+NOTHING = "nothing was recorded"
 
 
 class Warnings(NamedTuple):
@@ -32,6 +33,11 @@ class Warnings(NamedTuple):
     @property
     def all(self) -> list:
         return [*self.cut, *self.ends, *self.others]
+
+
+def is_first(warning: str) -> bool:
+    """Whether a warning says that not all may have been judged, or nothing: however many others there are, such a one is told."""
+    return warning.startswith((CUT, NOTHING)) or warning.endswith(UNKNOWN)
 
 
 def warnings_of(verdict: str, trace: bytes, side: Side = NO_SIDE, is_passing: bool = False) -> Warnings:
@@ -72,7 +78,7 @@ def hidden(trace: bytes) -> tuple:
     nothing is checked again."""
     _, second, *entries = trace.split(b"\n")[:-1]
     if not entries:
-        return [], ["nothing was recorded: the trace has no entry, so the verdict says nothing of an editor"]
+        return [], [f"{NOTHING}: the trace has no entry, so the verdict says nothing of an editor"]
     replicas = [Seen(int(second.split()[1])) for _ in range(int(second.split()[1]))]
     inserted, deletes, past_end = set(), [], []
     for line, entry in enumerate(entries, 3):
