@@ -136,13 +136,14 @@ class Log:
 
     def __init__(self, path: str):
         self.path, self.text = path, read(path)
-        self.count, self.unread = self.text.count("\n"), ""  # and why what stands beside it can't be read
+        self.count, self.unsure = self.text.count("\n"), "holds no number of lines"  # of what stands beside it; or nothing
         try:
             first, *self.beside = content(path + SIDE).split(b"\n")[:-1] or [b""]
         except OSError as why:
             first, self.beside = b"", []
-            self.unread = "" if why.errno in ABSENT else why.strerror
+            self.unsure = "" if why.errno in ABSENT else f"can't be read ({why.strerror})"
         said = COUNT.fullmatch(first.strip())
+        self.unsure = "" if said else self.unsure
         self.saved = int(said[0]) if said else self.count
         if self.saved != self.count or not said:
             self.beside = []  # it is of another text
@@ -288,8 +289,8 @@ def main() -> None:
     if asked.output is not None:
         keep_apart(asked.output, paths)
     for log in logs:
-        if log.unread:
-            say(f"warning: {log.path}{SIDE} can't be read ({log.unread}), so nothing says whether {log.path} is whole")
+        if log.unsure:
+            say(f"warning: {log.path}{SIDE} {log.unsure}, so nothing says whether {log.path} is whole")
         if log.lost():
             say(f"warning: {log.path} may have been cut at a line's end: it has {log.count} lines, and by {log.path}{SIDE} it was saved "
                 f"with {log.saved}")

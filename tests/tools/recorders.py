@@ -1679,6 +1679,7 @@ def check_merge(tally: Tally, program: str, folder: Path) -> None:
 CODE_BESIDE = [b"7\n3 a.py:1\n4 a.py:2, called from b.py:9\n7 a.py:5\n", b"4 \r\n4 c.py:4\n", b"4\n3 d.py:3\n4 d.py:4\n4 e.py:4\n"]
 LOGS_BESIDE = [text.replace(b"\n", b"\nlog\n", 1) for text in CODE_BESIDE]
 MERGED_PLACES = "3 a.py:1\n4 a.py:2, called from b.py:9\n6 c.py:4\n7 d.py:3\n8 d.py:4\n11 a.py:5\n"
+NO_NUMBER = "merge.py: warning: {0}.lines holds no number of lines, so nothing says whether {0} is whole\n"
 CUT = "merge.py: warning: {0} may have been cut at a line's end: it has {1} lines, and by {0}.lines it was saved with {2}\n"
 MERGED_BESIDE = [
     ("nothing", [None, None, None], "11\nmerged\n", ""),
@@ -1691,8 +1692,10 @@ MERGED_BESIDE = [
     ("cut logs", [CODE_BESIDE[0], b"10\n4 c.py:4\n", b"5\n3 d.py:3\n"],
      "18\nmerged\n3 a.py:1\n4 a.py:2, called from b.py:9\n11 a.py:5\n", CUT.format("1.log", 4, 10) + CUT.format("2.log", 4, 5)),
     ("another log's", [b"4\n4 c.py:4\n", CODE_BESIDE[1], None], "11\nmerged\n6 c.py:4\n", ""),
-    ("what is no place", [b"7\nplace\n3 \n\n09 a.py:1\n2 a.py:2\n5 a.py:3", b"no number\n3 c.py:3\n", b""], "11\nmerged\n", ""),
-    ("what is no text", [b"7\n3 \xc3\xa9\xff.py:1\n", b"1" * 5000 + b"\n4 c.py:4\n", b"\n"], "11\nmerged\n3 \u00e9\udcff.py:1\n", ""),
+    ("what is no place", [b"7\nplace\n3 \n\n09 a.py:1\n2 a.py:2\n5 a.py:3", b"no number\n3 c.py:3\n", b""], "11\nmerged\n",
+     NO_NUMBER.format("1.log") + NO_NUMBER.format("2.log")),
+    ("what is no text", [b"7\n3 \xc3\xa9\xff.py:1\n", b"1" * 5000 + b"\n4 c.py:4\n", b"\n"], "11\nmerged\n3 \u00e9\udcff.py:1\n",
+     NO_NUMBER.format("1.log") + NO_NUMBER.format("2.log")),
 ]
 
 
