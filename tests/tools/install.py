@@ -76,6 +76,9 @@ def errors(tally: Tally, program: str, folder: str) -> None:
     done = installed("/bin/true", f"{folder}/other")
     tally.check("install: another program", (done.returncode, done.stderr) == (
         2, "install: /bin/true is not domepeeler: asked for its version it says something else\n") and not Path(folder, "other").exists(), done)
+    done = installed(f"{folder}/x\n::error::\x1b[31m\\n", f"{folder}/other")
+    tally.check("install: a program with an odd name", (done.returncode, done.stderr) == (
+        2, f"install: {folder}/x?::error::?[31m\\n is not there: build it first, as the README says\n"), done)
     old = Path(folder, "odd/lib/domepeeler/tools/explaining/gone.py")
     old.parent.mkdir(parents=True)
     old.write_text("import nowhere\n")

@@ -254,6 +254,10 @@ def faults(tally: Tally, program: str, folder: str) -> None:
     done = subprocess.run([sys.executable, PACKAGE, program, folder, KIT], capture_output=True, env={"PATH": folder})
     tally.same("fault: no git", Ended(done.returncode, done.stdout, done.stderr),
                Ended(2, b"", b"package: git is needed: on Debian, apt-get install git\n"))
+    odd, told = f"{folder}/x\n::error::\x1b[31m\udcff", f"{folder}/x\\n::error::\\x1b[31m\\xff"
+    tally.same("fault: an odd name", package([odd, folder, KIT]), Ended(2, b"", f"package: cannot read {told}: No such file or directory\n".encode()))
+    got = package([program, folder, KIT, odd])
+    tally.check("fault: an odd word", got.status == 2 and got.err.endswith(f": unrecognized arguments: {told}\n".encode()), got)
     got = package([program, folder])
     tally.check("fault: a word lacks", got.status == 2 and got.err.startswith(b"usage: ") and b"KIT" in got.err, got)
     tally.check("fault: nothing is made", os.listdir(folder) == ["file"], os.listdir(folder))
