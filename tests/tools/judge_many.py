@@ -1015,6 +1015,11 @@ def overwriting(tally: Tally, program: str, folder: str) -> None:
                     and old.read_text() == "old" and sorted(os.listdir(folder)) == ["a.trace", "a.trace.lines", "link", "old.html", "same"],
                     (limited, os.listdir(folder)))
     subprocess.run([explain, "--program", program, "--html", str(old), path], capture_output=True)
+    own = script(Path(folder, "own"), f"{VERSION}exec '{program}' \"$@\"\n")
+    for words in *([explain, option, own, path] for option in ("--small", "--html", "--svg")), [TOOL, "--junit", own, path]:
+        got = subprocess.run([words[0], "--program", own, *words[1:]], capture_output=True, text=True)
+        told = f"{name_of(words[0])}: {own} is read, so it is not written to\n"
+        tally.check(f"overwriting: the program, {words[1]}", (got.returncode, got.stdout, got.stderr) == (2, "", told) and os.access(own, os.X_OK), got)
     tally.check("overwriting: the file's mode stays", old.read_text().startswith("<!DOCTYPE html>") and old.stat().st_mode & 0o777 == 0o640)
 
 

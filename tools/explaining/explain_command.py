@@ -60,10 +60,10 @@ def fail(words: str) -> NoReturn:
     sys.exit(2)
 
 
-def check_outputs(asked: argparse.Namespace) -> None:
+def check_outputs(asked: argparse.Namespace, inputs: list) -> None:
     """Nothing is written over what is read, or twice into one file."""
     small = [asked.small, asked.small + SIDE] if asked.small else []
-    why = written_over([*filter(None, [asked.html, asked.svg]), *small], [] if asked.trace == "-" else [asked.trace, asked.trace + SIDE])
+    why = written_over([*filter(None, [asked.html, asked.svg]), *small], inputs)
     if why:
         fail(why)
 
@@ -150,10 +150,11 @@ def explain(asked: argparse.Namespace, program: str, trace: bytes, side: Side, j
 
 def main() -> None:
     asked = words_asked()
-    check_outputs(asked)
+    check_outputs(asked, [] if asked.trace == "-" else [asked.trace, asked.trace + SIDE])
     trace, side = read(asked.trace)
     try:
         program = find_program(asked.program)
+        check_outputs(asked, [program])
         judged = judge(program, trace)
     except NoProgram as error:
         fail(str(error))

@@ -237,7 +237,7 @@ def main() -> None:
     except (NoProgram, NoParallel) as error:
         fail(str(error))
     files = traces_below(asked.folders)
-    why = written_over([asked.junit], [name for file in files for name in (file, file + SIDE)]) if asked.junit else ""
+    why = written_over([asked.junit], [program, *(name for file in files for name in (file, file + SIDE))]) if asked.junit else ""
     if why:
         fail(why)
     rows = in_order(judged(asked, program, files, jobs))
