@@ -20,13 +20,14 @@ from .files import SIDE, shown, write_file, written_over
 from .judges import TooMany, judged_here
 from .junit import junit_of
 from .programs import WAYS, WEAK_ALONE, NoProgram, check_is_domepeeler, find_program
+from .recordings import FIRST_ENTRY
 from .rows import KINDS, NO_VERDICTS, Request, Row
 from .warnings import is_first
 
 NAME = "domepeeler-judge-many"
 ABOUT = "Judges all traces below some folders, several at a time, and lists them: first the one that fails in the fewest lines."
 STATUSES = ("It ends with status 0 where all are accepted, 1 where all can be read and some are not accepted, and 2 where one can't "
-            "be read, or is known to be cut, or something else fails. With --weak those pass too of which weak holds.")
+            "be read, or is known to be cut, or none has an entry, or something else fails. With --weak those pass too of which weak holds.")
 MOST_WARNED = 20  # warnings that are printed on standard error
 TRACE = ".trace"  # in any case
 COMPRESSED = re.compile(r"(.*\.trace)\.(gz|bz2|xz|zst|lz4|zip|z)", re.IGNORECASE | re.DOTALL)
@@ -252,4 +253,6 @@ def main() -> None:
     print_warnings(rows)
     if unwritten:
         fail(unwritten)
+    if all(row.report is not None and row.lines < FIRST_ENTRY for row in rows):
+        fail("none of these traces has an entry, so nothing was judged")
     sys.exit(2 if any(row.verdict in NO_VERDICTS for row in rows) else 1 if any(is_failing(row, asked) for row in rows) else 0)
