@@ -955,6 +955,19 @@ def explained_once(tally: Tally, program: str, folder: str) -> None:
         tally.check(f"explained once: its {what} changes while they are read", told == "it changed while it was read", told)
 
 
+def no_entries(tally: Tally, program: str, folder: str) -> None:
+    """Traces of which none has an entry are no pass, for nothing was judged; beside another one they are warned of."""
+    for name, entries in ("a", ""), ("b", ""):
+        Path(folder, f"{name}.trace").write_text(f"trace 1\nreplicas 2\n{entries}")
+    told = b"domepeeler-judge-many: none of these traces has an entry, so nothing was judged\n"
+    for words in [folder], ["--json", folder], [f"{folder}/a.trace"], ["--weak", "--junit", f"{folder}/judged.xml", folder]:
+        got = judge(program, words)
+        tally.check(f"no entries: {words[:-1]}", got.status == 2 and got.err.endswith(told) and got.err.count(b"warning: nothing was recorded") in (1, 2), got)
+    write(folder, {"c.trace": "0 read :"})
+    got = judge(program, [folder])
+    tally.check("no entries: beside a trace with one", got.status == 0 and told not in got.err and got.err.count(b"warning: nothing was recorded") == 2, got)
+
+
 def no_files(tally: Tally, program: str, folder: str) -> None:
     """A pipe and a device under a trace's name, or beside one, don't hang, and what is longer than a trace can be is not read."""
     write(folder, {"a.trace": "0 ins a 0 : a", "b.trace": "0 ins a 0 : a"})
@@ -1632,7 +1645,7 @@ def main() -> None:
         warnings(tally, program, folder)
         warnings_of_sessions(tally, program, other)
     for check in (pythons, little_memory, not_looked_at, changing, told_of_what_was_judged, explained_once, weak, weak_junit, weak_in_ci,
-                  known_as_cut, grouped, no_files, overwriting, millions_of_names, odd_names, odd_words, names_like_commands, tasks, script_of_ci,
+                  known_as_cut, grouped, no_entries, no_files, overwriting, millions_of_names, odd_names, odd_words, names_like_commands, tasks, script_of_ci,
                   big_traces, time_of_small, time_of_big, long_cycles):
         with tempfile.TemporaryDirectory() as folder:
             check(tally, program, folder)

@@ -181,6 +181,22 @@ test("fails_by_itself_now", record(isLost, !isLost))
 COMMON = "(async () => {{ {line}; console.log(new Recording(2).text()) }})()"
 
 # Tests that record before and after their own part, that fail by themselves, and whose accepted recordings may hide something.
+# A test whose recording goes on when it has ended, as in a thread, and one whose recording is over.
+LATER = """
+kept = []
+
+
+def test_goes_on(domepeeler):
+    kept.append(domepeeler(1))
+    kept[0].insert(0, "a", 0, ["a"])
+
+
+def test_is_over(domepeeler):
+    kept.append(domepeeler(1))
+    kept[1].read(0, [])
+    kept[0].read(0, [])
+"""
+
 ENDS = {
     "python": '''
 import pytest
@@ -875,6 +891,11 @@ def check_ends_of_pytest(tally: Tally, place: Place, command: list) -> None:
         "begun_late", "fails_and_is_right", "late", "set_up", "torn_down")], traces)
     tally.check("pytest: warns of what an accepted recording may hide", all(f"Unsure: {told}\n" in done.stdout for told in UNSURE),
                 done.stdout)
+    place.make("python/test_later.py", LATER)
+    done = place.run([*command, "test_later.py"], "python")
+    tally.check("pytest: what is recorded after a test has ended fails the run", done.returncode == 1 and "2 passed" in done.stdout and
+                done.stdout.count("ERROR ") == 1 and "ERROR test_later.py::test_goes_on - domepeeler: something was recorded after" in done.stdout, done.stdout)
+    (place.folder / "python/test_later.py").unlink()
     done = place.run([*command, "-k", "unsure", "-W", "error::domepeeler.pytest_plugin.Unsure"], "python")
     tally.check("pytest: such a warning as an error", done.returncode == 1 and "1 passed, 8 deselected, 1 error" in done.stdout
                 and f"\nUnsure: {UNSURE[0]}\n" in done.stdout and "The trace is saved: " in done.stdout, done.stdout)

@@ -12,13 +12,15 @@ Begin `domepeeler(2, stop=True)`, and the test fails in the call that answered w
 Where a recording is not accepted the test fails, and its report has the explanation and the path of the saved trace. What other
 fixtures record while they are torn down is judged too, when that is done; pytest tells it as an error of the test. The report of a
 test that fails by itself has the verdict on its recordings, accepted or not, in a section of its own, and they are saved. Where a test
-passes, the traces that it saved before are removed; and of what its accepted recordings may hide pytest warns, by `Unsure`."""
+passes, the traces that it saved before are removed; and of what its accepted recordings may hide pytest warns, by `Unsure`. What is
+recorded later still, as by a thread, nothing has judged: it fails the run."""
 from __future__ import annotations
 
 import contextlib
 import hashlib
 import os
 import re
+import weakref
 from pathlib import Path
 from typing import Any, Callable, Generator, List, Optional, Tuple
 
@@ -30,6 +32,7 @@ FOLDER = "failed_traces"
 PLAIN = re.compile(r"[A-Za-z0-9_.]+(/[A-Za-z0-9_.]+)*(::[A-Za-z0-9_.]+)+", re.ASCII)
 MOST_LETTERS = 150  # of a test's own name in the name of a file
 BEGUN = "_domepeeler_begun"
+ENDED, GROWN = "_domepeeler_ended", "_domepeeler_grown"  # recordings of tests that have ended; tests whose recordings grew since
 FIRST_LINES = 2  # of each trace: its version, and how many replicas there are
 
 
@@ -103,7 +106,23 @@ def pytest_runtest_teardown(item: pytest.Item) -> None:
                 item.warn(NothingRecorded(told) if one.lines == FIRST_LINES else Unsure(told))
     except Unsure as why:  # where warnings are errors
         pytest.fail(f"{type(why).__name__}: {why}", pytrace=False)
+    if not hasattr(item.config, ENDED):
+        setattr(item.config, ENDED, [])
+    getattr(item.config, ENDED).extend((item.nodeid, weakref.ref(one.recording), one.lines) for one in begun.recordings)
     begun.recordings = []
+
+
+def pytest_sessionfinish(session: pytest.Session) -> None:
+    known = [(name, recording(), lines) for name, recording, lines in getattr(session.config, ENDED, [])]
+    grown = [name for name, recording, lines in known if recording is not None and recording.lines() != lines]
+    setattr(session.config, GROWN, grown)
+    if grown and session.exitstatus == pytest.ExitCode.OK:
+        session.exitstatus = pytest.ExitCode.TESTS_FAILED
+
+
+def pytest_terminal_summary(terminalreporter: Any, config: pytest.Config) -> None:
+    for name in getattr(config, GROWN, []):
+        terminalreporter.write_line(f"ERROR {name} - domepeeler: something was recorded after the test had ended, so it was not judged", red=True)
 
 
 @pytest.hookimpl(hookwrapper=True, tryfirst=True)  # when all others have said whether it has failed
