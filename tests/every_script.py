@@ -1,6 +1,7 @@
 #!/usr/bin/env python3
-"""every_script.py PROGRAM [--jobs N]: the scripts of the gate on the built program, some beside each other: as many as there are processors
-but one, unless N is told. Prints what each said when it ends, with its seconds; ends with status 1 where one failed."""
+"""every_script.py PROGRAM [--jobs N] [--short]: the scripts of the gate on the built program, some beside each other: as many as there are
+processors but one, unless N is told; with --short, those alone that take seconds. Prints what each said when it ends, with its seconds; ends
+with status 1 where one failed."""
 import argparse
 import os
 import subprocess
@@ -40,6 +41,7 @@ SCRIPTS = [
     ["tools/versions.py"],
     ["tools/names.py"],
 ]
+SHORT = ["program/black_box.py", "program/large_cores.py", "program/mutated.py", "program/parts_of_reads.py", "tools/versions.py", "tools/names.py"]
 
 # Debian's packages that the scripts need, and the command of each that has one: together they are installed in a third of the time. A script
 # that runs by itself installs what it needs.
@@ -77,18 +79,20 @@ def main() -> None:
     words = argparse.ArgumentParser(description=__doc__)
     words.add_argument("program")
     words.add_argument("--jobs", type=int, default=max(1, (os.cpu_count() or 1) - 1))
+    words.add_argument("--short", action="store_true")
     given = words.parse_args()
     program = program_of([sys.argv[0], given.program])
-    install([name for name, command in PACKAGES.items() if not is_installed(name, command)])
+    install([name for name, command in PACKAGES.items() if not given.short and not is_installed(name, command)])
     failed, begun = [], time.monotonic()
     with tempfile.TemporaryDirectory() as kept, ThreadPoolExecutor(given.jobs) as pool:
         os.environ.pop("PYTHONDONTWRITEBYTECODE", None)  # tools are started some thousand times, each from what the first start kept
         os.environ["PYTHONPYCACHEPREFIX"] = kept
-        started = [pool.submit(ran, [program if word == PROGRAM else word for word in script]) for script in SCRIPTS]
+        scripts = [script for script in SCRIPTS if script[0] in SHORT or not given.short]
+        started = [pool.submit(ran, [program if word == PROGRAM else word for word in script]) for script in scripts]
         for done in map(Future.result, as_completed(started)):
             print(f"== {done.words[0]}: status {done.status}, {done.seconds:.0f} s, {done.processor:.0f} of processor\n{done.said}", flush=True)
             failed += [done.words[0]] if done.status else []
-    print(f"{len(SCRIPTS)} scripts in {time.monotonic() - begun:.0f} s; failed: {', '.join(failed) or 'none'}")
+    print(f"{len(scripts)} scripts in {time.monotonic() - begun:.0f} s; failed: {', '.join(failed) or 'none'}")
     sys.exit(1 if failed else 0)
 
 

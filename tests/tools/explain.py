@@ -195,8 +195,9 @@ WORDS = [
      "[a] inserted by 0.1 (line 3), arrived at replica 1 in line 4 (1 recv 0 1), and from there arrived at replica 2 in line 6 "
      "(2 recv 1 1)|[a] it has no receipt of its own at replica 2, and counts as arrived with 1.1 (line 5), whose author had it. If "
      "each operation travels by itself, it had not arrived: that order is not causal|[a] no operation deletes it||Where to look|"
-     "Look at the order in which operations arrive: 0.1 was overtaken, as told above. Apply an operation only after everything that its "
-     f"author had, or send both together. If the editor itself holds it back, write its receipt only when it is applied. {GUIDE} has both ways."),
+     "Look first at whether 0.1 was lost on its way to replica 2: no receipt there names it. If it was overtaken, look at the order in which "
+     "operations arrive. Apply an operation only after everything that its author had, or send both together. If the editor itself holds it "
+     f"back, write its receipt only when it is applied. {GUIDE} has both ways."),
     ("an element lost that arrived after what had seen it", 3,
      "0 ins a 0 : a|1 recv 0 1|1 ins b 1 : a b|2 recv 1 1|2 recv 0 1|2 read : b",
      "line 8 of the trace, 2.1: replica 2 read the list|[a] 0.1's own receipt comes only in line 7 (2 recv 0 1). 1.1 overtook it in "
@@ -1098,6 +1099,36 @@ def undelivered(tally: Tally, program: str, folder: str) -> None:
         tally.check(f"undelivered: {word!r} is no range", done.status == 2 and f"{word} is no range of lines, as 41-46".encode() in done.err, done)
 
 
+# Replica 1 has thrown a away, finds no place for b behind it, and holds b back; `delivered` wrote lines 10 to 12.
+HELD_BACK = "0 ins a 0 : a|1 recv 0 1|1 read : a|1 del a :|0 ins b 1 : a b|0 recv 1 2|0 read : b|1 recv 0 2|1 read :|0 read : b"
+
+# Five changes of replica 0, of which these came to replica 1 and 2 by receipts of their own; the last response lacks one.
+FIVE = "|".join(f"0 ins e{n} {n - 1} : {' '.join(f'e{k}' for k in range(1, n + 1))}" for n in range(1, 6))
+ASTRAY = {
+    "another replica lacks one": ([1, 2, 3, 5], [1, 2, 3, 4, 5], "0.4 (line 6) was lost on its way to replica 1, or overtaken: no receipt there names it, "),
+    "it lacks one itself": ([1, 2, 3, 4, 5], [1, 2, 3, 5], "0.4 (line 6) was lost on its way to replica 2, or overtaken: no receipt there names it, "),
+    "two that travel together": ([1, 2, 3, 5], [1, 2, 3, 5], None),
+    "one receipt for all": ([1, 2, 3, 4, 5], [5], None),
+}
+
+
+def astray(tally: Tally, program: str, folder: str) -> None:
+    """A change that came to one replica without a receipt of its own is told first, at whatever replica that is; but not one that has none
+    anywhere, which travels with the next one. What `delivered` alone brings is told beside what it was put, and its delete."""
+    for name, (to_one, to_two, wanted) in ASTRAY.items():
+        receipts = "".join(f"|{replica} recv 0 {n}" for replica, came in ((1, to_one), (2, to_two)) for n in came)
+        said = explain(program, ["-"], text_of(3, f"{FIVE}{receipts}|2 read : e1 e2 e3 e4").encode()).out.decode()
+        first = paragraph(said, "Where to look").splitlines()[0]
+        tally.check(f"astray: {name}", said.startswith("contents 2.1: ") and (first.startswith(f"  Look first at whether {wanted}") if wanted else
+                    "lost on" not in said and "No receipt" not in said), said)
+    path = Path(folder, "held.trace")
+    path.write_text(text_of(2, HELD_BACK))
+    Path(f"{path}.lines").write_text("12\ndelivered 10 12\n")
+    said = explain(program, [str(path)]).out.decode()
+    tally.check("held back: beside what it was put", said.startswith("contents 1.3: ") and "[b] was put behind a. By line 10, a was deleted there by 1.2 (line 6)\n" in
+                said and "Look at inserts beside deleted elements: b arrived where its neighbour was deleted, as told above." in said, said)
+
+
 def by_next(tree: ElementTree.Element) -> list:
     """The elements of a tree, without the first."""
     return list(tree.iter())[1:]
@@ -1686,9 +1717,9 @@ def many_deletes(tally: Tally, program: str, folder: str) -> None:
     deletes, receipts = "|1 del a :" * count, [f"|0 recv 1 {n}" for n in range(1, count + 3)]
     for name, entries, said, lines in (
             ("one is lost", f"1 ins a 0 : a|1 ins b 1 : a b{deletes.replace(':', ': b')}{''.join(receipts[:2])}|0 read : a b{''.join(receipts[2:])}|0 read :",
-             "contents 0.2: this response lacks one element that replica 0 had by then.", 10),
+             "contents 0.2: this response lacks one element that replica 0 had by then.", 12),
             ("one is shown again", f"1 ins a 0 : a{deletes}{receipts[0]}|0 read : a{''.join(receipts[1:-1])}|0 read : a",
-             "contents 0.2: this response has one element that should not be there.", 6)):
+             "contents 0.2: this response has one element that should not be there.", 7)):
         trace.write_text(text_of(2, entries))
         got, seconds, _ = used([EXPLAIN, "--program", program, "--html", f"{folder}/page.html", "--small", f"{folder}/small", str(trace)])
         tally.check(f"many deletes: {name}", got.status == 1 and got.out.decode().startswith(f"{said}\n") and f"in {lines} lines of".encode() in got.out
@@ -1895,6 +1926,7 @@ def main() -> None:
         from_no_answer(tally, program, folder)
         record_ended(tally, program, folder)
         arguments(tally, program, folder)
+        astray(tally, program, folder)
         files(tally, program, folder)
         finding(tally, program, folder)
         weak(tally, program, folder)

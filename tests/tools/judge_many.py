@@ -566,7 +566,7 @@ def unequal(tally: Tally, program: str, folder: str) -> None:
     for entries, is_unequal in ("", False), ("0 read :\n", False), ("0 ins a 0 : a\n", True), ("0 ins a 0 : a\n1 recv 0 1\n", True):
         silent.write_text(f"trace 1\nreplicas 2\n{entries}")
         got = judge(program, ["--unequal", str(silent)])
-        tally.check(f"unequal: a replica that shows nothing, {entries!r}", got.status == is_unequal and b"1 accepted\n" in got.out, got)
+        tally.check(f"unequal: a replica that shows nothing, {entries!r}", got.status == (is_unequal if entries else 2) and b"1 accepted\n" in got.out, got)
 
 
 def known_as_cut(tally: Tally, program: str, folder: str) -> None:

@@ -395,7 +395,7 @@ def prepared(folder: Path) -> dict:
         sys.exit(f"recorders.py: {DEBIAN_PYTHON} has no hypothesis or no pytest")
     subprocess.run([*GCC, "-D_POSIX_C_SOURCE=200809L", "-o", folder / "c", DRIVERS / "driver.c"], check=True)
     subprocess.run(["rustc", "--edition", "2021", "-D", "warnings", "-o", folder / "rs", DRIVERS / "driver.rs"], check=True)
-    return {"py": [sys.executable, DRIVERS / "driver.py"], "mjs": ["node", DRIVERS / "driver.mjs"], "rs": [folder / "rs"],
+    return {"py": [sys.executable, "-S", DRIVERS / "driver.py"], "mjs": ["node", DRIVERS / "driver.mjs"], "rs": [folder / "rs"],
             "c": [folder / "c"], "el": ["emacs", "-Q", "--batch", "-l", DRIVERS / "driver.el"]}
 
 
@@ -1606,7 +1606,7 @@ MERGE_FAULTS = [
     (".", None, ["--output", "new.trace", "0.log"], 1, "merge.py: these receipts name operations that no log has before them: 0 recv 1 1\n"),
     (".", None, ["--output", "./1.log", "0.log", "1.log", "2.log"], 2, "merge.py: cannot write ./1.log: it is one of the logs\n"),
     (".", None, ["0.log", "1.log", "2.log", "--output=2.log"], 2, "merge.py: cannot write 2.log: it is one of the logs\n"),
-    ("0.log.lines", b"", ["--output", "0.log.lines", "0.log", "1.log", "2.log"], 2,
+    ("0.log.lines", b"7\n", ["--output", "0.log.lines", "0.log", "1.log", "2.log"], 2,
      "merge.py: cannot write 0.log.lines: it is what stands beside 0.log\n"),
     ("s.lines", log_text(LOGS[2]).encode(), ["--output", "s", "0.log", "1.log", "s.lines"], 2,
      "merge.py: cannot write s.lines: it is one of the logs\n"),

@@ -22,7 +22,7 @@ NOT_APPLIED = ("It looks as if {changes} {were} not applied at replica {replica}
                "change is applied.{moved}")
 BROUGHT = ("No receipt at replica {replica} names {changes}, which arrived with {brought}. If each of your changes has a receipt of its "
            "own, {brought} overtook {them}, or {they} {were} lost.")
-LOST = ("Look first at whether {change} was lost on its way to replica {replica}, or overtaken: no receipt there names it, though each "
+LOST = ("Look first at whether {changes} {were} lost on {their} way to replica {replica}, or overtaken: no receipt there names {them}, though each "
         "other change of replica {author} has one. Where positions are sent, what comes later is then misplaced.")
 NO_RECEIPT = ("It looks as if {changes} {were} applied at replica {replica} without a receipt: the call of `received` is missing, comes "
               "too late, or names another operation.")
@@ -35,11 +35,14 @@ PUT_AT_ONCE = (" {others} {were} inserted at the place of {element}, neither aut
                "there.")
 SECOND_DELETE = ("{again} deletes {element}, already deleted here by {first}: look at what the editor does with a delete whose element "
                  "is gone. It may have deleted {missing} instead.{moved}")
-OVERTAKEN = ("Look at the order in which operations arrive: {name} was overtaken, as told above. Apply an operation only after "
-             "everything that its author had, or send both together. If the editor itself holds it back, write its receipt only when it "
-             f"is applied. {GUIDE} has both ways.")
+CAUSAL = ("Apply an operation only after everything that its author had, or send both together. If the editor itself holds it back, write "
+          f"its receipt only when it is applied. {GUIDE} has both ways.")
+OVERTAKEN = "Look at the order in which operations arrive: {name} was overtaken, as told above. " + CAUSAL
+LOST_OR_OVERTAKEN = ("Look first at whether {name} was lost on its way to replica {replica}: no receipt there names it. If it was overtaken, look "
+                     "at the order in which operations arrive. ") + CAUSAL
 LOST_NEIGHBOUR = ("Look at inserts beside deleted elements: {element} arrived where its neighbour was deleted, as told above. An editor "
                   "that throws deleted elements away too early finds no place for it, and loses it or holds it back for ever.")
+NUMBERS_OF_INSERTS = " Often the number that orders inserts does not grow when changes arrive, or the neighbour is not found."
 MAPPING = ("Look at how the position that a user sees is mapped to a place in the editor's own list{deleted}; and at whether the "
            "recorder writes the position that was asked for.")
 NUMBERS = ("Look at the numbers that order inserts at one place, if the editor has such (a clock, ids): {element} stands behind "
@@ -59,8 +62,7 @@ CONCURRENT = ("Look at the order of concurrent inserts: {first} and {then} were 
               "in two different orders. Use a rule that gives the same order everywhere (by the replicas' numbers, say), and not the "
               "order in which they arrive.{moved}")
 SEEN = ("Look at where a replica places an incoming insert: {later} inserted {new} when it had {old}, so their order was known already, "
-        "and still it differs. Often the number that orders inserts does not grow when changes arrive, or the neighbour is not "
-        "found.{moved}")
+        "and still it differs.{numbers}{moved}")
 MOVED_INSERT = (" In an editor that sends positions, that of {element} was perhaps not adjusted for {changes}, which replica {replica} "
                 "had and its author did not{back}.")
 MOVED_BACK = {True: "; or that of the delete was not adjusted for an insert", False: "; or those of the deletes were not adjusted for inserts"}
@@ -73,8 +75,9 @@ class Cause(NamedTuple):
     told: str
 
 
-def causes_of(evidence: Evidence) -> list:
-    find = {"contents": of_contents, "position": of_position, "refused": of_refusal, "doubled": lambda _: [Cause("doubled", DOUBLED)],
+def causes_of(evidence: Evidence, weak: bool = False) -> list:
+    """The causes; with `weak` of an editor that promises the weak list specification alone, as those do that send positions."""
+    find = {"contents": of_contents, "position": of_position, "refused": lambda told: of_refusal(told, weak), "doubled": lambda _: [Cause("doubled", DOUBLED)],
             "accepted": lambda _: []}
     return find[evidence.report["verdict"]](evidence)
 
@@ -86,7 +89,7 @@ def otherwise(condition: str, look: str) -> str:
 
 def of_contents(evidence: Evidence) -> list:
     if evidence.undelivered:
-        return [undelivered(evidence)]
+        return [undelivered(evidence), *lost_neighbour(evidence)]
     found = [*wrong_delete(evidence, evidence.operations[0]), *second_delete(evidence), *overtaken(evidence), *lost_neighbour(evidence)]
     found = [*lost(evidence), *(found or unlike_receipts(evidence)), *brought(evidence)]
     return [*found, Cause("arrival", otherwise("If that is not the cause", ARRIVAL) if found else ARRIVAL)]
@@ -103,8 +106,11 @@ def undelivered(evidence: Evidence) -> Cause:
 def lost(evidence: Evidence) -> list:
     """Of a change that came nowhere by itself, where each other one of its author did; but where it is told as overtaken."""
     told = [change for change, _ in evidence.overtakings[:1]]
-    return [Cause("lost", LOST.format(change=at(change), replica=replica, author=change.replica))
-            for change, replica in evidence.unreceived[:1] if change not in told]
+    found = [(change, replica) for change, replica in evidence.unreceived if change not in told]
+    changes = [change for change, replica in found if (change.replica, replica) == (found[0][0].replica, found[0][1])]
+    is_one = len(changes) == 1
+    return [Cause("lost", LOST.format(replica=replica, author=change.replica, their="its" if is_one else "their", them="it" if is_one else "them",
+                                      **changes_told(changes))) for change, replica in found[:1]]
 
 
 def brought(evidence: Evidence) -> list:
@@ -176,8 +182,9 @@ def second_delete(evidence: Evidence) -> list:
 
 
 def overtaken(evidence: Evidence) -> list:
-    """Of something that the response had or lacked wrongly: whether a later operation brought it before it came by itself."""
-    return [Cause("overtaken", OVERTAKEN.format(name=change.name)) for change, _ in evidence.overtakings[:1]]
+    """Of something that the response had or lacked wrongly: whether a later operation brought it before it came by itself, or it was lost."""
+    return [Cause("overtaken", (OVERTAKEN if found.own and found.own.seen is change else LOST_OR_OVERTAKEN).format(
+        name=change.name, replica=found.brought.replica)) for change, found in evidence.overtakings[:1]]
 
 
 def lost_neighbour(evidence: Evidence) -> list:
@@ -199,7 +206,7 @@ def of_position(evidence: Evidence) -> list:
             Cause("mapping", otherwise("If the editor has no such numbers", mapped))]
 
 
-def of_refusal(evidence: Evidence) -> list:
+def of_refusal(evidence: Evidence, weak: bool) -> list:
     """Concurrent inserts first; then inserts beside deleted elements, then two elements of which one's author had seen the other."""
     if evidence.report["k"] > 2:
         return [*lost(evidence), of_several(evidence), Cause("weak alone", WEAK_ALONE_HOLDS)]
@@ -208,7 +215,8 @@ def of_refusal(evidence: Evidence) -> list:
         told = CONCURRENT.format(first=first.element, then=then.element, moved=moved_over(evidence))
         return [*lost(evidence), Cause("concurrent", told), *beside_deleted(evidence)]
     later, old = (first, then) if first.has_seen(then) else (then, first)
-    told = SEEN.format(later=at(later), new=later.element, old=old.element, moved=moved_over(evidence))
+    moved = moved_over(evidence)
+    told = SEEN.format(later=at(later), new=later.element, old=old.element, numbers="" if weak and moved else NUMBERS_OF_INSERTS, moved=moved)
     told += put_meanwhile(evidence, later) or put_meanwhile(evidence, old)
     return [*lost(evidence), *beside_deleted(evidence), Cause("seen", told)]
 

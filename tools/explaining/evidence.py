@@ -185,8 +185,8 @@ class Evidence:
         the new one."""
         found = []
         for arrival in self.arrivals:
-            if self.recording.is_delivered(arrival.receipt.line):
-                continue
+            if self.recording.is_delivered(arrival.receipt.line) and self.report["verdict"] != "contents":
+                continue  # it came before
             gone = [self.recording.change_at(self.recording.deletes.get(name, []), arrival.receipt) for name in self.beside(arrival.insert)]
             if any(gone):
                 found.append((arrival, list(filter(None, gone))))
@@ -275,7 +275,8 @@ class Evidence:
             own = self.recording.receipt_of(change, replica)
             return Overtaking(brought, own) if own is None or own.line > brought.line else None
         own = self.recording.own_receipt(change, replica)
-        is_overtaken = own.line > brought.line if own else self.are_others_received(change, replica)
+        is_overtaken = own.line > brought.line if own else (self.are_others_received(change, replica)
+                                                            and self.recording.may_travel_alone(change, replica))
         return Overtaking(brought, own) if is_overtaken else None
 
     def are_others_received(self, but: Operation, replica: int) -> bool:
@@ -287,15 +288,17 @@ class Evidence:
 
     @cached_property
     def unreceived(self) -> list:
-        """Changes of which a replica of the verdict, or the author of a change that it is about, has no receipt of its own, though each
-        other change of the same author has one there; and that replica. They may have been lost on their way. A delete of what another one
-        deletes too is none: where it becomes nothing, it needs no receipt."""
+        """Changes of which a replica has no receipt of its own, though the other ones of the same author have one there; and that replica:
+        first those of the verdict, then the authors of the changes that it is about, then the others, of which what they sent may have gone
+        astray for it. These changes may have been lost on their way. A delete of what another one deletes too is none: where it becomes
+        nothing, it needs no receipt."""
         last = max(operation.line for operation in self.operations)
         about = [change.replica for name in self.elements for changes in (self.recording.inserts, self.recording.deletes)
                  for change in changes.get(name, []) if change.line <= last]
-        return [(change, replica) for replica in dict.fromkeys([operation.replica for operation in self.operations] + about)
+        return [(change, replica) for replica in dict.fromkeys([operation.replica for operation in self.operations] + about + [*range(self.recording.replicas)])
                 for change in self.recording.skipped(replica, SEVERAL)
-                if change.line < last and (change.kind == "ins" or not self.recording.deletes[change.element][1:])]
+                if change.line < last and (change.kind == "ins" or not self.recording.deletes[change.element][1:])
+                and self.recording.may_travel_alone(change, replica)]
 
     @cached_property
     def unnamed(self) -> list:
@@ -306,7 +309,8 @@ class Evidence:
             for change in (change for name in names for change in changes.get(name, []) if self.is_new(change)):
                 brought = self.recording.arrival(change, replica)
                 is_later = brought.seen is not change and brought.seen.replica == change.replica and brought.seen.element
-                if is_later and not self.recording.is_delivered(brought.line) and not self.recording.own_receipt(change, replica):
+                if is_later and not self.recording.is_delivered(brought.line) and not self.recording.own_receipt(change, replica) \
+                        and self.recording.may_travel_alone(change, replica):
                     found.append(change)
         return found
 

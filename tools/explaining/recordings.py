@@ -142,7 +142,8 @@ class Recording:
         return self._named[replica].get(operation.key)
 
     def skipped(self, replica: int, least: int) -> list:
-        """The changes that alone of their authors, of whom so many others came at least, came to a replica without a receipt of their own."""
+        """The few changes that came to a replica without a receipt of their own, where so many others of their author at least, for each of
+        them, came with one."""
         receipts = self.receipts[replica]
         named = {receipt.seen.key for receipt in receipts if not self.is_delivered(receipt.line)}
         clock = [max((receipt.seen.clock[author] for receipt in receipts), default=0) for author in range(self.replicas)]
@@ -150,8 +151,14 @@ class Recording:
         for author, stream in enumerate(self.streams):
             changes = [change for change in stream[:clock[author]] if change.element] if author != replica else []
             lacking = [change for change in changes if change.key not in named]
-            found += lacking if len(lacking) == 1 and len(changes) > least else []
+            found += lacking if len(lacking) * (least + 1) <= len(changes) else []
         return found
+
+    def may_travel_alone(self, change: Operation, replica: int) -> bool:
+        """Whether a change came to another replica than this one by a receipt of its own, where it came to another one: what travels with the
+        next change of its author, in one update, has none anywhere."""
+        others = [other for other in range(self.replicas) if other not in (replica, change.replica) and self.arrival(change, other)]
+        return not others or any(self.own_receipt(change, other) for other in others)
 
     def change_at(self, changes: list, receipt: Receipt) -> Operation | None:
         """Of these operations the one that was first made at the receipt's replica, or arrived there, if that was before the receipt."""

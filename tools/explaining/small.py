@@ -3,18 +3,18 @@ were deleted already; and of all operations those that bear on it, or on its cau
 overtook a change, with the receipt that came too late.
 
 What is visible to which operation stays as it was, so what was right stays right: of the elements that are kept, all inserts
-and all deletes that anything kept has seen are kept too. Receipts are made anew, since one may have named an operation that
-is gone. Replicas keep their numbers; operations are counted anew, and one that changed another element is a read. The text is
+and all deletes that anything kept has seen are kept too. Receipts that name one of these stay; others are made anew, since one may have
+named an operation that is gone. Replicas keep their numbers; operations are counted anew, and one that changed another element is a read. The text is
 that of version 2 of the trace exactly where a view is kept, as the program's own writer has it."""
 from __future__ import annotations
 
 from bisect import bisect_left
-from collections import defaultdict
+from collections import defaultdict, deque
 from collections.abc import Callable
 from typing import NamedTuple
 
 from .evidence import Evidence
-from .recordings import Operation, Recording, place_asked
+from .recordings import Operation, Receipt, Recording, place_asked
 
 MOST_MET = 3  # deletes that an insert met
 
@@ -33,7 +33,10 @@ class Projection:
 
     def __init__(self, recording: Recording, elements: set, kept: list, misplaced: Operation | None = None, late: tuple = ()):
         self.recording, self.elements, self.misplaced = recording, elements, misplaced
+        kept = set(kept)
         self.late = [receipt for receipt in sorted(late, key=lambda receipt: receipt.line) if receipt.seen in kept]
+        self.named = [deque(receipt for receipt in receipts if receipt.seen in kept and receipt.seen.element in elements and receipt not in late)
+                      for receipts in recording.receipts]
         self.kept = sorted(kept, key=lambda operation: operation.line)
         self.counts = [[0] * (len(stream) + 1) for stream in recording.streams]
         for operation in self.kept:
@@ -67,19 +70,32 @@ class Projection:
         return [counts[n] for counts, n in zip(self.counts, operation.clock)]
 
     def receipts(self, operation: Operation, before: list) -> list:
-        """The receipts that an operation needs in front of it, where its replica has seen this much before, each behind the line of the
-        one that it comes from, in the order of these: none for what another one brings."""
+        """The receipts in front of an operation, where its replica has seen this much before, each behind the line of the one that it comes
+        from: those that named a change that is kept, and those that the rest needs."""
+        left, named = self.named[operation.replica], []
+        while left and left[0].line < operation.line:
+            named.append(left.popleft())
+        for receipt in named:
+            before = [max(pair) for pair in zip(before, self.clock(receipt.seen))]
+            before[receipt.seen.replica] = max(before[receipt.seen.replica], self.number(receipt.seen))
+        return [*map(self.written, named), *self.needed(operation, before)]
+
+    def needed(self, operation: Operation, before: list) -> list:
+        """The receipts that an operation needs beside those, in the order of the lines that they come from: none for what another one brings."""
         clock = self.clock(operation)
         news = [self.nth(replica, n) for replica, n in enumerate(clock) if replica != operation.replica and n > before[replica]]
         needed = [new for new in news if not any(other.has_seen(new) for other in news if other is not new)]
         return [(self.recording.arrival(new, operation.replica).line, f"{operation.replica} recv {new.replica} {self.number(new)}")
                 for new in needed]
 
+    def written(self, receipt: Receipt) -> tuple:
+        return receipt.line, f"{receipt.replica} recv {receipt.seen.replica} {self.number(receipt.seen)}"
+
     def late_ones(self, line: int) -> list:
         """The receipts up to this line that came too late, and were not written yet, each behind its line; each is written once."""
         ready = [receipt for receipt in self.late if receipt.line <= line]
         self.late = self.late[len(ready):]
-        return [(receipt.line, f"{receipt.replica} recv {receipt.seen.replica} {self.number(receipt.seen)}") for receipt in ready]
+        return list(map(self.written, ready))
 
     def nth(self, replica: int, n: int) -> Operation:
         """The n-th kept operation of a replica."""

@@ -36,7 +36,7 @@ def explanation(evidence: Evidence, told: Evidence, language: str = debuggers.US
     where the weak list specification alone is asked for, they begin with it that this holds, if strong doesn't."""
     tell = {"accepted": accepted, "refused": refused, "doubled": doubled, "contents": contents, "position": position}
     headline, sections = tell[told.report["verdict"]](told)
-    causes = causes_of(told)
+    causes = causes_of(told, weak)
     where = [Section("Where to look", [cause.told for cause in of_whole(evidence, told) + causes])] if causes else []
     whole = whole_trace(evidence, told)
     others = " too, and names other responses" if verdict_of(evidence.report) == verdict_of(told.report) else ""
@@ -215,8 +215,11 @@ def beside_deleted(evidence: Evidence) -> list:
 
 def when_arrived(receipt: Receipt, deletes: list) -> str:
     """What had been deleted where a receipt brought an element."""
-    gone = joined([f"{delete.element} was deleted there by {at(delete)}" for delete in deletes])
-    return f"When it arrived at replica {receipt.replica} in line {receipt.line}, {gone}"
+    return f"When it arrived at replica {receipt.replica} in line {receipt.line}, {gone_there(deletes)}"
+
+
+def gone_there(deletes: list) -> str:
+    return joined([f"{delete.element} was deleted there by {at(delete)}" for delete in deletes])
 
 
 def beside_hidden(evidence: Evidence) -> list:
@@ -324,10 +327,12 @@ def overtaken(evidence: Evidence, change: Operation, operation: Operation) -> li
         return []
     (brought, own), replica = found, operation.replica
     if own is not None:
-        of_author = f"{change.name}'s own receipt comes only in" if own.seen is change else "It is named only in"
         had = "" if own.seen.replica == brought.seen.replica else f", though its author already had {change.name}"
-        return [f"{of_author} line {own.line} ({own.text}). {brought.seen.name} overtook it in line {brought.line}{had}: that order is not "
-                "causal"]
+        if own.seen is change:
+            return [f"{change.name}'s own receipt comes only in line {own.line} ({own.text}). {brought.seen.name} overtook it in line {brought.line}"
+                    f"{had}: that order is not causal"]
+        return [f"no receipt at replica {replica} names {change.name}; the next one from its author is line {own.line} ({own.text}). It was lost, or "
+                f"{brought.seen.name} overtook it in line {brought.line}{had}"]
     if change.replica == brought.seen.replica:
         return [f"{change.name} has no receipt of its own at replica {replica}, though each other change of replica {change.replica} has one. It was "
                 f"lost, or {brought.seen.name} overtook it in line {brought.line}"]
@@ -339,13 +344,17 @@ def neighbours(evidence: Evidence, insert: Operation) -> list:
     """Beside what an element was put that arrived, and whether that was deleted there by then."""
     arrival = next((arrival for arrival in evidence.arrivals if arrival.insert is insert), None)
     names = evidence.beside(insert)
-    if arrival is None or not names or evidence.recording.is_delivered(arrival.receipt.line):
+    if arrival is None or not names:
         return []
     receipt = arrival.receipt
     gone = next((deletes for other, deletes in evidence.lost_neighbours if other is arrival), [])
+    if evidence.recording.is_delivered(receipt.line) and not gone:
+        return []
     if not gone:
         was = "was not deleted there" if len(names) == 1 else "were not deleted there"
         return [f"was put {beside(insert, names)}, which {was} when it arrived (line {receipt.line})"]
+    if evidence.recording.is_delivered(receipt.line):
+        return [f"was put {beside(insert, names)}. By line {receipt.line}, {gone_there(gone)}"]
     return [f"was put {beside(insert, names)}. {when_arrived(receipt, gone)}"]
 
 
