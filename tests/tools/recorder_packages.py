@@ -177,6 +177,32 @@ test("lost", record(true))
 test("fails_by_itself_now", record(isLost, !isLost))
 '''}
 
+# Two changes of one replica, and one that another made when it had both, come to a third the other way round, by README's code; what is
+# taken each time, and the trace.
+TAKING = """
+import { Recording } from "domepeeler"
+import { take } from "./take.mjs"
+const recording = new Recording(3), waiting = [], taken = []
+const apply = (message) => taken.push(message)
+recording.insert(0, "a", 0, ["a"])
+const updates = [{ author: 0, clock: recording.clock(0), message: "a" }]
+recording.insert(0, "b", 1, ["a", "b"])
+updates.push({ author: 0, clock: recording.clock(0), message: "b" })
+for (const { author, clock } of updates) recording.receivedClock(1, author, clock)
+recording.delete(1, "a", ["b"])
+updates.push({ author: 1, clock: recording.clock(1), message: "not a" })
+for (const update of updates.reverse()) {
+  waiting.push(update)
+  console.log(take(recording, 2, waiting, apply), taken.join(" "))
+}
+let wrong = ""
+try { take(recording, 2, [{ author: 1, clock: "no clock", message: "c" }]) } catch (error) { wrong = error.constructor.name }
+console.log(wrong)
+process.stdout.write(recording.text())
+"""
+TAKEN = ("false \nfalse \ntrue a b not a\nRefused\ntrace 1\nreplicas 3\n0 ins a 0 : a\n0 ins b 1 : a b\n1 recv 0 1\n1 recv 0 2\n1 del a : b\n"
+         "2 recv 0 1\n2 recv 0 2\n2 recv 1 1\n")
+
 # What a test of CommonJS has in the place of `import`, by the package's README.
 COMMON = "(async () => {{ {line}; console.log(new Recording(2).text()) }})()"
 
@@ -1035,6 +1061,9 @@ def check_javascript(tally: Tally, place: Place) -> None:
     place.make("packed/front.mjs", example("..", "import { Recording }").replace('"./domepeeler.mjs"', '"domepeeler"'))
     done = place.run(["node", "front.mjs"], "packed")
     tally.check("JavaScript: README's example by the package", (done.returncode, done.stdout) == (0, ""), done.stdout)
+    place.make("packed/take.mjs", example("javascript", "import { NotCausal }"))
+    done = place.run(["node", "--input-type=module", "-e", TAKING], "packed")
+    tally.check("JavaScript: README's way for a network that delivers in any order", done.stdout == TAKEN, done.stdout)
     line = example("javascript", "const { Recording }").strip()
     done = place.run(["node", "--input-type=commonjs", "-e", COMMON.format(line=line)], "packed")
     tally.check("JavaScript: in CommonJS", done.stdout.startswith("trace 1\nreplicas 2\n"), (line, done.stdout))
