@@ -918,7 +918,7 @@ def check_ends_of_pytest(tally: Tally, place: Place, command: list) -> None:
     tally.check("pytest: warns of what an accepted recording may hide", all(f"Unsure: {told}\n" in done.stdout for told in UNSURE),
                 done.stdout)
     place.make("python/test_later.py", LATER)
-    done = place.run([*command, "test_later.py"], "python")
+    done = place.run([*command[:-1], "test_later.py"], "python")
     tally.check("pytest: what is recorded after a test has ended fails the run", done.returncode == 1 and "2 passed" in done.stdout and
                 done.stdout.count("ERROR ") == 1 and "ERROR test_later.py::test_goes_on - domepeeler: something was recorded after" in done.stdout, done.stdout)
     (place.folder / "python/test_later.py").unlink()
