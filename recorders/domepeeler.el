@@ -29,6 +29,12 @@
 ;; `(domepeeler-new 2 nil t)' has the session judged after each call that takes a list, and signals `domepeeler-not-accepted' in
 ;; the call that answered wrong; with `weak' in the place of t, in that after which weak doesn't hold.
 ;;
+;; In a test, of ERT say, let a macro judge at the end.  Where the test fails by itself, by a `should', the trace is saved too, and its
+;; verdict told, accepted or not:
+;;
+;;   (domepeeler-with-recording (recording 2) "failed.trace"
+;;     (domepeeler-insert recording 0 "a" 0 '("a")))
+;;
 ;; Where updates have vector clocks, `domepeeler-received-clock' writes the receipts, and refuses what is not causal.
 ;;
 ;; Each call that a trace can't say signals `domepeeler-refused', or `domepeeler-full' at a limit, and leaves the
@@ -414,6 +420,48 @@ are found.  With WEAK the weak list specification alone is asked for."
                                           when (and (string-prefix-p "long" name) (gethash name words))
                                           collect (format "%s: %s" name (domepeeler--escaped id))))
             (domepeeler--section "Noted" (reverse (domepeeler-recording-notes recording))))))
+
+(defvar domepeeler-weak nil
+  "Whether `domepeeler-with-recording' lets a recording pass where weak holds.")
+
+(defmacro domepeeler-with-recording (binding file &rest body)
+  "Do BODY with a recording, and judge it at the end.
+BINDING is a variable, and behind it what `domepeeler-new' takes.  Where BODY
+fails by itself, the trace is saved as FILE, its verdict is told, accepted
+or not, and the error goes on.  Else it is an error that the recording is
+not accepted, or may hide something: that is explained, and the trace is
+saved.  Where all is right, what was saved as FILE before is removed.
+With `domepeeler-weak' a recording passes where weak holds."
+  (declare (indent 2) (debug ((symbolp &rest form) form body)))
+  `(let ((,(car binding) (domepeeler-new ,@(cdr binding))))
+     (domepeeler--tested ,(car binding) ,file (lambda () ,@body))))
+
+(defun domepeeler--tested (recording file body)
+  "Call BODY, and end as `domepeeler-with-recording' says."
+  (condition-case why
+      (funcall body)
+    (ert-test-skipped (signal (car why) (cdr why)))
+    (error
+     (message "%s" (domepeeler--told recording file))
+     (signal (car why) (cdr why))))
+  (let ((report (domepeeler-judge recording nil domepeeler-weak)))
+    (if (and (if domepeeler-weak (eq (alist-get 'weak report) t) (equal (alist-get 'verdict report) "accepted"))
+             (null (alist-get 'warnings report)))
+        (dolist (saved (list file (concat file ".lines")))
+          (when (file-regular-p saved) (delete-file saved)))
+      (let ((told (domepeeler--told recording file)))
+        (message "%s" told) ; the error's words may be shown in part
+        (error "%s" (car (split-string told "\n")))))))
+
+(defun domepeeler--told (recording file)
+  "Save RECORDING as FILE.  Answers the explanation, and where it is saved."
+  (let ((saved (condition-case why
+                   (progn (domepeeler-save recording file) (format "The trace is saved: %s" file))
+                 (error (error-message-string why))))
+        (words (condition-case why
+                   (domepeeler-explain recording nil domepeeler-weak)
+                 (error (format "There is no explanation: %s\n" (error-message-string why))))))
+    (format "%s\n%s" words saved)))
 
 (defun domepeeler--section (title lines)
   "A part of the explanation with this TITLE, where it has LINES."

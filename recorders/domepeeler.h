@@ -34,6 +34,9 @@
  * domepeeler_stop(recording, 0, call_back, data) has the session judged after each call that takes a list. The call that answered wrong
  * calls back, where a debugger can stop, and answers 0; with 1, that after which weak doesn't hold.
  *
+ * Where a test ends by abort(), as a failed assert() does, domepeeler_on_abort(recording, "failed.trace"), called when the session begins,
+ * has the trace saved, and the verdict told on standard error, accepted or not.
+ *
  * Where updates have vector clocks, domepeeler_received_clock() writes the receipts, and refuses what is not causal.
  *
  * An explanation names the line of code that made each call, since the calls that record are macros too, which hand in __FILE__ and
@@ -311,8 +314,20 @@ static inline void domepeeler_forget_callers(struct domepeeler *d, size_t called
     }
 }
 
+/* The recording that is saved when the process aborts, and where to. */
+struct domepeeler_abort {
+    struct domepeeler *recording;
+    const char *path;
+};
+
+static inline struct domepeeler_abort *domepeeler_aborting(void) {
+    static struct domepeeler_abort last;
+    return &last;
+}
+
 static inline void domepeeler_free(struct domepeeler *d) {
     if (!d) return;
+    if (domepeeler_aborting()->recording == d) domepeeler_aborting()->recording = NULL;
     domepeeler_forget_callers(d, 0);
     free(d->callers);
     for (size_t i = 0; i < d->known; i++) free(d->ids[i]);
@@ -1698,6 +1713,28 @@ DOMEPEELER_CHECKED static inline char *domepeeler_explain(struct domepeeler *d, 
 /* The same where the editor promises the weak list specification alone: it says first where that holds, and what comes with it. */
 DOMEPEELER_CHECKED static inline char *domepeeler_explain_weak(struct domepeeler *d, const char *explainer) {
     return domepeeler_explained(d, explainer, "--weak");
+}
+
+static inline void domepeeler_aborted(int number) {
+    struct domepeeler *d = domepeeler_aborting()->recording;
+    domepeeler_aborting()->recording = NULL;
+    signal(number, SIG_DFL); /* by which abort() ends, when this comes back */
+    if (!d) return;
+    const char *path = domepeeler_aborting()->path;
+    char *words = domepeeler_explain(d, NULL);
+    fprintf(stderr, "%s\n", words ? words : domepeeler_why(d));
+    free(words);
+    if (domepeeler_save(d, path)) fprintf(stderr, "The trace is saved: %s\n", path);
+    else fprintf(stderr, "%s\n", domepeeler_why(d));
+}
+
+/* From now on, until it is freed, has the recording explained on standard error and saved into a file of this name where the process ends by
+ * abort(), as a failed assert() does. One recording at a time, the last one; the name must stay. It allocates memory then, so where
+ * malloc() itself has aborted, it may fail again. */
+static inline void domepeeler_on_abort(struct domepeeler *d, const char *path) {
+    domepeeler_aborting()->recording = d;
+    domepeeler_aborting()->path = path;
+    signal(SIGABRT, domepeeler_aborted);
 }
 
 /* Keeps what is wrong with the session by this report. */

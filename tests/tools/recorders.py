@@ -2928,6 +2928,63 @@ REFUSED_C = [
 ]
 
 
+# Tests that fail by themselves, or not: their words tell whether the list is lost that the last read shows, and whether the test holds.
+ABORTS_C = f"""#include "{ROOT / 'recorders'}/domepeeler.h"
+#include <assert.h>
+int main(int argc, char **argv) {{
+    const char *list[] = {{"a"}};
+    struct domepeeler *recording = domepeeler_new(1);
+    domepeeler_on_abort(recording, "aborted.trace");
+    if (argc != 3 || !domepeeler_insert(recording, 0, "a", 0, list, 1) || !domepeeler_read(recording, 0, list, argv[1][0] == 's')) return 2;
+    assert(argv[2][0] == 'h' || argv[2][0] == 'f');
+    domepeeler_free(recording);
+    if (argv[2][0] == 'f') abort();
+    return 0;
+}}
+"""
+LISP = ["emacs", "-Q", "--batch", "-l", "aborts.el"]
+ABORTS_EL = """(load "{recorder}" nil t)
+(let* ((argv (prog1 command-line-args-left (setq command-line-args-left nil)))
+       (domepeeler-weak (equal (nth 2 argv) "weak")))
+  (domepeeler-with-recording (recording 1) "aborted.trace"
+    (domepeeler-insert recording 0 "a" 0 '("a"))
+    (domepeeler-read recording 0 (and (equal (nth 0 argv) "shown") '("a")))
+    (unless (equal (nth 1 argv) "holds") (error "By itself"))))
+"""
+
+
+def check_aborts(tally: Tally, program: str, folder: Path) -> None:
+    """A test in C that ends by `abort`, and one in Emacs Lisp that fails by an error of its own, have their trace saved and its verdict told,
+    accepted or not. In Emacs Lisp the macro judges too, and removes what an earlier run has saved. A recording that is freed is let alone."""
+    place = folder / "aborts"
+    place.mkdir()
+    (place / "aborts.c").write_text(ABORTS_C)
+    (place / "aborts.el").write_text(ABORTS_EL.format(recorder=ROOT / "recorders/domepeeler.el"))
+    subprocess.run([*GCC, "-o", place / "aborts", place / "aborts.c"], check=True)
+    surroundings = {**os.environ, "DOMEPEELER": program, "DOMEPEELER_EXPLAIN": EXPLAIN, "LC_ALL": "C.UTF-8"}
+    saved = place / "aborted.trace"
+
+    def ran(*words: str) -> subprocess.CompletedProcess:
+        return subprocess.run(words, cwd=place, env=surroundings, capture_output=True, text=True)
+
+    def is_told(done: subprocess.CompletedProcess, verdict: str, last: str) -> bool:
+        return f"{verdict}: " in done.stderr and "The trace is saved: aborted.trace\n" in done.stderr and saved.read_text().endswith(f"{last}\n")
+
+    for shown, verdict, last in ("shown", "accepted", "0 read : a"), ("lost", "contents 0.2", "0 read :"):
+        done = ran("./aborts", shown, "not")
+        tally.check(f"C: a failed assert, {shown}", done.returncode == -signal.SIGABRT and "assert" in done.stderr.lower() and is_told(done, verdict, last), done)
+        saved.unlink()
+        for words in ("./aborts", shown, "holds"), ("./aborts", shown, "freed"):
+            done = ran(*words)
+            tally.check(f"C: {words[1:]}", done.returncode == (0 if words[2] == "holds" else -signal.SIGABRT) and not done.stderr and not saved.exists(), done)
+        done = ran(*LISP, shown, "not")
+        tally.check(f"Emacs Lisp: an error of its own, {shown}", done.returncode != 0 and "By itself" in done.stderr and is_told(done, verdict, last), done)
+        done = ran(*LISP, shown, "holds", "weak")
+        is_right = done.returncode == 0 and not saved.exists() and not Path(f"{saved}.lines").exists() if shown == "shown" else (
+            done.returncode != 0 and is_told(done, verdict, last))
+        tally.check(f"Emacs Lisp: judged at the end, {shown}", is_right, done)
+
+
 def check_hostile_c(tally: Tally, recorder: Recorder, folder: Path) -> None:
     """A program that is interrupted, or ignores how children end, is judged all the same. What was refused is told before all else, whatever
     the verdict, but where a session may well go on."""
@@ -3033,6 +3090,7 @@ def main() -> None:
         check_places_c(tally, program, folder)
         check_stop_cpp(tally, program, folder)
         check_locked_threads(tally, folder)
+        check_aborts(tally, program, folder)
         check_hostile_c(tally, Recorder("c", drivers["c"], program), folder)
     tally.close()
 
