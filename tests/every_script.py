@@ -43,8 +43,8 @@ SCRIPTS = [
 ]
 SHORT = ["program/black_box.py", "program/large_cores.py", "program/mutated.py", "program/parts_of_reads.py", "tools/versions.py", "tools/names.py"]
 
-# Debian's packages that the scripts need, and the command of each that has one: together they are installed in a third of the time. A script
-# that runs by itself installs what it needs.
+# Debian's packages that the scripts need, and the command of each that has one: they are installed at once. A script that runs by itself
+# installs what it needs.
 PACKAGES = {
     "cargo": "cargo", "clang": "clang", "dpkg-dev": "dpkg-shlibdeps", "emacs-nox": "emacs", "fish": "fish", "g++": "g++", "gcc": "gcc",
     "librust-proptest+std-dev": None, "lintian": "lintian", "man-db": "man", "node-prosemirror-transform": None, "node-yjs": None,
