@@ -37,6 +37,8 @@
 ;;
 ;; Where updates have vector clocks, `domepeeler-received-clock' writes the receipts, and refuses what is not causal.
 ;;
+;; Threads of Emacs take turns only where one waits, and without `stop' no call that records does.  With it let one thread record.
+;;
 ;; Each call that a trace can't say signals `domepeeler-refused', or `domepeeler-full' at a limit, and leaves the
 ;; recording as it was.
 
