@@ -22,14 +22,6 @@ name-next start text names i name h lt is =
     ∙ ap (λ l. start ++ names_text l)
     (sym (take_more names i name lt ∙ ap (λ y. take i names ++ y ∷ []) (sym is)))
 
-pub name-more : (start text : List ℕ) (names : List NameBytes) (i : ℕ) (name : NameBytes)
-    → text ≡ start ++ names_text (take i names) → slice_get names i ≡ Some name
-    → text ++ (32 ∷ name) ≡ start ++ names_text (take (i + 1) names)
-name-more start text names i name h e =
-    ap (λ t. t ++ (32 ∷ name)) h
-    ∙ flat_map_more (λ a. 32 ∷ a) start (take i names) name
-    ∙ ap (λ l. start ++ names_text l) (sym (front-more names i name e))
-
 -- there is an element at each place
 pub not-past : {X : Type 0} (xs : List X) (i : ℕ) → i < length xs → slice_get xs i ≡ None → ⊥
 not-past [] i h e = omega arith

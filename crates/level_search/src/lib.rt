@@ -1,6 +1,5 @@
 //! The conflict number of a recording, which is the least number of responses that no order of the elements
-//! follows together, and the least cycle of elements that shows it. The searches go over a table of bits,
-//! with workers in threads.
+//! follows together, and the least cycle of elements that shows it. Workers search in threads.
 //!
 //! `search` and `distances` of `list_search` are handed out too.
 //!

@@ -1,8 +1,7 @@
 //! The search by levels for a shortest cycle, and distances, over the lists of an order graph.
 //!
-//! A search looks at each place of a list once. The program calls `distances` for the ring of the least
-//! cycle. Its searches for a cycle go over a table of bits (`level_search`), and tests compare them with
-//! `search`.
+//! A search looks at each place of a list once. `level_search` searches so where a table of bits would cost
+//! more, and calls `distances` for the ring of the least cycle.
 #![tactic(auto)]
 
 mod searching;

@@ -30,8 +30,8 @@ use witnesses::Order;
 ///
 /// Without conflicts its cost is that of `contents_check::check` and linear in the places of the responses
 /// that cover all; where there are, `least_conflict` has the cost of the search. Memory is linear in the
-/// places, and where there are conflicts n * n / 8 bytes more for the n elements through which a cycle leads,
-/// and linear in these for each worker.
+/// places. Where there are conflicts it is linear for each worker in the n elements through which a cycle
+/// leads, and a table of n * n / 8 bytes is made only where that is at most 8 bytes for each place.
 pub fn judge<H: Threads + Sync, G: Gate>(
     rt: &H,
     alloc: Global,

@@ -51,6 +51,7 @@ fn has_three(made: &Response) -> bool {
 fn has_left_and_right(made: &Response) -> bool {
     made.len() == 2
         && made.text_len() == 11
+        && made.text() == b" left right".as_slice()
         && made.bytes_at(0) == Some(b"left".as_slice())
         && has_at(made, 1, "right")
 }
