@@ -37,7 +37,7 @@
 ;;
 ;; Where updates have vector clocks, `domepeeler-received-clock' writes the receipts, and refuses what is not causal.
 ;;
-;; Threads of Emacs take turns only where one waits, and without `stop' no call that records does.  With it let one thread record.
+;; Threads may share a recording: each call is whole before the next one begins.
 ;;
 ;; Each call that a trace can't say signals `domepeeler-refused', or `domepeeler-full' at a limit, and leaves the
 ;; recording as it was.
@@ -84,6 +84,7 @@ They are those that a replica lacks, or has made nothing of.")
   (pasts (make-hash-table)))   ; the same at each operation of its own, by its number
 
 (cl-defstruct (domepeeler-recording (:constructor domepeeler--make) (:copier nil))
+  (lock (and (fboundp 'make-mutex) (make-mutex)))  ; held by each call; nil in an Emacs without threads
   lines     ; the last one first
   replicas  ; a vector
   only
@@ -94,6 +95,20 @@ They are those that a replica lacks, or has made nothing of.")
   stopped   ; what is wrong with it, in words
   notes     ; the last one first
   deliveries)  ; of each call of `domepeeler-delivered' the first line that it wrote, and the last; the last call first
+
+(defmacro domepeeler--defun (name arguments doc &rest body)
+  "Define NAME as `defun' does: a call on a recording, its first argument.
+It is whole before one of another thread on that recording begins."
+  (declare (doc-string 3) (indent 2))
+  `(defun ,name ,arguments
+     ,doc
+     (domepeeler--alone ,(car arguments) (lambda () ,@body))))
+
+(defun domepeeler--alone (recording body)
+  "Call BODY while no other thread does anything with RECORDING."
+  (if (domepeeler-recording-lock recording)
+      (with-mutex (domepeeler-recording-lock recording) (funcall body))
+    (funcall body)))
 
 (defun domepeeler--refuse (format &rest words)
   (signal 'domepeeler-refused (list (apply #'format format words))))
@@ -169,27 +184,27 @@ that again, and record nothing.  A program that can't be run signals as in
                 (error (format "The recording is not accepted: %s. There is no explanation: %s" verdict (error-message-string why)))))
         (domepeeler--go-on recording)))))
 
-(defun domepeeler-insert (recording replica name position response)
+(domepeeler--defun domepeeler-insert (recording replica name position response)
   "REPLICA inserted NAME at POSITION and then had the list RESPONSE.
 Answers the operation's number."
   (domepeeler--go-on recording)
   (prog1 (domepeeler--operation recording replica "ins" response name position)
     (domepeeler--answered recording)))
 
-(defun domepeeler-delete (recording replica name response)
+(domepeeler--defun domepeeler-delete (recording replica name response)
   "REPLICA deleted NAME and then had the list RESPONSE.
 Answers the operation's number."
   (domepeeler--go-on recording)
   (prog1 (domepeeler--operation recording replica "del" response name)
     (domepeeler--answered recording)))
 
-(defun domepeeler-read (recording replica response)
+(domepeeler--defun domepeeler-read (recording replica response)
   "REPLICA read its list, RESPONSE.  Answers the operation's number."
   (domepeeler--go-on recording)
   (prog1 (domepeeler--operation recording replica "read" response)
     (domepeeler--answered recording)))
 
-(defun domepeeler-view (recording replica part)
+(domepeeler--defun domepeeler-view (recording replica part)
   "REPLICA showed PART of its list, the window of an editor say.
 Answers the operation's number."
   (domepeeler--go-on recording)
@@ -197,7 +212,7 @@ Answers the operation's number."
     (setcar (last (domepeeler-recording-lines recording)) "trace 2")
     (domepeeler--answered recording)))
 
-(defun domepeeler-received (recording replica author n)
+(domepeeler--defun domepeeler-received (recording replica author n)
   "AUTHOR's operation N was applied at REPLICA.
 With it came all that AUTHOR had seen by then."
   (domepeeler--go-on recording)
@@ -213,7 +228,7 @@ With it came all that AUTHOR had seen by then."
   (domepeeler--room recording replica)
   (domepeeler--receipt recording replica author n))
 
-(defun domepeeler-received-clock (recording replica author clock &optional changes)
+(domepeeler--defun domepeeler-received-clock (recording replica author clock &optional changes)
   "AUTHOR's update with the vector CLOCK was applied at REPLICA.
 It carries the last of AUTHOR's changes that CLOCK counts, or the last CHANGES.
 CLOCK is a list or a vector: for each replica how many of its inserts and
@@ -242,7 +257,7 @@ Writes the receipt, unless REPLICA has it already."
         (domepeeler--room recording replica)
         (domepeeler--receipt recording replica author last)))))
 
-(defun domepeeler-delivered (recording lists)
+(domepeeler--defun domepeeler-delivered (recording lists)
   "By now everything has arrived everywhere.
 Each replica, from 0 upward, shows its list of LISTS, a list or a vector.
 Writes for each replica the receipts that are missing, and a read.  So a
@@ -272,7 +287,7 @@ RECORDING keeps which lines it wrote."
       (domepeeler--answered recording)
       nil)))
 
-(defun domepeeler-note (recording text)
+(domepeeler--defun domepeeler-note (recording text)
   "Keep TEXT, a word of yours on the whole RECORDING.
 Such is the seed of a random session: `domepeeler-save' writes it, and
 `domepeeler-explain' names it."
@@ -284,13 +299,13 @@ Such is the seed of a random session: `domepeeler-save' writes it, and
   (push text (domepeeler-recording-notes recording))
   nil)
 
-(defun domepeeler-lines (recording)
+(domepeeler--defun domepeeler-lines (recording)
   "How many lines the text of RECORDING has.
 A debugger stops by (when (= (domepeeler-lines recording) N) (debug))."
   (seq-reduce (lambda (lines own) (+ lines (domepeeler--replica-entries own)))
               (domepeeler-recording-replicas recording) domepeeler--head))
 
-(defun domepeeler-clock (recording replica)
+(domepeeler--defun domepeeler-clock (recording replica)
   "How many inserts and deletes of each replica REPLICA has, as a list.
 It is the vector clock of an update that REPLICA makes now."
   (domepeeler--acts recording replica)
@@ -299,17 +314,17 @@ It is the vector clock of an update that REPLICA makes now."
            for other from 0
            collect (domepeeler--up-to of (domepeeler--has recording replica other))))
 
-(defun domepeeler-ids (recording)
+(domepeeler--defun domepeeler-ids (recording)
   "An alist of RECORDING's names that stand for an id, each with this."
   (let (pairs)
     (maphash (lambda (id name) (push (cons name id) pairs)) (domepeeler-recording-short recording))
     (nreverse pairs)))
 
-(defun domepeeler-text (recording)
+(domepeeler--defun domepeeler-text (recording)
   "The trace of RECORDING; of one replica's log the text that merge.py takes."
   (concat (string-join (reverse (domepeeler-recording-lines recording)) "\n") "\n"))
 
-(defun domepeeler-save (recording file)
+(domepeeler--defun domepeeler-save (recording file)
   "Write the text of RECORDING into FILE.
 First write into a file with `.lines' behind its name how many lines the
 text has, so that the tools notice where the end of FILE is lost, the
@@ -366,7 +381,7 @@ Answers the new file's name."
        (ignore-errors (delete-file fresh))
        (signal (car why) (cdr why))))))
 
-(defun domepeeler-warnings (recording)
+(domepeeler--defun domepeeler-warnings (recording)
   "What an accepted verdict on RECORDING may hide, a list of strings.
 Such are a change that never arrived, a replica that shows nothing, a
 delete of what nothing inserts.  It asks no program, and takes time
@@ -383,7 +398,7 @@ linear in the text."
               (domepeeler--some (domepeeler--warned-of-nothing warned) "delete" "of what no line inserts")
               (domepeeler--some (domepeeler--warned-past-end warned) "insert" "past the end of a list")))))
 
-(defun domepeeler-judge (recording &optional program weak)
+(domepeeler--defun domepeeler-judge (recording &optional program weak)
   "The report of PROGRAM on RECORDING, as an alist.
 It has one more key, `warnings': where the verdict is accepted, or with
 WEAK where weak holds, a list of what that may hide, and else nil.
@@ -401,7 +416,7 @@ PROGRAM is by default that of the environment's DOMEPEELER, or \"domepeeler\"."
       (error "%s printed a report without a verdict" (domepeeler--first programs)))
     report))
 
-(defun domepeeler-explain (recording &optional explainer weak)
+(domepeeler--defun domepeeler-explain (recording &optional explainer weak)
   "What the report on RECORDING means, in words.
 At the end stand the ids of the numbered names, and the notes.  EXPLAINER
 is by default that of the environment's DOMEPEELER_EXPLAIN, or

@@ -50,8 +50,7 @@
  *
  * A pointer to such a call, and one in brackets as (domepeeler_insert)(...), is the plain function, which names no line.
  *
- * One recording is one thread's: where several threads record, hold a lock of your own around each call. Without it ten of ten runs of four
- * threads crashed. */
+ * Threads may share a recording: each call is whole before the next one begins. With a C library older than glibc 2.34 link with -pthread. */
 #ifndef DOMEPEELER_H
 #define DOMEPEELER_H
 
@@ -62,6 +61,8 @@
 #include <ctype.h>
 #include <errno.h>
 #include <fcntl.h>
+#include <poll.h>
+#include <pthread.h>
 #include <signal.h>
 #include <spawn.h>
 #include <stdarg.h>
@@ -127,6 +128,7 @@ struct domepeeler_id {
 };
 
 struct domepeeler {
+    pthread_mutex_t *lock; /* held by each call */
     char *text;
     size_t length, room;
     int replicas, only; /* only is -1 where all replicas are recorded */
@@ -143,6 +145,7 @@ struct domepeeler {
     int line;
     size_t refused; /* calls, but for limits and what is not causal, after which a session may well go on */
     int stops, is_weak_enough, is_wrong; /* whether calls are judged, and how; whether one was wrong */
+    int is_stopping;                     /* whether the call that is under way is to call back when it ends */
     void (*call_back)(const char *words, void *data);
     void *data;
     char *wrong; /* the words for that, or NULL without memory */
@@ -341,6 +344,8 @@ static inline void domepeeler_free(struct domepeeler *d) {
     free(d->deliveries);
     free(d->text);
     free(d->wrong);
+    if (d->lock) pthread_mutex_destroy(d->lock);
+    free(d->lock);
     free(d);
 }
 
@@ -349,7 +354,11 @@ static inline void domepeeler_free(struct domepeeler *d) {
 static inline struct domepeeler *domepeeler_new_only(int replicas, int only) {
     if (replicas < 1 || replicas > DOMEPEELER_REPLICAS || only < -1 || only >= replicas) return NULL;
     struct domepeeler *d = (struct domepeeler *)calloc(1, sizeof *d);
-    if (!d || !domepeeler_grow(d, 64)) {
+    pthread_mutex_t *lock = d ? (pthread_mutex_t *)malloc(sizeof *lock) : NULL;
+    int is_ready = lock && !pthread_mutex_init(lock, NULL);
+    if (is_ready) d->lock = lock;
+    else free(lock);
+    if (!is_ready || !domepeeler_grow(d, 64)) {
         domepeeler_free(d);
         return NULL;
     }
@@ -364,37 +373,14 @@ static inline struct domepeeler *domepeeler_new_only(int replicas, int only) {
 /* A session of so many replicas, 1 to 16; else NULL. */
 static inline struct domepeeler *domepeeler_new(int replicas) { return domepeeler_new_only(replicas, -1); }
 
-/* Why the last call that answered 0 or NULL did so; of NULL, why there is no recording. */
-static inline const char *domepeeler_why(const struct domepeeler *d) {
-    return d ? d->why : "there is no recording: replicas are 1 to 16, a log is of one of them, and memory is needed";
-}
-
-/* Whether that was because a limit of traces is reached. */
-static inline int domepeeler_full(const struct domepeeler *d) { return d && d->full; }
-
-/* The trace; of one replica's log the text that merge.py takes. It stays until the next call. */
-static inline const char *domepeeler_text(const struct domepeeler *d) { return d->text; }
-
-/* How many lines the text has. A debugger's line N: if (domepeeler_lines(recording) == N) raise(SIGTRAP); */
-static inline size_t domepeeler_lines(const struct domepeeler *d) {
+/* How many lines the text has. */
+static inline size_t domepeeler_lines_now(const struct domepeeler *d) {
     size_t lines = DOMEPEELER_HEAD;
     for (int i = 0; i < d->replicas; i++) lines += d->of[i].entries;
     return lines;
 }
 
-/* From where the next call comes. */
-static inline void domepeeler_come_from(struct domepeeler *d, const char *file, int line) {
-    d->file = file;
-    d->line = line;
-}
-
-/* From now on the session is judged after each call that takes a list. The first after which it is not accepted, or with is_weak, weak
- * doesn't hold, answers 0; its line is recorded. The call-back, unless it is NULL, gets the words of domepeeler_explain() in that call, and
- * may end the program, or in C++ throw; domepeeler_stopped() keeps them. Later calls that record do the same, and record nothing. Where the
- * program can't be run, each such call answers 0, calls back with the reason, and keeps nothing but domepeeler_why(). Answers 1; 0 of one
- * replica's log. */
-DOMEPEELER_CHECKED static inline unsigned domepeeler_stop(struct domepeeler *d, int is_weak, void (*call_back)(const char *words, void *data),
-                                                          void *data) {
+static inline unsigned domepeeler_stop_now(struct domepeeler *d, int is_weak, void (*call_back)(const char *words, void *data), void *data) {
     if (d->only >= 0) return domepeeler_fail(d, "one replica's log can't stop in a wrong call: it is judged only when the logs are merged");
     d->stops = 1;
     d->is_weak_enough = is_weak;
@@ -404,21 +390,19 @@ DOMEPEELER_CHECKED static inline unsigned domepeeler_stop(struct domepeeler *d, 
 }
 
 /* What is wrong with the session, if a call has stopped; else NULL. */
-static inline const char *domepeeler_stopped(const struct domepeeler *d) {
+static inline const char *domepeeler_stopped_now(const struct domepeeler *d) {
     return !d->is_wrong ? NULL : d->wrong ? d->wrong : "The recording is not accepted. There is no memory for an explanation";
 }
 
-/* Ends a call whose answer is wrong, or was not judged. */
+/* Ends a call whose answer is wrong, or was not judged; domepeeler_leave() calls back. */
 static inline unsigned domepeeler_stop_by(struct domepeeler *d, const char *words) {
-    domepeeler_come_from(d, NULL, 0); /* the call-back need not return */
-    domepeeler_fail_by_line(d, words);
-    if (d->call_back) d->call_back(words, d->data);
-    return 0;
+    d->is_stopping = 1;
+    return domepeeler_fail_by_line(d, words);
 }
 
 /* Whether no call was wrong so far. */
 static inline unsigned domepeeler_goes_on(struct domepeeler *d) {
-    return !d->is_wrong || domepeeler_stop_by(d, domepeeler_stopped(d));
+    return !d->is_wrong || domepeeler_stop_by(d, domepeeler_stopped_now(d));
 }
 
 /* Behind a call that takes a list and answers so much; it stands below. */
@@ -634,15 +618,12 @@ static inline void domepeeler_say_callers(const struct domepeeler *d, struct dom
     }
 }
 
-/* Writes the text into a file of this name; and first, into one with `.lines` behind the name, how many lines it has, so that the
- * tools notice where the end of the file is lost, the notes, which lines domepeeler_delivered() wrote, and from where in your code each
- * line was recorded. Each appears whole, or what stood there stays. A pipe or a device has no such file beside it. Answers 1. */
-DOMEPEELER_CHECKED static inline unsigned domepeeler_save(struct domepeeler *d, const char *path) {
+static inline unsigned domepeeler_save_now(struct domepeeler *d, const char *path) {
     struct stat about;
     if (!stat(path, &about) && !S_ISREG(about.st_mode)) return domepeeler_save_into(d, path);
     struct domepeeler_words beside = {NULL, 0, 0, 0}, lines = {NULL, 0, 0, 0};
     domepeeler_say(&beside, "%s.lines", path);
-    domepeeler_say(&lines, "%zu\nlanguage c\n", domepeeler_lines(d));
+    domepeeler_say(&lines, "%zu\nlanguage c\n", domepeeler_lines_now(d));
     for (size_t i = 0; i < d->noted; i++) domepeeler_say(&lines, "note %s\n", d->notes[i]);
     for (size_t i = 0; i < d->delivered; i++) domepeeler_say(&lines, "delivered %zu %zu\n", d->deliveries[i][0], d->deliveries[i][1]);
     domepeeler_say_callers(d, &lines);
@@ -801,9 +782,8 @@ static inline unsigned domepeeler_operation(struct domepeeler *d, int replica, c
     return n;
 }
 
-/* The replica inserted the name at the position and then had this list. Answers the operation's number. */
-DOMEPEELER_CHECKED static inline unsigned domepeeler_insert(struct domepeeler *d, int replica, const char *name, long long position,
-                                         const char *const *response, size_t names) {
+static inline unsigned domepeeler_insert_now(struct domepeeler *d, int replica, const char *name, long long position,
+                                             const char *const *response, size_t names) {
     char words[80];
     size_t known = d->known;
     if (!domepeeler_goes_on(d) || !domepeeler_acts(d, replica) || !(name = domepeeler_name(d, name))) return 0;
@@ -814,9 +794,8 @@ DOMEPEELER_CHECKED static inline unsigned domepeeler_insert(struct domepeeler *d
     return domepeeler_answered(d, domepeeler_operation(d, replica, is_right ? words : NULL, 1, response, names, known));
 }
 
-/* The replica deleted the name and then had this list. Answers the operation's number. */
-DOMEPEELER_CHECKED static inline unsigned domepeeler_delete(struct domepeeler *d, int replica, const char *name,
-                                         const char *const *response, size_t names) {
+static inline unsigned domepeeler_delete_now(struct domepeeler *d, int replica, const char *name, const char *const *response,
+                                             size_t names) {
     char words[80];
     size_t known = d->known;
     if (!domepeeler_goes_on(d) || !domepeeler_acts(d, replica) || !(name = domepeeler_name(d, name))) return 0;
@@ -824,14 +803,12 @@ DOMEPEELER_CHECKED static inline unsigned domepeeler_delete(struct domepeeler *d
     return domepeeler_answered(d, domepeeler_operation(d, replica, words, 0, response, names, known));
 }
 
-/* The replica read its list. Answers the operation's number. */
-DOMEPEELER_CHECKED static inline unsigned domepeeler_read(struct domepeeler *d, int replica, const char *const *response, size_t names) {
+static inline unsigned domepeeler_read_now(struct domepeeler *d, int replica, const char *const *response, size_t names) {
     if (!domepeeler_goes_on(d) || !domepeeler_acts(d, replica)) return 0;
     return domepeeler_answered(d, domepeeler_operation(d, replica, "read", 0, response, names, d->known));
 }
 
-/* The replica showed this part of its list, the window of an editor say. Answers the operation's number. */
-DOMEPEELER_CHECKED static inline unsigned domepeeler_view(struct domepeeler *d, int replica, const char *const *part, size_t names) {
+static inline unsigned domepeeler_view_now(struct domepeeler *d, int replica, const char *const *part, size_t names) {
     if (!domepeeler_goes_on(d) || !domepeeler_acts(d, replica)) return 0;
     unsigned n = domepeeler_operation(d, replica, "view", 0, part, names, d->known);
     if (n) d->text[strlen("trace ")] = '2';
@@ -854,8 +831,7 @@ static inline unsigned domepeeler_receipt(struct domepeeler *d, int replica, int
     return 1;
 }
 
-/* The author's operation n, and with it all that the author had seen by then, was applied at the replica. Answers 1. */
-DOMEPEELER_CHECKED static inline unsigned domepeeler_received(struct domepeeler *d, int replica, int author, long long n) {
+static inline unsigned domepeeler_received_now(struct domepeeler *d, int replica, int author, long long n) {
     if (!domepeeler_goes_on(d) || !domepeeler_acts(d, replica) || !domepeeler_known(d, author)) return 0;
     if (n < 1 || n > DOMEPEELER_POSITION)
         return domepeeler_refuse(d, 0, "operation number %lld is not a whole number from 1 to %lld", n,
@@ -886,13 +862,9 @@ static inline int domepeeler_one_more_delivery(struct domepeeler *d) {
     return deliveries != NULL;
 }
 
-/* By now everything has arrived everywhere, and each replica, from 0 upward, shows its list of these, which has so many names; count is
- * the number of lists. Writes for each replica the receipts that are missing, and a read. So a change that an editor has lost, or still
- * holds back, is `contents` there. The recording keeps which lines it wrote. Answers 1. */
-DOMEPEELER_CHECKED static inline unsigned domepeeler_delivered(struct domepeeler *d, const char *const *const *lists,
-                                                               const size_t *names, size_t count) {
+static inline unsigned domepeeler_delivered_now(struct domepeeler *d, const char *const *const *lists, const size_t *names, size_t count) {
     struct domepeeler_replica before[DOMEPEELER_REPLICAS];
-    size_t length = d->length, known = d->known, called = d->called, first = domepeeler_lines(d) + 1;
+    size_t length = d->length, known = d->known, called = d->called, first = domepeeler_lines_now(d) + 1;
     if (!domepeeler_goes_on(d)) return 0;
     if (d->only >= 0)
         return domepeeler_refuse(d, 0, "one replica's log can't say that everything has arrived: the others are recorded elsewhere");
@@ -912,7 +884,7 @@ DOMEPEELER_CHECKED static inline unsigned domepeeler_delivered(struct domepeeler
     }
     if (is_said) {
         d->deliveries[d->delivered][0] = first;
-        d->deliveries[d->delivered++][1] = domepeeler_lines(d);
+        d->deliveries[d->delivered++][1] = domepeeler_lines_now(d);
         return domepeeler_answered(d, 1);
     }
     d->text[d->length = length] = 0;
@@ -921,9 +893,7 @@ DOMEPEELER_CHECKED static inline unsigned domepeeler_delivered(struct domepeeler
     return 0;
 }
 
-/* Keeps a word of yours, in UTF-8, on the whole recording, such as the seed of a random session: domepeeler_save() writes it, and
- * domepeeler_explain() names it. Answers 1. */
-DOMEPEELER_CHECKED static inline unsigned domepeeler_note(struct domepeeler *d, const char *text) {
+static inline unsigned domepeeler_note_now(struct domepeeler *d, const char *text) {
     const unsigned char *at = (const unsigned char *)text;
     int is_right = at && *at;
     for (size_t letters = 0; is_right && *at; letters++)
@@ -960,9 +930,7 @@ static inline unsigned domepeeler_in_one_recording(struct domepeeler *d) {
                                    "and call received");
 }
 
-/* How many inserts and deletes of each replica this one has, one count for each: the vector clock of an update that it makes now.
- * Answers 1. */
-DOMEPEELER_CHECKED static inline unsigned domepeeler_clock(struct domepeeler *d, int replica, unsigned *clock) {
+static inline unsigned domepeeler_clock_now(struct domepeeler *d, int replica, unsigned *clock) {
     if (!domepeeler_acts(d, replica) || !domepeeler_in_one_recording(d)) return 0;
     for (int other = 0; other < d->replicas; other++)
         clock[other] = domepeeler_up_to(&d->of[other], domepeeler_has(d, replica, other));
@@ -998,11 +966,8 @@ static inline unsigned domepeeler_check_causal(struct domepeeler *d, int replica
     return 1;
 }
 
-/* The author's update with this vector clock was applied at the replica: it carries the last of the author's changes that the clock
- * counts, or so many of the last. The clock has for each replica how many of its inserts and deletes the author had seen, its own
- * with the carried ones among them. Writes the receipt, unless the replica has it already. Answers 1. */
-DOMEPEELER_CHECKED static inline unsigned domepeeler_received_clock(struct domepeeler *d, int replica, int author, const unsigned *clock,
-                                                 size_t counts, unsigned changes) {
+static inline unsigned domepeeler_received_clock_now(struct domepeeler *d, int replica, int author, const unsigned *clock, size_t counts,
+                                                     unsigned changes) {
     if (!domepeeler_goes_on(d) || !domepeeler_acts(d, replica) || !domepeeler_known(d, author)) return 0;
     if (author == replica) return domepeeler_refuse(d, 0, "replica %d receives no operation of its own", replica);
     if (!domepeeler_check_clock(d, clock, counts)) return 0;
@@ -1332,13 +1297,10 @@ static inline void domepeeler_say_refused(const struct domepeeler *d, struct dom
         domepeeler_say(said, "%zu calls were refused, so what they say is not recorded; the first: %s%s", d->refused, d->first, end);
 }
 
-/* What an accepted verdict on this recording may hide, a line each, for free(): a call that was refused, but for limits and what is not
- * causal; a change that never arrived, a replica that shows nothing, a delete of what nothing inserts. Empty where nothing is to be said;
- * NULL where there is no answer. It asks no program, and takes time linear in the text. */
-DOMEPEELER_CHECKED static inline char *domepeeler_warnings(struct domepeeler *d) {
+static inline char *domepeeler_warnings_now(struct domepeeler *d) {
     struct domepeeler_words said = {NULL, 0, 0, 0};
     struct domepeeler_warned w;
-    size_t entries = domepeeler_lines(d) - DOMEPEELER_HEAD;
+    size_t entries = domepeeler_lines_now(d) - DOMEPEELER_HEAD;
     if (d->only >= 0) {
         domepeeler_fail(d, "one replica's log is no recording: merge the logs first");
         return NULL;
@@ -1525,7 +1487,7 @@ static inline char *domepeeler_report(struct domepeeler *d, const char *program)
     if (!program) program = getenv("DOMEPEELER");
     if (!program || !*program) program = "domepeeler";
     const char *many[] = {program, "verdict", "--json", "-", NULL}, *few[] = {program, "verdict", "--workers", "1", "--json", "-", NULL};
-    int is_short = domepeeler_lines(d) < DOMEPEELER_SHORT;
+    int is_short = domepeeler_lines_now(d) < DOMEPEELER_SHORT;
     char *report = domepeeler_ask(d, is_short ? few : many, "the program's path in DOMEPEELER", "report", '{');
     if (!report || (strrchr(report, '}') && strstr(report, "\"verdict\":\""))) return report;
     domepeeler_fail(d, "%s printed a report without a verdict", program);
@@ -1537,15 +1499,12 @@ static inline char *domepeeler_report(struct domepeeler *d, const char *program)
  * where there is no answer. */
 static inline char *domepeeler_beside(struct domepeeler *d, int is_passing) {
     struct domepeeler_words said = {NULL, 0, 0, 0};
-    if (is_passing) return domepeeler_warnings(d);
+    if (is_passing) return domepeeler_warnings_now(d);
     domepeeler_say_refused(d, &said, "\n");
     return domepeeler_said(d, &said);
 }
 
-/* The report, as JSON, of the program on this recording; free() it. NULL where there is none. It has one more key, `warnings`: a list of
- * what an accepted verdict may hide; of any other it says no more than whether calls were refused. The program is that of the environment's
- * DOMEPEELER, or domepeeler, where NULL is given. */
-DOMEPEELER_CHECKED static inline char *domepeeler_judge(struct domepeeler *d, const char *program) {
+static inline char *domepeeler_judge_now(struct domepeeler *d, const char *program) {
     char *report = domepeeler_report(d, program);
     if (!report) return NULL;
     char *warnings = domepeeler_beside(d, strstr(report, "\"verdict\":\"accepted\"") != NULL);
@@ -1555,14 +1514,11 @@ DOMEPEELER_CHECKED static inline char *domepeeler_judge(struct domepeeler *d, co
     return NULL;
 }
 
-/* Whether the recording passes where the editor promises the weak list specification alone: weak holds, by the program's report, and no
- * warning says what that may hide. Answers 1; else domepeeler_why() has the first warning, such as that a call was refused, the verdict, or
- * why there is none. The program is as for domepeeler_judge(). */
-DOMEPEELER_CHECKED static inline unsigned domepeeler_passes_weak(struct domepeeler *d, const char *program) {
+static inline unsigned domepeeler_passes_weak_now(struct domepeeler *d, const char *program) {
     if (!program) program = getenv("DOMEPEELER");
     if (!program || !*program) program = "domepeeler";
     const char *many[] = {program, "verdict", "-", NULL}, *few[] = {program, "verdict", "--workers", "1", "-", NULL};
-    int is_short = domepeeler_lines(d) < DOMEPEELER_SHORT;
+    int is_short = domepeeler_lines_now(d) < DOMEPEELER_SHORT;
     char *report = domepeeler_ask(d, is_short ? few : many, "the program's path in DOMEPEELER", "report", 'r');
     if (!report) return 0;
     const char *verdict = strchr(report, '\n');
@@ -1703,38 +1659,12 @@ static inline char *domepeeler_explained(struct domepeeler *d, const char *expla
     return said ? domepeeler_with_ids(d, said) : NULL;
 }
 
-/* What the report on this recording means, in words, with the lines of your code, and at the end the ids of the numbered names, and the
- * notes; free() it. Before them stands whether calls were refused. NULL where there is no answer. The tool is that of the environment's
- * DOMEPEELER_EXPLAIN, or domepeeler-explain, beside the program of DOMEPEELER or on the PATH, where NULL is given. */
-DOMEPEELER_CHECKED static inline char *domepeeler_explain(struct domepeeler *d, const char *explainer) {
+static inline char *domepeeler_explain_now(struct domepeeler *d, const char *explainer) {
     return domepeeler_explained(d, explainer, NULL);
 }
 
-/* The same where the editor promises the weak list specification alone: it says first where that holds, and what comes with it. */
-DOMEPEELER_CHECKED static inline char *domepeeler_explain_weak(struct domepeeler *d, const char *explainer) {
+static inline char *domepeeler_explain_weak_now(struct domepeeler *d, const char *explainer) {
     return domepeeler_explained(d, explainer, "--weak");
-}
-
-static inline void domepeeler_aborted(int number) {
-    struct domepeeler *d = domepeeler_aborting()->recording;
-    domepeeler_aborting()->recording = NULL;
-    signal(number, SIG_DFL); /* by which abort() ends, when this comes back */
-    if (!d) return;
-    const char *path = domepeeler_aborting()->path;
-    char *words = domepeeler_explain(d, NULL);
-    fprintf(stderr, "%s\n", words ? words : domepeeler_why(d));
-    free(words);
-    if (domepeeler_save(d, path)) fprintf(stderr, "The trace is saved: %s\n", path);
-    else fprintf(stderr, "%s\n", domepeeler_why(d));
-}
-
-/* From now on, until it is freed, has the recording explained on standard error and saved into a file of this name where the process ends by
- * abort(), as a failed assert() does. One recording at a time, the last one; the name must stay. It allocates memory then, so where
- * malloc() itself has aborted, it may fail again. */
-static inline void domepeeler_on_abort(struct domepeeler *d, const char *path) {
-    domepeeler_aborting()->recording = d;
-    domepeeler_aborting()->path = path;
-    signal(SIGABRT, domepeeler_aborted);
 }
 
 /* Keeps what is wrong with the session by this report. */
@@ -1753,77 +1683,271 @@ static inline void domepeeler_keep_wrong(struct domepeeler *d, const char *repor
 /* What a call answers that takes a list and was to answer so much, when the session up to it is judged, where that is asked for. */
 static inline unsigned domepeeler_answered(struct domepeeler *d, unsigned said) {
     if (!said || !d->stops) return said;
-    char *report = domepeeler_report(d, NULL), why[sizeof d->why];
+    char *report = domepeeler_report(d, NULL);
     if (!report) {
-        memcpy(why, d->why, sizeof why);
-        return domepeeler_stop_by(d, why);
+        d->is_stopping = 1; /* with the reason that is kept already */
+        return 0;
     }
     int is_right = strstr(report, "\"verdict\":\"accepted\"") || (d->is_weak_enough && strstr(report, "\"weak\":true"));
     if (!is_right) domepeeler_keep_wrong(d, report);
     free(report);
-    return is_right ? said : domepeeler_stop_by(d, domepeeler_stopped(d));
+    return is_right ? said : domepeeler_stop_by(d, domepeeler_stopped_now(d));
 }
 
-/* The calls that record, each with the line of code from which it comes; the file's name is copied. */
+/* Waits until no other thread's call of this recording is under way, and keeps from where this one comes. */
+static inline void domepeeler_enter(struct domepeeler *d, const char *file, int line) {
+    pthread_mutex_lock(d->lock);
+    d->file = file;
+    d->line = line;
+}
+
+/* Ends the call that answers so much, and calls back where it was wrong: without the lock, as the call-back need not return. */
+static inline unsigned domepeeler_leave(struct domepeeler *d, unsigned said) {
+    char why[sizeof d->why];
+    void (*call_back)(const char *words, void *data) = d->is_stopping ? d->call_back : NULL;
+    void *data = d->data;
+    const char *words = d->is_wrong ? domepeeler_stopped_now(d) : why;
+    if (call_back) memcpy(why, d->why, sizeof why);
+    d->is_stopping = 0;
+    d->file = NULL;
+    d->line = 0;
+    pthread_mutex_unlock(d->lock);
+    if (call_back) call_back(words, data);
+    return said;
+}
+
+/* The calls below are for you. Each is whole before one of another thread on the same recording begins. */
+
+/* Why the last call that answered 0 or NULL did so; of NULL, why there is no recording. Where several threads record, it may be that of
+ * another thread's call, and it stays until the next call that answers so. */
+static inline const char *domepeeler_why(const struct domepeeler *d) {
+    return d ? d->why : "there is no recording: replicas are 1 to 16, a log is of one of them, and memory is needed";
+}
+
+/* Whether that was because a limit of traces is reached. */
+static inline int domepeeler_full(const struct domepeeler *d) {
+    if (!d) return 0;
+    pthread_mutex_lock(d->lock);
+    int is_full = d->full;
+    pthread_mutex_unlock(d->lock);
+    return is_full;
+}
+
+/* The trace; of one replica's log the text that merge.py takes. It stays until the next call, also one of another thread. */
+static inline const char *domepeeler_text(const struct domepeeler *d) { return d->text; }
+
+/* How many lines the text has. A debugger's line N: if (domepeeler_lines(recording) == N) raise(SIGTRAP); */
+static inline size_t domepeeler_lines(const struct domepeeler *d) {
+    pthread_mutex_lock(d->lock);
+    size_t lines = domepeeler_lines_now(d);
+    pthread_mutex_unlock(d->lock);
+    return lines;
+}
+
+/* What is wrong with the session, if a call has stopped; else NULL. It stays until the recording is freed. */
+static inline const char *domepeeler_stopped(const struct domepeeler *d) {
+    pthread_mutex_lock(d->lock);
+    const char *wrong = domepeeler_stopped_now(d);
+    pthread_mutex_unlock(d->lock);
+    return wrong;
+}
+
+/* The replica inserted the name at the position and then had this list. Answers the operation's number. */
 DOMEPEELER_CHECKED static inline unsigned domepeeler_insert_from(const char *file, int line, struct domepeeler *d, int replica,
                                                                  const char *name, long long position, const char *const *response,
                                                                  size_t names) {
-    domepeeler_come_from(d, file, line);
-    unsigned said = domepeeler_insert(d, replica, name, position, response, names);
-    domepeeler_come_from(d, NULL, 0);
-    return said;
+    domepeeler_enter(d, file, line);
+    return domepeeler_leave(d, domepeeler_insert_now(d, replica, name, position, response, names));
 }
 
+DOMEPEELER_CHECKED static inline unsigned domepeeler_insert(struct domepeeler *d, int replica, const char *name, long long position,
+                                                            const char *const *response, size_t names) {
+    return domepeeler_insert_from(NULL, 0, d, replica, name, position, response, names);
+}
+
+/* The replica deleted the name and then had this list. Answers the operation's number. */
 DOMEPEELER_CHECKED static inline unsigned domepeeler_delete_from(const char *file, int line, struct domepeeler *d, int replica,
                                                                  const char *name, const char *const *response, size_t names) {
-    domepeeler_come_from(d, file, line);
-    unsigned said = domepeeler_delete(d, replica, name, response, names);
-    domepeeler_come_from(d, NULL, 0);
-    return said;
+    domepeeler_enter(d, file, line);
+    return domepeeler_leave(d, domepeeler_delete_now(d, replica, name, response, names));
 }
 
+DOMEPEELER_CHECKED static inline unsigned domepeeler_delete(struct domepeeler *d, int replica, const char *name,
+                                                            const char *const *response, size_t names) {
+    return domepeeler_delete_from(NULL, 0, d, replica, name, response, names);
+}
+
+/* The replica read its list. Answers the operation's number. */
 DOMEPEELER_CHECKED static inline unsigned domepeeler_read_from(const char *file, int line, struct domepeeler *d, int replica,
                                                                const char *const *response, size_t names) {
-    domepeeler_come_from(d, file, line);
-    unsigned said = domepeeler_read(d, replica, response, names);
-    domepeeler_come_from(d, NULL, 0);
-    return said;
+    domepeeler_enter(d, file, line);
+    return domepeeler_leave(d, domepeeler_read_now(d, replica, response, names));
 }
 
+DOMEPEELER_CHECKED static inline unsigned domepeeler_read(struct domepeeler *d, int replica, const char *const *response, size_t names) {
+    return domepeeler_read_from(NULL, 0, d, replica, response, names);
+}
+
+/* The replica showed this part of its list, the window of an editor say. Answers the operation's number. */
 DOMEPEELER_CHECKED static inline unsigned domepeeler_view_from(const char *file, int line, struct domepeeler *d, int replica,
                                                                const char *const *part, size_t names) {
-    domepeeler_come_from(d, file, line);
-    unsigned said = domepeeler_view(d, replica, part, names);
-    domepeeler_come_from(d, NULL, 0);
-    return said;
+    domepeeler_enter(d, file, line);
+    return domepeeler_leave(d, domepeeler_view_now(d, replica, part, names));
 }
 
+DOMEPEELER_CHECKED static inline unsigned domepeeler_view(struct domepeeler *d, int replica, const char *const *part, size_t names) {
+    return domepeeler_view_from(NULL, 0, d, replica, part, names);
+}
+
+/* The author's operation n, and with it all that the author had seen by then, was applied at the replica. Answers 1. */
 DOMEPEELER_CHECKED static inline unsigned domepeeler_received_from(const char *file, int line, struct domepeeler *d, int replica,
                                                                    int author, long long n) {
-    domepeeler_come_from(d, file, line);
-    unsigned said = domepeeler_received(d, replica, author, n);
-    domepeeler_come_from(d, NULL, 0);
-    return said;
+    domepeeler_enter(d, file, line);
+    return domepeeler_leave(d, domepeeler_received_now(d, replica, author, n));
 }
 
+DOMEPEELER_CHECKED static inline unsigned domepeeler_received(struct domepeeler *d, int replica, int author, long long n) {
+    return domepeeler_received_from(NULL, 0, d, replica, author, n);
+}
+
+/* How many inserts and deletes of each replica this one has, one count for each: the vector clock of an update that it makes now.
+ * Answers 1. */
+DOMEPEELER_CHECKED static inline unsigned domepeeler_clock(struct domepeeler *d, int replica, unsigned *clock) {
+    domepeeler_enter(d, NULL, 0);
+    return domepeeler_leave(d, domepeeler_clock_now(d, replica, clock));
+}
+
+/* The author's update with this vector clock was applied at the replica: it carries the last of the author's changes that the clock
+ * counts, or so many of the last. The clock has for each replica how many of its inserts and deletes the author had seen, its own
+ * with the carried ones among them. Writes the receipt, unless the replica has it already. Answers 1. */
 DOMEPEELER_CHECKED static inline unsigned domepeeler_received_clock_from(const char *file, int line, struct domepeeler *d, int replica,
                                                                          int author, const unsigned *clock, size_t counts,
                                                                          unsigned changes) {
-    domepeeler_come_from(d, file, line);
-    unsigned said = domepeeler_received_clock(d, replica, author, clock, counts, changes);
-    domepeeler_come_from(d, NULL, 0);
-    return said;
+    domepeeler_enter(d, file, line);
+    return domepeeler_leave(d, domepeeler_received_clock_now(d, replica, author, clock, counts, changes));
 }
 
+DOMEPEELER_CHECKED static inline unsigned domepeeler_received_clock(struct domepeeler *d, int replica, int author, const unsigned *clock,
+                                                                    size_t counts, unsigned changes) {
+    return domepeeler_received_clock_from(NULL, 0, d, replica, author, clock, counts, changes);
+}
+
+/* By now everything has arrived everywhere, and each replica, from 0 upward, shows its list of these, which has so many names; count is
+ * the number of lists. Writes for each replica the receipts that are missing, and a read. So a change that an editor has lost, or still
+ * holds back, is `contents` there. The recording keeps which lines it wrote. Answers 1. */
 DOMEPEELER_CHECKED static inline unsigned domepeeler_delivered_from(const char *file, int line, struct domepeeler *d,
-                                                                    const char *const *const *lists, const size_t *names,
-                                                                    size_t count) {
-    domepeeler_come_from(d, file, line);
-    unsigned said = domepeeler_delivered(d, lists, names, count);
-    domepeeler_come_from(d, NULL, 0);
+                                                                    const char *const *const *lists, const size_t *names, size_t count) {
+    domepeeler_enter(d, file, line);
+    return domepeeler_leave(d, domepeeler_delivered_now(d, lists, names, count));
+}
+
+DOMEPEELER_CHECKED static inline unsigned domepeeler_delivered(struct domepeeler *d, const char *const *const *lists, const size_t *names,
+                                                               size_t count) {
+    return domepeeler_delivered_from(NULL, 0, d, lists, names, count);
+}
+
+/* Keeps a word of yours, in UTF-8, on the whole recording, such as the seed of a random session: domepeeler_save() writes it, and
+ * domepeeler_explain() names it. Answers 1. */
+DOMEPEELER_CHECKED static inline unsigned domepeeler_note(struct domepeeler *d, const char *text) {
+    domepeeler_enter(d, NULL, 0);
+    return domepeeler_leave(d, domepeeler_note_now(d, text));
+}
+
+/* From now on the session is judged after each call that takes a list. The first after which it is not accepted, or with is_weak, weak
+ * doesn't hold, answers 0; its line is recorded. The call-back, unless it is NULL, gets the words of domepeeler_explain() in that call, and
+ * may end the program, or in C++ throw; domepeeler_stopped() keeps them. Later calls that record do the same, and record nothing. Where the
+ * program can't be run, each such call answers 0, calls back with the reason, and keeps nothing but domepeeler_why(). Answers 1; 0 of one
+ * replica's log. */
+DOMEPEELER_CHECKED static inline unsigned domepeeler_stop(struct domepeeler *d, int is_weak,
+                                                          void (*call_back)(const char *words, void *data), void *data) {
+    domepeeler_enter(d, NULL, 0);
+    return domepeeler_leave(d, domepeeler_stop_now(d, is_weak, call_back, data));
+}
+
+/* Writes the text into a file of this name; and first, into one with `.lines` behind the name, how many lines it has, so that the
+ * tools notice where the end of the file is lost, the notes, which lines domepeeler_delivered() wrote, and from where in your code each
+ * line was recorded. Each appears whole, or what stood there stays. A pipe or a device has no such file beside it. Answers 1. */
+DOMEPEELER_CHECKED static inline unsigned domepeeler_save(struct domepeeler *d, const char *path) {
+    domepeeler_enter(d, NULL, 0);
+    return domepeeler_leave(d, domepeeler_save_now(d, path));
+}
+
+/* What an accepted verdict on this recording may hide, a line each, for free(): a call that was refused, but for limits and what is not
+ * causal; a change that never arrived, a replica that shows nothing, a delete of what nothing inserts. Empty where nothing is to be said;
+ * NULL where there is no answer. It asks no program, and takes time linear in the text. */
+DOMEPEELER_CHECKED static inline char *domepeeler_warnings(struct domepeeler *d) {
+    domepeeler_enter(d, NULL, 0);
+    char *said = domepeeler_warnings_now(d);
+    domepeeler_leave(d, 1);
     return said;
 }
 
+/* The report, as JSON, of the program on this recording; free() it. NULL where there is none. It has one more key, `warnings`: a list of
+ * what an accepted verdict may hide; of any other it says no more than whether calls were refused. The program is that of the environment's
+ * DOMEPEELER, or domepeeler, where NULL is given. */
+DOMEPEELER_CHECKED static inline char *domepeeler_judge(struct domepeeler *d, const char *program) {
+    domepeeler_enter(d, NULL, 0);
+    char *said = domepeeler_judge_now(d, program);
+    domepeeler_leave(d, 1);
+    return said;
+}
+
+/* Whether the recording passes where the editor promises the weak list specification alone: weak holds, by the program's report, and no
+ * warning says what that may hide. Answers 1; else domepeeler_why() has the first warning, such as that a call was refused, the verdict, or
+ * why there is none. The program is as for domepeeler_judge(). */
+DOMEPEELER_CHECKED static inline unsigned domepeeler_passes_weak(struct domepeeler *d, const char *program) {
+    domepeeler_enter(d, NULL, 0);
+    return domepeeler_leave(d, domepeeler_passes_weak_now(d, program));
+}
+
+/* What the report on this recording means, in words, with the lines of your code, and at the end the ids of the numbered names, and the
+ * notes; free() it. Before them stands whether calls were refused. NULL where there is no answer. The tool is that of the environment's
+ * DOMEPEELER_EXPLAIN, or domepeeler-explain, beside the program of DOMEPEELER or on the PATH, where NULL is given. */
+DOMEPEELER_CHECKED static inline char *domepeeler_explain(struct domepeeler *d, const char *explainer) {
+    domepeeler_enter(d, NULL, 0);
+    char *said = domepeeler_explain_now(d, explainer);
+    domepeeler_leave(d, 1);
+    return said;
+}
+
+/* The same where the editor promises the weak list specification alone: it says first where that holds, and what comes with it. */
+DOMEPEELER_CHECKED static inline char *domepeeler_explain_weak(struct domepeeler *d, const char *explainer) {
+    domepeeler_enter(d, NULL, 0);
+    char *said = domepeeler_explain_weak_now(d, explainer);
+    domepeeler_leave(d, 1);
+    return said;
+}
+
+/* Explains the recording on standard error and saves it, where the process aborts. Where another thread's call does not end within a
+ * second, or this thread's own has aborted, it does so without the lock. */
+static inline void domepeeler_aborted(int number) {
+    enum { TRIES = 100, MILLISECONDS = 10 };
+    struct domepeeler *d = domepeeler_aborting()->recording;
+    int is_taken = EBUSY;
+    domepeeler_aborting()->recording = NULL;
+    signal(number, SIG_DFL); /* by which abort() ends, when this comes back */
+    if (!d) return;
+    for (int i = 0; i < TRIES && is_taken; i++)
+        if ((is_taken = pthread_mutex_trylock(d->lock))) poll(NULL, 0, MILLISECONDS);
+    const char *path = domepeeler_aborting()->path;
+    char *words = domepeeler_explain_now(d, NULL);
+    fprintf(stderr, "%s\n", words ? words : d->why);
+    free(words);
+    if (domepeeler_save_now(d, path)) fprintf(stderr, "The trace is saved: %s\n", path);
+    else fprintf(stderr, "%s\n", d->why);
+    if (!is_taken) pthread_mutex_unlock(d->lock);
+}
+
+/* From now on, until it is freed, has the recording explained on standard error and saved into a file of this name where the process ends by
+ * abort(), as a failed assert() does. One recording at a time, the last one; the name must stay. It allocates memory then, so where
+ * malloc() itself has aborted, it may fail again. */
+static inline void domepeeler_on_abort(struct domepeeler *d, const char *path) {
+    domepeeler_aborting()->recording = d;
+    domepeeler_aborting()->path = path;
+    signal(SIGABRT, domepeeler_aborted);
+}
+
+/* Each macro hands in the line of code from which the call comes; the file's name is copied. */
 #define domepeeler_insert(...) domepeeler_insert_from(__FILE__, __LINE__, __VA_ARGS__)
 #define domepeeler_delete(...) domepeeler_delete_from(__FILE__, __LINE__, __VA_ARGS__)
 #define domepeeler_read(...) domepeeler_read_from(__FILE__, __LINE__, __VA_ARGS__)

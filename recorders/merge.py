@@ -11,6 +11,8 @@ that are lost count, so that the tools warn of them."""
 import os
 import sys
 
+NEEDS = f"merge.py: this needs Python {3.9} or later"  # one that is too old to read this file shows this line
+
 
 def end(*fault: object) -> None:
     """Ends with 2 at what nobody has thought of, also while this is loaded: Python's own status is one that says something of the logs."""
@@ -20,6 +22,9 @@ def end(*fault: object) -> None:
 
 if __name__ == "__main__":
     sys.excepthook = end
+    if sys.version_info < (3, 9):
+        sys.stderr.write("%s, and is run by %d.%d\n" % (NEEDS, sys.version_info[0], sys.version_info[1]))
+        sys.exit(2)
 
 import argparse
 import contextlib
@@ -29,7 +34,6 @@ import signal
 import stat
 from pathlib import Path
 
-OLDEST = 3, 9  # Python that is tried
 SIDE = ".lines"  # the end of the name of a file beside a log or a trace
 NOTE = re.compile(rb"note .+")  # a line there: a word of the user's for the whole session
 LOG_MARK = b"log"  # a line there: the places are lines of a log, not of code
@@ -307,9 +311,6 @@ def main() -> None:
 
 
 if __name__ == "__main__":
-    if sys.version_info < OLDEST:
-        sys.stderr.write("merge.py: this needs Python %d.%d or later, and is run by %d.%d\n" % (OLDEST + sys.version_info[:2]))
-        sys.exit(2)
     try:
         main()
     except Stopped as stopped:  # what was begun is taken away, and nothing said

@@ -9,7 +9,7 @@ import os
 import sys
 
 
-def main() -> int:
+def main():
     import json
 
     from explaining.cycle_picture import drawing

@@ -10,6 +10,8 @@ editor failed, 2 where the recordings or the setting are at fault. Words behind 
 import os
 import sys
 
+NEEDS = f"judge_recordings: this needs Python {3.9} or later"  # one that is too old to read this file shows this line
+
 
 def end(*fault):
     """Ends with 2 at what nobody has thought of, also while this is loaded: Python's own status is one that says something of the recordings."""
@@ -19,12 +21,16 @@ def end(*fault):
 
 if __name__ == "__main__":
     sys.excepthook = end
+    if sys.version_info < (3, 9):
+        sys.stderr.write("%s, and is run by %d.%d\n" % (NEEDS, sys.version_info[0], sys.version_info[1]))
+        sys.exit(2)
 
 import json
 import re
 import signal
 import subprocess
 import traceback
+from concurrent.futures import ThreadPoolExecutor
 from pathlib import Path
 
 JUDGED, JUNIT = Path("judged"), "junit.xml"  # which each run writes there before all else
@@ -33,6 +39,7 @@ IN_MESSAGES, IN_PROPERTIES = "%\r\n", "%\r\n:,"  # marks that GitHub wants escap
 WEAK, WEAK_ALONE = "--weak", "weak holds, strong doesn't"
 MOST_LEFT = 3  # names of other files that are told
 MOST_SHOWN = 120  # letters of what the tool printed otherwise
+BEGUN = set()  # the tools that are at work
 
 
 class Failed(Exception):
@@ -51,23 +58,17 @@ def ended(*words):
     try:
         with subprocess.Popen([str(word) for word in words], stdout=subprocess.PIPE, stderr=subprocess.PIPE, text=True,
                               errors="surrogateescape") as tool:
+            BEGUN.add(tool)
             try:
                 printed = tool.communicate()
             except BaseException:
                 tool.terminate()  # it ends what it began
                 raise
+            finally:
+                BEGUN.discard(tool)
         return subprocess.CompletedProcess(words, tool.returncode, *printed)
     except OSError as error:
         raise Failed(f"{words[0]} can't be run: {error.strerror}. Is Domepeeler installed?") from None
-
-
-def shown(text):
-    """A file's name: what can't be printed stands as `\\x1b` and the like, so that no name writes lines of its own into a log. So does the
-    first letter of what CI would read as a command."""
-    told = "".join(letter if letter.isprintable() else f"\\x{ord(letter) - 0xdc00:02x}" if "\udc80" <= letter <= "\udcff" else ascii(letter)[1:-1]
-                   for letter in text)
-    at = len(told) - len(told.lstrip())
-    return f"{told[:at]}\\x{ord(told[at]):02x}{told[at + 1:]}" if told[at:at + 2] in ("::", "##") else told
 
 
 def escaped(text, marks):
@@ -80,8 +81,19 @@ def annotate(file, title, told):
     print(f"::error file={escaped(file, IN_PROPERTIES)},title={escaped(title, IN_PROPERTIES)}::{escaped(told, IN_MESSAGES)}")
 
 
+def explained(rows, goal):
+    """The words for each failure, and its verdict as it is told: as many at a time as there are processors."""
+    pool = ThreadPoolExecutor(len(os.sched_getaffinity(0)))
+    try:
+        return list(pool.map(lambda numbered: explain(*numbered, goal), enumerate(rows, 1)))
+    except BaseException:
+        pool.shutdown(wait=False, cancel_futures=True)
+        for tool in list(BEGUN):
+            tool.terminate()
+        raise
+
+
 def explain(number, row, goal):
-    """Explains a failure; answers the words, and what GitLab shows of it: a link to its page."""
     page, small = JUDGED / f"{number}.html", JUDGED / f"{number}.trace"
     done = ended("domepeeler-explain", *goal, "--html", page, "--small", small, "--", row["file"])
     told = (done.stdout + done.stderr).strip()
@@ -89,12 +101,14 @@ def explain(number, row, goal):
     if verdict in ("accepted", WEAK_ALONE):  # but unequal in the end
         told = f"{verdict}, but unequal in the end: {' '.join(row['warnings'][:1])}\n{told.partition(chr(10))[2]}"
     if verdict == "failed":  # what else is said of it counts for nothing
-        told = f"{shown(row['error'])}\n{told}"
-    name = f"{shown(row['file'])}: {verdict}"
-    if os.environ.get("GITHUB_ACTIONS"):
-        annotate(shown(row["file"]), name, told.split("\n")[0])
-    url = f"{os.environ.get('CI_JOB_URL', '')}/artifacts/file/{page}" if page.exists() else os.environ.get("CI_JOB_URL", "")
-    return told, {"external_link": {"label": name, "url": url}}
+        told = f"{row['error']}\n{told}"
+    return told, f"{row['shown']}: {verdict}"
+
+
+def link(number, name):
+    """What GitLab shows of a failure: a link to its page."""
+    page, job = JUDGED / f"{number}.html", os.environ.get("CI_JOB_URL", "")
+    return {"external_link": {"label": name, "url": f"{job}/artifacts/file/{page}" if page.exists() else job}}
 
 
 def alike(number, row):
@@ -110,7 +124,7 @@ def print_explanations(rows, told):
     for place, same in enumerate(groups.values()):
         (row, words), more = same[0], len(same) - 1
         first = words if place == 0 else words.split("\n")[0]
-        print(f"{shown(row['file'])}: {first}" + (f"\n  and {more} more that look{'s' * (more == 1)} alike: {shown(same[1][0]['file'])}"
+        print(f"{row['shown']}: {first}" + (f"\n  and {more} more that look{'s' * (more == 1)} alike: {same[1][0]['shown']}"
                                                     f"{' and others' * (more > 1)}" if more else "") + "\n", flush=True)
 
 
@@ -128,7 +142,7 @@ def prepare():
     others = [name for name in names if JUNIT not in names or not OWN.fullmatch(name)]
     if others:
         more = " and others" if len(others) > MOST_LEFT else ""
-        raise Failed(f"the folder {JUDGED} holds what this script did not write ({', '.join(map(shown, others[:MOST_LEFT]))}{more}): move it away")
+        raise Failed(f"the folder {JUDGED} holds what this script did not write ({', '.join(repr(name)[1:-1] for name in others[:MOST_LEFT])}{more}): move it away")
     for name in names:
         (JUDGED / name).unlink()
 
@@ -149,19 +163,21 @@ def judge(folder, options):
     try:
         rows = [json.loads(line) for line in done.stdout.splitlines()]
     except ValueError:
-        printed = shown(done.stdout[:MOST_SHOWN])
+        printed = repr(done.stdout[:MOST_SHOWN])[1:-1]
         raise Failed(f"domepeeler-judge-many ended with status {done.returncode}, and printed no recordings: {printed}") from None
     rows = [row for row in rows if JUDGED.resolve() not in Path(row["file"]).resolve().parents]
     goal = [WEAK] if WEAK in options else []
-    explained = [explain(number, row, goal) for number, row in enumerate(rows, 1)]
-    print_explanations(rows, [told for told, _ in explained])
+    told = explained(rows, goal)
+    for row, (words, name) in zip(rows, told) if os.environ.get("GITHUB_ACTIONS") else ():
+        annotate(row["shown"], name, words.split("\n")[0])
+    print_explanations(rows, [words for words, _ in told])
     print(done.stderr, end="", file=sys.stderr)
     if os.environ.get("CI_JOB_URL"):
-        (JUDGED / "annotations.json").write_text(json.dumps({"recordings that are not accepted": [link for _, link in explained]}))
+        links = [link(number, name) for number, (_, name) in enumerate(told, 1)]
+        (JUDGED / "annotations.json").write_text(json.dumps({"recordings that are not accepted": links}))
     check_agrees(done.returncode, rows)
     if done.returncode == 0:
-        told = "keep the weak list specification" if goal else "are accepted"
-        print(f"all recordings below {shown(folder)} {told}")
+        print(f"all recordings below {repr(folder)[1:-1]} {'keep the weak list specification' if goal else 'are accepted'}")
     if rows:
         made = [f"{JUDGED}/{number}.html" for number in range(1, len(rows) + 1) if (JUDGED / f"{number}.html").exists()]
         first = "of the first" if made[:1] == [f"{JUDGED}/1.html"] else "of the first that has one"
@@ -171,9 +187,6 @@ def judge(folder, options):
 
 
 def main():
-    if sys.version_info < (3, 9):
-        sys.stderr.write("judge_recordings: this needs Python 3.9 or later, and is run by %d.%d\n" % sys.version_info[:2])
-        return 2
     for stop in signal.SIGINT, signal.SIGTERM, signal.SIGHUP:
         if signal.getsignal(stop) != signal.SIG_IGN:
             signal.signal(stop, be_stopped)

@@ -25,6 +25,8 @@ which that holds, though strong doesn't; these are counted as `weak alone`."""
 import os
 import sys
 
+NEEDS = f"record.py: this needs Python {3.9} or later"  # one that is too old to read this file shows this line
+
 
 def end(*fault: object) -> None:
     """Ends with 2 at what nobody has thought of, also while this is loaded: Python's own status is one that says something of sessions."""
@@ -34,6 +36,9 @@ def end(*fault: object) -> None:
 
 if __name__ == "__main__":
     sys.excepthook = end
+    if sys.version_info < (3, 9):
+        sys.stderr.write("%s, and is run by %d.%d\n" % (NEEDS, sys.version_info[0], sys.version_info[1]))
+        sys.exit(2)
 
 import argparse
 import random
@@ -49,11 +54,10 @@ from concurrent.futures import FIRST_EXCEPTION, ThreadPoolExecutor, wait
 from pathlib import Path
 from typing import BinaryIO, Callable, NamedTuple, NoReturn, Optional
 
-if sys.version_info < (3, 9):
-    sys.stderr.write("record.py: this needs Python 3.9 or later, and is run by %d.%d\n" % sys.version_info[:2])
-    sys.exit(2)
+sys.path.insert(1, str(Path(__file__).resolve().parent.parent))
 
 import sessions
+from merge import shown
 from sessions import Plan, Session, smaller
 
 HERE = Path(__file__).parent
@@ -74,23 +78,16 @@ ALL = [*SMALL, sessions.LARGE_PEERS, sessions.LARGE_STAR, sessions.LARGE_MIDDLE]
 SERVER = [sessions.SMALL_STAR, sessions.MIDDLING_STAR, sessions.LARGE_STAR]
 
 
-def printable(text: str) -> str:
-    """A name, or what an engine says, for a message: what can't be printed stands as `\\x1b` and the like."""
-    return "".join(letter if letter.isprintable() else f"\\x{ord(letter) - 0xdc00:02x}"
-                   if "\udc80" <= letter <= "\udcff" else ascii(letter)[1:-1]
-                   for letter in text)
-
-
 class Parser(argparse.ArgumentParser):
     """A parser that shows a wrong word as a name is shown."""
 
     def error(self, message: str) -> NoReturn:
-        super().error(printable(message))
+        super().error(shown(message))
 
 
 def fail(words: str) -> NoReturn:
     try:
-        print(f"record.py: {printable(words)}", file=sys.stderr)
+        print(f"record.py: {shown(words)}", file=sys.stderr)
     except OSError:  # nobody can be told
         os.dup2(os.open(os.devnull, os.O_WRONLY), sys.stderr.fileno())
     sys.exit(2)
@@ -289,7 +286,7 @@ class Driver:
 
     def no_answer(self, lines: list) -> NoAnswer:
         """Why these lines are no whole answer."""
-        last = f"; its last line is {shown(lines[-1])}" if lines else ""
+        last = f"; its last line is {quoted(lines[-1])}" if lines else ""
         if self.late:
             hint = "" if last else "; does it flush standard output behind the line `end`?"
             return NoAnswer(LATE, f"it did not answer within {counted(self.engine.seconds, 'second')}{last}{hint}")
@@ -352,10 +349,9 @@ def answer_lines(stream: BinaryIO) -> list:
     return lines
 
 
-def shown(line: bytes) -> str:
+def quoted(line: bytes) -> str:
     """A line for an error."""
-    text = line.decode("ascii", errors="backslashreplace").rstrip("\n")
-    text = "".join(letter if letter.isprintable() else ascii(letter)[1:-1] for letter in text)
+    text = shown(line.decode("ascii", errors="backslashreplace").rstrip("\n"))
     half = "" if line.endswith(b"\n") else ", which has no end"
     return f"`{text[:MOST_SHOWN]}{'..' if len(text) > MOST_SHOWN else ''}`{half}"
 
@@ -377,7 +373,7 @@ def verdict(judge: Judge, trace: Optional[str], plan: Plan) -> str:
     fault = LINE_FAULT.fullmatch(done.stderr)
     if done.returncode == 2 and fault:
         line = trace.encode().splitlines(keepends=True)[int(fault[1]) - 1:int(fault[1])]
-        said = f", {shown(line[0])}" if line else ""
+        said = f", {quoted(line[0])}" if line else ""
         raise NoAnswer(NONSENSE, f"its answer is no trace: line {int(fault[1])}{said}: {fault[2].decode()}")
     report = done.stdout.decode(errors="replace").split("\n") + [""]
     word, *rest = report[1].split(" ")
@@ -498,7 +494,7 @@ def tried(kind: sessions.Kind, count: int, rnd: random.Random, driver: Driver, j
     print(f"{kind.name}: {count} sessions, {between}: {said}", flush=True)
     if STOPPED in verdicts:
         words = f"none within {counted(driver.engine.seconds, 'second')}" if driver.was_late else driver.last_words() or "none"
-        print(f"the engine's last words: {printable(words)}", flush=True)
+        print(f"the engine's last words: {shown(words)}", flush=True)
     firsts = {}
     for one, word in sorted(zip(found, verdicts), key=lambda both: len(both[0].steps)):
         if word not in (*passing, STOPPED):

@@ -4,12 +4,15 @@ from __future__ import annotations
 
 import io
 import os
+import signal
 import sys
 from importlib import import_module
 from pathlib import Path
 
 from shared.program import Ended
 
+SECONDS = 60  # a copy that takes longer is ended by a signal
+BROKEN = 99  # the status of a copy that fails before, or other than, the tool ends
 TOOLS = Path(__file__).resolve().parents[2] / "tools"
 sys.path.insert(0, str(TOOLS))
 from explaining.commands import run_command  # noqa: E402
@@ -36,7 +39,8 @@ class Forked:
 
     def _do(self, words: list, streams: list) -> None:
         """What the copy does; it never comes back."""
-        status = 1
+        status = BROKEN
+        signal.alarm(SECONDS)
         try:
             for place, stream in enumerate(streams):
                 os.dup2(stream, place)

@@ -17,6 +17,7 @@ import sys
 import tempfile
 import time
 import xml.etree.ElementTree as xml
+from itertools import product
 from pathlib import Path
 
 ROOT = Path(__file__).resolve().parents[2]
@@ -28,7 +29,8 @@ from shared.program import Ended, Tally, is_running, need, program_of, run  # no
 from shared.sessions import session  # noqa: E402
 from shared.traces import two_rings  # noqa: E402
 
-sys.path[:0] = [str(ROOT / "recorders" / "engines"), str(ROOT / "tools")]
+sys.path[:0] = [str(ROOT / "recorders" / "engines"), str(ROOT / "recorders"), str(ROOT / "tools")]
+import merge  # noqa: E402
 import sessions as exchanged  # noqa: E402
 from explaining import files, judges, lookers, rows  # noqa: E402
 from list_crdt import Group, play  # noqa: E402
@@ -1065,6 +1067,24 @@ def odd_names(tally: Tally, program: str, folder: str) -> None:
         tally.check(f"odd names: {shown} missing", missing.stderr == f"domepeeler-explain: cannot read {folder}/no{shown}: No such file or directory\n", missing)
 
 
+def one_way_to_show(tally: Tally, program: str, folder: str) -> None:
+    """A name is shown in one way: by the tools, in JSON as `shown`, and by merge.py, which people copy alone and record.py takes it from. No
+    other script has a way of its own."""
+    import merge
+    from explaining import files
+    marks = ["a", "é", "\n", "\x1b", "\x7f", "\u2028", "\udcff", ":", "#", " ", "\t", "\\", "\U0001f600", "\x80"]
+    names = ["".join(some) for length in range(5) for some in product(marks, repeat=length)]
+    tally.check("one way to show: merge.py", len(names) > 40_000 and all(merge.shown(name) == files.shown(name) for name in names))
+    write(folder, {"x\n::error::\x1b.trace": "0 ins a 0 : a|0 read :", "::warning::.trace": "0 reads :"})
+    told = [json.loads(line) for line in judge(program, ["--json", folder]).out.decode().splitlines()]
+    tally.check("one way to show: JSON", {(row["shown"], row["file"], row.get("error")) for row in told} == {
+        (f"{folder}/x\\n::error::\\x1b.trace", f"{folder}/x\n::error::\x1b.trace", None),
+        (f"{folder}/::warning::.trace", f"{folder}/::warning::.trace", "finder: line 3: shape")}, told)
+    scripts = [path for pattern in [*SCRIPTS, *IMPORTED, "recorders/*/*.py", "examples/*/*.py"] for path in ROOT.glob(pattern)]
+    own = {path.name for path in scripts if "isprintable()" in path.read_text() and "0xdc00" in path.read_text()}
+    tally.check("one way to show: no other", own == {"files.py", "merge.py"}, own)
+
+
 def odd_words(tally: Tally, program: str, folder: str) -> None:
     """Nor does a word that a tool does not take, as `*` hands on a name."""
     word, shown = "x\n::error::\x1b[31mforged", "x\\n::error::\\x1b[31mforged"
@@ -1247,6 +1267,14 @@ def pythons(tally: Tally, program: str, folder: str) -> None:
             tally.same(f"Python {version[0]}.{version[1]}: {script}", got, Ended(2, b"", told.encode()))
     names = [path for pattern in [*SCRIPTS, *IMPORTED] for path in sorted(ROOT.glob(pattern))]
     tally.check("Python 3.9: files", len(names) > 35, names)
+    for script in SCRIPTS:
+        lines = (ROOT / script).read_text().splitlines()
+        try:
+            ast.parse("\n".join(lines), feature_version=(3, 5))
+        except SyntaxError as why:
+            newer = next(place for place, line in enumerate(lines) if re.search(r"\bf\"|\) ->|^ *(def|class|from|with) |^@", line))
+            tally.check(f"Python 3.5 and older: {script}", why.lineno == newer + 1 and ": this needs Python {3.9} or later\"" in lines[newer] and
+                        len(lines[newer]) < 120, (why, lines[newer]))
     for path in names:
         tree = ast.parse(path.read_text(), feature_version=(3, 9))
         annotated = [note for node in ast.walk(tree) for note in (getattr(node, "annotation", None), getattr(node, "returns", None))
@@ -1394,7 +1422,7 @@ def script_ended(tally: Tally, place: str, path: str, script: str, folder: str) 
     done = in_ci(place, f"{stranger}:{path}", f"{script} good", {})
     tally.check("script of CI: what nobody has thought of", done.returncode == 2 and not done.stdout and done.stderr.startswith(
         "judge_recordings: a fault of this script, so nothing is judged:\nTraceback "), done)
-    row = '{"file": "good/a.trace", "verdict": "contents", "warnings": []}'
+    row = '{"file": "good/a.trace", "shown": "good/a.trace", "verdict": "contents", "warnings": []}'
     for said, told in (("exit 0", "ended with status 0, and wrote no judged/junit.xml"), (f"echo '{row}'; exit 0", "ended with status 0, and listed 1 recordings"),
                        ("exit 1", "ended with status 1, and listed 0 recordings"), (f"echo '{row}'; exit 1", "ended with status 1, and wrote no judged/junit.xml")):
         Path(stranger, "domepeeler-judge-many").write_text(f"#!/bin/sh\n{said}\n")
@@ -1402,6 +1430,7 @@ def script_ended(tally: Tally, place: str, path: str, script: str, folder: str) 
         tally.check(f"script of CI: a tool that does no more than {said}", done.returncode == 2 and "accepted\n" not in done.stdout
                     and done.stderr == f"judge_recordings: domepeeler-judge-many {told}\n", done)
         shutil.rmtree(f"{place}/judged")
+    explained_side_by_side(tally, place, path, script, folder)
     slow, begun = Path(folder, "slow"), Path(folder, "begun")
     slow.write_text(f"#!/bin/sh\n{VERSION}echo $$ >> '{begun}'\nexec sleep 60\n")
     slow.chmod(0o755)
@@ -1419,24 +1448,55 @@ def script_ended(tally: Tally, place: str, path: str, script: str, folder: str) 
                     (running.returncode, out, err, left))
 
 
+def explained_side_by_side(tally: Tally, place: str, path: str, script: str, folder: str) -> None:
+    """Failures are explained as many at a time as there are processors, and told in the order of the table; a signal ends them all."""
+    tools, begun = Path(folder, "waiting"), Path(folder, "explained")
+    tools.mkdir()
+    write(place, {f"failing/{name}.trace": "0 ins a 0 : a|0 read :" for name in "abcd"})
+    wanted = min(2, len(os.sched_getaffinity(0)))
+    waits = f"i=0; while [ $(wc -l < '{begun}') -lt {wanted} ] && [ $i -lt 600 ]; do sleep 0.1; i=$((i + 1)); done"
+    for what, status in (f"{waits}; echo \"at $i\"", 1), ("exec sleep 60", -signal.SIGTERM):
+        begun.write_text("")
+        Path(tools, "domepeeler-explain").write_text(f"#!/bin/sh\necho $$ >> '{begun}'\n{what}\n")
+        Path(tools, "domepeeler-explain").chmod(0o755)
+        running = subprocess.Popen([*script.split(), "failing"], cwd=place, stdout=subprocess.PIPE, stderr=subprocess.PIPE, text=True,
+                                   env={"PATH": f"{tools}:{path}"}, preexec_fn=lambda: signal.signal(signal.SIGTERM, signal.SIG_DFL))
+        until = time.monotonic() + 60
+        while begun.read_text().count("\n") < wanted and time.monotonic() < until:
+            time.sleep(0.01)
+        if status != 1:
+            running.send_signal(signal.SIGTERM)
+        out, err = running.communicate(timeout=90)
+        left = [pid for pid in begun.read_text().split() if is_running(pid)]
+        tally.check(f"script of CI: {wanted} are explained at a time, {status}", running.returncode == status and not left and (
+            status != 1 or "at 600" not in out and out.startswith("failing/a.trace: at ") and "4 not accepted: " in out), (out, err, left))
+
+
 # Of three replicas: a cycle of three, at the end of which all has arrived everywhere, or not; and with it what weak does not bear.
 CYCLE = "0 ins x 0 : x|1 recv 0 1|2 recv 0 1|1 ins a 0 : a x|2 ins b 1 : x b|0 del x :|0 recv 1 1|0 recv 2 1|0 read : b a"
 WEAK = {"alone.trace": f"{CYCLE}|1 recv 0 2|1 recv 2 1|1 read : b a|2 recv 0 2|2 recv 1 1|2 read : b a", "unequal.trace": CYCLE,
         "opposite.trace": f"{CYCLE}|1 recv 0 2|1 recv 2 1|1 read : a b|2 recv 0 2|2 recv 1 1|2 read : b a",
         "lost.trace": f"{CYCLE}|1 recv 0 2|1 recv 2 1|1 read : b", "right.trace": "0 ins a 0 : a|1 recv 0 1|2 recv 0 1|1 read : a|2 read : a"}
-WEAK_ROWS = [("lost.trace", "contents", "-", "14", "14"), ("opposite.trace", "refused", "2", "14", "17"),
-             ("unequal.trace", "weak holds, strong doesn't, unequal", "3", "-", "11"), ("alone.trace", "weak holds, strong doesn't", "3", "-", "17"),
-             ("right.trace", "accepted", "-", "-", "7")]
+WEAK_ROWS = [("lost.trace", "contents", "-", "no", "14", "14"), ("opposite.trace", "refused", "2", "no", "14", "17"),
+             ("unequal.trace", "weak holds, strong doesn't, unequal", "3", "yes", "-", "11"),
+             ("alone.trace", "weak holds, strong doesn't", "3", "yes", "-", "17"), ("right.trace", "accepted", "-", "yes", "-", "7")]
 UNEQUAL = "1 of those that pass is unequal: in the end replicas show different lists, or lack an insert or a delete ({})"
 
 
 def weak(tally: Tally, program: str, folder: str) -> None:
-    """Where weak is enough, a trace passes of which weak holds and strong doesn't, and is counted by itself."""
+    """Where weak is enough, a trace passes of which weak holds and strong doesn't, and is counted by itself. A column says whether it holds."""
     write(folder, WEAK)
     got = judge(program, ["--weak", folder])
     lines = got.out.decode().splitlines()
-    rows = [cells(line)[:5] for line in lines[1:6]]
-    tally.check("weak: the rows", rows == [(f"{folder}/{name}", *rest) for name, *rest in WEAK_ROWS], rows)
+    rows = [cells(line)[:6] for line in lines[:6]]
+    tally.check("weak: the rows", rows == [("file", "verdict", "k", "weak", "fails at", "lines"), *(
+        (f"{folder}/{name}", *rest) for name, *rest in WEAK_ROWS)], rows)
+    Path(folder, "twice").mkdir()
+    write(folder, {"twice/doubled.trace": "0 ins a 0 : a|0 ins a 0 : a a", "twice/unread.trace": "0 reads :"})
+    got_twice = judge(program, ["--weak", f"{folder}/twice"])
+    tally.check("weak: where no report says whether it holds", [cells(line)[3] for line in got_twice.out.decode().splitlines()[:3]] == [
+        "weak", "-", "-"] and got_twice.status == 2, got_twice)
+    shutil.rmtree(f"{folder}/twice")
     tally.check("weak: the counts", lines[6:] == ["5 traces: 1 accepted, 2 weak alone, 1 refused, 1 contents",
                                                   UNEQUAL.format("--unequal lets these fail")], lines[6:])
     tally.check("weak: status 1, and warnings", got.status == 1 and got.err.decode().startswith(
@@ -1645,7 +1705,7 @@ def main() -> None:
         warnings(tally, program, folder)
         warnings_of_sessions(tally, program, other)
     for check in (pythons, little_memory, not_looked_at, changing, told_of_what_was_judged, explained_once, weak, weak_junit, weak_in_ci,
-                  known_as_cut, grouped, no_entries, no_files, overwriting, millions_of_names, odd_names, odd_words, names_like_commands, tasks, script_of_ci,
+                  known_as_cut, grouped, no_entries, no_files, overwriting, millions_of_names, odd_names, one_way_to_show, odd_words, names_like_commands, tasks, script_of_ci,
                   big_traces, time_of_small, time_of_big, long_cycles):
         with tempfile.TemporaryDirectory() as folder:
             check(tally, program, folder)

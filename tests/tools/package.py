@@ -118,7 +118,7 @@ def debian_has(tally: Tally, program: str, folder: str, archive: dict) -> None:
     found = entries(tally, "package", data, is_dpkg=True)
     licences = {path: what for path, what in archive.items() if path.startswith("share/doc/domepeeler/LICENSE")}
     wanted = {moved(path) for path in archive if path not in licences} | {
-        "./usr/share/doc/domepeeler/copyright", "./usr/share/doc/domepeeler/changelog.gz", "./usr/share/lintian/overrides/domepeeler"}
+        "./usr/share/doc/domepeeler/copyright", "./usr/share/doc/domepeeler/changelog.gz"}
     tally.check("package: its files", set(found) == wanted, set(found) ^ wanted)
     copyright = found["./usr/share/doc/domepeeler/copyright"][0].decode()
     told = [line.strip() for line in copyright.partition("License: Expat\n")[2].splitlines() if line.strip() != "."]
@@ -135,12 +135,29 @@ def debian_has(tally: Tally, program: str, folder: str, archive: dict) -> None:
             tally.check(f"package: {path}", got == "domepeeler.1.gz", got)
         elif what[0] and what[0][:2] == b"#!" and "/tools/" in path:
             tally.check(f"package: {path}", got[0].split(b"\n", 1)[1] == what[0].split(b"\n", 1)[1] and got[1] == what[1])
-        elif path not in licences:
+        elif path == "bin/domepeeler":
+            without_symbols(tally, program, folder, got[0], found[f"./usr/{TEXT}"][0].decode().splitlines())
+        elif path not in licences and path != TEXT:
             tally.check(f"package: {path}", got == what)
     texts = entries(tally, "control", control, is_dpkg=True)
     sums = "".join(f"{hashlib.md5(what[0]).hexdigest()}  {path[2:]}\n"
                    for path, what in sorted(found.items(), key=lambda item: item[0].split("/")) if not isinstance(what, str))
     tally.check("package: its sums", texts["./md5sums"][0].decode() == sums)
+
+
+def without_symbols(tally: Tally, program: str, folder: str, packed: bytes, text: list) -> None:
+    """What is loaded of the program is byte for byte the proved one; the text has the sums of both."""
+    images = []
+    for name, content in ("proved", Path(program).read_bytes()), ("packed", packed):
+        Path(folder, name).write_bytes(content)
+        subprocess.run(["objcopy", "-O", "binary", name, f"{name}.image"], cwd=folder, check=True)
+        images.append(Path(folder, f"{name}.image").read_bytes())
+        listed = subprocess.run(["nm", name], cwd=folder, capture_output=True, text=True).stderr
+        tally.check(f"package: symbols of the {name} one", ("no symbols" in listed) == (name == "packed"), listed)
+    tally.check("package: the program", images[0] == images[1] and len(images[0]) > 1_000_000, list(map(len, images)))
+    for told in (f"SHA-256 of the proved program {hashlib.sha256(Path(program).read_bytes()).hexdigest()}",
+                 f"SHA-256 of bin/domepeeler, which is that one without its symbols {hashlib.sha256(packed).hexdigest()}", f"    {KIT}"):
+        tally.check(f"package: text: {told}", told in text, text)
 
 
 def libraries(program: str) -> list:

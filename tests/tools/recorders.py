@@ -2788,33 +2788,39 @@ def check_stop_cpp(tally: Tally, program: str, folder: Path) -> None:
     tally.check("C++: no call-back", re.search(r"\n2 5 again\ncontents 1\.1: [^\n]*\nstopped\nin the end replicas 0 and 1 show different lists\n$", done.stdout), done)
 
 
-# Four threads that share a recording under a lock.
+# Four threads that share a recording, and one that judges it meanwhile.
 THREADS_C = f"""#include "{ROOT / 'recorders'}/domepeeler.h"
 #include <pthread.h>
 
 static struct domepeeler *recording;
-static pthread_mutex_t lock = PTHREAD_MUTEX_INITIALIZER;
 
 static void *record(void *number) {{
     const char *list[] = {{"even", "odd"}};
     int replica = *(int *)number;
     for (int i = 0; i < 2000; i++) {{
-        pthread_mutex_lock(&lock);
         unsigned n = replica % 2 ? domepeeler_read(recording, replica, list + 1, 1)
                                  : domepeeler_view(recording, replica, list, 1);
-        pthread_mutex_unlock(&lock);
         if (n != (unsigned)i + 1) exit(1);
     }}
     return NULL;
 }}
 
+static void *judge(void *count) {{
+    for (int i = 0; i < *(int *)count; i++) {{
+        char *report = domepeeler_judge(recording, NULL);
+        if (!report || domepeeler_stopped(recording) || domepeeler_full(recording)) exit(2);
+        free(report);
+    }}
+    return NULL;
+}}
+
 int main(void) {{
-    pthread_t threads[4];
-    int numbers[] = {{0, 1, 2, 3}};
+    pthread_t threads[5];
+    int numbers[] = {{0, 1, 2, 3, 5}};
     recording = domepeeler_new(4);
-    for (int i = 0; i < 4; i++)
-        if (pthread_create(&threads[i], NULL, record, &numbers[i])) return 1;
-    for (int i = 0; i < 4; i++) pthread_join(threads[i], NULL);
+    for (int i = 0; i < 5; i++)
+        if (pthread_create(&threads[i], NULL, i < 4 ? record : judge, &numbers[i])) return 1;
+    for (int i = 0; i < 5; i++) pthread_join(threads[i], NULL);
     unsigned is_saved = domepeeler_save(recording, "threads.trace");
     domepeeler_free(recording);
     return !is_saved;
@@ -2850,13 +2856,39 @@ fn main() {{
 """
 
 
-def check_locked_threads(tally: Tally, folder: Path) -> None:
-    """Threads that hold a lock around each call: every line is there whole, with its place."""
-    for source, text, compiler, read, view in (("threads.c", THREADS_C, [*GCC, "-pthread", "-o", "threads"], 12, 13), (
-            "threads.rs", THREADS_RS, ["rustc", "--edition", "2021", "-D", "warnings", "-o", "threads"], 14, 16)):
+# What a thread of Emacs writes in one call stays together, though it lets the other go on within that call.
+THREADS_EL = f""";; -*- lexical-binding: t -*-
+(load "{ROOT / 'recorders'}/domepeeler.el" nil t)
+(advice-add 'domepeeler--said :before (lambda (&rest _) (thread-yield)))
+(let* ((recording (domepeeler-new 2))
+       (delivers (make-thread (lambda () (dotimes (_ 100) (domepeeler-delivered recording '(nil nil))))))
+       (reads (make-thread (lambda () (dotimes (_ 100) (domepeeler-read recording 1 nil))))))
+  (thread-join delivers)
+  (thread-join reads)
+  (domepeeler-save recording "threads.trace"))
+"""
+
+
+def check_threads_of_emacs(tally: Tally, folder: Path) -> None:
+    Path(folder, "threads.el").write_text(THREADS_EL)
+    done = subprocess.run(["emacs", "-Q", "--batch", "-l", "threads.el"], cwd=folder, capture_output=True, text=True)
+    lines = Path(folder, "threads.trace").read_text().splitlines() if done.returncode == 0 else []
+    beside = Path(folder, "threads.trace.lines").read_text().splitlines() if lines else []
+    ranges = [line.split()[1:] for line in beside if line.startswith("delivered ")]
+    written = [lines[int(first) - 1:int(last)] for first, last in ranges]
+    tally.check("el: two threads", len(lines) == 302 and written == 100 * [["0 read :", "1 read :"]], (written[:3], done))
+
+
+def check_shared_recordings(tally: Tally, program: str, folder: Path) -> None:
+    """Threads that share a recording, in Rust under a lock: every line is there whole, with its place; and no thread meets another in C."""
+    check_threads_of_emacs(tally, folder)
+    for source, text, compiler, read, view in (
+            ("threads.c", THREADS_C, [*GCC, "-g", "-fsanitize=thread", "-o", "threads"], 10, 11),
+            ("threads.c", THREADS_C, [*GCC, "-o", "threads"], 10, 11),
+            ("threads.rs", THREADS_RS, ["rustc", "--edition", "2021", "-D", "warnings", "-o", "threads"], 14, 16)):
         Path(folder, source).write_text(text)
         subprocess.run([*compiler, source], cwd=folder, check=True)
-        done = subprocess.run(["./threads"], cwd=folder, capture_output=True, text=True)
+        done = subprocess.run(["./threads"], cwd=folder, env=os.environ | {"DOMEPEELER": program}, capture_output=True, text=True)
         entries = Path(folder, "threads.trace").read_text().splitlines()[2:] if done.returncode == 0 else []
         places = [line.split(" ", 1)[1] for line in Path(folder, "threads.trace.lines").read_text().splitlines()[2:]] if entries else []
         wanted = {(f"{replica} {shown}", f"{source}:{line}") for replicas, shown, line in (("02", "view : even", view), ("13", "read : odd", read))
@@ -3089,7 +3121,7 @@ def main() -> None:
         check_spawns(tally, folder)
         check_places_c(tally, program, folder)
         check_stop_cpp(tally, program, folder)
-        check_locked_threads(tally, folder)
+        check_shared_recordings(tally, program, folder)
         check_aborts(tally, program, folder)
         check_hostile_c(tally, Recorder("c", drivers["c"], program), folder)
     tally.close()

@@ -30,6 +30,7 @@ STATUSES = ("It ends with status 0 where all are accepted, 1 where all can be re
             "be read, or is known to be cut, or none has an entry, or something else fails. With --weak those pass too of which weak holds.")
 MOST_WARNED = 20  # warnings that are printed on standard error
 TRACE = ".trace"  # in any case
+HOLDS = {True: "yes", False: "no", None: "-"}  # None where the report says nothing of it, or there is none
 COMPRESSED = re.compile(r"(.*\.trace)\.(gz|bz2|xz|zst|lz4|zip|z)", re.IGNORECASE | re.DOTALL)
 NOTHING_THERE = [errno.ENOENT, errno.ENOTDIR, errno.ELOOP]  # behind a link
 
@@ -166,12 +167,14 @@ def together(rows: list) -> list:
     return [(same[0], len(same) - 1) for same in found.values()]
 
 
-def print_table(rows: list, listed: list) -> None:
-    """Those listed, if any, below a head, of such as look alike the first, and the counts of all."""
+def print_table(rows: list, listed: list, is_weak: bool) -> None:
+    """Those listed, if any, below a head, of such as look alike the first, and the counts of all; where the weak list specification alone is
+    asked for, whether it holds."""
     rows_told = together(listed)
     columns = [("file", [shown(row.file) for row, _ in rows_told]), ("verdict", [told_verdict(row) for row, _ in rows_told]),
-               ("k", [str(row.k or "-") for row, _ in rows_told]), ("fails at", [str(row.fails_at or "-") for row, _ in rows_told]),
-               ("lines", [str(row.lines) for row, _ in rows_told]), ("seconds", [f"{row.seconds:.3f}" for row, _ in rows_told])]
+               ("k", [str(row.k or "-") for row, _ in rows_told])]
+    columns += [("weak", [HOLDS[(row.report or {}).get("weak")] for row, _ in rows_told])] if is_weak else []
+    columns += [("fails at", [str(row.fails_at or "-") for row, _ in rows_told]), ("lines", [str(row.lines) for row, _ in rows_told]), ("seconds", [f"{row.seconds:.3f}" for row, _ in rows_told])]
     for head, told in (("alike", [more for _, more in rows_told]), ("warnings", [len(row.warnings or []) for row, _ in rows_told])):
         columns += [(head, list(map(str, told)))] if any(told) else []
     if any(row.notes for row, _ in rows_told):
@@ -185,6 +188,11 @@ def print_table(rows: list, listed: list) -> None:
     counts = Counter("weak alone" if row.weak_alone else row.verdict for row in rows)
     told = ", ".join(f"{counts[kind]} {kind}" for kind in [*KINDS[:1], "weak alone", *KINDS[1:]] if counts[kind])
     print(f"{len(rows)} trace{'' if len(rows) == 1 else 's'}: {told}")
+
+
+def object_of(row: Row) -> dict:
+    """What JSON has of it: besides its fields `shown`, the file's name as messages have it. The error is so too."""
+    return {**row.object, "shown": shown(row.file)} | ({"error": shown(row.error)} if row.error else {})
 
 
 def told_verdict(row: Row) -> str:
@@ -245,10 +253,10 @@ def main() -> None:
     unwritten = write_junit(asked.junit, rows, asked) if asked.junit else ""
     listed = [row for row in rows if is_failing(row, asked) or not asked.failing]
     for row in listed if asked.json else []:
-        print(json.dumps(row.object))
+        print(json.dumps(object_of(row)))
     print_errors(rows)
     if not asked.json:
-        print_table(rows, listed)
+        print_table(rows, listed, asked.weak)
         print_unequal(rows, asked)
     print_warnings(rows)
     if unwritten:
