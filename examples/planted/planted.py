@@ -5,10 +5,12 @@
     tie         a list CRDT whose concurrent inserts at one place stand as they arrive
     clock       a list CRDT whose clock does not advance with what arrives
     overtaking  a list CRDT whose deletes do not wait for what their author had
+    lost        a list CRDT whose network loses a change for one replica, where what builds on it waits for ever
     mapping     operational transformation behind a server: an insert is not moved over a concurrent delete
     unmoved     the same: a delete is not moved over a concurrent insert
     behind      the same: of two inserts at one place the one that arrives goes behind
     twice       the same: the second delete of one element takes its neighbour
+    dropped     the same: a client loses what the server sends, now and then
     none, none_behind_server   the two engines without a bug
 
 The engines stand below; the bugs are marked. docs/gallery.md has what came out."""
@@ -20,7 +22,7 @@ sys.path.insert(0, str(Path(__file__).resolve().parents[2] / "recorders"))
 from domepeeler import Recording  # noqa: E402
 
 USERS = 3
-BEHIND_SERVER = "mapping", "unmoved", "behind", "twice", "none_behind_server"
+BEHIND_SERVER = "mapping", "unmoved", "behind", "twice", "dropped", "none_behind_server"
 
 
 class Rga:
@@ -79,9 +81,8 @@ def peers(bug, rnd, recording, steps):
             change(recording, rnd, replica, replicas[replica], f"{'abc'[replica]}{step}", waiting)
         else:
             receive(recording, bug, rnd, replica, replicas[replica], waiting[replica])
-    while any(waiting):
-        for replica in range(USERS):
-            receive(recording, bug, rnd, replica, replicas[replica], waiting[replica])
+    while any([receive(recording, bug, rnd, replica, replicas[replica], waiting[replica]) for replica in range(USERS)]):
+        pass
     recording.delivered([replica.names() for replica in replicas])
 
 
@@ -101,8 +102,11 @@ def change(recording, rnd, replica, engine, name, waiting):
 
 
 def receive(recording, bug, rnd, replica, engine, waiting):
-    """One of the changes that may arrive now."""
+    """One of the changes that may arrive now, if there is one."""
     has = recording.clock(replica)
+    if bug == "lost" and waiting and rnd.random() < 0.05:  # THE BUG
+        author, n, *_ = waiting.pop(rnd.randrange(len(waiting)))
+        recording.note(f"{author}.{n} is lost on its way to replica {replica}")
 
     def may_arrive(author, clock, message):
         if bug == "overtaking" and message[0] == "del":  # THE BUG: what it deletes may not be there yet
@@ -116,6 +120,7 @@ def receive(recording, bug, rnd, replica, engine, waiting):
         engine.apply(message)
         recording.received(replica, author, n)
         recording.read(replica, engine.names())
+    return bool(ready)
 
 
 class Client:
@@ -196,6 +201,8 @@ def behind_server(bug, rnd, recording, steps):
         author = change[3] if change[0] else change[1]
         if author == replica:
             client.unconfirmed.pop(0)
+        elif bug == "dropped" and change[0] and rnd.random() < 0.1:  # THE BUG
+            recording.note(f"{author}.{change[4]} is lost on its way to replica {replica}")
         else:
             client.arrive(change if change[0] else None)
             if change[0]:

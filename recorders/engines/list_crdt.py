@@ -10,7 +10,7 @@ from domepeeler import Recording
 
 class ListCrdt:
     """One replica of a replicated list. An element is inserted after another one and stays for ever; a deleted one is
-    hidden. Of elements after the same one, that with the greater id comes first."""
+    hidden. Of elements after the same one, that with the greater id comes first. No two messages are alike."""
 
     def __init__(self, replica: int):
         self.replica, self.clock = replica, 0
@@ -28,7 +28,7 @@ class ListCrdt:
         return message
 
     def delete(self, name: str) -> tuple:
-        message = ("delete", next(identity for identity, had, _ in self.items if had == name))
+        message = ("delete", next(identity for identity, had, _ in self.items if had == name), self.replica)
         self.apply(message)
         return message
 
