@@ -78,6 +78,7 @@ pub enum Refused {
     Name { name: String },
     ShortFor { name: String, id: String },
     NoNumber { id: String },
+    Position { position: usize },
     OperationZero,
     OwnReceipt { replica: usize },
     NotYet { author: usize, n: u32, have: u32 },
@@ -120,6 +121,7 @@ impl Display for Refused {
                 write!(f, "one replica's log can't give the id \"{}\" a short name, ", escaped(id))?;
                 write!(f, "since each machine would give another")
             }
+            Refused::Position { position } => write!(f, "position {position} is not a whole number from 0 to {}", u32::MAX),
             Refused::OperationZero => write!(f, "operation number 0 is not a whole number from 1 to {}", u32::MAX),
             Refused::OwnReceipt { replica } => write!(f, "replica {replica} receives no operation of its own"),
             Refused::NotYet { author, n, have } => {
@@ -390,7 +392,7 @@ impl Recording {
         &mut self,
         replica: usize,
         name: &str,
-        position: u32,
+        position: usize,
         response: &[N],
     ) -> Result<u32, Refused> {
         self.go_on();
@@ -898,7 +900,7 @@ impl Recording {
         &mut self,
         replica: usize,
         kind: &str,
-        subject: Option<(&str, Option<u32>)>,
+        subject: Option<(&str, Option<usize>)>,
         response: &[N],
     ) -> Result<u32, Refused> {
         let before = self.names.order.len();
@@ -914,7 +916,7 @@ impl Recording {
         &mut self,
         replica: usize,
         kind: &str,
-        subject: Option<(&str, Option<u32>)>,
+        subject: Option<(&str, Option<usize>)>,
         response: &[N],
     ) -> Result<u32, Refused> {
         self.acts(replica)?;
@@ -922,7 +924,10 @@ impl Recording {
         let mut line = format!("{replica} {kind}");
         if let Some((name, position)) = subject {
             line += &format!(" {}", self.names.name(name, is_log)?);
-            line += &position.map(|place| format!(" {place}")).unwrap_or_default();
+            if let Some(position) = position {
+                u32::try_from(position).map_err(|_| Refused::Position { position })?;
+                line += &format!(" {position}");
+            }
         }
         line += " :";
         for name in response {

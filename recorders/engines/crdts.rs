@@ -32,7 +32,7 @@ impl Group {
         let message = self.lists[replica].insert_index(position, name.to_string(), replica);
         self.lists[replica].apply(message.clone());
         let names = self.names(replica);
-        let n = self.recording.insert(replica, name, position as u32, &names)?; // after the local change
+        let n = self.recording.insert(replica, name, position, &names)?; // after the local change
         self.messages.insert((replica, n), message); // it goes out under the operation's name
         Ok(())
     }

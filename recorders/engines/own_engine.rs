@@ -58,7 +58,7 @@ fn play(plan: &[String]) -> Result<String, Box<dyn Error>> {
         let change = change(list, r, &words[1..]);
         change.iter().for_each(|(_, message)| apply(list, message));
         let n = match &change {
-            Some((position, Message::Insert(_, name, _))) => recording.insert(r, name, *position as u32, &names(list))?,
+            Some((position, Message::Insert(_, name, _))) => recording.insert(r, name, *position, &names(list))?,
             Some((_, Message::Delete(name))) => recording.delete(r, name, &names(list))?,
             None => recording.read(r, &names(list))?,
         };

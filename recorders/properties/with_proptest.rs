@@ -45,7 +45,7 @@ impl Group {
         let message = self.lists[replica].insert_index(position, name.clone(), replica);
         self.lists[replica].apply(message.clone());
         let names = self.names(replica);
-        let n = self.recording.insert(replica, &name, position as u32, &names)?;
+        let n = self.recording.insert(replica, &name, position, &names)?;
         self.has[replica].push((replica, n, message));
         Ok(())
     }

@@ -556,7 +556,7 @@ fn session(places: &[usize]) -> Result<Recording, domepeeler::Refused> {
     for (number, place) in places.iter().enumerate() {
         let (name, at) = (format!("e{number}"), place % (list.len() + 1));
         list.insert(at, name.clone());
-        recording.insert(0, &name, at as u32, &list)?;
+        recording.insert(0, &name, at, &list)?;
     }
     let arrived = list.iter().filter(|name| *name != "e2").cloned().collect();
     recording.delivered(&[list, arrived])?;

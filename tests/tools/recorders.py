@@ -305,6 +305,8 @@ REFUSED = [
      "received 2 1 1 -> refused this log is of replica 1 alone, not of 2\n"
      "received 1 1 1 -> refused replica 1 receives no operation of its own\n"
      "received 1 3 1 -> refused no replica 3 among 0 to 2\n"),
+    ("a position of 33 bits",
+     "new 1 -> ok\ninsert 0 a 4294967296 a -> refused position 4294967296 is not a whole number from 0 to 4294967295\n"),
 ] + [
     (f"the name {word!r}", f'new 1 -> ok\ninsert 0 {word} 0 b -> refused name "{shown}" {NAME}\n'
      f'delete 0 {word} -> refused name "{shown}" {NAME}\nread 0 b {word} -> refused name "{shown}" {NAME}\n')
@@ -317,8 +319,6 @@ REFUSED = [
 # The same, where a typed language can't say the call.
 REFUSED_UNTYPED = [
     ("a position below 0", "new 1 -> ok\ninsert 0 a -1 a -> refused position -1 is not a whole number from 0 to 4294967295\n"),
-    ("a position of 33 bits",
-     "new 1 -> ok\ninsert 0 a 4294967296 a -> refused position 4294967296 is not a whole number from 0 to 4294967295\n"),
     ("a negative replica", "new 2 -> ok\nread -1 -> refused no replica -1 among 0 to 1\n"),
 ]
 
@@ -992,7 +992,7 @@ mod domepeeler;
 fn main() {{
     let mut recording = domepeeler::Recording::new(2).unwrap();
     for (at, name) in ["a", "b", "c"].iter().enumerate() {{
-        recording.insert(0, name, at as u32, &["a", "b", "c"][..=at]).unwrap();
+        recording.insert(0, name, at, &["a", "b", "c"][..=at]).unwrap();
     }}
     recording.received(1, 0, 3).unwrap();
     recording.read(1, &[] as &[&str]).unwrap();
