@@ -527,6 +527,9 @@ PLANTED = {
     "none_behind_server": (60, 0, []),
 }
 
+# By planted bug by which changes are lost: how many seeds, how many sessions fail at least, and of how many of these the words name one.
+LOST_MESSAGES = {"lost": (150, 60, 1.0), "dropped": (150, 80, 0.97)}
+
 NO_INSERT = ", which no line inserts, so no response shows whether it was deleted: is that its name, and was its insert recorded?"
 UNHEARD = ("no receipt brings it an insert or a delete from there, so nothing shows what it makes of these. At the end of a session let "
            "everyone receive everything, and read")
@@ -1386,11 +1389,37 @@ def planted_bugs(tally: Tally, program: str, folder: str) -> None:
         tally.check(f"planted: {bug}: how many fail, and are named", failing >= least and named == failing, (failing, named))
         tally.check(f"planted: {bug}: named by most small traces too", small_named >= 0.8 * failing, (failing, small_named))
         print(f"{bug}: {failing} of {seeds} sessions fail, the words name the cause of {named}, those of small traces of {small_named}")
-    in_gallery(tally, [told_of[bug] for bug, (_, _, phrases) in PLANTED.items() if phrases])
+    in_gallery(tally, [told_of[bug] for bug, (_, _, phrases) in PLANTED.items() if phrases] + [
+        lost_messages(tally, program, folder, bug, *wanted) for bug, wanted in LOST_MESSAGES.items()])
     done = subprocess.run([sys.executable, ROOT / "examples" / "planted" / "planted.py", "overtaking", "1", f"{folder}/planted.trace"], capture_output=True)
     got = explain(program, [f"{folder}/planted.trace"])
     tally.check("planted: by its own words", done.returncode == 0 and b"overtook it in line" in got.out and got.out.endswith(b"\n\nNoted\n  planted.py overtaking 1\n"),
                 (done, got))
+
+
+def lost_messages(tally: Tally, program: str, folder: str, bug: str, seeds: int, least: int, share: float) -> list:
+    """Random sessions in which changes are lost on their way: where one fails, the words say that one of these was lost, and on its way where.
+    Answers the words."""
+    said, unnamed = [], []
+    for seed in range(seeds):
+        recording = planted.session(bug, seed)
+        recording.save(f"{folder}/lost.trace")
+        notes = Path(folder, "lost.trace.lines").read_text()
+        lost = re.findall(r"^note (\S+) is lost on its way to replica (\d)$", notes, re.MULTILINE)
+        ranges = [tuple(map(int, pair)) for pair in re.findall(r"^delivered (\d+) (\d+)$", notes, re.MULTILINE)]
+        report = report_of(program)(recording.text().encode())
+        if not lost or report["weak" if bug in planted.BEHIND_SERVER else "strong"]:
+            continue
+        words, _ = explained(Evidence(Recording(recording.text(), ranges), report), report_of(program), weak=True)
+        said.append(text_of_words(words))
+        look = said[-1].partition("\nWhere to look\n")[2].partition("\n\n")[0].splitlines()
+        is_named = any(re.search(rf"\b{re.escape(name)}\b.*\breplica {replica}\b", line) and "lost" in line and "does it lose" not in line
+                       for name, replica in lost for line in look)
+        unnamed += [] if is_named else [(seed, lost, said[-1])]
+    named = len(said) - len(unnamed)
+    tally.check(f"lost messages: {bug}", len(said) >= least and named >= share * len(said), (len(said), named, unnamed[:3]))
+    print(f"{bug}: {len(said)} of {seeds} sessions fail, the words name a lost change and its replica in {named}")
+    return said
 
 
 def in_gallery(tally: Tally, told_of: list) -> None:

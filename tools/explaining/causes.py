@@ -91,7 +91,8 @@ def of_contents(evidence: Evidence) -> list:
     if evidence.undelivered:
         return [undelivered(evidence), *lost_neighbour(evidence)]
     found = [*wrong_delete(evidence, evidence.operations[0]), *second_delete(evidence), *overtaken(evidence), *lost_neighbour(evidence)]
-    found = [*lost(evidence), *(found or unlike_receipts(evidence)), *brought(evidence)]
+    found = [*lost(evidence), *(found or unlike_receipts(evidence))]
+    found += brought(evidence, not found)
     return [*found, Cause("arrival", otherwise("If that is not the cause", ARRIVAL) if found else ARRIVAL)]
 
 
@@ -113,12 +114,14 @@ def lost(evidence: Evidence) -> list:
                                       **changes_told(changes))) for change, replica in found[:1]]
 
 
-def brought(evidence: Evidence) -> list:
+def brought(evidence: Evidence, is_only: bool) -> list:
     """Of changes that the response ought to show, and that came with a later one of their author without receipts of their own; but where one
-    is told as overtaken or lost."""
+    is told as overtaken or lost. Those that have none anywhere may travel with the next one, and are told where this is the only cause."""
     came, replica = {}, evidence.operations[0].replica
     told = [change for change, _ in evidence.overtakings] + [change for change, other in evidence.unreceived[:1] if other == replica]
     for change in evidence.unnamed if not told else []:
+        if not is_only and not evidence.recording.may_travel_alone(change, replica):
+            continue
         came.setdefault(evidence.recording.arrival(change, replica), []).append(change)
     return [Cause("brought", BROUGHT.format(replica=receipt.replica, brought=at(receipt.seen), them="them" if changes[1:] else "it",
                                             they="they" if changes[1:] else "it", **changes_told(changes)))

@@ -241,11 +241,23 @@ class Evidence:
 
     @cached_property
     def undelivered(self) -> list:
-        """The changes of which `delivered` alone says that they had arrived, where the response is right without them."""
+        """The changes of which `delivered` alone says that they had arrived, where the response is right without them: all of these, in the
+        order of the trace, so that what others wait for comes first; else those without which it is right."""
         left_out, added = self.otherwise
-        replica = self.operations[0].replica if left_out else 0
-        is_said = all(self.recording.is_delivered(self.recording.arrival(change, replica).line) for change in left_out)
-        return left_out if is_said and not added else []
+        if not left_out or added:
+            return []
+        operation, recording = self.operations[0], self.recording
+
+        def is_said(change: Operation) -> bool:
+            return change.replica != operation.replica and recording.is_delivered(recording.arrival(change, operation.replica).line)
+
+        if not all(map(is_said, left_out)):
+            return []
+        seen = [change for change in recording.changes() if operation.has_seen(change)]
+        waiting = [change for change in seen if is_said(change)]
+        gone = {change.element for change in seen if change.kind == "del" and change not in waiting}
+        shown = {change.element for change in seen if change.kind == "ins" and change not in waiting} - gone
+        return waiting if shown == set(operation.response) else left_out
 
     @cached_property
     def second_deletes(self) -> list:
@@ -290,29 +302,31 @@ class Evidence:
     def unreceived(self) -> list:
         """Changes of which a replica has no receipt of its own, though the other ones of the same author have one there; and that replica:
         first those of the verdict, then the authors of the changes that it is about, then the others, of which what they sent may have gone
-        astray for it. These changes may have been lost on their way. A delete of what another one deletes too is none: where it becomes
-        nothing, it needs no receipt."""
+        astray for it. These changes may have been lost on their way, since the responses there are as if they had not been applied."""
         last = max(operation.line for operation in self.operations)
         about = [change.replica for name in self.elements for changes in (self.recording.inserts, self.recording.deletes)
                  for change in changes.get(name, []) if change.line <= last]
         return [(change, replica) for replica in dict.fromkeys([operation.replica for operation in self.operations] + about + [*range(self.recording.replicas)])
                 for change in self.recording.skipped(replica, SEVERAL)
-                if change.line < last and (change.kind == "ins" or not self.recording.deletes[change.element][1:])
-                and self.recording.may_travel_alone(change, replica)]
+                if change.line < last and self.recording.may_travel_alone(change, replica) and self.may_be_lost(change, replica)]
+
+    def may_be_lost(self, change: Operation, replica: int) -> bool:
+        """Whether the responses there show that a change was not applied; or don't show it, where no receipt stands for several changes."""
+        is_applied = self.recording.is_applied(change, replica)
+        return is_applied is False or is_applied is None and not self.recording.has_updates_of_several
 
     @cached_property
     def unnamed(self) -> list:
         """Of wrong contents, the changes of its elements that a receipt for a later change of their author has brought since the response
-        before, and that no receipt names, nor one of `delivered`."""
+        before, and that no receipt names, nor one of `delivered`: first, and alone, those that came elsewhere by a receipt of their own."""
         replica, found = self.operations[0].replica, []
         for changes, names in (self.recording.inserts, self.missing), (self.recording.deletes, self.surplus):
             for change in (change for name in names for change in changes.get(name, []) if self.is_new(change)):
                 brought = self.recording.arrival(change, replica)
                 is_later = brought.seen is not change and brought.seen.replica == change.replica and brought.seen.element
-                if is_later and not self.recording.is_delivered(brought.line) and not self.recording.own_receipt(change, replica) \
-                        and self.recording.may_travel_alone(change, replica):
+                if is_later and not self.recording.is_delivered(brought.line) and not self.recording.own_receipt(change, replica):
                     found.append(change)
-        return found
+        return [change for change in found if self.recording.may_travel_alone(change, replica)] or found
 
     @cached_property
     def overtakings(self) -> list:

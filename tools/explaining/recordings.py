@@ -5,6 +5,7 @@ from __future__ import annotations
 
 from bisect import bisect_left
 from collections import defaultdict
+from functools import cached_property
 from itertools import accumulate
 from typing import NamedTuple
 
@@ -64,7 +65,7 @@ class Recording:
         self.receipts = [[] for _ in range(self.replicas)]
         self.entries = []
         self.inserts, self.deletes = defaultdict(list), defaultdict(list)  # operations by element
-        self._counts, self._named = {}, {}
+        self._counts, self._named, self._shown_by, self._sets = {}, {}, {}, {}
         clocks = [[0] * self.replicas for _ in range(self.replicas)]
         for number, line in enumerate(self.lines[2:], FIRST_ENTRY):
             self._take(number, line, clocks)
@@ -142,23 +143,76 @@ class Recording:
         return self._named[replica].get(operation.key)
 
     def skipped(self, replica: int, least: int) -> list:
-        """The few changes that came to a replica without a receipt of their own, where so many others of their author at least, for each of
-        them, came with one."""
+        """The changes that came to a replica without a receipt of their own, though it is likely that they should have one, in the order of the
+        trace: a few where so many others of their author at least, for each of them, came with one; else, where they are no more than half of all
+        that came, those that came with one to each other replica that has them. A delete of what another one deletes too is none: where it becomes
+        nothing, it needs no receipt."""
         receipts = self.receipts[replica]
         named = {receipt.seen.key for receipt in receipts if not self.is_delivered(receipt.line)}
         clock = [max((receipt.seen.clock[author] for receipt in receipts), default=0) for author in range(self.replicas)]
-        found = []
+        few, elsewhere, came = [], [], 0
         for author, stream in enumerate(self.streams):
             changes = [change for change in stream[:clock[author]] if change.element] if author != replica else []
-            lacking = [change for change in changes if change.key not in named]
-            found += lacking if len(lacking) * (least + 1) <= len(changes) else []
-        return found
+            lacking = [change for change in changes if change.key not in named and not self.is_deleted_twice(change)]
+            few += lacking if len(lacking) * (least + 1) <= len(changes) else []
+            elsewhere += [change for change in lacking if self.is_named_elsewhere(change, replica)]
+            came += len(changes)
+        found = few + [change for change in elsewhere if change not in few] if len(elsewhere) * 2 <= came else few
+        return sorted(found, key=lambda change: change.line)
+
+    def is_deleted_twice(self, change: Operation) -> bool:
+        return change.kind == "del" and len(self.deletes[change.element]) > 1
+
+    def is_named_elsewhere(self, change: Operation, replica: int) -> bool:
+        """Whether a change came to other replicas than this one, and to each by a receipt of its own."""
+        others = [other for other in range(self.replicas) if other not in (replica, change.replica) and self.arrival(change, other)]
+        return bool(others) and all(self.own_receipt(change, other) for other in others)
 
     def may_travel_alone(self, change: Operation, replica: int) -> bool:
         """Whether a change came to another replica than this one by a receipt of its own, where it came to another one: what travels with the
         next change of its author, in one update, has none anywhere."""
         others = [other for other in range(self.replicas) if other not in (replica, change.replica) and self.arrival(change, other)]
         return not others or any(self.own_receipt(change, other) for other in others)
+
+    def is_applied(self, change: Operation, replica: int) -> bool | None:
+        """Whether a change was applied at another replica than its author's, by the responses there; none where they don't show it. An insert is
+        shown by its element, and its lack by the first response since it has come, if no delete of it has come by then; a delete by that response,
+        where the element was there before."""
+        first_shown, whole, lines = self._shown(replica)
+        if change.kind == "ins" and change.element in first_shown:
+            return True
+        arrival = self.arrival(change, replica)
+        at = bisect_left(lines, arrival.line) if arrival else len(lines)
+        if at == len(whole):
+            return None
+        first = whole[at]
+        if change.kind == "ins":
+            return None if any(map(first.has_seen, self.deletes.get(change.element, ()))) else False
+        if change.element in self._names_of(first):
+            return False
+        return True if first_shown.get(change.element, first.line) < first.line else None
+
+    def _shown(self, replica: int) -> tuple:
+        """By element the first line in which a replica shows it; and its operations but views, which may leave out any, with their lines."""
+        if replica not in self._shown_by:
+            first = {}
+            for operation in reversed(self.streams[replica]):
+                first.update(dict.fromkeys(operation.response, operation.line))
+            whole = [operation for operation in self.streams[replica] if operation.kind != "view"]
+            self._shown_by[replica] = first, whole, [operation.line for operation in whole]
+        return self._shown_by[replica]
+
+    def _names_of(self, operation: Operation) -> frozenset:
+        """The names in a response, for many questions."""
+        if operation.key not in self._sets:
+            self._sets[operation.key] = frozenset(operation.response)
+        return self._sets[operation.key]
+
+    @cached_property
+    def has_updates_of_several(self) -> bool:
+        """Whether somewhere a change was applied that has no receipt of its own, so that one receipt may stand for several changes."""
+        return any(self.arrival(change, replica) and not self.own_receipt(change, replica) and not self.is_deleted_twice(change)
+                   and self.is_applied(change, replica) for change in self.changes() for replica in range(self.replicas) if replica != change.replica)
 
     def change_at(self, changes: list, receipt: Receipt) -> Operation | None:
         """Of these operations the one that was first made at the receipt's replica, or arrived there, if that was before the receipt."""
