@@ -1422,6 +1422,38 @@ def lost_messages(tally: Tally, program: str, folder: str, bug: str, seeds: int,
     return said
 
 
+def receive_several(recording: planted.Recording, bug: str, rnd: planted.Random, replica: int, engine: planted.Rga, waiting: list) -> bool:
+    """As `planted.receive`, but an update may carry several changes of an author, with one receipt for the last."""
+    has, taken = recording.clock(replica), []
+    while not taken or rnd.random() < 0.4:
+        ready = [one for one in waiting if all(count - (other == one[0]) <= has[other] for other, count in enumerate(one[2]))
+                 and (not taken or one[0] == taken[0][0])]
+        if not ready:
+            break
+        taken.append(min(ready, key=lambda one: one[1]) if taken else rnd.choice(ready))
+        waiting.remove(taken[-1])
+        has[taken[0][0]] += 1
+        engine.apply(taken[-1][3])
+    if taken:
+        recording.received(replica, taken[0][0], taken[-1][1])
+        recording.read(replica, engine.names())
+    return bool(taken)
+
+
+def updates_of_several(tally: Tally, program: str) -> None:
+    """Where one receipt stands for several changes, and none was lost, the words do not begin with a loss."""
+    alone, failing, lost = planted.receive, 0, []
+    planted.receive = receive_several
+    for seed in range(60):
+        text = planted.session("tie", seed, 30).text()
+        report = report_of(program)(text.encode())
+        if not report["strong"]:
+            said = text_of_words(explained(Evidence(Recording(text), report), report_of(program))[0])
+            failing, lost = failing + 1, lost + ([said] if "lost on" in said or "No receipt" in said else [])
+    planted.receive = alone
+    tally.check("updates of several changes: no lost one", failing >= 45 and len(lost) <= 1, (failing, lost))
+
+
 def in_gallery(tally: Tally, told_of: list) -> None:
     """The gallery's table has for each planted bug the verdicts of its sessions, and words that some of them are told."""
     table = re.findall(r"^\| (.+) \| (`.+`) \| (\*.+\*) \|$", (ROOT / "docs" / "gallery.md").read_text(), re.MULTILINE)
@@ -1944,6 +1976,7 @@ def main() -> None:
     drawn(tally, program)
     with tempfile.TemporaryDirectory() as folder:
         planted_bugs(tally, program, folder)
+        updates_of_several(tally, program)
     with tempfile.TemporaryDirectory() as folder:
         faults(tally, program, folder)
         millions_of_names(tally, program, folder)

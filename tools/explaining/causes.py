@@ -22,8 +22,10 @@ NOT_APPLIED = ("It looks as if {changes} {were} not applied at replica {replica}
                "change is applied.{moved}")
 BROUGHT = ("No receipt at replica {replica} names {changes}, which arrived with {brought}. If each of your changes has a receipt of its "
            "own, {brought} overtook {them}, or {they} {were} lost.")
-LOST = ("Look first at whether {changes} {were} lost on {their} way to replica {replica}, or overtaken: no receipt there names {them}, though each "
-        "other change of replica {author} has one. Where positions are sent, what comes later is then misplaced.")
+LOST = ("Look first at whether {changes} {were} lost on {their} way to replica {replica}, or overtaken: no receipt there names {them}, though {others}. "
+        "Where positions are sent, what comes later is then misplaced.")
+OTHERS_HAVE = "each other change of replica {author} has one"
+ELSEWHERE_ONE = {True: "elsewhere it came by one of its own", False: "elsewhere they came by receipts of their own"}
 NO_RECEIPT = ("It looks as if {changes} {were} applied at replica {replica} without a receipt: the call of `received` is missing, comes "
               "too late, or names another operation.")
 WRONG_DELETE = ("It looks as if {delete} deleted {missing} instead of {surplus}: look at how a delete finds its element where it is "
@@ -110,8 +112,10 @@ def lost(evidence: Evidence) -> list:
     found = [(change, replica) for change, replica in evidence.unreceived if change not in told]
     changes = [change for change, replica in found if (change.replica, replica) == (found[0][0].replica, found[0][1])]
     is_one = len(changes) == 1
-    return [Cause("lost", LOST.format(replica=replica, author=change.replica, their="its" if is_one else "their", them="it" if is_one else "them",
-                                      **changes_told(changes))) for change, replica in found[:1]]
+    return [Cause("lost", LOST.format(
+        replica=replica, their="its" if is_one else "their", them="it" if is_one else "them", **changes_told(changes),
+        others=OTHERS_HAVE.format(author=change.replica) if evidence.recording.are_named(change.replica, changes, replica) else ELSEWHERE_ONE[is_one]))
+        for change, replica in found[:1]]
 
 
 def brought(evidence: Evidence, is_only: bool) -> list:

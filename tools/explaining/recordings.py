@@ -147,8 +147,7 @@ class Recording:
         trace: a few where so many others of their author at least, for each of them, came with one; else, where they are no more than half of all
         that came, those that came with one to each other replica that has them. A delete of what another one deletes too is none: where it becomes
         nothing, it needs no receipt."""
-        receipts = self.receipts[replica]
-        named = {receipt.seen.key for receipt in receipts if not self.is_delivered(receipt.line)}
+        receipts, named = self.receipts[replica], self.named_at(replica)
         clock = [max((receipt.seen.clock[author] for receipt in receipts), default=0) for author in range(self.replicas)]
         few, elsewhere, came = [], [], 0
         for author, stream in enumerate(self.streams):
@@ -159,6 +158,16 @@ class Recording:
             came += len(changes)
         found = few + [change for change in elsewhere if change not in few] if len(elsewhere) * 2 <= came else few
         return sorted(found, key=lambda change: change.line)
+
+    def are_named(self, author: int, but: list, replica: int) -> bool:
+        """Whether each change of an author that came to another replica, but these, has a receipt of its own there; and there are some."""
+        has = max((receipt.seen.clock[author] for receipt in self.receipts[replica]), default=0)
+        others = [change for change in self.streams[author][:has] if change.element and change not in but and not self.is_deleted_twice(change)]
+        return bool(others) and self.named_at(replica).issuperset(change.key for change in others)
+
+    def named_at(self, replica: int) -> set:
+        """The operations that a replica's receipts name, but for those of `delivered`."""
+        return {receipt.seen.key for receipt in self.receipts[replica] if not self.is_delivered(receipt.line)}
 
     def is_deleted_twice(self, change: Operation) -> bool:
         return change.kind == "del" and len(self.deletes[change.element]) > 1
