@@ -1105,22 +1105,27 @@ def undelivered(tally: Tally, program: str, folder: str) -> None:
 # Replica 1 has thrown a away, finds no place for b behind it, and holds b back; `delivered` wrote lines 10 to 12.
 HELD_BACK = "0 ins a 0 : a|1 recv 0 1|1 read : a|1 del a :|0 ins b 1 : a b|0 recv 1 2|0 read : b|1 recv 0 2|1 read :|0 read : b"
 
-# Five changes of replica 0, of which these came to replica 1 and 2 by receipts of their own; the last response lacks one.
+# Five changes of replica 0, of which these came to replica 1 and 2 by receipts of their own; the last response, replica 2's, lacks one.
 FIVE = "|".join(f"0 ins e{n} {n - 1} : {' '.join(f'e{k}' for k in range(1, n + 1))}" for n in range(1, 6))
 ASTRAY = {
-    "another replica lacks one": ([1, 2, 3, 5], [1, 2, 3, 4, 5], "0.4 (line 6) was lost on its way to replica 1, or overtaken: no receipt there names it, "),
-    "it lacks one itself": ([1, 2, 3, 4, 5], [1, 2, 3, 5], "0.4 (line 6) was lost on its way to replica 2, or overtaken: no receipt there names it, "),
-    "two that travel together": ([1, 2, 3, 5], [1, 2, 3, 5], None),
-    "one receipt for all": ([1, 2, 3, 4, 5], [5], None),
+    "another replica lacks one": ([1, 2, 3, 5], [1, 2, 3, 4, 5], "e1 e2 e3 e4",
+                                  "0.4 (line 6) was lost on its way to replica 1, or overtaken: no receipt there names it, though each other change of "),
+    "it lacks one itself": ([1, 2, 3, 4, 5], [1, 2, 3, 5], "e1 e2 e3 e5",
+                            "0.4 was lost on its way to replica 2: no receipt there names it. If it was overtaken, "),
+    "it lacks two": ([1, 2, 3, 4, 5], [1, 3, 5], "e1 e3 e5", "0.2 (line 4) and 0.4 (line 6) were lost on their way to replica 2, or overtaken: no receipt "
+                     "there names them, though each other change of replica 0 has one. "),
+    "it lacks one that it shows": ([1, 2, 3, 4, 5], [1, 2, 3, 5], "e1 e2 e3 e4", None),
+    "two that travel together": ([1, 2, 3, 5], [1, 2, 3, 5], "e1 e2 e3 e4", None),
+    "one receipt for all": ([1, 2, 3, 4, 5], [5], "e1 e2 e3 e4", None),
 }
 
 
 def astray(tally: Tally, program: str, folder: str) -> None:
-    """A change that came to one replica without a receipt of its own is told first, at whatever replica that is; but not one that has none
-    anywhere, which travels with the next one. What `delivered` alone brings is told beside what it was put, and its delete."""
-    for name, (to_one, to_two, wanted) in ASTRAY.items():
+    """A change that came to one replica without a receipt of its own is told first, at whatever replica that is; but not one that was applied
+    there, nor one that has none anywhere, which travels with the next one. What `delivered` alone brings is told beside what it was put, and its delete."""
+    for name, (to_one, to_two, shown, wanted) in ASTRAY.items():
         receipts = "".join(f"|{replica} recv 0 {n}" for replica, came in ((1, to_one), (2, to_two)) for n in came)
-        said = explain(program, ["-"], text_of(3, f"{FIVE}{receipts}|2 read : e1 e2 e3 e4").encode()).out.decode()
+        said = explain(program, ["-"], text_of(3, f"{FIVE}{receipts}|2 read : {shown}").encode()).out.decode()
         first = paragraph(said, "Where to look").splitlines()[0]
         tally.check(f"astray: {name}", said.startswith("contents 2.1: ") and (first.startswith(f"  Look first at whether {wanted}") if wanted else
                     "lost on" not in said and "No receipt" not in said), said)
@@ -1417,6 +1422,8 @@ def lost_messages(tally: Tally, program: str, folder: str, bug: str, seeds: int,
                        for name, replica in lost for line in look)
         unnamed += [] if is_named else [(seed, lost, said[-1])]
     named = len(said) - len(unnamed)
+    tally.check(f"lost messages: {bug}: named by what is elsewhere", bug == "lost" or any(
+        ", though elsewhere it came by one of its own. " in words for words in said))
     tally.check(f"lost messages: {bug}", len(said) >= least and named >= share * len(said), (len(said), named, unnamed[:3]))
     print(f"{bug}: {len(said)} of {seeds} sessions fail, the words name a lost change and its replica in {named}")
     return said

@@ -1272,7 +1272,7 @@ def pythons(tally: Tally, program: str, folder: str) -> None:
         try:
             ast.parse("\n".join(lines), feature_version=(3, 5))
         except SyntaxError as why:
-            newer = next(place for place, line in enumerate(lines) if re.search(r"\bf\"|\) ->|^ *(def|class|from|with) |^@", line))
+            newer = next(place for place, line in enumerate(lines) if re.search(r"\bf\"|\) ->|^ *(def|class) |^@", line))
             tally.check(f"Python 3.5 and older: {script}", why.lineno == newer + 1 and ": this needs Python {3.9} or later\"" in lines[newer] and
                         len(lines[newer]) < 120, (why, lines[newer]))
     for path in names:

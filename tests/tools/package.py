@@ -154,7 +154,7 @@ def without_symbols(tally: Tally, program: str, folder: str, packed: bytes, text
         images.append(Path(folder, f"{name}.image").read_bytes())
         listed = subprocess.run(["nm", name], cwd=folder, capture_output=True, text=True).stderr
         tally.check(f"package: symbols of the {name} one", ("no symbols" in listed) == (name == "packed"), listed)
-    tally.check("package: the program", images[0] == images[1] and len(images[0]) > 1_000_000, list(map(len, images)))
+    tally.check("package: the program", images[0] == images[1] and len(images[0]) > 500_000, list(map(len, images)))
     for told in (f"SHA-256 of the proved program {hashlib.sha256(Path(program).read_bytes()).hexdigest()}",
                  f"SHA-256 of bin/domepeeler, which is that one without its symbols {hashlib.sha256(packed).hexdigest()}", f"    {KIT}"):
         tally.check(f"package: text: {told}", told in text, text)
@@ -278,7 +278,8 @@ def faults(tally: Tally, program: str, folder: str) -> None:
     got = package([program, folder])
     tally.check("fault: a word lacks", got.status == 2 and got.err.startswith(b"usage: ") and b"KIT" in got.err, got)
     tally.check("fault: nothing is made", os.listdir(folder) == ["file"], os.listdir(folder))
-    write = "import runpy, sys; from pathlib import Path; runpy.run_path(sys.argv[1])['write'](Path(sys.argv[2]), bytes(9999))"
+    write = ("import runpy, sys; from pathlib import Path; sys.path.append(str(Path(sys.argv[1]).parent)); "
+             "runpy.run_path(sys.argv[1])['write'](Path(sys.argv[2]), bytes(9999))")
     done = subprocess.run(["sh", "-c", 'ulimit -f 1; trap "" XFSZ; exec "$@"', "sh", sys.executable, "-c", write, PACKAGE, f"{folder}/file"],
                           capture_output=True, text=True)
     tally.check("fault: what can't be written whole is not written", done.stderr.endswith(f"File too large: '{folder}/file'\n") and
