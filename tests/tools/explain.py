@@ -1770,9 +1770,9 @@ def long_cycles(tally: Tally, program: str, folder: str) -> None:
         tally.check(f"long cycle of {k}: the picture", drawn.count('class="element"') == 15 and f">{k - 15} more</text>" in drawn
                     and drawn.count('class="element between"') == 1 and f"A cycle of {k}: " in drawn, drawn)
         tally.check(f"long cycle of {k}: no longer than that, and soon", len(said) < 12_000 and Path(folder, "page.html").stat().st_size < 1_000_000
-                    and seconds < 10, (len(said), seconds))
+                    and seconds < 1, (len(said), seconds))
     got, seconds, _ = used([EXPLAIN, "--program", program, f"{folder}/500.trace"])
-    tally.check("long cycle of 1001: the words soon", got.status == 1 and got.out.startswith(b"refused 1001: ") and seconds < 2, (got.out[:80], seconds))
+    tally.check("long cycle of 1001: the words soon", got.status == 1 and got.out.startswith(b"refused 1001: ") and seconds < 1, (got.out[:80], seconds))
     trace.write_text(two_rings(2000))
     got, seconds, _ = used([EXPLAIN, "--program", program, "--html", f"{folder}/page.html", "--svg", f"{folder}/cycle.svg", "--small", f"{folder}/small", str(trace)])
     tally.check("long cycle of 4001: all files soon", got.status == 1 and b"small has the same verdict in 16003 lines" in got.out and seconds < 15, (got.out[-200:], seconds))

@@ -1676,7 +1676,7 @@ def long_cycles(tally: Tally, program: str, folder: str) -> None:
                     and failure.get("message").startswith(f"refused {k}: ") and len(failure.get("message")) < 500, failure.attrib)
         taken.append(seconds)
         tally.check(f"long cycle of {k}: little memory", megabytes < 100, megabytes)
-    tally.check("long cycles: time grows with the trace", taken[2] < 6 * taken[0] and taken[0] < 4, taken)
+    tally.check("long cycles: time grows with the trace", taken[2] < 6 * taken[0] and taken[0] < 1, taken)
 
 
 def main() -> None:
