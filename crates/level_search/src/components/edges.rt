@@ -5,13 +5,6 @@ use events::Memory;
 use order_graph::OrderGraph;
 use std::alloc::Global;
 
-/// Whether edges go as the lists do.
-#[derive(Clone, Copy, Debug, PartialEq, Eq)]
-pub enum Direction {
-    Forward,
-    Backward,
-}
-
 /// For each element those that stand right after it in some list, or right before it. One that stands so in
 /// each of several lists, with no other between them, is there once.
 #[derive(Drop)]
@@ -25,13 +18,14 @@ pub struct Edges {
 }
 
 impl Edges {
-    /// The edges of a graph. It goes over all places twice; memory is linear in the elements and the edges.
-    pub fn of(alloc: Global, graph: &OrderGraph, direction: Direction) -> Result<Edges, Memory> {
+    /// The edges of a graph, as the lists go. It goes over all places twice; memory is linear in the elements
+    /// and the edges.
+    pub fn of(alloc: Global, graph: &OrderGraph) -> Result<Edges, Memory> {
         let elements = graph.elements() as usize;
         let mut next = Vec::from_elem(alloc, 0, elements)?;
         let mut last = Vec::from_elem(alloc, NONE, elements)?;
         for list in 0..graph.lists() {
-            count_edges(graph.list(list), direction, &mut last, &mut next);
+            count_edges(graph.list(list), &mut last, &mut next);
         }
         let count = begins_of(&mut next);
         let mut edges = Edges {
@@ -41,22 +35,51 @@ impl Edges {
         };
         last.fill(NONE);
         for list in 0..graph.lists() {
-            edges.add_list(graph.list(list), direction, &mut last);
+            edges.add_list(graph.list(list), &mut last);
         }
         Ok(edges)
     }
 
     /// Adds the edges of a list.
-    fn add_list(&mut self, list: &[u32], direction: Direction, last: &mut Vec<u32>) {
+    fn add_list(&mut self, list: &[u32], last: &mut Vec<u32>) {
         for j in 1..list.len() {
-            let edge = Edge::between(list[j - 1], list[j], direction);
-            if at(last, edge.from) != edge.to {
-                put(last, edge.from, edge.to);
-                let place = at(&self.ends, edge.from);
-                put(&mut self.to, place, edge.to);
-                put(&mut self.ends, edge.from, place.saturating_add(1));
+            if at(last, list[j - 1]) != list[j] {
+                put(last, list[j - 1], list[j]);
+                self.add(list[j - 1], list[j]);
             }
         }
+    }
+
+    /// Adds an edge.
+    fn add(&mut self, from: u32, to: u32) {
+        let place = at(&self.ends, from);
+        put(&mut self.to, place, to);
+        put(&mut self.ends, from, place.saturating_add(1));
+    }
+
+    /// The same edges against the lists. It goes over the edges twice, and not over the places.
+    pub fn turned(self, alloc: Global) -> Result<Edges, Memory> {
+        let Edges { to, ends, next: _ } = self;
+        let mut next = Vec::from_elem(alloc, 0, ends.len())?;
+        for x in to.iter() {
+            let count = at(&next, *x);
+            put(&mut next, *x, count.saturating_add(1));
+        }
+        let count = begins_of(&mut next);
+        let mut turned = Edges {
+            to: Vec::from_elem(alloc, NONE, count as usize)?,
+            ends: Vec::from_slice(alloc, next.as_slice())?,
+            next,
+        };
+        let mut begin = 0;
+        for x in 0..ends.len().min(NONE as usize) as u32 {
+            let end = at(&ends, x);
+            for place in begin..end {
+                turned.add(at(&to, place), x);
+            }
+            begin = end;
+        }
+        Ok(turned)
     }
 
     /// Takes the next edge of an element.
@@ -78,37 +101,13 @@ impl Edges {
     }
 }
 
-/// One edge.
-#[derive(Clone, Copy, Debug, PartialEq, Eq)]
-struct Edge {
-    from: u32,
-    to: u32,
-}
-
-impl Edge {
-    /// The edge between two that stand side by side in a list.
-    fn between(first: u32, second: u32, direction: Direction) -> Edge {
-        match direction {
-            Direction::Forward => Edge {
-                from: first,
-                to: second,
-            },
-            Direction::Backward => Edge {
-                from: second,
-                to: first,
-            },
-        }
-    }
-}
-
 /// Counts the edges of a list, each for the element that it goes from.
-fn count_edges(list: &[u32], direction: Direction, last: &mut Vec<u32>, counts: &mut Vec<u32>) {
+fn count_edges(list: &[u32], last: &mut Vec<u32>, counts: &mut Vec<u32>) {
     for j in 1..list.len() {
-        let edge = Edge::between(list[j - 1], list[j], direction);
-        if at(last, edge.from) != edge.to {
-            put(last, edge.from, edge.to);
-            let count = at(counts, edge.from);
-            put(counts, edge.from, count.saturating_add(1));
+        if at(last, list[j - 1]) != list[j] {
+            put(last, list[j - 1], list[j]);
+            let count = at(counts, list[j - 1]);
+            put(counts, list[j - 1], count.saturating_add(1));
         }
     }
 }

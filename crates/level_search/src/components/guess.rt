@@ -1,7 +1,7 @@
 //! A guess at the strongly connected components, by two searches over neighbouring places (Kosaraju and
 //! Sharir). No clause says that it is right: `components` tests it.
 
-use super::edges::{Direction, Edges};
+use super::edges::Edges;
 use crate::guesses::{NONE, at, put};
 use events::Memory;
 use order_graph::OrderGraph;
@@ -28,8 +28,9 @@ pub struct Guess {
 
 /// Guesses the components. It takes time and memory linear in the elements and the places.
 pub fn guess_components(alloc: Global, graph: &OrderGraph) -> Result<Guess, Memory> {
-    let depth = search_forward(alloc, graph)?;
-    let mut guess = search_backward(alloc, graph, depth)?;
+    let mut edges = Edges::of(alloc, graph)?;
+    let depth = search_forward(alloc, graph, &mut edges)?;
+    let mut guess = search_backward(alloc, graph, depth, edges.turned(alloc)?)?;
     for x in 0..graph.elements() {
         guess.lead_on(x);
     }
@@ -50,8 +51,7 @@ struct Depth {
 }
 
 /// Searches from each element that no search has come to.
-fn search_forward(alloc: Global, graph: &OrderGraph) -> Result<Depth, Memory> {
-    let mut edges = Edges::of(alloc, graph, Direction::Forward)?;
+fn search_forward(alloc: Global, graph: &OrderGraph, edges: &mut Edges) -> Result<Depth, Memory> {
     let elements = graph.elements() as usize;
     let mut depth = Depth {
         found: Vec::from_elem(alloc, NONE, elements)?,
@@ -61,7 +61,7 @@ fn search_forward(alloc: Global, graph: &OrderGraph) -> Result<Depth, Memory> {
     };
     for x in 0..graph.elements() {
         if at(&depth.found, x) == NONE {
-            depth.search_from(&mut edges, x)?;
+            depth.search_from(edges, x)?;
         }
     }
     Ok(depth)
@@ -104,16 +104,20 @@ impl Depth {
     }
 }
 
-/// Searches against the direction of the lists, from the element that was left last on: what is found from
-/// one element is its component.
-fn search_backward(alloc: Global, graph: &OrderGraph, depth: Depth) -> Result<Guess, Memory> {
+/// Searches against the direction of the lists, by these edges, from the element that was left last on: what
+/// is found from one element is its component.
+fn search_backward(
+    alloc: Global,
+    graph: &OrderGraph,
+    depth: Depth,
+    mut edges: Edges,
+) -> Result<Guess, Memory> {
     let Depth {
         found,
         parents,
         left,
         count: _,
     } = depth;
-    let mut edges = Edges::of(alloc, graph, Direction::Backward)?;
     let elements = graph.elements() as usize;
     let mut guess = Guess {
         ranks: Vec::from_elem(alloc, NONE, elements)?,
