@@ -12,6 +12,7 @@ from .recordings import Operation, place_asked
 from .telling import at, joined, listed
 
 MOST_TOLD = 3  # deletes, or elements, that are told one by one
+MOST_MET = 6  # changes for which a position was perhaps not adjusted
 
 ARRIVAL = ("Look at the recorder first: `received` must be called right after the change is applied. Then at the transport: no "
            "change may arrive before those that its author had. Then at the editor: does it lose a change, apply it twice, or apply it to another "
@@ -63,6 +64,12 @@ WEAK_ALONE_HOLDS = ("An editor whose server orders all changes, as Jupiter's doe
 CONCURRENT = ("Look at the order of concurrent inserts: {first} and {then} were inserted without knowing of each other, and were shown "
               "in two different orders. Use a rule that gives the same order everywhere (by the replicas' numbers, say), and not the "
               "order in which they arrive.{moved}")
+POSITIONS = ("Look at how a position is adjusted where a change arrives: that of {element} was perhaps not adjusted for {changes}, which replica {replica} "
+             "had and its author did not{back}. Or look at the order of concurrent inserts: {first} and {then} were inserted without knowing of each "
+             "other, and were shown in two different orders. Use a rule that gives the same order everywhere (by the replicas' numbers, say).")
+EITHER = ("Look at the order of concurrent inserts: {first} and {then} were inserted at one place without knowing of each other, and were shown in two "
+          "different orders. Either the rule that orders them is not the same everywhere; or the position of {element} was not adjusted for {changes}, "
+          "which replica {replica} had and its author did not{back}.")
 SEEN = ("Look at where a replica places an incoming insert: {later} inserted {new} when it had {old}, so their order was known already, "
         "and still it differs.{numbers}{moved}")
 MOVED_INSERT = (" In an editor that sends positions, that of {element} was perhaps not adjusted for {changes}, which replica {replica} "
@@ -93,7 +100,8 @@ def of_contents(evidence: Evidence) -> list:
     if evidence.undelivered:
         return [undelivered(evidence), *lost_neighbour(evidence)]
     found = [*wrong_delete(evidence, evidence.operations[0]), *second_delete(evidence), *overtaken(evidence), *lost_neighbour(evidence)]
-    found = [*lost(evidence), *(found or unlike_receipts(evidence))]
+    found = found or unlike_receipts(evidence)
+    found = [*lost(evidence), *found] if is_loss_likelier(evidence, found) else [*found, *lost(evidence)]
     found += brought(evidence, not found)
     return [*found, Cause("arrival", otherwise("If that is not the cause", ARRIVAL) if found else ARRIVAL)]
 
@@ -106,10 +114,21 @@ def undelivered(evidence: Evidence) -> Cause:
     return Cause("not delivered", UNDELIVERED.format(lines=written, replica=replica, **changes_told(changes)))
 
 
-def lost(evidence: Evidence) -> list:
-    """Of a change that came nowhere by itself, where each other one of its author did; but where it is told as overtaken."""
+def is_loss_likelier(evidence: Evidence, causes: list) -> bool:
+    """Whether a change that may have been lost is told before the causes that lie in the response itself: unless one of these is as sure."""
+    names, operation = {cause.name for cause in causes}, evidence.operations[0]
+    return any(evidence.recording.arrival(change, replica).line <= operation.line or "overtaken" not in names and (
+        "not applied" not in names or replica == operation.replica) for change, replica in astray(evidence)[:1])
+
+
+def astray(evidence: Evidence) -> list:
+    """The changes that may have been lost, each with the replica where it is lacking; but where it is told as overtaken."""
     told = [change for change, _ in evidence.overtakings[:1]]
-    found = [(change, replica) for change, replica in evidence.unreceived if change not in told]
+    return [(change, replica) for change, replica in evidence.unreceived if change not in told]
+
+
+def lost(evidence: Evidence) -> list:
+    found = astray(evidence)
     changes = [change for change, replica in found if (change.replica, replica) == (found[0][0].replica, found[0][1])]
     is_one = len(changes) == 1
     return [Cause("lost", LOST.format(
@@ -219,13 +238,19 @@ def of_refusal(evidence: Evidence, weak: bool) -> list:
         return [*lost(evidence), of_several(evidence), Cause("weak alone", WEAK_ALONE_HOLDS)]
     first, then = (evidence.recording.inserts[name][0] for name in evidence.elements)
     if not first.has_seen(then) and not then.has_seen(first):
-        told = CONCURRENT.format(first=first.element, then=then.element, moved=moved_over(evidence))
+        moved = moved_over(evidence)
+        if weak and moved:
+            told = (EITHER if are_put_at_once(first, then) else POSITIONS).format(first=first.element, then=then.element, **moved)
+            return [*lost(evidence), Cause("concurrent", told), *beside_deleted(evidence)]
+        told = CONCURRENT.format(first=first.element, then=then.element, moved=MOVED_INSERT.format(**moved) if moved else "")
         return [*lost(evidence), Cause("concurrent", told), *beside_deleted(evidence)]
     later, old = (first, then) if first.has_seen(then) else (then, first)
     moved = moved_over(evidence)
-    told = SEEN.format(later=at(later), new=later.element, old=old.element, numbers="" if weak and moved else NUMBERS_OF_INSERTS, moved=moved)
+    told = SEEN.format(later=at(later), new=later.element, old=old.element, numbers="" if weak and moved else NUMBERS_OF_INSERTS,
+                       moved=MOVED_INSERT.format(**moved) if moved else "")
     told += put_meanwhile(evidence, later) or put_meanwhile(evidence, old)
-    return [*lost(evidence), *beside_deleted(evidence), Cause("seen", told)]
+    causes = [*beside_deleted(evidence), Cause("seen", told)]
+    return [*lost(evidence), *(causes[::-1] if weak and moved else causes)]
 
 
 def beside_deleted(evidence: Evidence) -> list:
@@ -265,19 +290,19 @@ def at_once(element: str, others: list) -> str:
     return PUT_AT_ONCE.format(element=element, others=listed(others, MOST_TOLD), were="were" if others[1:] else "was")
 
 
-def moved_over(evidence: Evidence) -> str:
-    """Which deletes an arriving insert may have met that its author did not know: some editors have to adjust its position for these, and
-    theirs for the inserts that came meanwhile."""
+def moved_over(evidence: Evidence) -> dict:
+    """Which deletes an arriving insert may have met that its author did not know, for a sentence: some editors have to adjust its position for
+    these, and theirs for the inserts that came meanwhile. Empty where there is none."""
     arrival, unknown = evidence.met
     if not unknown:
-        return ""
+        return {}
     before = elements_before(evidence.recording, arrival.insert, arrival.receipt)
     unknown = [delete for delete in unknown if delete.element in before] or unknown
     back = MOVED_BACK[len(unknown) == 1] if any(met_inserts(evidence.recording, delete, arrival) for delete in unknown) else ""
-    return MOVED_INSERT.format(element=arrival.insert.element, changes=named(unknown), replica=arrival.receipt.replica, back=back)
+    return {"element": arrival.insert.element, "changes": named(unknown), "replica": arrival.receipt.replica, "back": back}
 
 
 def named(changes: list) -> str:
     """Changes with what they changed."""
     what = {"ins": "insert", "del": "delete"}
-    return listed([f"the {what[change.kind]} {at(change)} of {change.element}" for change in changes], MOST_TOLD)
+    return listed([f"the {what[change.kind]} {at(change)} of {change.element}" for change in changes], MOST_MET)

@@ -10,6 +10,7 @@ from typing import NamedTuple
 from .recordings import Operation, Receipt, Recording, place_asked
 from .telling import FIRST_STEPS, LAST_STEPS, MOST_STEPS
 
+MOST_ASTRAY = 20  # changes that may have been lost that are looked at
 MOST_ARRIVED = 6  # receipts that are told one by one
 SEVERAL = 3  # changes of an author, each with a receipt of its own, so that one without is noticed
 MOST_ELEMENTS = 4  # of a fault of contents, on each side, that are followed through the trace
@@ -300,15 +301,19 @@ class Evidence:
 
     @cached_property
     def unreceived(self) -> list:
-        """Changes of which a replica has no receipt of its own, though the other ones of the same author have one there; and that replica:
-        first those of the verdict, then the authors of the changes that it is about, then the others, of which what they sent may have gone
-        astray for it. These changes may have been lost on their way, since the responses there are as if they had not been applied."""
+        """Changes of which a replica has no receipt of its own, though others have one there or these have one elsewhere; and that replica. They may
+        have been lost on their way, since the responses there are as if they had not been applied. First stand those that had come by the verdict's
+        line, with something later, then those of which nothing says that they were to come later; and of each first those at the verdict's replicas,
+        then at the authors of the changes that it is about, then at the others, of which what they sent may have gone astray for it."""
         last = max(operation.line for operation in self.operations)
         about = [change.replica for name in self.elements for changes in (self.recording.inserts, self.recording.deletes)
                  for change in changes.get(name, []) if change.line <= last]
-        return [(change, replica) for replica in dict.fromkeys([operation.replica for operation in self.operations] + about + [*range(self.recording.replicas)])
-                for change in self.recording.skipped(replica, SEVERAL)
-                if change.line < last and self.recording.may_travel_alone(change, replica) and self.may_be_lost(change, replica)]
+        replicas = dict.fromkeys([operation.replica for operation in self.operations] + about + [*range(self.recording.replicas)])
+        found = [(change, replica) for replica in replicas for change in self.recording.skipped(replica, SEVERAL)
+                 if change.line < last and self.recording.may_travel_alone(change, replica) and self.may_be_lost(change, replica)]
+        had_come = [pair for pair in found if self.recording.arrival(*pair).line <= last]
+        others = [pair for pair in found if pair not in had_come][:MOST_ASTRAY]
+        return had_come + [pair for pair in others if not self.recording.is_due_later(*pair, last)]
 
     def may_be_lost(self, change: Operation, replica: int) -> bool:
         """Whether the responses there show that a change was not applied; or don't show it, where no receipt stands for several changes."""

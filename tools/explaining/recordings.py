@@ -65,7 +65,7 @@ class Recording:
         self.receipts = [[] for _ in range(self.replicas)]
         self.entries = []
         self.inserts, self.deletes = defaultdict(list), defaultdict(list)  # operations by element
-        self._counts, self._named, self._shown_by, self._sets = {}, {}, {}, {}
+        self._counts, self._named, self._shown_by, self._sets, self._lines_named = {}, {}, {}, {}, {}
         clocks = [[0] * self.replicas for _ in range(self.replicas)]
         for number, line in enumerate(self.lines[2:], FIRST_ENTRY):
             self._take(number, line, clocks)
@@ -168,6 +168,24 @@ class Recording:
     def named_at(self, replica: int) -> set:
         """The operations that a replica's receipts name, but for those of `delivered`."""
         return {receipt.seen.key for receipt in self.receipts[replica] if not self.is_delivered(receipt.line)}
+
+    def is_due_later(self, change: Operation, replica: int, line: int) -> bool:
+        """Whether it seems that a change that never came to a replica was not to come there up to a line: a change of another one came later than
+        that, which came before it everywhere else, as by the order of a server."""
+        elsewhere = {other: self.lines_named(other) for other in range(self.replicas)
+                     if other not in (replica, change.replica) and change.key in self.lines_named(other)}
+        for key in (key for key, at in self.lines_named(replica).items() if at > line):
+            told = [lines for other, lines in elsewhere.items() if other != key[0]]
+            if told and all(key in lines and lines[key] < lines[change.key] for lines in told):
+                return True
+        return False
+
+    def lines_named(self, replica: int) -> dict:
+        """By operation, the line of the first receipt at a replica that names it, but for those of `delivered`."""
+        if replica not in self._lines_named:
+            self._lines_named[replica] = {receipt.seen.key: receipt.line for receipt in reversed(self.receipts[replica])
+                                          if not self.is_delivered(receipt.line)}
+        return self._lines_named[replica]
 
     def is_deleted_twice(self, change: Operation) -> bool:
         return change.kind == "del" and len(self.deletes[change.element]) > 1
