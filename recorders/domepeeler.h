@@ -1882,9 +1882,9 @@ DOMEPEELER_CHECKED static inline char *domepeeler_warnings(struct domepeeler *d)
     return said;
 }
 
-/* The report, as JSON, of the program on this recording; free() it. NULL where there is none. It has one more key, `warnings`: a list of
- * what an accepted verdict may hide; of any other it says no more than whether calls were refused. The program is that of the environment's
- * DOMEPEELER, or domepeeler, where NULL is given. */
+/* The report, as a line of JSON with its line feed, of the program on this recording; free() it. NULL where there is none. It has one more
+ * key, `warnings`: a list of what an accepted verdict may hide; of any other it says no more than whether calls were refused. The program is
+ * that of the environment's DOMEPEELER, or domepeeler, where NULL is given. */
 DOMEPEELER_CHECKED static inline char *domepeeler_judge(struct domepeeler *d, const char *program) {
     domepeeler_enter(d, NULL, 0);
     char *said = domepeeler_judge_now(d, program);

@@ -145,12 +145,12 @@ WORDS = [
      "x: inserted by 0.1 (line 3), deleted by 0.2 (line 8)|at 0.3 (line 11), x was deleted already, by 0.2 (line 8)|"
      "x arrived at replica 1 in line 4, x at replica 2 in line 5, a at replica 0 in line 9, b at replica 0 in line 10||"
      "Where to look|"
+     "Of the whole trace: Look at inserts beside deleted elements, if replicas throw these away: the lines above name one that arrived where "
+     "its neighbour was deleted. Without its neighbour its place is lost.|"
      "Of the whole trace: Look at the order of concurrent inserts: a and b were inserted without knowing of each other, and were shown in two "
      "different orders. Use a rule that gives the same order everywhere (by the replicas' numbers, say), and not the order in which they "
      "arrive. In an editor that sends positions, that of b was perhaps not adjusted for the delete 0.2 (line 8) of x, which replica 1 had and "
      "its author did not; or that of the delete was not adjusted for an insert.|"
-     "Of the whole trace: Look at inserts beside deleted elements, if replicas throw these away: the lines above name one that arrived where "
-     "its neighbour was deleted. Without its neighbour its place is lost.|"
      "Look at positions beside deleted elements: any two of 2.1, 0.3 and 1.1 fit together, but an insert beside an element that "
      "another replica has deleted has perhaps lost its place. The lines above say which elements are deleted for which of them.|"
      "An editor whose server orders all changes, as Jupiter's does, promises the weak list specification alone, which holds up to here. "
@@ -1134,7 +1134,8 @@ def astray(tally: Tally, program: str, folder: str) -> None:
     Path(f"{path}.lines").write_text("12\ndelivered 10 12\n")
     said = explain(program, [str(path)]).out.decode()
     tally.check("held back: beside what it was put", said.startswith("contents 1.3: ") and "[b] was put behind a. By line 10, a was deleted there by 1.2 (line 6)\n" in
-                said and "Look at inserts beside deleted elements: b arrived where its neighbour was deleted, as told above." in said, said)
+                said and "Perhaps 0.2 finds no place there for b: its neighbour a was deleted there by 1.2 (line 6), and an editor that throws deleted "
+                "elements away too early loses such an insert or holds it back for ever." in said, said)
 
 
 def by_next(tree: ElementTree.Element) -> list:

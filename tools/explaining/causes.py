@@ -19,6 +19,8 @@ ARRIVAL = ("Look at the recorder first: `received` must be called right after th
            f"element? {GUIDE} says where the calls go.")
 UNDELIVERED = ("{lines} by `delivered`: before it nothing shows that {changes} {were} applied at replica {replica}. {They} lost, or "
                "{are} held back for ever. Look at what keeps changes waiting.")
+NO_PLACE = (" Perhaps {insert} finds no place there for {element}: its neighbour {neighbours}, and an editor that throws deleted elements away too "
+            "early loses such an insert or holds it back for ever.")
 NOT_APPLIED = ("It looks as if {changes} {were} not applied at replica {replica}: lost, or held back, or `received` is called before the "
                "change is applied.{moved}")
 BROUGHT = ("No receipt at replica {replica} names {changes}, which arrived with {brought}. If each of your changes has a receipt of its "
@@ -98,7 +100,7 @@ def otherwise(condition: str, look: str) -> str:
 
 def of_contents(evidence: Evidence) -> list:
     if evidence.undelivered:
-        return [undelivered(evidence), *lost_neighbour(evidence)]
+        return [undelivered(evidence)]
     found = [*wrong_delete(evidence, evidence.operations[0]), *second_delete(evidence), *overtaken(evidence), *lost_neighbour(evidence)]
     found = found or unlike_receipts(evidence)
     found = [*lost(evidence), *found] if is_loss_likelier(evidence, found) else [*found, *lost(evidence)]
@@ -111,7 +113,11 @@ def undelivered(evidence: Evidence) -> Cause:
     changes, replica = evidence.undelivered, evidence.operations[0].replica
     lines = sorted({evidence.recording.arrival(change, replica).line for change in changes})
     written = f"{'Line' if len(lines) == 1 else 'Lines'} {listed(list(map(str, lines)), MOST_TOLD)} {'was' if len(lines) == 1 else 'were'} written"
-    return Cause("not delivered", UNDELIVERED.format(lines=written, replica=replica, **changes_told(changes)))
+    told, gone = UNDELIVERED.format(lines=written, replica=replica, **changes_told(changes)), evidence.deleted_beside(changes[0], replica)
+    if not gone:
+        return Cause("not delivered", told)
+    neighbours = joined([f"{delete.element} was deleted there by {at(delete)}" for delete in gone])
+    return Cause("not delivered, no place", told + NO_PLACE.format(insert=changes[0].name, element=changes[0].element, neighbours=neighbours))
 
 
 def is_loss_likelier(evidence: Evidence, causes: list) -> bool:
@@ -243,7 +249,9 @@ def of_refusal(evidence: Evidence, weak: bool) -> list:
             told = (EITHER if are_put_at_once(first, then) else POSITIONS).format(first=first.element, then=then.element, **moved)
             return [*lost(evidence), Cause("concurrent", told), *beside_deleted(evidence)]
         told = CONCURRENT.format(first=first.element, then=then.element, moved=MOVED_INSERT.format(**moved) if moved else "")
-        return [*lost(evidence), Cause("concurrent", told), *beside_deleted(evidence)]
+        causes = [Cause("concurrent", told), *beside_deleted(evidence)]
+        is_deleted_first = evidence.lost_neighbours and not are_put_at_once(first, then)
+        return [*lost(evidence), *(causes[::-1] if is_deleted_first else causes)]
     later, old = (first, then) if first.has_seen(then) else (then, first)
     moved = moved_over(evidence)
     told = SEEN.format(later=at(later), new=later.element, old=old.element, numbers="" if weak and moved else NUMBERS_OF_INSERTS,

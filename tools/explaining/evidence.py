@@ -188,10 +188,16 @@ class Evidence:
         for arrival in self.arrivals:
             if self.recording.is_delivered(arrival.receipt.line) and self.report["verdict"] != "contents":
                 continue  # it came before
-            gone = [self.recording.change_at(self.recording.deletes.get(name, []), arrival.receipt) for name in self.beside(arrival.insert)]
-            if any(gone):
-                found.append((arrival, list(filter(None, gone))))
+            gone = self.deleted_beside(arrival.insert, arrival.receipt.replica)
+            if gone:
+                found.append((arrival, gone))
         return found
+
+    def deleted_beside(self, insert: Operation, replica: int) -> list:
+        """The deletes, at a replica, of elements beside which the author of an insert put its own, made or come there before it."""
+        receipt = self.recording.arrival(insert, replica)
+        found = [self.recording.change_at(self.recording.deletes.get(name, []), receipt) for name in self.beside(insert)] if insert.kind == "ins" else []
+        return list(filter(None, found))
 
     def unknown_deletes(self, arrival: Arrival) -> list:
         """The deletes that the replica had when the insert arrived, and that the insert's author had not seen."""

@@ -204,7 +204,7 @@ class Recording:
     def is_applied(self, change: Operation, replica: int) -> bool | None:
         """Whether a change was applied at another replica than its author's, by the responses there; none where they don't show it. An insert is
         shown by its element, and its lack by the first response since it has come, if no delete of it has come by then; a delete by that response,
-        where the element was there before."""
+        where the one before still had the element."""
         first_shown, whole, lines = self._shown(replica)
         if change.kind == "ins" and change.element in first_shown:
             return True
@@ -217,7 +217,7 @@ class Recording:
             return None if any(map(first.has_seen, self.deletes.get(change.element, ()))) else False
         if change.element in self._names_of(first):
             return False
-        return True if first_shown.get(change.element, first.line) < first.line else None
+        return True if at and change.element in self._names_of(whole[at - 1]) else None
 
     def _shown(self, replica: int) -> tuple:
         """By element the first line in which a replica shows it; and its operations but views, which may leave out any, with their lines."""
