@@ -464,8 +464,11 @@ With `domepeeler-weak' a recording passes where weak holds."
   (let ((report (domepeeler-judge recording nil domepeeler-weak)))
     (if (and (if domepeeler-weak (eq (alist-get 'weak report) t) (equal (alist-get 'verdict report) "accepted"))
              (null (alist-get 'warnings report)))
-        (dolist (saved (list file (concat file ".lines")))
-          (when (file-regular-p saved) (delete-file saved)))
+        (progn
+          (unless (equal (alist-get 'verdict report) "accepted")
+            (message "weak holds, strong doesn't"))
+          (dolist (saved (list file (concat file ".lines")))
+            (when (file-regular-p saved) (delete-file saved))))
       (let ((told (domepeeler--told recording file)))
         (message "%s" told) ; the error's words may be shown in part
         (error "%s" (car (split-string told "\n")))))))

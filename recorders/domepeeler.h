@@ -50,7 +50,9 @@
  *
  * A pointer to such a call, and one in brackets as (domepeeler_insert)(...), is the plain function, which names no line.
  *
- * Threads may share a recording: each call is whole before the next one begins. With a C library older than glibc 2.34 link with -pthread. */
+ * Threads may share a recording: each call is whole before the next one begins, and domepeeler_why() tells each thread of its own. Only the
+ * pointer that domepeeler_text() answers is of use while no other thread records: else it leads to memory that was freed. With a C library
+ * older than glibc 2.34 link with -pthread. */
 #ifndef DOMEPEELER_H
 #define DOMEPEELER_H
 
@@ -109,6 +111,17 @@ enum {
 #define DOMEPEELER_CHECKED
 #endif
 
+/* Of a variable of which each thread has its own. */
+#if defined __cplusplus
+#define DOMEPEELER_OWN thread_local
+#elif defined __STDC_VERSION__ && __STDC_VERSION__ >= 201112L && !defined __STDC_NO_THREADS__
+#define DOMEPEELER_OWN _Thread_local
+#elif defined __GNUC__
+#define DOMEPEELER_OWN __thread
+#else
+#define DOMEPEELER_OWN
+#endif
+
 /* What one replica has recorded: its counts; which of its operations insert or delete; how many operations of each other replica
  * it has received, now and at each operation of its own. */
 struct domepeeler_replica {
@@ -143,14 +156,16 @@ struct domepeeler {
     size_t called, callers_room;
     const char *file; /* from where the call comes that is under way, or NULL */
     int line;
-    size_t refused; /* calls, but for limits and what is not causal, after which a session may well go on */
+    size_t refused; /* calls, but for limits that domepeeler_full() was asked of, and what is not causal, which may come again */
+    unsigned open[DOMEPEELER_REPLICAS][DOMEPEELER_REPLICAS]; /* by replica and author: the last change that was refused so, until it comes */
     int stops, is_weak_enough, is_wrong; /* whether calls are judged, and how; whether one was wrong */
     int is_stopping;                     /* whether the call that is under way is to call back when it ends */
     void (*call_back)(const char *words, void *data);
     void *data;
     char *wrong; /* the words for that, or NULL without memory */
-    int full;
+    int full, is_limit_seen; /* whether the last one was at a limit; and whether the first of these was asked of, or there is none */
     char why[512], first[512]; /* of the last call that answered 0, and of the first one that was refused so */
+    char limit[512], not_causal[512]; /* of the first at a limit, and of the last that was not causal */
 };
 
 /* The code point at which the text stands, which is behind it then; -1 where there is no UTF-8. */
@@ -204,13 +219,33 @@ static inline const char *domepeeler_escaped(const char *text, char *room, size_
     return room;
 }
 
+/* The reason that a thread was told last, and the recording of which it is. */
+struct domepeeler_reason {
+    const struct domepeeler *of;
+    char why[512];
+};
+
+static inline struct domepeeler_reason *domepeeler_reason(void) {
+    static DOMEPEELER_OWN struct domepeeler_reason own;
+    return &own;
+}
+
+/* Keeps why a call fails or is refused, for the thread that made it too. */
+static inline void domepeeler_keep_why(struct domepeeler *d, const char *format, va_list words) {
+    struct domepeeler_reason *own = domepeeler_reason();
+    vsnprintf(d->why, sizeof d->why, format, words);
+    memcpy(own->why, d->why, sizeof own->why);
+    own->of = d;
+}
+
 /* A call of the recording is refused. */
 static inline unsigned domepeeler_refuse(struct domepeeler *d, int full, const char *format, ...) {
     va_list words;
     va_start(words, format);
-    vsnprintf(d->why, sizeof d->why, format, words);
+    domepeeler_keep_why(d, format, words);
     va_end(words);
     d->full = full;
+    if (full && !*d->limit) memcpy(d->limit, d->why, sizeof d->limit);
     if (full || !strncmp(d->why, "not causal: ", 12) || d->refused++) return 0;
     memcpy(d->first, d->why, sizeof d->first);
     return 0;
@@ -220,7 +255,7 @@ static inline unsigned domepeeler_refuse(struct domepeeler *d, int full, const c
 static inline unsigned domepeeler_fail(struct domepeeler *d, const char *format, ...) {
     va_list words;
     va_start(words, format);
-    vsnprintf(d->why, sizeof d->why, format, words);
+    domepeeler_keep_why(d, format, words);
     va_end(words);
     d->full = 0;
     return 0;
@@ -344,6 +379,7 @@ static inline void domepeeler_free(struct domepeeler *d) {
     free(d->deliveries);
     free(d->text);
     free(d->wrong);
+    if (domepeeler_reason()->of == d) domepeeler_reason()->of = NULL;
     if (d->lock) pthread_mutex_destroy(d->lock);
     free(d->lock);
     free(d);
@@ -831,6 +867,20 @@ static inline unsigned domepeeler_receipt(struct domepeeler *d, int replica, int
     return 1;
 }
 
+/* A change that is not causal stays open until it has come, otherwise than by domepeeler_delivered(). Answers 0. */
+static inline unsigned domepeeler_leave_open(struct domepeeler *d, int replica, int author, unsigned n) {
+    if (n > d->open[replica][author]) d->open[replica][author] = n;
+    memcpy(d->not_causal, d->why, sizeof d->not_causal);
+    return 0;
+}
+
+/* What has come by now is open no more. Answers what was said. */
+static inline unsigned domepeeler_close_open(struct domepeeler *d, int replica, unsigned said) {
+    for (int author = 0; author < d->replicas && said; author++)
+        if (d->open[replica][author] <= d->of[replica].others[author]) d->open[replica][author] = 0;
+    return said;
+}
+
 static inline unsigned domepeeler_received_now(struct domepeeler *d, int replica, int author, long long n) {
     if (!domepeeler_goes_on(d) || !domepeeler_acts(d, replica) || !domepeeler_known(d, author)) return 0;
     if (n < 1 || n > DOMEPEELER_POSITION)
@@ -841,7 +891,7 @@ static inline unsigned domepeeler_received_now(struct domepeeler *d, int replica
     if (n > have && d->only < 0)
         return domepeeler_refuse(d, 0, "%d.%lld cannot have arrived: replica %d has %u operations so far", author, n,
                                  author, have);
-    return domepeeler_receipt(d, replica, author, n);
+    return domepeeler_close_open(d, replica, domepeeler_receipt(d, replica, author, n));
 }
 
 /* The receipts that the replica lacks, each of the last change of an author, and a read of its list. Answers the read's number. */
@@ -883,6 +933,9 @@ static inline unsigned domepeeler_delivered_now(struct domepeeler *d, const char
         own->room = now.room;
     }
     if (is_said) {
+        for (int replica = 0; replica < d->replicas; replica++) /* what is open stays so, though it counts as arrived */
+            for (int author = 0; author < d->replicas; author++)
+                if (d->open[replica][author]) d->open[replica][author] = (unsigned)-1;
         d->deliveries[d->delivered][0] = first;
         d->deliveries[d->delivered++][1] = domepeeler_lines_now(d);
         return domepeeler_answered(d, 1);
@@ -976,8 +1029,9 @@ static inline unsigned domepeeler_received_clock_now(struct domepeeler *d, int r
     if (changes < 1 || changes > most)
         return domepeeler_refuse(d, 0, "an update carries 1 to %u of the changes that its clock counts, not %u", most, changes);
     for (unsigned i = most - changes; i < most; i++)
-        if (own[i] > have && !domepeeler_check_causal(d, replica, author, own[i], clock, own[most - changes])) return 0;
-    return own[most - 1] > have ? domepeeler_receipt(d, replica, author, own[most - 1]) : 1;
+        if (own[i] > have && !domepeeler_check_causal(d, replica, author, own[i], clock, own[most - changes]))
+            return domepeeler_leave_open(d, replica, author, own[i]);
+    return own[most - 1] > have ? domepeeler_close_open(d, replica, domepeeler_receipt(d, replica, author, own[most - 1])) : 1;
 }
 
 /* A name that stands in the text. */
@@ -1295,6 +1349,12 @@ static inline void domepeeler_say_refused(const struct domepeeler *d, struct dom
     if (d->refused == 1) domepeeler_say(said, "a call was refused, so what it says is not recorded: %s%s", d->first, end);
     if (d->refused > 1)
         domepeeler_say(said, "%zu calls were refused, so what they say is not recorded; the first: %s%s", d->refused, d->first, end);
+    if (*d->limit && !d->is_limit_seen) domepeeler_say(said, "a limit is reached, so what came later is not recorded: %s%s", d->limit, end);
+    for (int pair = 0; pair < d->replicas * d->replicas; pair++) {
+        if (!d->open[pair / d->replicas][pair % d->replicas]) continue;
+        domepeeler_say(said, "a call was refused, and what it says never came: %s%s", d->not_causal, end);
+        break;
+    }
 }
 
 static inline char *domepeeler_warnings_now(struct domepeeler *d) {
@@ -1385,20 +1445,36 @@ static inline int domepeeler_begin_and_wait(char *const *words, const int *files
     return WIFEXITED(*status) && WEXITSTATUS(*status) == 127 ? ENOENT : 0; /* so says a system that finds out only in the child */
 }
 
-/* The same. Where your program ignores SIGCHLD, the system would forget how the words ended, and what they begin themselves: so not now. */
-static inline int domepeeler_run(char *const *words, const int *files, int *status) {
+/* Begins or ends a time in which words are at work, in which the end of children is not ignored: where your program ignores SIGCHLD, the
+ * system would forget how the words ended, and what they begin themselves. */
+static inline void domepeeler_heed_children(int begins) {
 #ifdef SA_NOCLDSTOP
-    struct sigaction kept, usual;
-    memset(&usual, 0, sizeof usual);
-    usual.sa_handler = SIG_DFL;
-    int is_ignored = !sigaction(SIGCHLD, NULL, &kept) && (kept.sa_handler == SIG_IGN || (kept.sa_flags & SA_NOCLDWAIT));
-    if (is_ignored) sigaction(SIGCHLD, &usual, NULL);
-    int why = domepeeler_begin_and_wait(words, files, status);
-    if (is_ignored) sigaction(SIGCHLD, &kept, NULL);
-    return why;
+    static pthread_mutex_t lock = PTHREAD_MUTEX_INITIALIZER;
+    static unsigned running; /* in how many threads */
+    static int is_ignored;
+    static struct sigaction kept;
+    pthread_mutex_lock(&lock);
+    if (begins && !running++) {
+        struct sigaction usual;
+        memset(&usual, 0, sizeof usual);
+        usual.sa_handler = SIG_DFL;
+        is_ignored = !sigaction(SIGCHLD, NULL, &kept) && (kept.sa_handler == SIG_IGN || (kept.sa_flags & SA_NOCLDWAIT));
+        if (is_ignored) sigaction(SIGCHLD, &usual, NULL);
+    }
+    if (!begins && !--running && is_ignored) sigaction(SIGCHLD, &kept, NULL);
+    pthread_mutex_unlock(&lock);
 #else
-    return domepeeler_begin_and_wait(words, files, status);
+    (void)begins;
 #endif
+}
+
+/* The same, heeding children. */
+static inline int domepeeler_run(char *const *words, const int *files, int *status) {
+    domepeeler_heed_children(1);
+    int why = domepeeler_begin_and_wait(words, files, status), number = errno;
+    domepeeler_heed_children(0);
+    errno = number;
+    return why;
 }
 
 /* Says how a program ended that printed nothing that is wanted. */
@@ -1522,13 +1598,14 @@ static inline unsigned domepeeler_passes_weak_now(struct domepeeler *d, const ch
     char *report = domepeeler_ask(d, is_short ? few : many, "the program's path in DOMEPEELER", "report", 'r');
     if (!report) return 0;
     const char *verdict = strchr(report, '\n');
-    unsigned holds = strstr(report, "\nweak yes\n") != NULL;
+    unsigned holds = strstr(report, "\nweak yes\n") != NULL, is_weak_alone = strstr(report, "\nstrong no\n") != NULL;
     if (!verdict) domepeeler_fail(d, "%s printed a report without a verdict", program);
     else if (!holds) domepeeler_fail_by_line(d, verdict + 1);
     char *warnings = verdict ? domepeeler_beside(d, (int)holds) : NULL;
     free(report);
     if (warnings && *warnings) holds = domepeeler_fail_by_line(d, warnings);
     holds = holds && warnings;
+    if (holds && is_weak_alone) domepeeler_fail(d, "weak holds, strong doesn't");
     free(warnings);
     return holds;
 }
@@ -1718,26 +1795,35 @@ static inline unsigned domepeeler_leave(struct domepeeler *d, unsigned said) {
 
 /* The calls below are for you. Each is whole before one of another thread on the same recording begins. */
 
-/* Why the last call that answered 0 or NULL did so; of NULL, why there is no recording. Where several threads record, it may be that of
- * another thread's call, and it stays until the next call that answers so. */
+/* Why this thread's last call that answered 0 or NULL did so; of NULL, why there is no recording. After domepeeler_passes_weak() answered 1
+ * where strong fails, that weak holds. It stays until this thread's next call. */
 static inline const char *domepeeler_why(const struct domepeeler *d) {
-    return d ? d->why : "there is no recording: replicas are 1 to 16, a log is of one of them, and memory is needed";
+    struct domepeeler_reason *own = domepeeler_reason();
+    if (!d) return "there is no recording: replicas are 1 to 16, a log is of one of them, and memory is needed";
+    if (own->of == d) return own->why;
+    pthread_mutex_lock(d->lock); /* another thread was told */
+    memcpy(own->why, d->why, sizeof own->why);
+    pthread_mutex_unlock(d->lock);
+    return own->why;
 }
 
-/* Whether that was because a limit of traces is reached. */
-static inline int domepeeler_full(const struct domepeeler *d) {
+/* Whether that was because a limit of traces is reached. Who asks this knows that the session ends there: else warnings say it. */
+static inline int domepeeler_full(struct domepeeler *d) {
     if (!d) return 0;
     pthread_mutex_lock(d->lock);
     int is_full = d->full;
+    d->is_limit_seen |= is_full;
     pthread_mutex_unlock(d->lock);
     return is_full;
 }
 
-/* The trace; of one replica's log the text that merge.py takes. It stays until the next call, also one of another thread. */
-static inline const char *domepeeler_text(const struct domepeeler *d) { return d->text; }
+/* The trace; of one replica's log the text that merge.py takes. It stays until the next call, also one of another thread: ask for it when no
+ * other thread records. */
+static inline const char *domepeeler_text(const struct domepeeler *d) { return d ? d->text : NULL; }
 
 /* How many lines the text has. A debugger's line N: if (domepeeler_lines(recording) == N) raise(SIGTRAP); */
 static inline size_t domepeeler_lines(const struct domepeeler *d) {
+    if (!d) return 0;
     pthread_mutex_lock(d->lock);
     size_t lines = domepeeler_lines_now(d);
     pthread_mutex_unlock(d->lock);
@@ -1746,6 +1832,7 @@ static inline size_t domepeeler_lines(const struct domepeeler *d) {
 
 /* What is wrong with the session, if a call has stopped; else NULL. It stays until the recording is freed. */
 static inline const char *domepeeler_stopped(const struct domepeeler *d) {
+    if (!d) return NULL;
     pthread_mutex_lock(d->lock);
     const char *wrong = domepeeler_stopped_now(d);
     pthread_mutex_unlock(d->lock);
@@ -1756,6 +1843,7 @@ static inline const char *domepeeler_stopped(const struct domepeeler *d) {
 DOMEPEELER_CHECKED static inline unsigned domepeeler_insert_from(const char *file, int line, struct domepeeler *d, int replica,
                                                                  const char *name, long long position, const char *const *response,
                                                                  size_t names) {
+    if (!d) return 0;
     domepeeler_enter(d, file, line);
     return domepeeler_leave(d, domepeeler_insert_now(d, replica, name, position, response, names));
 }
@@ -1768,6 +1856,7 @@ DOMEPEELER_CHECKED static inline unsigned domepeeler_insert(struct domepeeler *d
 /* The replica deleted the name and then had this list. Answers the operation's number. */
 DOMEPEELER_CHECKED static inline unsigned domepeeler_delete_from(const char *file, int line, struct domepeeler *d, int replica,
                                                                  const char *name, const char *const *response, size_t names) {
+    if (!d) return 0;
     domepeeler_enter(d, file, line);
     return domepeeler_leave(d, domepeeler_delete_now(d, replica, name, response, names));
 }
@@ -1780,6 +1869,7 @@ DOMEPEELER_CHECKED static inline unsigned domepeeler_delete(struct domepeeler *d
 /* The replica read its list. Answers the operation's number. */
 DOMEPEELER_CHECKED static inline unsigned domepeeler_read_from(const char *file, int line, struct domepeeler *d, int replica,
                                                                const char *const *response, size_t names) {
+    if (!d) return 0;
     domepeeler_enter(d, file, line);
     return domepeeler_leave(d, domepeeler_read_now(d, replica, response, names));
 }
@@ -1791,6 +1881,7 @@ DOMEPEELER_CHECKED static inline unsigned domepeeler_read(struct domepeeler *d, 
 /* The replica showed this part of its list, the window of an editor say. Answers the operation's number. */
 DOMEPEELER_CHECKED static inline unsigned domepeeler_view_from(const char *file, int line, struct domepeeler *d, int replica,
                                                                const char *const *part, size_t names) {
+    if (!d) return 0;
     domepeeler_enter(d, file, line);
     return domepeeler_leave(d, domepeeler_view_now(d, replica, part, names));
 }
@@ -1802,6 +1893,7 @@ DOMEPEELER_CHECKED static inline unsigned domepeeler_view(struct domepeeler *d, 
 /* The author's operation n, and with it all that the author had seen by then, was applied at the replica. Answers 1. */
 DOMEPEELER_CHECKED static inline unsigned domepeeler_received_from(const char *file, int line, struct domepeeler *d, int replica,
                                                                    int author, long long n) {
+    if (!d) return 0;
     domepeeler_enter(d, file, line);
     return domepeeler_leave(d, domepeeler_received_now(d, replica, author, n));
 }
@@ -1813,6 +1905,7 @@ DOMEPEELER_CHECKED static inline unsigned domepeeler_received(struct domepeeler 
 /* How many inserts and deletes of each replica this one has, one count for each: the vector clock of an update that it makes now.
  * Answers 1. */
 DOMEPEELER_CHECKED static inline unsigned domepeeler_clock(struct domepeeler *d, int replica, unsigned *clock) {
+    if (!d) return 0;
     domepeeler_enter(d, NULL, 0);
     return domepeeler_leave(d, domepeeler_clock_now(d, replica, clock));
 }
@@ -1823,6 +1916,7 @@ DOMEPEELER_CHECKED static inline unsigned domepeeler_clock(struct domepeeler *d,
 DOMEPEELER_CHECKED static inline unsigned domepeeler_received_clock_from(const char *file, int line, struct domepeeler *d, int replica,
                                                                          int author, const unsigned *clock, size_t counts,
                                                                          unsigned changes) {
+    if (!d) return 0;
     domepeeler_enter(d, file, line);
     return domepeeler_leave(d, domepeeler_received_clock_now(d, replica, author, clock, counts, changes));
 }
@@ -1837,6 +1931,7 @@ DOMEPEELER_CHECKED static inline unsigned domepeeler_received_clock(struct domep
  * holds back, is `contents` there. The recording keeps which lines it wrote. Answers 1. */
 DOMEPEELER_CHECKED static inline unsigned domepeeler_delivered_from(const char *file, int line, struct domepeeler *d,
                                                                     const char *const *const *lists, const size_t *names, size_t count) {
+    if (!d) return 0;
     domepeeler_enter(d, file, line);
     return domepeeler_leave(d, domepeeler_delivered_now(d, lists, names, count));
 }
@@ -1849,6 +1944,7 @@ DOMEPEELER_CHECKED static inline unsigned domepeeler_delivered(struct domepeeler
 /* Keeps a word of yours, in UTF-8, on the whole recording, such as the seed of a random session: domepeeler_save() writes it, and
  * domepeeler_explain() names it. Answers 1. */
 DOMEPEELER_CHECKED static inline unsigned domepeeler_note(struct domepeeler *d, const char *text) {
+    if (!d) return 0;
     domepeeler_enter(d, NULL, 0);
     return domepeeler_leave(d, domepeeler_note_now(d, text));
 }
@@ -1860,6 +1956,7 @@ DOMEPEELER_CHECKED static inline unsigned domepeeler_note(struct domepeeler *d, 
  * replica's log. */
 DOMEPEELER_CHECKED static inline unsigned domepeeler_stop(struct domepeeler *d, int is_weak,
                                                           void (*call_back)(const char *words, void *data), void *data) {
+    if (!d) return 0;
     domepeeler_enter(d, NULL, 0);
     return domepeeler_leave(d, domepeeler_stop_now(d, is_weak, call_back, data));
 }
@@ -1868,6 +1965,7 @@ DOMEPEELER_CHECKED static inline unsigned domepeeler_stop(struct domepeeler *d, 
  * tools notice where the end of the file is lost, the notes, which lines domepeeler_delivered() wrote, and from where in your code each
  * line was recorded. Each appears whole, or what stood there stays. A pipe or a device has no such file beside it. Answers 1. */
 DOMEPEELER_CHECKED static inline unsigned domepeeler_save(struct domepeeler *d, const char *path) {
+    if (!d) return 0;
     domepeeler_enter(d, NULL, 0);
     return domepeeler_leave(d, domepeeler_save_now(d, path));
 }
@@ -1876,6 +1974,7 @@ DOMEPEELER_CHECKED static inline unsigned domepeeler_save(struct domepeeler *d, 
  * causal; a change that never arrived, a replica that shows nothing, a delete of what nothing inserts. Empty where nothing is to be said;
  * NULL where there is no answer. It asks no program, and takes time linear in the text. */
 DOMEPEELER_CHECKED static inline char *domepeeler_warnings(struct domepeeler *d) {
+    if (!d) return NULL;
     domepeeler_enter(d, NULL, 0);
     char *said = domepeeler_warnings_now(d);
     domepeeler_leave(d, 1);
@@ -1886,6 +1985,7 @@ DOMEPEELER_CHECKED static inline char *domepeeler_warnings(struct domepeeler *d)
  * key, `warnings`: a list of what an accepted verdict may hide; of any other it says no more than whether calls were refused. The program is
  * that of the environment's DOMEPEELER, or domepeeler, where NULL is given. */
 DOMEPEELER_CHECKED static inline char *domepeeler_judge(struct domepeeler *d, const char *program) {
+    if (!d) return NULL;
     domepeeler_enter(d, NULL, 0);
     char *said = domepeeler_judge_now(d, program);
     domepeeler_leave(d, 1);
@@ -1896,6 +1996,7 @@ DOMEPEELER_CHECKED static inline char *domepeeler_judge(struct domepeeler *d, co
  * warning says what that may hide. Answers 1; else domepeeler_why() has the first warning, such as that a call was refused, the verdict, or
  * why there is none. The program is as for domepeeler_judge(). */
 DOMEPEELER_CHECKED static inline unsigned domepeeler_passes_weak(struct domepeeler *d, const char *program) {
+    if (!d) return 0;
     domepeeler_enter(d, NULL, 0);
     return domepeeler_leave(d, domepeeler_passes_weak_now(d, program));
 }
@@ -1904,6 +2005,7 @@ DOMEPEELER_CHECKED static inline unsigned domepeeler_passes_weak(struct domepeel
  * notes; free() it. Before them stands whether calls were refused. NULL where there is no answer. The tool is that of the environment's
  * DOMEPEELER_EXPLAIN, or domepeeler-explain, beside the program of DOMEPEELER or on the PATH, where NULL is given. */
 DOMEPEELER_CHECKED static inline char *domepeeler_explain(struct domepeeler *d, const char *explainer) {
+    if (!d) return NULL;
     domepeeler_enter(d, NULL, 0);
     char *said = domepeeler_explain_now(d, explainer);
     domepeeler_leave(d, 1);
@@ -1912,6 +2014,7 @@ DOMEPEELER_CHECKED static inline char *domepeeler_explain(struct domepeeler *d, 
 
 /* The same where the editor promises the weak list specification alone: it says first where that holds, and what comes with it. */
 DOMEPEELER_CHECKED static inline char *domepeeler_explain_weak(struct domepeeler *d, const char *explainer) {
+    if (!d) return NULL;
     domepeeler_enter(d, NULL, 0);
     char *said = domepeeler_explain_weak_now(d, explainer);
     domepeeler_leave(d, 1);

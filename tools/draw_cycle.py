@@ -20,7 +20,7 @@ def main():
     if not isinstance(report, dict) or "verdict" not in report:
         raise Failed("standard input is no report, as `verdict --json` prints it")
     if "steps" not in report:
-        print("draw_cycle.py: the report has no cycle", file=sys.stderr)
+        sys.stderr.write("draw_cycle.py: the report has no cycle\n")
         return 1
     sys.stdout.buffer.write(drawing(report).encode())
     sys.stdout.flush()

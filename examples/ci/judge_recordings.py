@@ -2,8 +2,8 @@
 """judge_recordings.py FOLDER: judges all recordings below a folder in a job of CI, and explains those that are not accepted.
 
 It leaves a folder `judged`: `junit.xml` with all verdicts, and of each failure a page and a small trace, `1.html` and `1.trace` of the
-one that fails in the fewest lines. What it left there before it removes first; a folder of this name that holds anything else, or no
-`junit.xml`, it leaves alone, and ends. It prints the first explanation whole, and of failures that look alike one line. It prints annotations where GitHub runs
+one that fails in the fewest lines. What it left there before, by the list `.made`, it removes first; a folder of this name that holds
+anything else it leaves alone, and ends. It prints the first explanation whole, and of failures that look alike one line. It prints annotations where GitHub runs
 it, and writes `annotations.json` for GitLab. It ends with the status of domepeeler-judge-many: 0 where all are accepted, 1 where the
 editor failed, 2 where the recordings or the setting are at fault. Words behind the folder are options for domepeeler-judge-many; with
 `--weak`, of an editor that promises the weak list specification alone, recordings pass where that holds."""
@@ -29,17 +29,21 @@ import json
 import re
 import signal
 import subprocess
+import threading
 import traceback
 from concurrent.futures import ThreadPoolExecutor
 from pathlib import Path
 
-JUDGED, JUNIT = Path("judged"), "junit.xml"  # which each run writes there before all else
-OWN = re.compile(r"junit\.xml|annotations\.json|[1-9][0-9]*\.(html|trace|trace\.lines)")  # files that it leaves there
+JUDGED, JUNIT, ANNOTATIONS = Path("judged"), "junit.xml", "annotations.json"
+MADE = ".made"  # the list of the files that it leaves there, which is there before them
+OF_EACH = "html", "trace", "trace.lines"  # files of each failure
 IN_MESSAGES, IN_PROPERTIES = "%\r\n", "%\r\n:,"  # marks that GitHub wants escaped
 WEAK, WEAK_ALONE = "--weak", "weak holds, strong doesn't"
+STOPS = signal.SIGINT, signal.SIGTERM, signal.SIGHUP
 MOST_LEFT = 3  # names of other files that are told
 MOST_SHOWN = 120  # letters of what the tool printed otherwise
-BEGUN = set()  # the tools that are at work
+BEGUN, LOCK = set(), threading.Lock()  # the tools that are at work; held where one is begun
+ENDS = threading.Event()  # set when no more is to be begun
 
 
 class Failed(Exception):
@@ -55,20 +59,31 @@ def be_stopped(stop, _):
 
 
 def ended(*words):
+    """Runs a tool, in a thread that is not the first: that one alone is interrupted by signals, and ends what is at work."""
     try:
-        with subprocess.Popen([str(word) for word in words], stdout=subprocess.PIPE, stderr=subprocess.PIPE, text=True,
-                              errors="surrogateescape") as tool:
+        with LOCK:
+            if ENDS.is_set():
+                raise Failed("it was stopped")
+            tool = subprocess.Popen([str(word) for word in words], stdout=subprocess.PIPE, stderr=subprocess.PIPE, text=True,
+                                    errors="surrogateescape")
             BEGUN.add(tool)
-            try:
-                printed = tool.communicate()
-            except BaseException:
-                tool.terminate()  # it ends what it began
-                raise
-            finally:
-                BEGUN.discard(tool)
-        return subprocess.CompletedProcess(words, tool.returncode, *printed)
     except OSError as error:
         raise Failed(f"{words[0]} can't be run: {error.strerror}. Is Domepeeler installed?") from None
+    printed = tool.communicate()
+    with LOCK:
+        BEGUN.discard(tool)
+    return subprocess.CompletedProcess(words, tool.returncode, *printed)
+
+
+def end_tools(pool):
+    """Ends the tools that are at work, which end what they began, and waits for them."""
+    for stop in STOPS:
+        signal.signal(stop, signal.SIG_IGN)
+    with LOCK:
+        ENDS.set()
+        for tool in BEGUN:
+            tool.terminate()
+    pool.shutdown(cancel_futures=True)
 
 
 def escaped(text, marks):
@@ -81,19 +96,8 @@ def annotate(file, title, told):
     print(f"::error file={escaped(file, IN_PROPERTIES)},title={escaped(title, IN_PROPERTIES)}::{escaped(told, IN_MESSAGES)}")
 
 
-def explained(rows, goal):
-    """The words for each failure, and its verdict as it is told: as many at a time as there are processors."""
-    pool = ThreadPoolExecutor(len(os.sched_getaffinity(0)))
-    try:
-        return list(pool.map(lambda numbered: explain(*numbered, goal), enumerate(rows, 1)))
-    except BaseException:
-        pool.shutdown(wait=False, cancel_futures=True)
-        for tool in list(BEGUN):
-            tool.terminate()
-        raise
-
-
 def explain(number, row, goal):
+    """The words for a failure, and its verdict as it is told."""
     page, small = JUDGED / f"{number}.html", JUDGED / f"{number}.trace"
     done = ended("domepeeler-explain", *goal, "--html", page, "--small", small, "--", row["file"])
     told = (done.stdout + done.stderr).strip()
@@ -138,13 +142,23 @@ def say(words):
 def prepare():
     """Makes the folder, or takes away what an earlier run has left in it."""
     JUDGED.mkdir(exist_ok=True)
-    names = sorted(os.listdir(JUDGED))
-    others = [name for name in names if JUNIT not in names or not OWN.fullmatch(name)]
+    made = JUDGED / MADE
+    own = [MADE, *made.read_text().splitlines()] if made.is_file() else []
+    others = sorted(set(os.listdir(JUDGED)) - set(own))
     if others:
         more = " and others" if len(others) > MOST_LEFT else ""
         raise Failed(f"the folder {JUDGED} holds what this script did not write ({', '.join(repr(name)[1:-1] for name in others[:MOST_LEFT])}{more}): move it away")
-    for name in names:
-        (JUDGED / name).unlink()
+    for name in own[1:]:
+        if "/" not in name and (JUDGED / name).is_file():
+            (JUDGED / name).unlink()
+    list_made(0)
+
+
+def list_made(count):
+    """Writes the list of what a run makes that finds so many failures."""
+    made = [JUNIT, ANNOTATIONS, f"{ANNOTATIONS}.part", *(f"{number}.{end}" for number in range(1, count + 1) for end in OF_EACH)]
+    (JUDGED / f"{MADE}.part").write_text("".join(f"{name}\n" for name in [f"{MADE}.part", *made]))
+    os.replace(JUDGED / f"{MADE}.part", JUDGED / MADE)
 
 
 def check_agrees(status, rows):
@@ -156,10 +170,18 @@ def check_agrees(status, rows):
 
 
 def judge(folder, options):
+    pool = ThreadPoolExecutor(len(os.sched_getaffinity(0)))
+    try:
+        return judge_by(pool, folder, options)
+    finally:
+        end_tools(pool)
+
+
+def judge_by(pool, folder, options):
     if JUDGED.resolve() == Path(folder).resolve():
         raise Failed(f"{JUDGED} is where the pages go, so its traces are not judged")
     prepare()
-    done = ended("domepeeler-judge-many", "--failing", "--json", "--junit", JUDGED / JUNIT, *options, "--", folder)
+    done = pool.submit(ended, "domepeeler-judge-many", "--failing", "--json", "--junit", JUDGED / JUNIT, *options, "--", folder).result()
     try:
         rows = [json.loads(line) for line in done.stdout.splitlines()]
     except ValueError:
@@ -167,14 +189,19 @@ def judge(folder, options):
         raise Failed(f"domepeeler-judge-many ended with status {done.returncode}, and printed no recordings: {printed}") from None
     rows = [row for row in rows if JUDGED.resolve() not in Path(row["file"]).resolve().parents]
     goal = [WEAK] if WEAK in options else []
-    told = explained(rows, goal)
+    if rows and done.returncode in (0, 1, 2) and not (JUDGED / JUNIT).is_file():
+        print(done.stderr, end="", file=sys.stderr)
+        raise Failed(f"domepeeler-judge-many ended with status {done.returncode}, and wrote no {JUDGED / JUNIT}")
+    list_made(len(rows))
+    told = list(pool.map(lambda numbered: explain(*numbered, goal), enumerate(rows, 1)))
     for row, (words, name) in zip(rows, told) if os.environ.get("GITHUB_ACTIONS") else ():
         annotate(row["shown"], name, words.split("\n")[0])
     print_explanations(rows, [words for words, _ in told])
     print(done.stderr, end="", file=sys.stderr)
     if os.environ.get("CI_JOB_URL"):
         links = [link(number, name) for number, (_, name) in enumerate(told, 1)]
-        (JUDGED / "annotations.json").write_text(json.dumps({"recordings that are not accepted": links}))
+        (JUDGED / f"{ANNOTATIONS}.part").write_text(json.dumps({"recordings that are not accepted": links}))
+        os.replace(JUDGED / f"{ANNOTATIONS}.part", JUDGED / ANNOTATIONS)
     check_agrees(done.returncode, rows)
     if done.returncode == 0:
         print(f"all recordings below {repr(folder)[1:-1]} {'keep the weak list specification' if goal else 'are accepted'}")
@@ -187,7 +214,7 @@ def judge(folder, options):
 
 
 def main():
-    for stop in signal.SIGINT, signal.SIGTERM, signal.SIGHUP:
+    for stop in STOPS:
         if signal.getsignal(stop) != signal.SIG_IGN:
             signal.signal(stop, be_stopped)
     if len(sys.argv) < 2 or sys.argv[1].startswith("--"):

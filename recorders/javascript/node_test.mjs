@@ -24,6 +24,7 @@ import { basename, dirname, join, relative, resolve } from "node:path"
 import { NotAccepted as Stopped, Recording } from "./domepeeler.mjs"
 
 const FOLDER = "failed_traces", MOST_LETTERS = 150
+const WEAK_ALONE = "weak holds, strong doesn't"
 const FIRST_LINES = 2 // of each trace: its version, and how many replicas there are
 const named = new Map() // by name of a file: how many tests of this process have had it
 const warned = new Set() // paths of properties of which a recording has hidden something
@@ -57,8 +58,9 @@ export function recorded(replicas, body, { folder = FOLDER, weak = false, stop =
     const judge = async () => {
       const lines = recording.lines()
       ended.delete(recording) // a test that fails has told enough
-      const { told, warnings } = await judged(recording, path, weak)
+      const { told, warnings, isAlone } = await judged(recording, path, weak)
       if (told) throw new NotAccepted(told)
+      if (isAlone) tell(WEAK_ALONE)
       if (lines === FIRST_LINES) throw new NotAccepted(warnings.join("\n"))
       ended.set(recording, { test, lines })
       warnings.forEach(tell)
@@ -86,14 +88,14 @@ export async function accepted(recording, path, { weak = false } = {}) {
 }
 
 // The verdict on a recording in words, if these aren't known, which is then saved; nothing where it passes, unless its test has failed by
-// itself. And of what a verdict that passes warns.
+// itself. And of what a verdict that passes warns, and whether it passes since weak holds, though strong doesn't.
 async function judged(recording, path, weak, hasFailed = false, known = "") {
   let told, warnings = []
   try {
     const report = await recording.judge(null, { weak }), isAccepted = report.verdict === "accepted"
     const isPassing = isAccepted || (weak && report.weak === true)
     warnings = report.warnings
-    if (isPassing && !hasFailed) return { told: "", warnings }
+    if (isPassing && !hasFailed) return { told: "", warnings, isAlone: !isAccepted }
     const verdict = isAccepted ? "accepted" : isPassing ? `${report.verdict}, and weak holds` : `not accepted: ${report.verdict}`
     told = await recording.explain(null, { weak }).catch((why) => `The recording is ${verdict}. There is no explanation: ${why.message}`)
   } catch (why) {

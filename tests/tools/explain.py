@@ -630,8 +630,8 @@ Extra
 [a] deleted by 0.3 (line 7), arrived at replica 1 in line 10 (1 recv 0 3), which `delivered` wrote
 
 Where to look
-Line 10 was written by `delivered`: before it nothing shows that 0.2 (line 6) and 0.3 (line 7) were applied at replica 1. They were lost, or are \
-held back for ever. Look at what keeps changes waiting.
+Line 10 was written by `delivered`: before it nothing shows that 0.2 (line 6) was applied at replica 1. It was lost, or is held back for ever; \
+0.3 (line 7), which came later, perhaps waits for it. Look at what keeps changes waiting.
 
 In a debugger
 stop before line 6, where replica 0 inserts b, and follow that to replica 1. In Python, where a change begins to be applied, local or remote: \

@@ -317,7 +317,7 @@ def in_github(tally: Tally, project: str, path: str, step: str) -> None:
         file = f"recordings/{name}"
         tally.check(f"CI: GitHub: {name}", line.startswith(f"::error file={file},title={file}%3A {kind}::{begins}"), line)
         tally.check(f"CI: GitHub: {name} is explained", f"\n{file}: {begins}" in f"\n{done.stdout}", done.stdout)
-    kept = {name for number in range(1, 6) for name in (f"{number}.html", f"{number}.trace")} | {"junit.xml"}
+    kept = {name for number in range(1, 6) for name in (f"{number}.html", f"{number}.trace")} | {"junit.xml", ".made"}
     tally.check("CI: GitHub: five failures, and what is kept", len(lines) == 5 and set(os.listdir(f"{project}/judged")) == kept,
                 (lines, os.listdir(f"{project}/judged")))
     tally.check("CI: GitHub: the first page is of the smallest", "recordings/lost.trace" in Path(project, "judged/1.html").read_text())
@@ -332,7 +332,7 @@ def in_gitlab(tally: Tally, project: str, path: str, step: str) -> None:
     wanted = [("recordings/b/unread.trace: unread", "https://gitlab.example/jobs/7"),
               ("recordings/lost.trace: contents", "https://gitlab.example/jobs/7/artifacts/file/judged/2.html")]
     tally.check("CI: GitLab: its links", [(link["label"], link["url"]) for link in links] == wanted, links)
-    kept = {"2.html", "2.trace", "junit.xml", "annotations.json"}
+    kept = {"2.html", "2.trace", "junit.xml", "annotations.json", ".made"}
     tally.check("CI: GitLab: what is kept", set(os.listdir(f"{project}/judged")) == kept, os.listdir(f"{project}/judged"))
     told = "2 not accepted: judged/junit.xml has them all, and judged/2.html is the page of the first that has one\n"
     tally.check("CI: GitLab: the page that is named", done.stdout.endswith(told), done.stdout[-300:])
@@ -1013,6 +1013,11 @@ def overwriting(tally: Tally, program: str, folder: str) -> None:
             got = subprocess.run([words[0], "--program", program, *words[1:]], capture_output=True, text=True)
             told = f"{name_of(words[0])}: {output} is read, so it is not written to\n"
             tally.check(f"overwriting: {words[1]} {output}", (got.returncode, got.stdout, got.stderr) == (2, "", told), got)
+    for option in "--small", "--html", "--svg":
+        with open(path, "rb") as given:
+            got = subprocess.run([explain, "--program", program, option, path, "-"], stdin=given, capture_output=True, text=True)
+        tally.check(f"overwriting: {option} over standard input", (got.returncode, got.stdout, got.stderr) == (
+            2, "", f"domepeeler-explain: {path} is read, so it is not written to\n"), got)
     for words in ["--html", "--small"], ["--svg", "--html"], ["--small", "--svg"]:
         got = subprocess.run([explain, "--program", program, words[0], f"{folder}/out", words[1], f"{folder}/../{Path(folder).name}/out", path],
                              capture_output=True, text=True)
@@ -1337,6 +1342,11 @@ def tasks(tally: Tally, program: str, folder: str) -> None:
             Path(stranger, "domepeeler-judge-many").chmod(0o755)
             done = subprocess.run(words, cwd=place, capture_output=True, text=True, env=here | {"PATH": f"{stranger}:{here['PATH']}"})
             tally.check(f"tasks: {kind}: {what}", done.returncode not in (0, 1), done)
+        if AS_USERS:
+            script(Path(stranger, "domepeeler-judge-many"), "exit 0\n")
+            Path(place, lines).chmod(0o444)
+            done = subprocess.run([*AS_USERS, *words], cwd=place, capture_output=True, text=True, env=here | {"PATH": f"{stranger}:{here['PATH']}"})
+            tally.check(f"tasks: {kind}: lines of a run before that can't be written over", done.returncode == 2, done)
         shutil.rmtree(Path(place, lines).parent)
         Path(place, lines).parent.write_text("a file\n")
         done = subprocess.run(words, cwd=place, capture_output=True, text=True, env=here)
@@ -1345,6 +1355,10 @@ def tasks(tally: Tally, program: str, folder: str) -> None:
         Path(place, lines).parent.unlink(missing_ok=True)
         done = subprocess.run(words, cwd=place, capture_output=True, text=True, env=here)
         tally.check(f"tasks: {kind}: no folder", done.returncode == 2, done)
+        if kind == "kubernetes":  # which would find these where it is, and not where it ought to be
+            write(f"{place}/part0", ACCEPTED)
+            done = subprocess.run(words, cwd=place, capture_output=True, text=True, env=here)
+            tally.check(f"tasks: {kind}: not in another folder", done.returncode == 2 and not Path(place, "judged").exists(), done)
         for is_there in False, True:
             for status in 0, 1:
                 script(Path(stranger, "domepeeler-judge-many"), f"exit {status}\n")
@@ -1382,6 +1396,15 @@ def script_of_ci(tally: Tally, program: str, folder: str) -> None:
     tally.check("script of CI: a folder with traces of one's own", (done.returncode, done.stdout, done.stderr) == (2, "", "judge_recordings: the folder judged "
                 "holds what this script did not write (1.trace): move it away\n") and Path(place, "mine", "judged", "1.trace").exists(), done)
     shutil.rmtree(place / "mine")
+    Path(place, "judged", "9.trace").write_text("mine\n")
+    done = in_ci(str(place), path, f"{script} .", {})
+    tally.check("script of CI: a file of one's own that is named like its own", done.returncode == 2 and "(9.trace): move it away" in done.stderr
+                and Path(place, "judged", "9.trace").read_text() == "mine\n", done)
+    Path(place, "judged", "9.trace").unlink()
+    write(str(place), {"-rec/a.trace": "0 ins a 0 : a"})
+    done = in_ci(str(place), path, f"{script} -rec", {})
+    tally.check("script of CI: a folder like an option", done.returncode == 0 and done.stdout == "all recordings below -rec are accepted\n", done)
+    shutil.rmtree(place / "-rec")
     done = in_ci(str(place), path, f"{script} judged", {})
     tally.check("script of CI: its own folder", done.returncode == 2 and "is where the pages go" in done.stderr, done)
     script_ended(tally, str(place), path, script, folder)
@@ -1423,7 +1446,7 @@ def script_ended(tally: Tally, place: str, path: str, script: str, folder: str) 
     tally.check("script of CI: what nobody has thought of", done.returncode == 2 and not done.stdout and done.stderr.startswith(
         "judge_recordings: a fault of this script, so nothing is judged:\nTraceback "), done)
     row = '{"file": "good/a.trace", "shown": "good/a.trace", "verdict": "contents", "warnings": []}'
-    for said, told in (("exit 0", "ended with status 0, and wrote no judged/junit.xml"), (f"echo '{row}'; exit 0", "ended with status 0, and listed 1 recordings"),
+    for said, told in (("exit 0", "ended with status 0, and wrote no judged/junit.xml"), (f"echo '{row}'; exit 0", "ended with status 0, and wrote no judged/junit.xml"),
                        ("exit 1", "ended with status 1, and listed 0 recordings"), (f"echo '{row}'; exit 1", "ended with status 1, and wrote no judged/junit.xml")):
         Path(stranger, "domepeeler-judge-many").write_text(f"#!/bin/sh\n{said}\n")
         done = in_ci(place, f"{stranger}:{path}", f"{script} good", {})

@@ -945,6 +945,9 @@ def check_weak_of_pytest(tally: Tally, place: Place, command: list) -> None:
     done = place.run(command, "python")
     tally.check("pytest: counts where weak is enough", done.returncode == 1 and "4 failed, 2 passed, 3 warnings" in done.stdout, done.stdout)
     said = sections(done.stdout)
+    shown = place.run([*command, "-rP", "-k", "test_passes and not unsure"], "python")
+    tally.check("pytest: weak, a pass is told as such", shown.returncode == 0 and re.search(
+        r"domepeeler teardown -+\nweak holds, strong doesn't\n|Captured domepeeler teardown|-+ domepeeler -+\nweak holds, strong doesn't\n", shown.stdout), shown.stdout)
     for name, begins in FAILS_WEAK.items():
         told = said.get(f"test_{name}", "")
         tally.check(f"pytest: weak, {name}", told.lstrip().startswith(begins) and "The trace is saved: " in told, told)
@@ -1113,6 +1116,7 @@ def check_weak_of_node(tally: Tally, place: Place) -> None:
     tally.check("node --test: counts where weak is enough", done.returncode == 1 and "# pass 3\n" in done.stdout and
                 "# fail 4\n" in done.stdout and all(f"\nok {at}" in done.stdout for at in ("1 - passes", "2 - passes unsure", "7 - awaited")),
                 done.stdout)
+    tally.check("node --test: weak, a pass is told as such", "\n# passes: weak holds, strong doesn't\n" in done.stdout, done.stdout)
     for number, (name, begins) in enumerate(FAILS_WEAK.items(), 3):
         told = done.stdout.split(f"not ok {number} - {name}\n")[-1].split(f"ok {number + 1} - ")[0]
         tally.check(f"node --test: weak, {name}", re.search(rf"error: [^\n]*\n *{begins}", told) and "The trace is saved: " in told, told)

@@ -2801,6 +2801,9 @@ static void *record(void *number) {{
         unsigned n = replica % 2 ? domepeeler_read(recording, replica, list + 1, 1)
                                  : domepeeler_view(recording, replica, list, 1);
         if (n != (unsigned)i + 1) exit(1);
+        char wanted[64];
+        snprintf(wanted, sizeof wanted, "replica %d receives no operation of its own", replica);
+        if (domepeeler_received(recording, replica, replica, 1) || strcmp(domepeeler_why(recording), wanted)) exit(3);
     }}
     return NULL;
 }}
@@ -2957,7 +2960,60 @@ REFUSED_C = [
      '3 calls were refused, so what they say is not recorded; the first: name ""\\\\x01\\xc3\\xa4\\xff" ' + NAME),
     ("what is not causal, and limits", ["new 3", *["read 2"] * 16385, "insert 0 a 0 a", "delete 0 a", "received_clock 1 0 1 2 0 0",
                                         "received_clock 1 0 2 2 0 0", "read 1"], "accepted", None),
+    ("what is not causal, and never comes", ["new 3", "insert 0 a 0 a", "insert 0 b 1 a b", "received_clock 1 0 1 2 0 0", "delivered a b / a b / a b"],
+     "accepted", "a call was refused, and what it says never came: not causal: 0.2 was applied at replica 1 before 0.1, which replica 0 had seen; 0.1 has "
+     "to arrive first, or in the same update, or the call for its update is missing; if the update carried more than one change, say how many (`changes`)"),
+    ("what is not causal, and comes by a receipt of another", ["new 3", "insert 0 a 0 a", "insert 0 b 1 a b", "received_clock 1 0 1 2 0 0", "received 1 0 2",
+                                                               "delivered a b / a b / a b"], "accepted", None),
 ]
+# A program that looks at no answer, at a limit too; then one without a recording; then two threads that judge recordings of their own, where
+# the end of children is ignored.
+IGNORED_C = f"""#include "{ROOT / 'recorders'}/domepeeler.h"
+
+static void *judge(void *unused) {{
+    for (int i = 0; i < 40; i++) {{
+        struct domepeeler *d = domepeeler_new(1);
+        char *report = domepeeler_read(d, 0, NULL, 0) ? domepeeler_judge(d, NULL) : NULL;
+        if (!report) puts(domepeeler_why(d));
+        free(report);
+        domepeeler_free(d);
+    }}
+    return unused;
+}}
+
+int main(void) {{
+    const char *none[] = {{"a"}};
+    struct domepeeler *d = domepeeler_new(1), *seen = domepeeler_new(1);
+    for (int i = 0; i < 16385; i++) {{
+        unsigned n = domepeeler_read(d, 0, NULL, 0) + domepeeler_read(seen, 0, NULL, 0);
+        if (n) continue;
+        puts(domepeeler_full(seen) ? "full" : "not full");
+    }}
+    char *report = domepeeler_judge(d, NULL), *other = domepeeler_judge(seen, NULL);
+    printf("%s%s", strstr(report, "\\"warnings\\""), strstr(other, "\\"warnings\\""));
+    free(report);
+    free(other);
+    domepeeler_free(d);
+    domepeeler_free(seen);
+    d = domepeeler_new(17);
+    unsigned n = domepeeler_insert(d, 0, "a", 0, none, 1) + domepeeler_received(d, 0, 0, 1) + domepeeler_save(d, "x") + domepeeler_passes_weak(d, NULL);
+    printf("%u %s %s %d %zu: %.24s\\n", n, domepeeler_explain(d, NULL) ? "words" : "none", domepeeler_text(d) ? "text" : "none", domepeeler_full(d),
+           domepeeler_lines(d), domepeeler_why(d));
+    signal(SIGCHLD, SIG_IGN);
+    pthread_t threads[2];
+    for (int i = 0; i < 2; i++)
+        if (pthread_create(&threads[i], NULL, judge, NULL)) return 1;
+    for (int i = 0; i < 2; i++) pthread_join(threads[i], NULL);
+    printf("still ignored: %s\\n", signal(SIGCHLD, SIG_DFL) == SIG_IGN ? "yes" : "no");
+    return 0;
+}}
+"""
+IGNORED = """full
+"warnings":["a limit is reached, so what came later is not recorded: replica 0 has 16384 entries, the most that a trace takes"]}
+"warnings":[]}
+0 none none 0 0: there is no recording: r
+still ignored: yes
+"""
 
 
 # Tests that fail by themselves, or not: their words tell whether the list is lost that the last read shows, and whether the test holds.
@@ -3015,6 +3071,14 @@ def check_aborts(tally: Tally, program: str, folder: Path) -> None:
         is_right = done.returncode == 0 and not saved.exists() and not Path(f"{saved}.lines").exists() if shown == "shown" else (
             done.returncode != 0 and is_told(done, verdict, last))
         tally.check(f"Emacs Lisp: judged at the end, {shown}", is_right, done)
+
+
+def check_ignored_c(tally: Tally, program: str, folder: Path) -> None:
+    """What a program that looks at no answer is told in the end."""
+    Path(folder, "ignored.c").write_text(IGNORED_C)
+    subprocess.run([*GCC, "-o", "ignored", "ignored.c"], cwd=folder, check=True)
+    done = subprocess.run(["./ignored"], cwd=folder, capture_output=True, text=True, env=os.environ | {"DOMEPEELER": program}, timeout=60)
+    tally.check("C: answers that nobody looks at", done.returncode == 0 and done.stdout == IGNORED, done)
 
 
 def check_hostile_c(tally: Tally, recorder: Recorder, folder: Path) -> None:
@@ -3124,6 +3188,7 @@ def main() -> None:
         check_shared_recordings(tally, program, folder)
         check_aborts(tally, program, folder)
         check_hostile_c(tally, Recorder("c", drivers["c"], program), folder)
+        check_ignored_c(tally, program, folder)
     tally.close()
 
 

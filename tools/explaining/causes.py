@@ -18,7 +18,8 @@ ARRIVAL = ("Look at the recorder first: `received` must be called right after th
            "change may arrive before those that its author had. Then at the editor: does it lose a change, apply it twice, or apply it to another "
            f"element? {GUIDE} says where the calls go.")
 UNDELIVERED = ("{lines} by `delivered`: before it nothing shows that {changes} {were} applied at replica {replica}. {They} lost, or "
-               "{are} held back for ever. Look at what keeps changes waiting.")
+               "{are} held back for ever{waiting}. Look at what keeps changes waiting.")
+WAITING = "; {others}, which came later, perhaps wait{s} for {it}"
 NO_PLACE = (" Perhaps {insert} finds no place there for {element}: its neighbour {neighbours}, and an editor that throws deleted elements away too "
             "early loses such an insert or holds it back for ever.")
 NOT_APPLIED = ("It looks as if {changes} {were} not applied at replica {replica}: lost, or held back, or `received` is called before the "
@@ -109,15 +110,18 @@ def of_contents(evidence: Evidence) -> list:
 
 
 def undelivered(evidence: Evidence) -> Cause:
-    """That changes had arrived is said by `delivered` alone."""
+    """That changes had arrived is said by `delivered` alone: first those whose authors had none of the others."""
     changes, replica = evidence.undelivered, evidence.operations[0].replica
     lines = sorted({evidence.recording.arrival(change, replica).line for change in changes})
     written = f"{'Line' if len(lines) == 1 else 'Lines'} {listed(list(map(str, lines)), MOST_TOLD)} {'was' if len(lines) == 1 else 'were'} written"
-    told, gone = UNDELIVERED.format(lines=written, replica=replica, **changes_told(changes)), evidence.deleted_beside(changes[0], replica)
+    first = [change for change in changes if not any(other is not change and change.has_seen(other) for other in changes)]
+    others = [change for change in changes if change not in first]
+    waiting = WAITING.format(others=changes_told(others)["changes"], s="" if others[1:] else "s", it="these" if first[1:] else "it") if others else ""
+    told, gone = UNDELIVERED.format(lines=written, replica=replica, waiting=waiting, **changes_told(first)), evidence.deleted_beside(first[0], replica)
     if not gone:
         return Cause("not delivered", told)
     neighbours = joined([f"{delete.element} was deleted there by {at(delete)}" for delete in gone])
-    return Cause("not delivered, no place", told + NO_PLACE.format(insert=changes[0].name, element=changes[0].element, neighbours=neighbours))
+    return Cause("not delivered, no place", told + NO_PLACE.format(insert=first[0].name, element=first[0].element, neighbours=neighbours))
 
 
 def is_loss_likelier(evidence: Evidence, causes: list) -> bool:

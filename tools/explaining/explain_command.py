@@ -150,7 +150,7 @@ def explain(asked: argparse.Namespace, program: str, trace: bytes, side: Side, j
 
 def main() -> None:
     asked = words_asked()
-    check_outputs(asked, [] if asked.trace == "-" else [asked.trace, asked.trace + SIDE])
+    check_outputs(asked, ["/dev/stdin"] if asked.trace == "-" else [asked.trace, asked.trace + SIDE])
     trace, side = read(asked.trace)
     try:
         program = find_program(asked.program)

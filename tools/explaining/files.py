@@ -88,7 +88,7 @@ def state(file: int | str) -> tuple:
         about = os.stat(file)
     except OSError:
         return ()
-    return about.st_dev, about.st_ino, about.st_size, about.st_mtime_ns
+    return about.st_dev, about.st_ino, about.st_size, about.st_mtime_ns, about.st_ctime_ns
 
 
 class Before(NamedTuple):

@@ -16,7 +16,7 @@ from typing import NoReturn
 from .commands import Once, Parser, add_version
 from .elsewhere import NoParallel, judged_there, needs_parallel
 from .faulty_lines import ENTRIES
-from .files import SIDE, shown, write_file, written_over
+from .files import SIDE, shown, state, write_file, written_over
 from .judges import TooMany, judged_here
 from .junit import junit_of
 from .programs import WAYS, WEAK_ALONE, NoProgram, check_is_domepeeler, find_program
@@ -62,12 +62,13 @@ def fail(words: str) -> NoReturn:
 
 def traces_below(folders: list) -> list:
     """The traces, each once. A folder without one may be another than was meant."""
-    files, empty = [], []
+    files, empty, been = [], [], set()
     for folder in folders:
         if os.path.isdir(folder):
-            below = sorted(traces_in(folder, set()), key=Path)
+            is_new = state(folder)[:2] not in been
+            below = sorted(traces_in(folder, been), key=Path)
             files += below
-            empty += [] if below else [folder]
+            empty += [folder] if is_new and not below else []
         else:
             try:
                 os.stat(folder)

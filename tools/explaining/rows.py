@@ -95,6 +95,8 @@ def row_of(request: Request, file: str, trace: bytes, side: Side, answer: Answer
         return failed(file, seconds, status, no_report(request.program, status, error), lines)
     if report is None:
         return Row(file, "unread" if status == 2 else "failed", None, lines, seconds, status, None, error, fault=fault_of(error, trace, file))
+    if report["verdict"] not in KINDS:
+        return failed(file, seconds, status, f"{request.program} printed a verdict that is not known here: {report['verdict']}", lines)
     if not is_of(report, trace):
         return failed(file, seconds, status, of_another_trace(request.program), lines)
     known = beside(trace, side)

@@ -20,7 +20,6 @@ import contextlib
 import hashlib
 import os
 import re
-import weakref
 from pathlib import Path
 from typing import Any, Callable, Generator, List, Optional, Tuple
 
@@ -32,6 +31,7 @@ FOLDER = "failed_traces"
 PLAIN = re.compile(r"[A-Za-z0-9_.]+(/[A-Za-z0-9_.]+)*(::[A-Za-z0-9_.]+)+", re.ASCII)
 MOST_LETTERS = 150  # of a test's own name in the name of a file
 BEGUN = "_domepeeler_begun"
+WEAK_ALONE = "weak holds, strong doesn't"
 ENDED, GROWN = "_domepeeler_ended", "_domepeeler_grown"  # recordings of tests that have ended; tests whose recordings grew since
 FIRST_LINES = 2  # of each trace: its version, and how many replicas there are
 
@@ -46,13 +46,14 @@ class NothingRecorded(Unsure):
 
 class Judged:
     """A recording of a test, and whether weak alone is asked of it; how many lines it had when it was judged; and of what its verdict then
-    warned."""
+    warned, and whether it passed since weak holds, though strong doesn't."""
 
     def __init__(self, recording: Recording, weak: bool) -> None:
         self.recording = recording
         self.weak = weak
         self.lines = 0
         self.warnings: List[str] = []
+        self.is_weak_alone = False
 
 
 class Begun:
@@ -100,6 +101,8 @@ def pytest_runtest_teardown(item: pytest.Item) -> None:
         return
     fail_by_faults(item, begun)
     remove_saved(item, begun)
+    if any(one.is_weak_alone for one in begun.recordings):
+        item.add_report_section("teardown", "domepeeler", WEAK_ALONE)
     try:
         for one in begun.recordings:
             for told in one.warnings:
@@ -108,13 +111,12 @@ def pytest_runtest_teardown(item: pytest.Item) -> None:
         pytest.fail(f"{type(why).__name__}: {why}", pytrace=False)
     if not hasattr(item.config, ENDED):
         setattr(item.config, ENDED, [])
-    getattr(item.config, ENDED).extend((item.nodeid, weakref.ref(one.recording), one.lines) for one in begun.recordings)
+    getattr(item.config, ENDED).extend((item.nodeid, one.recording, one.lines) for one in begun.recordings)
     begun.recordings = []
 
 
 def pytest_sessionfinish(session: pytest.Session) -> None:
-    known = [(name, recording(), lines) for name, recording, lines in getattr(session.config, ENDED, [])]
-    grown = [name for name, recording, lines in known if recording is not None and recording.lines() != lines]
+    grown = [name for name, recording, lines in getattr(session.config, ENDED, []) if recording.lines() != lines]
     setattr(session.config, GROWN, grown)
     if grown and session.exitstatus == pytest.ExitCode.OK:
         session.exitstatus = pytest.ExitCode.TESTS_FAILED
@@ -155,6 +157,7 @@ def told_of(item: pytest.Item, one: Judged, number: Optional[int], has_failed: b
         told = f"The recording was not judged: {why}"
     else:
         is_passing = report["verdict"] == "accepted" or one.weak and report.get("weak") is True
+        one.is_weak_alone = is_passing and report["verdict"] != "accepted"
         if is_passing and not has_failed:
             return ""
         told = explained(one, report["verdict"], is_passing)
