@@ -517,7 +517,7 @@ else LACKING, and NAMED says what another program is named by."
           (insert (domepeeler-text recording))
           (let ((status (condition-case why
                             (apply #'call-process-region (point-min) (point-max) program t (list t errors) nil words)
-                          (file-error (error "%s cannot be run (%s): name %s" program (error-message-string why) named)))))
+                          (file-error (error "%s cannot be run (%s): name %s" (domepeeler--escaped program) (error-message-string why) named)))))
             (goto-char (point-min))
             (unless (and (memq status '(0 1)) (looking-at begin))
               (domepeeler--ended program status lacking
@@ -535,7 +535,7 @@ other with 1."
     (when (string-match "\"verdict\":\"\\([a-z]+\\)\"" report)
       (unless (and (eql status (if (equal (match-string 1 report) "accepted") 0 1))
                    (string-match-p (format "\"operations\":%d," operations) report))
-        (error "%s ended with status %d and printed a report that is not on this recording" program status)))))
+        (error "%s ended with status %d and printed a report that is not on this recording" (domepeeler--escaped program) status)))))
 
 (defun domepeeler--ended (program status lacking why)
   "Say how PROGRAM ended, which printed LACKING not, and WHY as its error.
@@ -543,10 +543,10 @@ STATUS is a number, or the words for a signal."
   (cond
    ((stringp status)
     (let ((number (seq-position domepeeler--signals (replace-regexp-in-string "\\( (core dumped)\\|: [0-9]+\\)\\'" "" status))))
-      (error "%s was ended by signal %s" program (if number (1+ number) status))))
+      (error "%s was ended by signal %s" (domepeeler--escaped program) (if number (1+ number) status))))
    ((string-empty-p why)
-    (error "%s ended with status %d and printed no %s" program status lacking))
-   (t (error "%s ended with status %s: %s" program status why))))
+    (error "%s ended with status %d and printed no %s" (domepeeler--escaped program) status lacking))
+   (t (error "%s ended with status %s: %s" (domepeeler--escaped program) status (domepeeler--escaped why)))))
 
 (defun domepeeler--of (recording replica)
   (aref (domepeeler-recording-replicas recording) replica))

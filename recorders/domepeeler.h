@@ -1479,6 +1479,9 @@ static inline int domepeeler_run(char *const *words, const int *files, int *stat
 
 /* Says how a program ended that printed nothing that is wanted. */
 static inline void domepeeler_refuse_end(struct domepeeler *d, const char *program, int status, const char *why, const char *lacking) {
+    char shown[200], told[200];
+    program = domepeeler_escaped(program, shown, sizeof shown);
+    why = domepeeler_escaped(why, told, sizeof told);
     if (WIFSIGNALED(status)) domepeeler_fail(d, "%s was ended by signal %d", program, WTERMSIG(status));
     else if (!*why)
         domepeeler_fail(d, "%s ended with status %d and printed no %s", program, WEXITSTATUS(status), lacking);
@@ -1504,13 +1507,15 @@ static inline char *domepeeler_answer(struct domepeeler *d, const char *const *w
     int status = 0;
     for (size_t i = 0; words[i] && i < DOMEPEELER_WORDS - 1; i++) memcpy(&given[i], &words[i], sizeof *given); /* they are only read */
     int why = domepeeler_run(given, files, &status);
-    if (why > 0) domepeeler_fail(d, "%s cannot be run (%s): name %s", words[0], strerror(why), named);
+    char shown[200];
+    domepeeler_escaped(words[0], shown, sizeof shown);
+    if (why > 0) domepeeler_fail(d, "%s cannot be run (%s): name %s", shown, strerror(why), named);
     if (why < 0) domepeeler_fail(d, "how %s ended was not learned: %s", words[0], strerror(errno));
     if (why) return NULL;
     char *printed = WIFEXITED(status) && WEXITSTATUS(status) < 2 ? domepeeler_whole(files[1]) : NULL;
     if (printed && *printed && (!first || *printed == first)) {
         if (!first || domepeeler_agrees(d, printed, WEXITSTATUS(status))) return printed;
-        domepeeler_fail(d, "%s ended with status %d and printed a report that is not on this recording", words[0], WEXITSTATUS(status));
+        domepeeler_fail(d, "%s ended with status %d and printed a report that is not on this recording", shown, WEXITSTATUS(status));
         free(printed);
         return NULL;
     }

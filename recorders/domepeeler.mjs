@@ -310,7 +310,7 @@ export class Recording {
     const isAccepted = report.verdict === "accepted"
     const operations = this.#replicas.reduce((sum, one) => sum + one.operations, 0)
     if (isAccepted !== (done.status === 0) || report.operations !== operations)
-      throw new Error(`${name} ended with status ${done.status} and printed a report that is not on this recording`)
+      throw new Error(`${escaped(name)} ended with status ${done.status} and printed a report that is not on this recording`)
     return report
   }
 
@@ -407,7 +407,7 @@ export class Recording {
     const done = node.childProcess.spawnSync(name, [...words, ...more], { input: this.text(), maxBuffer: MOST_PRINTED, encoding: "utf8" })
     done.signalNumber = node.os.constants.signals[done.signal]
     if (done.error && done.status === null && done.signal === null) {
-      throw new Error(`${name} cannot be run (${done.error.code}): name ${whose} path in ${variable}`)
+      throw new Error(`${escaped(name)} cannot be run (${done.error.code}): name ${whose} path in ${variable}`)
     }
     return { name, done }
   }
@@ -988,14 +988,14 @@ function reportIn(name, printed) {
   try {
     report = JSON.parse(printed)
   } catch { /* as what is no report at all */ }
-  if (typeof report?.verdict !== "string") throw new Error(`${name} printed what is no report`)
+  if (typeof report?.verdict !== "string") throw new Error(`${escaped(name)} printed what is no report`)
   return report
 }
 
 // Says how a program ended of whose words there are none, or not the right ones.
 function ended(name, done, lacking) {
-  if (done.signal) return new Error(`${name} was ended by signal ${done.signalNumber}`)
+  if (done.signal) return new Error(`${escaped(name)} was ended by signal ${done.signalNumber}`)
   const why = done.stderr.trim()
   const isTold = why || (done.status !== 0 && done.status !== 1)
-  return new Error(`${name} ended with status ${done.status}${isTold ? `: ${why}` : ` and printed no ${lacking}`}`)
+  return new Error(`${escaped(name)} ended with status ${done.status}${isTold ? `: ${escaped(why)}` : ` and printed no ${lacking}`}`)
 }

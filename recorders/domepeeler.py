@@ -361,7 +361,7 @@ class Recording:
         report = _report_in(name, done.stdout)
         is_accepted, operations = report["verdict"] == "accepted", sum(one.operations for one in self._replicas)
         if is_accepted != (done.returncode == 0) or report.get("operations") != operations:
-            raise RuntimeError(f"{name} ended with status {done.returncode} and printed a report that is not on this recording")
+            raise RuntimeError(f"{_escaped(name)} ended with status {done.returncode} and printed a report that is not on this recording")
         return report
 
     def _wrong(self) -> Optional[Exception]:
@@ -433,7 +433,7 @@ class Recording:
         try:
             return words[0], subprocess.run([*words, *more], input=self.text().encode(), capture_output=True)
         except OSError as why:
-            raise RuntimeError(f"{words[0]} cannot be run ({why.strerror}): name {whose} path in {variable}") from None
+            raise RuntimeError(f"{_escaped(words[0])} cannot be run ({why.strerror}): name {whose} path in {variable}") from None
 
     def _known(self, replica: int) -> int:
         if not _whole(replica, 0, len(self._replicas) - 1):
@@ -929,14 +929,14 @@ def _report_in(name: str, printed: bytes) -> Dict[str, Any]:
     except (ValueError, RecursionError):
         report = None
     if not isinstance(report, dict) or not isinstance(report.get("verdict"), str):
-        raise RuntimeError(f"{name} printed what is no report")
+        raise RuntimeError(f"{_escaped(name)} printed what is no report")
     return report
 
 
 def _ended(name: str, done: subprocess.CompletedProcess[bytes], lacking: str) -> NoReturn:
     """Says how a program ended of whose words there are none, or not the right ones."""
     if done.returncode < 0:
-        raise RuntimeError(f"{name} was ended by signal {-done.returncode}")
+        raise RuntimeError(f"{_escaped(name)} was ended by signal {-done.returncode}")
     why = done.stderr.decode(errors="replace").strip()
     is_told = why or done.returncode not in (0, 1)
-    raise RuntimeError(f"{name} ended with status {done.returncode}" + (f": {why}" if is_told else f" and printed no {lacking}"))
+    raise RuntimeError(f"{_escaped(name)} ended with status {done.returncode}" + (f": {_escaped(why)}" if is_told else f" and printed no {lacking}"))

@@ -812,7 +812,8 @@ impl Recording {
         if self.only.is_some() {
             return Err(ONE_LOG.to_string());
         }
-        let failed = |why: io::Error| format!("{program} cannot be run ({why}): name {named}");
+        let shown = escaped(program);
+        let failed = |why: io::Error| format!("{shown} cannot be run ({why}): name {named}");
         let mut child = Command::new(program)
             .args(words)
             .stdin(Stdio::piped())
@@ -830,7 +831,7 @@ impl Recording {
         match (done.status.code(), written) {
             (Some(0 | 1), Ok(Some(Ok(())))) => Ok(done),
             (Some(0 | 1), _) if done.stdout.is_empty() => Ok(done),
-            (Some(status @ (0 | 1)), _) => Err(format!("{program} ended with status {status} before it had read the recording")),
+            (Some(status @ (0 | 1)), _) => Err(format!("{} ended with status {status} before it had read the recording", escaped(program))),
             _ => Err(ended(program, &done, lacking)),
         }
     }
@@ -842,7 +843,7 @@ impl Recording {
             return Ok(());
         }
         let status = i32::from(!done.status.success());
-        Err(format!("{program} ended with status {status} and printed a report that is not on this recording"))
+        Err(format!("{} ended with status {status} and printed a report that is not on this recording", escaped(program)))
     }
 
     /// The receipts that the replica lacks, each of the last change of an author, and a read of its list.
@@ -1561,7 +1562,7 @@ fn beside_program(command: &str) -> String {
 /// How a program ended that has not answered.
 fn ended(program: &str, done: &Output, lacking: &str) -> String {
     let said = String::from_utf8_lossy(&done.stderr);
-    let why = said.trim();
+    let (program, why) = (escaped(program), escaped(said.trim()));
     match done.status.code() {
         None => format!("{program} was ended by {}", signal(done)),
         Some(status) if why.is_empty() => format!("{program} ended with status {status} and printed {lacking}"),

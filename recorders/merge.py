@@ -197,6 +197,7 @@ def shown(text: str) -> str:
     would read as a command of its own."""
     told = "".join(letter if letter.isprintable() else f"\\x{ord(letter) - 0xdc00:02x}" if "\udc80" <= letter <= "\udcff" else ascii(letter)[1:-1]
                    for letter in text)
+    told = re.sub(r"##(?=(?:vso)?\[)", r"\\x23#", told)  # which CI reads anywhere in a line
     at = len(told) - len(told.lstrip())
     return f"{told[:at]}\\x{ord(told[at]):02x}{told[at + 1:]}" if told[at:at + 2] in ("::", "##") else told
 

@@ -1077,8 +1077,10 @@ def one_way_to_show(tally: Tally, program: str, folder: str) -> None:
     other script has a way of its own."""
     import merge
     from explaining import files
-    marks = ["a", "é", "\n", "\x1b", "\x7f", "\u2028", "\udcff", ":", "#", " ", "\t", "\\", "\U0001f600", "\x80"]
+    marks = ["a", "é", "##[", "##vso[", "\n", "\x1b", "\x7f", "\u2028", "\udcff", ":", "#", " ", "\t", "\\", "\U0001f600", "\x80"]
     names = ["".join(some) for length in range(5) for some in product(marks, repeat=length)]
+    for name, told in (("a ##[add-mask]b", "a \\x23#[add-mask]b"), ("##vso[x]##[y]", "\\x23#vso[x]\\x23#[y]"), ("a ## b", "a ## b"), ("## b", "\\x23# b")):
+        tally.check(f"one way to show: {name}", files.shown(name) == told, files.shown(name))
     tally.check("one way to show: merge.py", len(names) > 40_000 and all(merge.shown(name) == files.shown(name) for name in names))
     write(folder, {"x\n::error::\x1b.trace": "0 ins a 0 : a|0 read :", "::warning::.trace": "0 reads :"})
     told = [json.loads(line) for line in judge(program, ["--json", folder]).out.decode().splitlines()]

@@ -43,8 +43,24 @@ NOT_RUN = {
 PROMISES = {"RGA, YATA ": ["both", "proved of RGA (Attiya and others)"],
             "Jupiter ": ["weak alone", "strong fails (proved by the same)", 'weak holds (Wei, Huang, Lu, "Specification and Implementation of '
                          'Replicated List: The Jupiter Protocol Revisited", OPODIS 2018)'],
-            "adOPTed (libinfinity); ProseMirror;": ["(docs/gallery.md)", "what fails, never that something holds"]}
+            "adOPTed (libinfinity); ProseMirror ": ["(docs/gallery.md)", "what fails, never that something holds"], "whole states sent ": ["not recorded"]}
 SOURCE = "Attiya, Burckhardt, Gotsman, Morrison, Yang and Zawirski (\"Specification and Complexity of Collaborative Text Editing\", PODC 2016)"
+# Sentences on which users depend, by the page or file that has each; a line feed and marks of comments stand for a blank.
+SENTENCES = {
+    "docs/recording.md": ["in `dispatchTransaction`, for each step", "after the dispatch of `receiveTransaction`", "A step that rebasing drops is never sent.",
+                          "Threads may share a recording: each call is whole before the next begins. In Rust they share it in a `Mutex`.",
+                          "`delivered` says that by now everything has arrived, and takes each replica's list; so a lost change, or one held back for ever, "
+                          "is a fault too"],
+    "recorders/domepeeler.h": ["Threads may share a recording: each call is whole before the next one begins", "it leads to memory that was freed"],
+    "recorders/domepeeler.el": ["Threads may share a recording: each call is whole before the next one begins."],
+    "recorders/domepeeler.py": ["Threads may share a recording: each call is whole before the next one begins."],
+    "recorders/domepeeler.rs": ["put `#[track_caller]` before it, and it names theirs", "Threads share a recording in a `Mutex`."],
+    "recorders/rust/README.md": ["put `#[track_caller]` before it", "`tests/domepeeler/mod.rs`: as `tests/domepeeler.rs` it would be a test of its own",
+                                 "`recording.explain_weak()` answers the words"],
+    "README.md": ["In Rust, beside `tests/domepeeler/mod.rs`"],
+    "recorders/engines/prosemirror.mjs": ["The library's: documents, and steps", "Ours, since Debian has no prosemirror-collab"],
+}
+FIRST_COMMAND = "crates/finder_cli/out/finder_cli verdict examples/prosemirror_text_changes_places.trace"  # of README, which opens with it
 SHOWN_TO_FAIL = ["libinfinity", "prosemirror"]  # the editors of the last line, by how their recordings are named
 
 SECONDS = 60  # of a page
@@ -146,6 +162,11 @@ def main() -> None:
         text = (ROOT / page).read_text()
         ids, by_number = text.find("#receipts-made-for-you"), text.find("recording.received(")
         tally.check(f"{page}: calls that take ids and clocks come first", 0 < ids < by_number, (ids, by_number))
+    for page, sentences in SENTENCES.items():
+        text = re.sub(r"[ \n]+(?:(?://!|//|\*|;;) )? *", " ", (ROOT / page).read_text())
+        for sentence in sentences:
+            tally.check(f"{page} says: {sentence}", sentence in text, text[:2000])
+    tally.check("README.md opens with ProseMirror", re.search(r"^    \$ (.*)$", front, re.MULTILINE)[1] == FIRST_COMMAND)
     for pages, most in MOST_WORDS:
         words = sum(len((ROOT / page).read_text().split()) for page in pages)
         tally.check(f"{', '.join(pages)}: at most {most} words", words <= most, words)

@@ -1510,6 +1510,13 @@ def check_judge(tally: Tally, recorder: Recorder, folder: Path) -> None:
             tally.check(f"c: weak by what says {operations} operations with status {status}", (wanted in got[-1]) == (operations == 0), got)
     got = recorder.answers(["new\t1", "judge"], DOMEPEELER="", PATH=f"{folder / 'path'}:{os.environ['PATH']}")
     tally.check(f"{recorder.language}: judge by domepeeler on the PATH", got[1:] and got[1].startswith("report {"), got)
+    got = recorder.answers(["new\t1", "judge"], DOMEPEELER="/nowhere/x\x1b[31m")
+    tally.check(f"{recorder.language}: a program's name is shown", got[1].startswith("failed /nowhere/x\\x1b[31m cannot be run ("), got)
+    forger = folder / "forger"
+    forger.write_text("#!/bin/sh\ncat > /dev/null\nprintf '::error::\\033[31mforged\\n' >&2\nexit 2\n")
+    forger.chmod(0o755)
+    got = recorder.answers(["new\t1", "judge"], DOMEPEELER=str(forger))
+    tally.check(f"{recorder.language}: what a program says is shown", got[1] == f"failed {forger} ended with status 2: \\x3a:error::\\x1b[31mforged", got)
 
 
 def check_explain(tally: Tally, recorder: Recorder, folder: Path) -> None:

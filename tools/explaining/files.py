@@ -5,11 +5,13 @@ from __future__ import annotations
 import contextlib
 import errno
 import os
+import re
 import stat
 from typing import NamedTuple
 
 MOST_BYTES = 152_305_684  # of a trace that reaches every limit
 COMMANDS = ("::", "##")  # so do lines begin that GitHub and others read as commands
+INNER = re.compile(r"##(?=(?:vso)?\[)")  # so do commands that GitHub and Azure read anywhere in a line
 MOST_GROWN = 1 << 16  # bytes that a file may have grown by, and still be read in one piece
 CHANGED, CHANGED_BESIDE = "it changed while it was judged", "the file beside it changed while it was judged"
 SIDE = ".lines"  # the end of the name of a file beside the trace, in whose first line a recorder says how many lines it saved
@@ -34,8 +36,8 @@ NO_SIDE = Side("-")  # of a trace that is in no file
 
 def shown(text: str) -> str:
     """A name or a log's text for a message, a table or a page: what can't be printed stands as `\\x1b` and the like. So does the first
-    letter of what CI would read as a command of its own."""
-    told = "".join(letter if letter.isprintable() else escaped(letter) for letter in text)
+    letter of what CI would read as a command of its own, at the beginning of a line or anywhere in it."""
+    told = INNER.sub(r"\\x23#", "".join(letter if letter.isprintable() else escaped(letter) for letter in text))
     if told.lstrip().startswith(COMMANDS):
         at = len(told) - len(told.lstrip())
         return f"{told[:at]}\\x{ord(told[at]):02x}{told[at + 1:]}"
