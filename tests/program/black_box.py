@@ -355,6 +355,7 @@ LISTED = {
     "prosemirror_cycle_of_four":
         "replicas 2 operations 9 inserts 4|refused 4|strong no|weak yes|step a b 1.5 : a b|step b x 1.4 : b x|"
         "step x y 0.1 : x y|step y a 0.3 : y a",
+    "whole_states_lost_text": "replicas 2 operations 4 inserts 2|contents 0.2|strong no|weak no",
     "prosemirror_lost_text": "replicas 2 operations 7 inserts 3|contents 1.3|strong no|weak no",
     "prosemirror_insert_deletes": "replicas 2 operations 8 inserts 4|contents 1.6|strong no|weak no",
     "prosemirror_accepted": "replicas 4 operations 25 inserts 8|accepted|strong yes|weak yes|order : e5 e14 e12 e6 e4 e10 e8 e2",

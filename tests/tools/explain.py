@@ -1399,6 +1399,9 @@ def planted_bugs(tally: Tally, program: str, folder: str) -> None:
         lost_messages(tally, program, folder, bug, *wanted) for bug, wanted in LOST_MESSAGES.items()])
     done = subprocess.run([sys.executable, ROOT / "examples" / "planted" / "planted.py", "overtaking", "1", f"{folder}/planted.trace"], capture_output=True)
     got = explain(program, [f"{folder}/planted.trace"])
+    states = subprocess.run([sys.executable, ROOT / "examples" / "planted" / "whole_states.py", f"{folder}/states.trace"], capture_output=True)
+    tally.check("whole states: the example is what the engine records", states.returncode == 0 and Path(folder, "states.trace").read_text() ==
+                (ROOT / "examples" / "whole_states_lost_text.trace").read_text(), states)
     tally.check("planted: by its own words", done.returncode == 0 and b"overtook it in line" in got.out and got.out.endswith(b"\n\nNoted\n  planted.py overtaking 1\n"),
                 (done, got))
 
@@ -1766,6 +1769,7 @@ def long_cycles(tally: Tally, program: str, folder: str) -> None:
         said, drawn = got.out.decode(), Path(folder, "cycle.svg").read_text()
         steps = re.findall(r"^  \[(\S+)\] before \[(\S+)\]: ", said, re.MULTILINE)
         gaps = [line.strip() for line in said.splitlines() if line.startswith("  .. and ")]
+        tally.check(f"long cycle of {k}: how many fit together", f" any {k - 1} of " in said and "any two of" not in said, said[-2000:])
         tally.check(f"long cycle of {k}: its steps", said.startswith(f"refused {k}: ") and len(steps) == 15 and steps[0] == ("e1", "f1")
                     and steps[-1] == ("g", "e1") and gaps == [f".. and {k - 15} more steps ..", f".. and {k - 15} more elements .."], said[:3000])
         tally.check(f"long cycle of {k}: the picture", drawn.count('class="element"') == 15 and f">{k - 15} more</text>" in drawn

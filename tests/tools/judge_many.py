@@ -1013,6 +1013,12 @@ def overwriting(tally: Tally, program: str, folder: str) -> None:
             got = subprocess.run([words[0], "--program", program, *words[1:]], capture_output=True, text=True)
             told = f"{name_of(words[0])}: {output} is read, so it is not written to\n"
             tally.check(f"overwriting: {words[1]} {output}", (got.returncode, got.stdout, got.stderr) == (2, "", told), got)
+    os.mkfifo(f"{folder}/piped.lines")
+    got = subprocess.run([explain, "--program", program, "--small", f"{folder}/piped", path], capture_output=True, text=True, timeout=60)
+    tally.check("overwriting: a pipe beside the small trace", got.returncode == 2 and got.stderr.endswith(
+        f"cannot write {folder}/piped.lines: it is no regular file\n"), got)
+    os.unlink(f"{folder}/piped.lines")
+    Path(folder, "piped").unlink(missing_ok=True)
     for option in "--small", "--html", "--svg":
         with open(path, "rb") as given:
             got = subprocess.run([explain, "--program", program, option, path, "-"], stdin=given, capture_output=True, text=True)

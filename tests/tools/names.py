@@ -271,6 +271,25 @@ def check_last_runs(tally: Tally) -> None:
         print("tests/last_runs.txt was not looked at: the history of the repository is not here")
 
 
+SCRIPTS_OF_TABLE = {"J": "judge_many", "E": "explain", "R": "recorders", "K": "recorder_packages", "I": "install", "P": "package", "N": "engines"}
+
+
+def check_table_of_hostile_use(tally: Tally) -> None:
+    """The functions that tests/README.md names in its table of hostile use stand in these scripts."""
+    table = (ROOT / "tests" / "README.md").read_text().partition("### The tools and recorders under hostile use")[2].partition("\n## ")[0]
+    cells = [cell for line in table.splitlines() if line.startswith("| ") for cell in line.strip("| ").split(" | ")[1:]]
+    named = []
+    for cell in cells:
+        script = ""
+        for letter, name in re.findall(r"\b([JERKIPN])(?= `)|`(\w+)`", cell):
+            script = letter or script
+            named += [(script, name)] if name and script else []
+    for script, name in named:
+        text = (ROOT / "tests" / "tools" / f"{SCRIPTS_OF_TABLE[script]}.py").read_text()
+        tally.check(f"tests/README.md: {script} `{name}`", f"\ndef {name}(" in text, name)
+    tally.check("tests/README.md: functions of hostile use", len(named) > 60, len(named))
+
+
 def main() -> int:
     if sys.argv[1:] == ["--write"]:
         PAGE.write_text(page(), encoding="utf-8")
@@ -286,6 +305,7 @@ def main() -> int:
     tally.check("docs/names.md is not what the sources say: tests/tools/names.py --write makes it anew",
                 PAGE.read_text(encoding="utf-8") == page())
     check_last_runs(tally)
+    check_table_of_hostile_use(tally)
     stale = stale_bodies() + stale_changes()
     tally.check("planted mistakes apply", not stale, "; ".join(stale))
     tally.close()

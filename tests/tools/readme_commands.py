@@ -43,7 +43,7 @@ NOT_RUN = {
 PROMISES = {"RGA, YATA ": ["both", "proved of RGA (Attiya and others)"],
             "Jupiter ": ["weak alone", "strong fails (proved by the same)", 'weak holds (Wei, Huang, Lu, "Specification and Implementation of '
                          'Replicated List: The Jupiter Protocol Revisited", OPODIS 2018)'],
-            "adOPTed (libinfinity); ProseMirror ": ["(docs/gallery.md)", "what fails, never that something holds"], "whole states sent ": ["not recorded"]}
+            "adOPTed (libinfinity); ProseMirror; whole states sent ": ["(docs/gallery.md)", "what fails, never that something holds"]}
 SOURCE = "Attiya, Burckhardt, Gotsman, Morrison, Yang and Zawirski (\"Specification and Complexity of Collaborative Text Editing\", PODC 2016)"
 # Sentences on which users depend, by the page or file that has each; a line feed and marks of comments stand for a blank.
 SENTENCES = {
@@ -61,7 +61,7 @@ SENTENCES = {
     "recorders/engines/prosemirror.mjs": ["The library's: documents, and steps", "Ours, since Debian has no prosemirror-collab"],
 }
 FIRST_COMMAND = "crates/finder_cli/out/finder_cli verdict examples/prosemirror_text_changes_places.trace"  # of README, which opens with it
-SHOWN_TO_FAIL = ["libinfinity", "prosemirror"]  # the editors of the last line, by how their recordings are named
+SHOWN_TO_FAIL = ["libinfinity", "prosemirror", "whole_states"]  # the editors of the last line, by how their recordings are named
 
 SECONDS = 60  # of a page
 MARK = "=== ended with"

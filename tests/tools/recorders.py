@@ -3080,6 +3080,55 @@ def check_aborts(tally: Tally, program: str, folder: Path) -> None:
         tally.check(f"Emacs Lisp: judged at the end, {shown}", is_right, done)
 
 
+# A program that can't learn how another ended; and then one whose reads and waits are interrupted each second time.
+NOT_LEARNED_C = f"""#define _POSIX_C_SOURCE 200809L
+#include <errno.h>
+#include <sys/wait.h>
+#include <unistd.h>
+
+static int is_lost = 1, waits, reads;
+
+static pid_t own_wait(pid_t child, int *status, int options) {{
+    errno = is_lost ? ECHILD : EINTR;
+    return is_lost || waits++ % 2 == 0 ? -1 : waitpid(child, status, options);
+}}
+
+static ssize_t own_read(int file, void *bytes, size_t count) {{
+    errno = EINTR;
+    return reads++ % 2 == 0 ? -1 : read(file, bytes, count < 9 ? count : 9);
+}}
+
+#define waitpid own_wait
+#define read own_read
+#include "{ROOT / 'recorders'}/domepeeler.h"
+
+int main(void) {{
+    struct domepeeler *d = domepeeler_new(1);
+    if (!domepeeler_read(d, 0, NULL, 0)) return 1;
+    char *report = domepeeler_judge(d, NULL);
+    puts(report ? report : domepeeler_why(d));
+    is_lost = 0;
+    report = domepeeler_judge(d, NULL);
+    puts(report ? report : domepeeler_why(d));
+    printf("%d %d\\n", waits > 1, reads > 3);
+    free(report);
+    domepeeler_free(d);
+    return 0;
+}}
+"""
+
+
+def check_not_learned_c(tally: Tally, program: str, folder: Path) -> None:
+    """How a program ended is not taken for its absence, and what is interrupted is repeated."""
+    Path(folder, "learned.c").write_text(NOT_LEARNED_C)
+    subprocess.run([*GCC, "-o", "learned", "learned.c"], cwd=folder, check=True)
+    done = subprocess.run(["./learned"], cwd=folder, capture_output=True, text=True, env=os.environ | {"DOMEPEELER": program}, timeout=60)
+    first, *rest = done.stdout.splitlines() or [""]
+    tally.check("C: how a program ended is not learned", first == f"how {program} ended was not learned: No child processes", done)
+    tally.check("C: waits and reads that are interrupted", rest[:1] == [
+        '{"inserts":0,"operations":1,"order":[],"replicas":1,"strong":true,"verdict":"accepted","weak":true,"warnings":[]}'] and rest[-1:] == ["1 1"], done)
+
+
 def check_ignored_c(tally: Tally, program: str, folder: Path) -> None:
     """What a program that looks at no answer is told in the end."""
     Path(folder, "ignored.c").write_text(IGNORED_C)
@@ -3196,6 +3245,7 @@ def main() -> None:
         check_aborts(tally, program, folder)
         check_hostile_c(tally, Recorder("c", drivers["c"], program), folder)
         check_ignored_c(tally, program, folder)
+        check_not_learned_c(tally, program, folder)
     tally.close()
 
 

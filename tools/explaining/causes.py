@@ -9,7 +9,7 @@ from .evidence import Evidence
 from .positions import are_put_at_once, elements_before, met, met_before, met_inserts, put_there_at_once
 from .programs import GUIDE
 from .recordings import Operation, place_asked
-from .telling import at, joined, listed
+from .telling import at, counted, joined, listed
 
 MOST_TOLD = 3  # deletes, or elements, that are told one by one
 MOST_MET = 6  # changes for which a position was perhaps not adjusted
@@ -56,10 +56,10 @@ NUMBERS = ("Look at the numbers that order inserts at one place, if the editor h
            'the clock does not advance when changes arrive; ids are compared as text, so "10" comes before "9".')
 BESIDE_DELETED = ("Look at inserts beside deleted elements, if replicas throw these away: the lines above name {which}. Without its "
                   "neighbour its place is lost.")
-SEVERAL_DELETED = ("Look at positions beside deleted elements: any two of {named} fit together, but an insert beside an element that "
+SEVERAL_DELETED = ("Look at positions beside deleted elements: any {fewer} of {named} fit together, but an insert beside an element that "
                    "another replica has deleted has perhaps lost its place. The lines above say which elements are deleted for which of "
                    "them.")
-SEVERAL_APART = ("Look at how a replica orders elements when it has only some of them: any two of {named} fit together, and none of the "
+SEVERAL_APART = ("Look at how a replica orders elements when it has only some of them: any {fewer} of {named} fit together, and none of the "
                  "elements is deleted for any of them, so each replica still lacks some. Often the rule that orders concurrent inserts "
                  "is not the same everywhere.")
 WEAK_ALONE_HOLDS = ("An editor whose server orders all changes, as Jupiter's does, promises the weak list specification alone, which holds up to "
@@ -273,12 +273,12 @@ def beside_deleted(evidence: Evidence) -> list:
 
 
 def of_several(evidence: Evidence) -> Cause:
-    names = joined([operation.name for _, operation in evidence.steps])
+    names, fewer = joined([operation.name for _, operation in evidence.steps]), counted(evidence.report["k"] - 1)
     are_some_gone = any(operation.has_seen(delete) for _, operation in evidence.steps for name in evidence.elements
                         for delete in evidence.recording.deletes.get(name, []))
     if evidence.lost_neighbours or are_some_gone:
-        return Cause("several, deleted", SEVERAL_DELETED.format(named=names) + put_at_once(evidence))
-    return Cause("several, apart", SEVERAL_APART.format(named=names))
+        return Cause("several, deleted", SEVERAL_DELETED.format(named=names, fewer=fewer) + put_at_once(evidence))
+    return Cause("several, apart", SEVERAL_APART.format(named=names, fewer=fewer))
 
 
 def put_at_once(evidence: Evidence) -> str:
