@@ -1975,8 +1975,8 @@ DOMEPEELER_CHECKED static inline unsigned domepeeler_save(struct domepeeler *d, 
     return domepeeler_leave(d, domepeeler_save_now(d, path));
 }
 
-/* What an accepted verdict on this recording may hide, a line each, for free(): a call that was refused, but for limits and what is not
- * causal; a change that never arrived, a replica that shows nothing, a delete of what nothing inserts. Empty where nothing is to be said;
+/* What an accepted verdict on this recording may hide, a line each, for free(): a call that was refused (at a limit unless domepeeler_full()
+ * was asked, and what was not causal unless it came later); a change that never arrived, a replica that shows nothing, a delete of what nothing inserts. Empty where nothing is to be said;
  * NULL where there is no answer. It asks no program, and takes time linear in the text. */
 DOMEPEELER_CHECKED static inline char *domepeeler_warnings(struct domepeeler *d) {
     if (!d) return NULL;
