@@ -1976,8 +1976,8 @@ DOMEPEELER_CHECKED static inline unsigned domepeeler_save(struct domepeeler *d, 
 }
 
 /* What an accepted verdict on this recording may hide, a line each, for free(): a call that was refused (at a limit unless domepeeler_full()
- * was asked, and what was not causal unless it came later); a change that never arrived, a replica that shows nothing, a delete of what nothing inserts. Empty where nothing is to be said;
- * NULL where there is no answer. It asks no program, and takes time linear in the text. */
+ * was asked, and what was not causal unless it came later); a change that never arrived, a replica that shows nothing, a delete of what nothing
+ * inserts. Empty where nothing is to be said; NULL where there is no answer. It asks no program, and takes time linear in the text. */
 DOMEPEELER_CHECKED static inline char *domepeeler_warnings(struct domepeeler *d) {
     if (!d) return NULL;
     domepeeler_enter(d, NULL, 0);

@@ -786,6 +786,8 @@ def which_traces(tally: Tally, program: str, folder: str, other: str) -> None:
     files = sorted(json.loads(line)["file"] for line in got.out.decode().splitlines())
     tally.check("which traces: links and endings", got.status == 1 and files == [f"{folder}/a.trace", f"{folder}/deep/BAD.TRACE",
                                                                                  f"{folder}/link/linked.trace"], got)
+    got = judge(program, ["--json", folder, other, f"{other}/back", f"{folder}/link/linked.trace"])
+    tally.check("which traces: by several ways, each once", sorted(json.loads(line)["file"] for line in got.out.decode().splitlines()) == files, got)
     os.mkdir(f"{folder}/empty")
     got = judge(program, [folder, f"{folder}/empty"])
     tally.same("which traces: an empty folder beside a full one", got,

@@ -16,7 +16,7 @@ from typing import NoReturn
 from .commands import Once, Parser, add_version
 from .elsewhere import NoParallel, judged_there, needs_parallel
 from .faulty_lines import ENTRIES
-from .files import SIDE, shown, state, write_file, written_over
+from .files import SIDE, shown, write_file, written_over
 from .judges import TooMany, judged_here
 from .junit import junit_of
 from .programs import WAYS, WEAK_ALONE, NoProgram, check_is_domepeeler, find_program
@@ -62,13 +62,12 @@ def fail(words: str) -> NoReturn:
 
 def traces_below(folders: list) -> list:
     """The traces, each once. A folder without one may be another than was meant."""
-    files, empty, been = [], [], set()
+    files, empty = [], []
     for folder in folders:
         if os.path.isdir(folder):
-            is_new = state(folder)[:2] not in been
-            below = sorted(traces_in(folder, been), key=Path)
+            below = sorted(traces_in(folder, set()), key=Path)
             files += below
-            empty += [folder] if is_new and not below else []
+            empty += [] if below else [folder]
         else:
             try:
                 os.stat(folder)
@@ -79,7 +78,10 @@ def traces_below(folders: list) -> list:
             files.append(str(Path(folder)))
     if empty:
         fail(f"there is no *{TRACE} file below {' '.join(map(shown, empty))}")
-    return list(dict.fromkeys(files))
+    found = {}  # one that is found by way of two folders, or of two names of one, is judged once
+    for file in files:
+        found.setdefault((os.path.realpath(os.path.dirname(file)), os.path.basename(file)), file)
+    return list(found.values())
 
 
 def traces_in(folder: str, been: set) -> list:
