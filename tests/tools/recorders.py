@@ -2435,6 +2435,8 @@ def check_rust_tests(tally: Tally, program: str, folder: Path) -> None:
         ".gitignore", unsure.name, f"{unsure.name}.lines", saved.name, f"{saved.name}.lines",
         *sorted(f"{path.name}{end}" for path in weak for end in ("", ".lines"))] and
         saved.read_text().endswith("1 recv 0 1\n1 read :\n") and (saved.parent / ".gitignore").read_text() == "*\n", done)
+    passed = subprocess.run(["./editor-0123456789abcdef", "strong_does_not_hold", "--nocapture"], cwd=place, env=surroundings, capture_output=True, text=True)
+    tally.check("Rust tests: a pass by weak alone is told", passed.returncode == 0 and "weak holds, strong doesn't\n" in passed.stderr, passed)
     without = subprocess.run(["./editor-0123456789abcdef", "never"], cwd=place, capture_output=True, text=True,
                              env={**surroundings, "LOST": "1", "DOMEPEELER_EXPLAIN": "/nowhere/explain"})
     tally.check("Rust tests: warnings where no tool explains", without.returncode != 0 and
@@ -3118,12 +3120,36 @@ int main(void) {{
 """
 
 
+# A session of which weak alone holds.
+WEAK_C = f"""#include "{ROOT / 'recorders'}/domepeeler.h"
+
+int main(void) {{
+    struct domepeeler *d = domepeeler_new(3);
+    const char *x[] = {{"x"}}, *ax[] = {{"a", "x"}}, *xb[] = {{"x", "b"}}, *ba[] = {{"b", "a"}};
+    const char *const *lists[] = {{ba, ba, ba}};
+    size_t names[] = {{2, 2, 2}};
+    unsigned n = domepeeler_insert(d, 0, "x", 0, x, 1) && domepeeler_received(d, 1, 0, 1) && domepeeler_received(d, 2, 0, 1) &&
+                 domepeeler_insert(d, 1, "a", 0, ax, 2) && domepeeler_insert(d, 2, "b", 1, xb, 2) && domepeeler_delete(d, 0, "x", NULL, 0) &&
+                 domepeeler_received(d, 0, 1, 1) && domepeeler_received(d, 0, 2, 1) && domepeeler_read(d, 0, ba, 2) &&
+                 domepeeler_delivered(d, lists, names, 3);
+    printf("%u %u: ", n, domepeeler_passes_weak(d, NULL));
+    puts(domepeeler_why(d));
+    domepeeler_free(d);
+    return 0;
+}}
+"""
+
+
 def check_not_learned_c(tally: Tally, program: str, folder: Path) -> None:
     """How a program ended is not taken for its absence, and what is interrupted is repeated."""
     Path(folder, "learned.c").write_text(NOT_LEARNED_C)
     subprocess.run([*GCC, "-o", "learned", "learned.c"], cwd=folder, check=True)
     done = subprocess.run(["./learned"], cwd=folder, capture_output=True, text=True, env=os.environ | {"DOMEPEELER": program}, timeout=60)
     first, *rest = done.stdout.splitlines() or [""]
+    Path(folder, "weak.c").write_text(WEAK_C)
+    subprocess.run([*GCC, "-o", "weak_alone", "weak.c"], cwd=folder, check=True)
+    passed = subprocess.run(["./weak_alone"], cwd=folder, capture_output=True, text=True, env=os.environ | {"DOMEPEELER": program}, timeout=60)
+    tally.check("C: a pass by weak alone is told", passed.stdout == "1 1: weak holds, strong doesn't\n", passed)
     tally.check("C: how a program ended is not learned", first == f"how {program} ended was not learned: No child processes", done)
     tally.check("C: waits and reads that are interrupted", rest[:1] == [
         '{"inserts":0,"operations":1,"order":[],"replicas":1,"strong":true,"verdict":"accepted","weak":true,"warnings":[]}'] and rest[-1:] == ["1 1"], done)
